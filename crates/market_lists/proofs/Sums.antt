@@ -1,0 +1,13 @@
+-- Sums over a list.
+use Rattle.std.proofs.Common.{◌≡◌, ◌+◌, ◌≤◌, ◌++◌, ℕ, List, [], ◌∷◌, arith}
+use Rattle.market_lists.specs.Totals.{total}
+
+-- the sum over two lists is the sum of their sums
+pub total-append : {A : Type 0} (f : A → ℕ) (xs ys : List A) → total f (xs ++ ys) ≡ total f xs + total f ys
+total-append f [] ys = omega arith
+total-append f (x ∷ xs) ys = omega (arith, total-append f xs ys)
+
+-- a sum over no more of each item is no more
+pub total-le : {A : Type 0} (f g : A → ℕ) (xs : List A) → ((x : A) → f x ≤ g x) → total f xs ≤ total g xs
+total-le f g [] each = omega arith
+total-le f g (x ∷ xs) each = omega (arith, each x, total-le f g xs each)

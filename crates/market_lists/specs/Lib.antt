@@ -1,0 +1,5 @@
+pub mod Beginnings
+pub mod Laws
+pub mod Merges
+pub mod Subsets
+pub mod Totals

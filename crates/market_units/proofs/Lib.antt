@@ -1,0 +1,4 @@
+pub mod EqualNames
+mod Padding
+mod SectionCalls
+mod Spelling

@@ -1,0 +1,5 @@
+pub mod Laws
+pub mod Name
+pub mod Names
+pub mod SectionBits
+pub mod Sections
