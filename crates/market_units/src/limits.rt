@@ -39,10 +39,10 @@ pub const MAX_RATING: u8 = 100;
 /// The greatest adjustment of a pair, and without its sign the least.
 pub const MAX_ADJUSTMENT: i16 = 200;
 
-/// The greatest drawn or raised budget.
+/// The greatest budget before it is raised, as drawn or as printed.
 pub const MAX_BUDGET: u32 = 1_000_000;
 
-/// The greatest price that a file may state: more than any budget.
+/// The greatest price that a file may state: more than any budget that is not raised.
 pub const MAX_PRICE: u32 = 1_000_001;
 
 /// The greatest spread between two budgets that follow each other.

@@ -1,5 +1,5 @@
 // Names read from bytes.
-ghost use Rattle.std.specs.Prelude.{◌≡◌, ◌↔◌, IsTrue, IfSome, IfNone};
+ghost use Rattle.std.specs.Prelude.{◌≡◌, ◌↔◌, IsTrue, IfSome, IfNone, OnSome};
 ghost use Rattle.market_units.specs.Names.{IsName, is_name_byte};
 ghost use Rattle.market_units.specs.Name.{name_bytes};
 
@@ -7,6 +7,7 @@ use crate::{MAX_NAME, Name};
 
 /// The name that the bytes are, or `None` exactly where they are no name.
 pub fn read_name(bytes: &[u8]) -> Option<Name>
+    ensures valid { OnSome result (IsName bytes.now) }
     ensures name { IfSome result (λ name. name_bytes name ≡ bytes.now) }
     ensures none { IfNone result (¬ IsName bytes.now) }
 {
