@@ -1,0 +1,4 @@
+pub mod Guesses
+pub mod Pieces
+pub mod Relations
+pub mod SectionRows

@@ -1,0 +1,7 @@
+pub mod Clash
+pub mod Laws
+pub mod Meeting
+pub mod Meetings
+pub mod Overlap
+pub mod Spelled
+pub mod Spelling

@@ -1,0 +1,60 @@
+// Which sections clash, worked out once.
+ghost use Rattle.std.specs.Prelude.{◌≡◌, ◌≤◌, ◌<◌, IfOk, length, map};
+ghost use Rattle.timetable_rules.specs.Clash.{IsClashTable, tells};
+ghost use Rattle.timetable_rules.specs.Meetings.{meetings_of};
+
+use crate::Meetings;
+use crate::rows::clashing;
+use market_units::{NoMemory, SectionNo, SectionSet};
+use std::alloc::Global;
+use std::marker::Model;
+
+/// Which sections clash, as a bit for each pair of them. It is seen as a list that has, for each section,
+/// the set of the sections that clash with it.
+#[derive(Drop)]
+pub struct ClashTable {
+    rows: Vec<SectionSet>,
+}
+
+impl Model for ClashTable {
+    ghost use Rattle.std.specs.Prelude.{◌≤◌, List, length};
+    ghost use Rattle.std.specs.Ordering.{nat_cmp};
+    ghost use Rattle.std.specs.FinSet as set;
+    ghost use Rattle.std.specs.Coded.{codes, coded_ℕ};
+
+    ghost Value = { List (set.FinSet nat_cmp) };
+
+    ghost coded = { Prim.hlevel (codes, set.code {R = nat_cmp} coded_ℕ) };
+
+    ghost view = { λ table. table.rows.items };
+
+    ghost invariant = { λ table. length table.rows.items ≤ 400 };
+}
+
+impl ClashTable {
+    /// The table of the sections with these meetings and course numbers, by ordinal.
+    pub fn build(
+        alloc: Global,
+        meetings: &[Meetings],
+        courses: &[u16],
+    ) -> Result<ClashTable, NoMemory>
+        requires same_length { length meetings.now ≡ length courses.now }
+        requires few { length courses.now ≤ 400 }
+        ensures { IfOk result (IsClashTable (map meetings_of meetings.now) courses.now) }
+    {
+        let mut rows = Vec::with_capacity(alloc, courses.len())?;
+        for section in 0..courses.len() {
+            rows.push(clashing(meetings, courses, section))?;
+        }
+        Ok(ClashTable { rows })
+    }
+
+    /// Whether the two sections clash, as the table was built.
+    pub fn clash(&self, a: SectionNo, b: SectionNo) -> bool
+        requires first { a.0 < length self.now }
+        requires second { b.0 < length self.now }
+        ensures { result ≡ tells self.now a.0 b.0 }
+    {
+        self.rows[usize::from(a.0)].has(b)
+    }
+}

@@ -1,0 +1,59 @@
+// The meetings of a section, in a room of fixed size.
+ghost use Rattle.std.specs.Prelude.{◌≤◌, All, take};
+ghost use Rattle.timetable_rules.specs.Meeting.{IsMeeting};
+
+use crate::Meeting;
+use market_units::MAX_MEETINGS;
+
+/// At most ten meetings, in the order in which they were written.
+#[derive(Clone, Copy, Debug)]
+pub struct Meetings {
+    places: [Meeting; MAX_MEETINGS],
+    len: usize,
+    ghost few: { len ≤ 10 },
+    ghost each: { All IsMeeting (take len places) },
+}
+
+impl Meetings {
+    ghost use Rattle.std.specs.Prelude.{◌≡◌, ◌<◌, [], ◌∷◌, ◌++◌, length};
+    ghost use Rattle.timetable_rules.specs.Meetings.{meetings_of};
+
+    /// No meeting.
+    pub fn none() -> Meetings
+        ensures { meetings_of result ≡ [] }
+    {
+        let nowhere = Meeting {
+            day: 0,
+            start: 0,
+            end: 0,
+        };
+        Meetings {
+            places: [nowhere; MAX_MEETINGS],
+            len: 0,
+        }
+    }
+
+    /// The meetings, as they were written.
+    pub fn as_slice(&self) -> &[Meeting]
+        ensures value { result.now ≡ meetings_of self.now }
+        ensures few { length (meetings_of self.now) ≤ 10 }
+        ensures each { All IsMeeting (meetings_of self.now) }
+    {
+        &self.places[..self.len]
+    }
+
+    /// These meetings and then one more.
+    #[must_use]
+    pub fn with(self, meeting: Meeting) -> Meetings
+        requires room { length (meetings_of self) < 10 }
+        requires meeting { IsMeeting meeting }
+        ensures { meetings_of result ≡ meetings_of self ++ meeting ∷ [] }
+    {
+        let mut places = self.places;
+        places[self.len] = meeting;
+        Meetings {
+            places,
+            len: self.len + 1,
+        }
+    }
+}
