@@ -1,0 +1,9 @@
+pub mod Sets
+pub mod Bundled
+pub mod Ends
+pub mod Firsts
+pub mod Later
+pub mod PlaceFacts
+pub mod Feasibility
+pub mod Choices
+pub mod Tables

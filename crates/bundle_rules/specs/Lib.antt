@@ -1,0 +1,9 @@
+pub mod Sets
+pub mod Bundles
+pub mod Wishes
+pub mod Apart
+pub mod Preferences
+pub mod Demand
+pub mod Menus
+pub mod Kept
+pub mod Ordinals

@@ -1,0 +1,93 @@
+// Bundles of sections.
+ghost use Rattle.std.specs.Prelude.{◌≡◌, ◌↔◌, ◌<◌, ◌≤◌, ◌-◌, ◌++◌, ◌∷◌, [], IsTrue, IsSome, IfSome, length, take, drop, replicate};
+ghost use Rattle.bundle_rules.specs.Sets.{has, IsAscending, IsAscending-prop};
+ghost use Rattle.bundle_rules.specs.Ordinals.{ordinals, IsBundle};
+
+use market_units::SectionNo;
+
+const ROOM: usize = 8;
+
+/// At most 8 sections, ascending by ordinal.
+#[derive(Clone, Copy, Debug)]
+pub struct Bundle {
+    sections: [SectionNo; ROOM],
+    len: u8,
+    ghost whole: { length sections ≡ 8 },
+    ghost short: { len ≤ 8 },
+    ghost ascending: { IsAscending (ordinals (take len sections)) } by { IsAscending-prop (ordinals (take len sections)) },
+
+    // What stands past the sections is 0, so that bundles of the same sections are equal.
+    ghost padded: { ordinals (drop len sections) ≡ replicate (8 - len) 0 },
+}
+
+impl Bundle {
+    ghost use Rattle.bundle_rules.specs.Bundles.{sections_of};
+
+    /// The bundle without sections.
+    pub fn empty() -> Bundle
+        ensures { sections_of result ≡ [] }
+    {
+        Bundle {
+            sections: [SectionNo(0); ROOM],
+            len: 0,
+        }
+    }
+
+    /// The bundle of these sections, or `None` exactly where there are more than 8 or they are not strictly ascending.
+    pub fn of(sections: &[SectionNo]) -> Option<Bundle>
+        ensures some { IsSome result ↔ IsBundle (ordinals sections.now) }
+        ensures value { IfSome result (λ bundle. sections_of bundle ≡ ordinals sections.now) }
+    {
+        if sections.len() > ROOM {
+            return None;
+        }
+        let mut bundle = Bundle::empty();
+        for section in sections {
+            if !bundle.is_below(*section) {
+                return None;
+            }
+            bundle = bundle.with(*section);
+        }
+        Some(bundle)
+    }
+
+    /// The sections, ascending.
+    pub fn sections(&self) -> &[SectionNo]
+        ensures value { ordinals result.now ≡ sections_of self.now }
+        ensures bundle { IsBundle (sections_of self.now) }
+    {
+        &self.sections[..usize::from(self.len)]
+    }
+
+    /// Whether the section is in the bundle.
+    pub fn has(&self, section: SectionNo) -> bool
+        ensures { result ≡ has (sections_of self.now) section.0 }
+    {
+        self.sections().contains(&section)
+    }
+
+    /// Whether each section of the bundle is below this one.
+    pub fn is_below(&self, section: SectionNo) -> bool
+        ensures { IsTrue result ↔ IsAscending (sections_of self.now ++ section.0 ∷ []) }
+    {
+        match self.sections().last() {
+            Some(last) => last.0 < section.0,
+            None => true,
+        }
+    }
+
+    /// The bundle with one more section, above all of its own.
+    #[must_use]
+    pub fn with(self, section: SectionNo) -> Bundle
+        requires room { length (sections_of self) < 8 }
+        requires above { IsAscending (sections_of self ++ section.0 ∷ []) }
+        ensures { sections_of result ≡ sections_of self ++ section.0 ∷ [] }
+    {
+        let mut sections = self.sections;
+        sections[usize::from(self.len)] = section;
+        Bundle {
+            sections,
+            len: self.len + 1,
+        }
+    }
+}

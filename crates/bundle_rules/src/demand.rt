@@ -1,0 +1,129 @@
+// What a student takes at given prices, by trying every choice.
+ghost use Rattle.std.specs.Prelude.{◌≡◌, ◌↔◌, ◌<◌, ◌≤◌, ◌*◌, ◌++◌, ◌∷◌, [], IsTrue, IfSome, length, map, All};
+ghost use Rattle.std.specs.FinSet as set;
+ghost use Rattle.market_lists.specs.Totals.{total};
+ghost use Rattle.bundle_rules.specs.Sets.{IsAscending};
+ghost use Rattle.bundle_rules.specs.Wishes.{IsFeasible};
+ghost use Rattle.bundle_rules.specs.Demand.{price_in, HasPrices, IsChoice, IsBest};
+ghost use Rattle.bundle_rules.specs.Bundles.{sections_of};
+ghost use Rattle.bundle_rules.specs.Ordinals.{ordinals};
+ghost use Rattle.bundle_rules.specs.Menus.{wishes_of, IsMenu};
+
+use crate::{Bundle, Menu, Rated, feasible, prefers};
+use market_units::{SectionNo, SectionSet, Tokens};
+
+/// The best bundle: the feasible one of allowed sections, of price sum at most the budget, that is preferred to
+/// every other such bundle. It tries them all, without memory of its own. There is a price for each section of the
+/// menu, each at most 1,000,001.
+pub fn best_plain(menu: &Menu, prices: &[Tokens], budget: Tokens, allowed: &SectionSet) -> Bundle
+    requires { HasPrices menu.now prices.now }
+{
+    best_from(
+        menu,
+        prices,
+        budget,
+        allowed,
+        menu.places(),
+        Bundle::empty(),
+    )
+}
+
+// The best of the choices that are these sections and some of the later ones.
+fn best_from(
+    menu: &Menu,
+    prices: &[Tokens],
+    budget: Tokens,
+    allowed: &SectionSet,
+    later: &[Rated],
+    chosen: Bundle,
+) -> Bundle
+    requires menu { IsMenu menu.now }
+    requires prices { HasPrices menu.now prices.now }
+    requires chosen { IsFeasible (wishes_of menu.now) (sections_of chosen) }
+    requires later { IsAscending (sections_of chosen ++ map (λ rated. rated.section.0) later.now) }
+    ensures feasible { IsFeasible (wishes_of menu.now) (sections_of result) }
+{
+    match later {
+        [] => chosen,
+        [rated, more @ ..] => {
+            let without = best_from(menu, prices, budget, allowed, more, chosen);
+            match extended(menu, prices, budget, allowed, chosen, rated.section) {
+                Some(wider) => {
+                    let with_it = best_from(menu, prices, budget, allowed, more, wider);
+                    if prefers(menu, &with_it, &without) {
+                        with_it
+                    } else {
+                        without
+                    }
+                }
+                None => without,
+            }
+        }
+    }
+}
+
+// The bundle with one more section, where that is a choice.
+fn extended(
+    menu: &Menu,
+    prices: &[Tokens],
+    budget: Tokens,
+    allowed: &SectionSet,
+    chosen: Bundle,
+    section: SectionNo,
+) -> Option<Bundle>
+    requires menu { IsMenu menu.now }
+    requires prices { HasPrices menu.now prices.now }
+    requires above { IsAscending (sections_of chosen ++ section.0 ∷ []) }
+    ensures value { IfSome result (λ wider. sections_of wider ≡ sections_of chosen ++ section.0 ∷ []) }
+    ensures choice { IfSome result (λ wider. IsChoice (wishes_of menu.now) (price_in prices.now) budget.0 (set.contains allowed.now) (sections_of wider)) }
+{
+    if chosen.sections().len() >= 8 {
+        return None;
+    }
+    let wider = chosen.with(section);
+    if is_choice(menu, prices, budget, allowed, &wider) {
+        Some(wider)
+    } else {
+        None
+    }
+}
+
+// Whether a bundle is feasible, within the budget and allowed.
+fn is_choice(
+    menu: &Menu,
+    prices: &[Tokens],
+    budget: Tokens,
+    allowed: &SectionSet,
+    bundle: &Bundle,
+) -> bool
+    requires menu { IsMenu menu.now }
+    requires prices { HasPrices menu.now prices.now }
+    ensures { IsTrue result ↔ IsChoice (wishes_of menu.now) (price_in prices.now) budget.0 (set.contains allowed.now) (sections_of bundle.now) }
+{
+    if !feasible(menu, bundle) {
+        return false;
+    }
+    if price_of(prices, bundle.sections()) > budget.0 {
+        return false;
+    }
+    all_allowed(allowed, bundle.sections())
+}
+
+fn price_of(prices: &[Tokens], sections: &[SectionNo]) -> u32
+    requires priced { All (λ section. (section.0 < length prices.now) × (price_in prices.now section.0 ≤ 1000001)) sections.now }
+    requires few { length sections.now ≤ 8 }
+    ensures value { result ≡ total (price_in prices.now) (ordinals sections.now) }
+    ensures high { result ≤ 1000001 * length sections.now }
+{
+    match sections {
+        [] => 0,
+        [section, more @ ..] => prices[usize::from(section.0)].0 + price_of(prices, more),
+    }
+}
+
+fn all_allowed(allowed: &SectionSet, sections: &[SectionNo]) -> bool
+    requires { All (λ section. section.0 < 400) sections.now }
+    ensures { IsTrue result ↔ All (λ section. IsTrue (set.contains allowed.now section.0)) sections.now }
+{
+    sections.iter().all(|section| allowed.has(*section))
+}

@@ -1,0 +1,199 @@
+// What one student may choose from.
+ghost use Rattle.std.specs.Prelude.{◌≡◌, ◌<◌, ◌≤◌, ◌*◌, ◌+◌, ◌≤ℤ◌, pos, negsuc, ℕ, [], Some, length, IfOk, All, slice_get};
+ghost use Rattle.bundle_rules.specs.Kept.{IsTable};
+ghost use Rattle.bundle_rules.specs.Menus.{adjustment_in, clash_in, place_in, IsRated, IsPair, ArePlaces, ArePairs, AreClashes, AreCaps, IsMenu};
+
+use market_units::{NoMemory, SectionNo};
+use std::alloc::Global;
+use std::marker::Model;
+
+/// A section that the student rates.
+#[derive(Clone, Copy, Debug, PartialEq, Eq)]
+pub struct Rated {
+    pub section: SectionNo,
+    pub course: u16,
+    pub rating: u8,
+    pub credits: u16,
+}
+
+/// The sections that a student rates, with the adjustments of pairs, the clashes and the two caps.
+/// The sections stand at places, numbered from 0 by ascending ordinal.
+#[derive(Drop)]
+pub struct Menu {
+    places: Vec<Rated>,
+    pairs: Vec<(u8, u8, i16)>,
+    clashes: Vec<u64>,
+    credits: u16,
+    courses: u8,
+
+    // The adjustment of each two places, row by row.
+    adjustments: Vec<i16>,
+}
+
+impl Model for Menu {
+    ghost use Rattle.bundle_rules.specs.Kept.{IsTable};
+    ghost use Rattle.bundle_rules.specs.Menus.{MenuData};
+    ghost use Rattle.bundle_rules.specs.Kept.{IsKept};
+
+    ghost Value = { MenuData };
+
+    ghost view = { λ menu. record {
+      places = menu.places.items;
+      pairs = menu.pairs.items;
+      clashes = menu.clashes.items;
+      credits = menu.credits;
+      courses = menu.courses;
+    } };
+
+    ghost invariant = { λ menu. IsKept (record {
+      places = menu.places.items;
+      pairs = menu.pairs.items;
+      clashes = menu.clashes.items;
+      credits = menu.credits;
+      courses = menu.courses;
+    }) menu.adjustments.items };
+}
+
+impl Menu {
+    /// The menu of these places, pairs, clashes and caps. Bit t of the word of a place tells whether it clashes with place t.
+    pub fn build(
+        alloc: Global,
+        places: &[Rated],
+        pairs: &[(u8, u8, i16)],
+        clashes: &[u64],
+        credits: u16,
+        courses: u8,
+    ) -> Result<Menu, NoMemory>
+        requires places { ArePlaces places.now }
+        requires pairs { ArePairs (length places.now) pairs.now }
+        requires clashes { AreClashes places.now clashes.now }
+        requires caps { AreCaps credits courses }
+        ensures { IfOk result (λ menu. menu ≡ record { places = places.now; pairs = pairs.now; clashes = clashes.now; credits = credits; courses = courses }) }
+    {
+        let adjustments = adjustment_table(alloc, places.len(), pairs)?;
+        Ok(Menu {
+            places: places.to_vec(alloc)?,
+            pairs: pairs.to_vec(alloc)?,
+            clashes: clashes.to_vec(alloc)?,
+            credits,
+            courses,
+            adjustments,
+        })
+    }
+
+    /// The number of places.
+    pub fn len(&self) -> u8
+        ensures value { result ≡ length self.now.places }
+        ensures menu { IsMenu self.now }
+    {
+        self.places.len() as u8
+    }
+
+    /// The rated sections, ascending: one for each place.
+    pub fn places(&self) -> &[Rated]
+        ensures value { result.now ≡ self.now.places }
+        ensures menu { IsMenu self.now }
+    {
+        &self.places
+    }
+
+    /// The section at a place, with its course, rating and credits.
+    pub fn rated(&self, place: u8) -> &Rated
+        requires { place < length self.now.places }
+        ensures value { slice_get self.now.places place ≡ Some result.now }
+        ensures range { IsRated result.now }
+    {
+        &self.places[usize::from(place)]
+    }
+
+    /// The adjustment of the unordered pair of two places, 0 where it has none.
+    pub fn adjustment(&self, a: u8, b: u8) -> i16
+        requires first { a < length self.now.places }
+        requires second { b < length self.now.places }
+        ensures value { result ≡ adjustment_in self.now.pairs a b }
+        ensures low { negsuc 199 ≤ℤ result }
+        ensures high { result ≤ℤ pos 200 }
+    {
+        self.adjustments[usize::from(a) * self.places.len() + usize::from(b)]
+    }
+
+    /// Whether the sections at two places clash.
+    pub fn clash(&self, a: u8, b: u8) -> bool
+        requires first { a < length self.now.places }
+        requires second { b < length self.now.places }
+        ensures { result ≡ clash_in self.now.clashes a b }
+    {
+        (self.clashes[usize::from(a)] >> b) & 1 == 1
+    }
+
+    /// The most credits that the student may take.
+    pub fn credits(&self) -> u16
+        ensures { result ≡ self.now.credits }
+    {
+        self.credits
+    }
+
+    /// The most sections that the student may take.
+    pub fn courses(&self) -> u8
+        ensures { result ≡ self.now.courses }
+    {
+        self.courses
+    }
+
+    /// The place of a section, or the number of places where it has none.
+    pub fn place(&self, section: SectionNo) -> u8
+        ensures value { result ≡ place_in self.now.places section.0 }
+        ensures within { result ≤ length self.now.places }
+    {
+        place_among(&self.places, section) as u8
+    }
+}
+
+fn place_among(places: &[Rated], section: SectionNo) -> usize
+    ensures value { result ≡ place_in places.now section.0 }
+    ensures within { result ≤ length places.now }
+{
+    match places {
+        [] => 0,
+        [rated, more @ ..] => {
+            if rated.section == section {
+                0
+            } else {
+                place_among(more, section) + 1
+            }
+        }
+    }
+}
+
+// The adjustment of each two places, row by row.
+fn adjustment_table(
+    alloc: Global,
+    places: usize,
+    pairs: &[(u8, u8, i16)],
+) -> Result<Vec<i16>, NoMemory>
+    requires few { places ≤ 60 }
+    requires pairs { All (IsPair places) pairs.now }
+    ensures { IfOk result (λ table. IsTable places pairs.now table.items) }
+{
+    let mut table = vec![in alloc; 0i16; places * places]?;
+    fill(&mut table, places, pairs);
+    Ok(table)
+}
+
+// Writes the adjustments of the pairs into a table of zeros, the last pair first.
+fn fill(table: &mut [i16], places: usize, pairs: &[(u8, u8, i16)])
+    requires size { length table.old ≡ places * places }
+    requires zeros { IsTable places [] table.old }
+    requires few { places ≤ 60 }
+    requires pairs { All (IsPair places) pairs.now }
+    ensures { IsTable places pairs.now table.new }
+{
+    match pairs {
+        [] => {}
+        [(a, b, by), more @ ..] => {
+            fill(table, places, more);
+            table[usize::from(*a) * places + usize::from(*b)] = *by;
+            table[usize::from(*b) * places + usize::from(*a)] = *by;
+        }
+    }
+}

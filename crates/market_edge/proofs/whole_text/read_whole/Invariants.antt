@@ -1,0 +1,17 @@
+use Rattle.std.proofs.Common.{◌≡◌, ◌≤◌, ◌+◌, ◌-◌, ℕ, List, IsTrue, length}
+use Rattle.market_edge.proofs.Reading.{IsReadTo}
+use Rattle.market_edge.proofs.whole_text.read_whole.Given as goal
+
+abbrev pub invariant-pieces : goal.invariant-pieces
+invariant-pieces g l = record {
+  begun : IsTrue (g.H.Shelf.is_begun l.shelf);
+  serves : IsTrue (g.H.Shelf.serves l.shelf l.name);
+  holds : g.H.Shelf.holds l.shelf ≡ g.H.Shelf.holds l.fn.shelf;
+  within : length l.text.items ≤ l.limit;
+  so_far : IsReadTo (g.H.Shelf.holds l.fn.shelf) l.name l.text.items (g.H.Shelf.left l.shelf);
+  later : (other : List ℕ) → g.H.Shelf.faults l.fn.shelf other ≤ g.H.Shelf.faults l.shelf other;
+}
+
+-- each turn takes at least one byte
+abbrev pub decreases-pieces : goal.decreases-pieces
+decreases-pieces g l = l.limit + 1 - length l.text.items

@@ -1,0 +1,14 @@
+use Rattle.std.proofs.Common.{◌≤◌, ◌-◌, length, take}
+use Rattle.market_edge.specs.Sinks.{Takes}
+use Rattle.market_edge.proofs.whole_text.write_whole.Given as goal
+
+abbrev pub invariant-pieces : goal.invariant-pieces
+invariant-pieces g l = record {
+  within : l.done ≤ length l.text;
+  taken : Takes (g.K.Sink.taken l.fn.sink) (g.K.Sink.taken l.sink) (take l.done l.text);
+  later : g.K.Sink.faults l.fn.sink ≤ g.K.Sink.faults l.sink;
+}
+
+-- each turn takes at least one byte
+abbrev pub decreases-pieces : goal.decreases-pieces
+decreases-pieces g l = length l.text - l.done

@@ -1,0 +1,71 @@
+-- The files of a shelf in memory.
+use Rattle.std.specs.Prelude.{ℕ, ◌≡◌, zero, suc, [], ◌∷◌, ◌==◌, ◌<◌, ◌≤◌, Bool, true, false, if◌then◌else◌, List, Option, Some, None, String, Vec, map, length, position, drop}
+use Rattle.std.proofs.Common.{Global}
+use Rattle.std.specs.List.{slice_index_or}
+use Rattle.std.specs.Option.{option_map_or}
+use Rattle.std.specs.Str.{bytes_eq}
+use Rattle.std.specs.String.{string_bytes}
+use Rattle.std.specs.FinMap.{from_entries}
+use Rattle.market_edge.specs.declared.memory_shelf.Place.{Place}
+use Rattle.market_edge.specs.Faults.{raised}
+use Rattle.market_edge.specs.Holdings.{Holding}
+
+-- a name, and a text
+abbrev pub File : Type 0
+File = String Global × Vec ℕ Global
+
+abbrev pub entry_of : File → List ℕ × List ℕ
+entry_of file = (string_bytes file.0, file.1.items)
+
+-- where a name has more than one file, the first counts
+abbrev pub holding_of : List File → Holding
+holding_of files = record { texts = from_entries (map entry_of files); others_empty = false }
+
+abbrev pub has_name : List ℕ → File → Bool
+has_name name file = bytes_eq (string_bytes file.0) name
+
+-- the first file of a name
+abbrev pub place_of : List File → List ℕ → Option ℕ
+place_of files name = position (has_name name) files
+
+-- the text of the file at a place
+abbrev pub text_at : List File → ℕ → List ℕ
+text_at [] place = []
+text_at (file ∷ files) zero = file.1.items
+text_at (file ∷ files) (suc place) = text_at files place
+
+-- what is left of the begun text
+abbrev pub left_of : List File → Option Place → Option (List ℕ)
+left_of files None = None
+left_of files (Some place) = Some (drop place.at (text_at files place.file))
+
+-- a place in a file's text, or at its end
+abbrev pub IsPlace : List File → Place → Type 0
+IsPlace files place = (place.file < length files) × (place.at ≤ length (text_at files place.file))
+
+-- two names are of one file, or both of none
+abbrev pub is_same_place : Option ℕ → Option ℕ → Bool
+is_same_place None None = true
+is_same_place (Some one) (Some other) = other == one
+is_same_place one other = false
+
+-- the names that are counted with a name: those of its file, or all that have no file
+abbrev pub has_place_of : List File → List ℕ → List ℕ → Bool
+has_place_of files name other = is_same_place (place_of files name) (place_of files other)
+
+-- the begun file's name is served
+abbrev pub serves_name : List File → Option Place → List ℕ → Bool
+serves_name files None name = false
+serves_name files (Some place) name = is_same_place (Some place.file) (place_of files name)
+
+-- the count of a name
+abbrev pub count_of : List File → List ℕ → ℕ → List ℕ → ℕ
+count_of files counts others name = option_map_or (λ file. slice_index_or counts file 0) (place_of files name) others
+
+-- one more fault of each of these names, and of no other
+abbrev pub Raises : (List ℕ → Bool) → (List ℕ → ℕ) → (List ℕ → ℕ) → Type 0
+Raises is_raised before after = (name : List ℕ) → after name ≡ (if is_raised name then raised (before name) else before name)
+
+-- no count changes
+abbrev pub Same : (List ℕ → ℕ) → (List ℕ → ℕ) → Type 0
+Same before after = (name : List ℕ) → after name ≡ before name

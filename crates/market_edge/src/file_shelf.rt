@@ -1,0 +1,99 @@
+// Real files. What they hold is not told: this is the trusted edge.
+ghost use Rattle.std.specs.Prelude.{◌≡◌, ◌<◌, ◌≤◌, None, List, ℕ, false, length, is_some, IsTrue, IfOk, OnOk, OnErr};
+ghost use Rattle.std.specs.Io.KnownBytes.{ReadConsumes};
+ghost use Rattle.market_edge.specs.Faults.{Rose, raised};
+ghost use Rattle.market_edge.specs.Holdings.{Begins};
+
+use crate::{Failed, Shelf};
+use std::fs;
+use std::io::Read;
+use std::rt::Files;
+
+/// The files of the system, by path. Each failure is counted for every name; while a file is open, every name is
+/// served.
+#[derive(Drop)]
+pub struct FileShelf<'r, R: Files> {
+    rt: &'r R,
+    file: Option<R::File>,
+    faults: u64,
+}
+
+impl<'r, R: Files> FileShelf<'r, R> {
+    /// A shelf with no file open.
+    pub fn new(rt: &'r R) -> Self
+        ensures none { ⟦<FileShelf<'r, R> as Shelf>⟧.is_begun result ≡ false }
+        ensures faults { (name : List ℕ) → ⟦<FileShelf<'r, R> as Shelf>⟧.faults result name ≡ 0 }
+    {
+        FileShelf {
+            rt,
+            file: None,
+            faults: 0,
+        }
+    }
+}
+
+impl<'r, R: Files> Shelf for FileShelf<'r, R> {
+    ghost holds = { λ _. None };
+
+    ghost left = { λ _. None };
+
+    ghost is_begun = { λ shelf. is_some shelf.file };
+
+    ghost serves = { λ shelf _. is_some shelf.file };
+
+    ghost faults = { λ shelf _. shelf.faults };
+
+    fn begin(&mut self, name: &str) -> Result<(), Failed>
+        ensures holds { ⟦<FileShelf<'r, R> as Shelf>⟧.holds self.new ≡ ⟦<FileShelf<'r, R> as Shelf>⟧.holds self.old }
+        ensures begun { OnOk result (IsTrue (⟦<FileShelf<'r, R> as Shelf>⟧.is_begun self.new)) }
+        ensures text { OnOk result (Begins (⟦<FileShelf<'r, R> as Shelf>⟧.holds self.old) name.now (⟦<FileShelf<'r, R> as Shelf>⟧.left self.new)) }
+        ensures serves { OnOk result (IsTrue (⟦<FileShelf<'r, R> as Shelf>⟧.serves self.new name.now)) }
+        ensures none { OnErr result (⟦<FileShelf<'r, R> as Shelf>⟧.is_begun self.new ≡ false) }
+        ensures cause { OnErr result (Rose (⟦<FileShelf<'r, R> as Shelf>⟧.faults self.old name.now) (⟦<FileShelf<'r, R> as Shelf>⟧.faults self.new name.now)) }
+        ensures later { (other : List ℕ) → ⟦<FileShelf<'r, R> as Shelf>⟧.faults self.old other ≤ ⟦<FileShelf<'r, R> as Shelf>⟧.faults self.new other }
+
+        // Each failure is counted for every name, and nothing else is counted.
+        ensures counted { OnErr result ((other : List ℕ) → ⟦<FileShelf<'r, R> as Shelf>⟧.faults self.new other ≡ raised (⟦<FileShelf<'r, R> as Shelf>⟧.faults self.old other)) }
+        ensures uncounted { OnOk result ((other : List ℕ) → ⟦<FileShelf<'r, R> as Shelf>⟧.faults self.new other ≡ ⟦<FileShelf<'r, R> as Shelf>⟧.faults self.old other) }
+    {
+        self.file = None;
+        match fs::open(self.rt, name) {
+            Ok(file) => {
+                self.file = Some(file);
+                Ok(())
+            }
+            Err(_) => {
+                self.faults = self.faults.saturating_add(1);
+                Err(Failed)
+            }
+        }
+    }
+
+    fn read(&mut self, room: &mut [u8]) -> Result<usize, Failed>
+        requires begun { IsTrue (⟦<FileShelf<'r, R> as Shelf>⟧.is_begun self.old) }
+        requires room { 0 < length room.old }
+
+        ensures holds { ⟦<FileShelf<'r, R> as Shelf>⟧.holds self.new ≡ ⟦<FileShelf<'r, R> as Shelf>⟧.holds self.old }
+        ensures begun { IsTrue (⟦<FileShelf<'r, R> as Shelf>⟧.is_begun self.new) }
+        ensures bound { IfOk result (λ n. n ≤ length room.new) }
+        ensures bytes { ReadConsumes (⟦<FileShelf<'r, R> as Shelf>⟧.left self.old) (⟦<FileShelf<'r, R> as Shelf>⟧.left self.new) result room.new }
+        ensures serves { (other : List ℕ) → ⟦<FileShelf<'r, R> as Shelf>⟧.serves self.new other ≡ ⟦<FileShelf<'r, R> as Shelf>⟧.serves self.old other }
+        ensures cause { OnErr result ((other : List ℕ) → IsTrue (⟦<FileShelf<'r, R> as Shelf>⟧.serves self.old other) → Rose (⟦<FileShelf<'r, R> as Shelf>⟧.faults self.old other) (⟦<FileShelf<'r, R> as Shelf>⟧.faults self.new other)) }
+        ensures later { (other : List ℕ) → ⟦<FileShelf<'r, R> as Shelf>⟧.faults self.old other ≤ ⟦<FileShelf<'r, R> as Shelf>⟧.faults self.new other }
+
+        // Each failure is counted for every name, and nothing else is counted.
+        ensures counted { OnErr result ((other : List ℕ) → ⟦<FileShelf<'r, R> as Shelf>⟧.faults self.new other ≡ raised (⟦<FileShelf<'r, R> as Shelf>⟧.faults self.old other)) }
+        ensures uncounted { OnOk result ((other : List ℕ) → ⟦<FileShelf<'r, R> as Shelf>⟧.faults self.new other ≡ ⟦<FileShelf<'r, R> as Shelf>⟧.faults self.old other) }
+    {
+        let Some(file) = &mut self.file else {
+            unreachable!()
+        };
+        match file.read(room) {
+            Ok(count) => Ok(count),
+            Err(_) => {
+                self.faults = self.faults.saturating_add(1);
+                Err(Failed)
+            }
+        }
+    }
+}

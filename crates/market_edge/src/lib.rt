@@ -1,0 +1,24 @@
+//! The outside of the market: shelves that texts are read from, sinks that texts are written to, and gates that
+//! sessions and workers pass. Whatever the outside does, a text is had whole or a counted fault says why not.
+#![tactic(auto)]
+
+mod file_shelf;
+mod gate;
+mod memory_shelf;
+mod memory_sink;
+mod shelf;
+mod sink;
+mod stdout_sink;
+mod whole_text;
+
+pub use file_shelf::FileShelf;
+pub use gate::{Gate, OpenGate, Stop};
+pub use memory_shelf::MemoryShelf;
+pub use memory_sink::MemorySink;
+pub use shelf::{Failed, Shelf};
+pub use sink::Sink;
+pub use stdout_sink::StdoutSink;
+pub use whole_text::{SinkFault, Taking, read_whole, write_whole};
+
+#[cfg(test)]
+mod tests;

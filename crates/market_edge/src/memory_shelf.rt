@@ -1,0 +1,173 @@
+// A shelf in memory, for tests.
+ghost use Rattle.std.specs.Prelude.{◌≡◌, ◌<◌, ◌≤◌, ◌+◌, ◌⊎◌, ◌++◌, ◌↔◌, Some, List, ℕ, Bool, false, length, take, drop, min, is_some, IsTrue, IsNone, IsErr, Contains, IfOk, OnOk, OnErr};
+ghost use Rattle.std.specs.Io.KnownBytes.{ReadConsumes};
+ghost use Rattle.std.specs.Option.{ForSome};
+ghost use Rattle.market_edge.specs.Faults.{Rose, raised};
+ghost use Rattle.market_edge.specs.Holdings.{Begins};
+ghost use Rattle.market_edge.specs.MemoryFiles.{IsPlace, Raises, Same, count_of, has_place_of, holding_of, left_of, place_of, serves_name};
+
+use crate::{Failed, Shelf};
+use market_units::NoMemory;
+use std::alloc::Global;
+
+#[derive(Clone, Copy, Debug)]
+struct Place {
+    file: usize,
+    at: usize,
+}
+
+/// A shelf of files in memory, whose calls of certain numbers fail. Begins and reads together are numbered from 1. Of
+/// two files of one name the first counts.
+#[derive(Drop)]
+pub struct MemoryShelf {
+    files: Vec<(String, Vec<u8>)>,
+    failing: Vec<u64>,
+    calls: u64,
+    counts: Vec<u64>,
+    others: u64,
+    begun: Option<Place>,
+    ghost counted: { length counts.items ≡ length files.items },
+    ghost placed: { ForSome begun (IsPlace files.items) },
+}
+
+impl MemoryShelf {
+    ghost use Rattle.market_edge.specs.MemoryShelves.{calls_of, failing_of, faults_of, files_of, has_begun, told_holding};
+
+    /// A shelf of these files, with nothing begun and no call made.
+    pub fn make(
+        alloc: Global,
+        files: Vec<(String, Vec<u8>)>,
+        failing: Vec<u64>,
+    ) -> Result<MemoryShelf, NoMemory>
+        ensures files { IfOk result (λ shelf. files_of shelf ≡ files.items) }
+        ensures failing { IfOk result (λ shelf. failing_of shelf ≡ failing.items) }
+        ensures calls { IfOk result (λ shelf. calls_of shelf ≡ 0) }
+        ensures holds { IfOk result (λ shelf. told_holding shelf ≡ Some (holding_of files.items)) }
+        ensures begun { IfOk result (λ shelf. has_begun shelf ≡ false) }
+        ensures faults { IfOk result (λ shelf. (name : List ℕ) → faults_of shelf name ≡ 0) }
+    {
+        let counts = vec![in alloc; 0; files.len()]?;
+        Ok(MemoryShelf {
+            files,
+            failing,
+            calls: 0,
+            counts,
+            others: 0,
+            begun: None,
+        })
+    }
+}
+
+impl Shelf for MemoryShelf {
+    ghost use Rattle.market_edge.specs.MemoryShelves.{FailsNext, calls_of, failing_of, faults_of, files_of, has_begun, rest_of, serves_of, told_holding};
+
+    ghost holds = { told_holding };
+
+    ghost left = { rest_of };
+
+    ghost is_begun = { has_begun };
+
+    ghost serves = { serves_of };
+
+    ghost faults = { faults_of };
+
+    fn begin(&mut self, name: &str) -> Result<(), Failed>
+        ensures holds { told_holding self.new ≡ told_holding self.old }
+        ensures begun { OnOk result (IsTrue (has_begun self.new)) }
+        ensures text { OnOk result (Begins (told_holding self.old) name.now (rest_of self.new)) }
+        ensures serves { OnOk result (IsTrue (serves_of self.new name.now)) }
+        ensures none { OnErr result (has_begun self.new ≡ false) }
+        ensures cause { OnErr result (Rose (faults_of self.old name.now) (faults_of self.new name.now)) }
+        ensures later { (other : List ℕ) → faults_of self.old other ≤ faults_of self.new other }
+
+        // It serves the name of the begun file alone.
+        ensures alone { OnOk result ((other : List ℕ) → serves_of self.new other ≡ has_place_of (files_of self.old) name.now other) }
+
+        // It fails exactly at the calls of these numbers, and where no file has the name; each failure is counted.
+        ensures fails { IsErr result ↔ (IsNone (place_of (files_of self.old) name.now) ⊎ FailsNext self.old) }
+        ensures counted { OnErr result (Raises (has_place_of (files_of self.old) name.now) (faults_of self.old) (faults_of self.new)) }
+        ensures uncounted { OnOk result (Same (faults_of self.old) (faults_of self.new)) }
+
+        ensures calls { calls_of self.new ≡ raised (calls_of self.old) }
+        ensures files { files_of self.new ≡ files_of self.old }
+        ensures failing { failing_of self.new ≡ failing_of self.old }
+    {
+        let fails = next_fails(&mut self.calls, &self.failing);
+        self.begun = None;
+        let Some(file) = find(&self.files, name) else {
+            self.others = self.others.saturating_add(1);
+            return Err(Failed);
+        };
+        if fails {
+            self.counts[file] = self.counts[file].saturating_add(1);
+            return Err(Failed);
+        }
+        self.begun = Some(Place { file, at: 0 });
+        Ok(())
+    }
+
+    fn read(&mut self, room: &mut [u8]) -> Result<usize, Failed>
+        requires begun { IsTrue (has_begun self.old) }
+        requires room { 0 < length room.old }
+
+        ensures holds { told_holding self.new ≡ told_holding self.old }
+        ensures begun { IsTrue (has_begun self.new) }
+        ensures bound { IfOk result (λ n. n ≤ length room.new) }
+        ensures bytes { ReadConsumes (rest_of self.old) (rest_of self.new) result room.new }
+        ensures serves { (other : List ℕ) → serves_of self.new other ≡ serves_of self.old other }
+        ensures cause { OnErr result ((other : List ℕ) → IsTrue (serves_of self.old other) → Rose (faults_of self.old other) (faults_of self.new other)) }
+        ensures later { (other : List ℕ) → faults_of self.old other ≤ faults_of self.new other }
+
+        // It fails exactly at the calls of these numbers; each failure is counted.
+        ensures fails { IsErr result ↔ FailsNext self.old }
+        ensures counted { OnErr result (Raises (serves_of self.old) (faults_of self.old) (faults_of self.new)) }
+        ensures uncounted { OnOk result (Same (faults_of self.old) (faults_of self.new)) }
+
+        ensures calls { calls_of self.new ≡ raised (calls_of self.old) }
+        ensures files { files_of self.new ≡ files_of self.old }
+        ensures failing { failing_of self.new ≡ failing_of self.old }
+    {
+        let Some(place) = self.begun else {
+            unreachable!()
+        };
+        if next_fails(&mut self.calls, &self.failing) {
+            self.counts[place.file] = self.counts[place.file].saturating_add(1);
+            return Err(Failed);
+        }
+        let count = put_rest(&self.files[place.file].1, place.at, room);
+        self.begun = Some(Place {
+            file: place.file,
+            at: place.at + count,
+        });
+        Ok(count)
+    }
+}
+
+// Counts a call, and says whether it is to fail.
+fn next_fails(calls: &mut u64, failing: &[u64]) -> bool
+    ensures counted { calls.new ≡ raised calls.old }
+    ensures fails { IsTrue result ↔ Contains failing.now calls.new }
+{
+    *calls = calls.saturating_add(1);
+    failing.contains(calls)
+}
+
+// Puts the bytes from a place on at the front of the room, as many as fit.
+fn put_rest(text: &[u8], at: usize, room: &mut [u8]) -> usize
+    requires { at ≤ length text.now }
+    ensures bound { result ≤ length room.new }
+    ensures within { at + result ≤ length text.now }
+    ensures bytes { drop at text.now ≡ take result room.new ++ drop (at + result) text.now }
+    ensures end { result ≡ 0 → 0 < length room.new → at ≡ length text.now }
+{
+    let rest = &text[at..];
+    let count = rest.len().min(room.len());
+    room[..count].copy_from_slice(&rest[..count]);
+    count
+}
+
+fn find(files: &[(String, Vec<u8>)], name: &str) -> Option<usize>
+    ensures { result ≡ place_of files.now name.now }
+{
+    files.iter().position(|file| file.0.as_str() == name)
+}

@@ -1,0 +1,52 @@
+// A writer of std, as standard output. What it takes is not told: this is the trusted edge.
+ghost use Rattle.std.specs.Prelude.{◌≡◌, ◌<◌, ◌≤◌, [], None, length, take, IfOk, OnOk, OnErr};
+ghost use Rattle.market_edge.specs.Faults.{Rose, raised};
+ghost use Rattle.market_edge.specs.Sinks.{Takes};
+
+use crate::{Failed, Sink};
+use std::io::Write;
+
+/// Standard output, or another writer of std. A write that takes no byte is a fault, as one that fails is.
+#[derive(Drop)]
+pub struct StdoutSink<W: Write + Drop> {
+    writer: W,
+    faults: u64,
+}
+
+impl<W: Write + Drop> StdoutSink<W> {
+    /// A sink over this writer.
+    pub fn new(writer: W) -> Self
+        ensures { ⟦<StdoutSink<W> as Sink>⟧.faults result ≡ 0 }
+    {
+        StdoutSink { writer, faults: 0 }
+    }
+}
+
+impl<W: Write + Drop> Sink for StdoutSink<W> {
+    ghost taken = { λ _. None };
+
+    ghost faults = { λ sink. sink.faults };
+
+    fn write(&mut self, piece: &[u8]) -> Result<usize, Failed>
+        requires { 0 < length piece.now }
+
+        ensures some { IfOk result (λ n. 0 < n) }
+        ensures bound { IfOk result (λ n. n ≤ length piece.now) }
+        ensures bytes { IfOk result (λ n. Takes (⟦<StdoutSink<W> as Sink>⟧.taken self.old) (⟦<StdoutSink<W> as Sink>⟧.taken self.new) (take n piece.now)) }
+        ensures none { OnErr result (Takes (⟦<StdoutSink<W> as Sink>⟧.taken self.old) (⟦<StdoutSink<W> as Sink>⟧.taken self.new) []) }
+        ensures cause { OnErr result (Rose (⟦<StdoutSink<W> as Sink>⟧.faults self.old) (⟦<StdoutSink<W> as Sink>⟧.faults self.new)) }
+        ensures later { ⟦<StdoutSink<W> as Sink>⟧.faults self.old ≤ ⟦<StdoutSink<W> as Sink>⟧.faults self.new }
+
+        // Each failure is counted, and nothing else.
+        ensures counted { OnErr result (⟦<StdoutSink<W> as Sink>⟧.faults self.new ≡ raised (⟦<StdoutSink<W> as Sink>⟧.faults self.old)) }
+        ensures uncounted { OnOk result (⟦<StdoutSink<W> as Sink>⟧.faults self.new ≡ ⟦<StdoutSink<W> as Sink>⟧.faults self.old) }
+    {
+        match self.writer.write(piece) {
+            Ok(count) if count > 0 => Ok(count),
+            _ => {
+                self.faults = self.faults.saturating_add(1);
+                Err(Failed)
+            }
+        }
+    }
+}

@@ -1,0 +1,125 @@
+// What no clause says: that the calls succeed with ample memory, and what the real adapters do.
+
+use super::*;
+use std::alloc::Global;
+use std::io::Write;
+use std::process::Abort;
+use std::test::Fail;
+use std::{fs, io, process};
+
+// More than one read puts.
+const LONG: u16 = 8193;
+
+// A shelf with a long text, a second text of the same name, and an empty one.
+fn shelf_of(rt: &impl Abort, alloc: Global, failing_call: u64) -> Result<MemoryShelf, Fail> {
+    let mut files = Vec::new(alloc);
+    files.push((
+        String::from_str(alloc, "CAT")?,
+        vec![in alloc; b'x'; usize::from(LONG)]?,
+    ))?;
+    files.push((String::from_str(alloc, "CAT")?, b"second".to_vec(alloc)?))?;
+    files.push((String::from_str(alloc, "S1")?, Vec::new(alloc)))?;
+    Ok(MemoryShelf::make(alloc, files, vec![in alloc; failing_call]?).expect(rt, "memory"))
+}
+
+#[test]
+fn whole_texts_are_read(rt: HostRuntime) -> Result<(), Fail> {
+    let alloc = rt.alloc();
+    // A name, a limit, the call that fails, and what is read.
+    let cases: [(&str, u16, u64, Result<u16, Taking>); 9] = [
+        ("CAT", LONG, 0, Ok(LONG)),
+        ("CAT", LONG - 1, 0, Err(Taking::TooLong)),
+        ("S1", 0, 0, Ok(0)),
+        ("Q", 10, 0, Err(Taking::ShelfFault)),
+        ("CAT", LONG, 1, Err(Taking::ShelfFault)),
+        ("CAT", LONG, 2, Err(Taking::ShelfFault)),
+        ("CAT", LONG, 3, Err(Taking::ShelfFault)),
+        ("CAT", LONG, 4, Err(Taking::ShelfFault)),
+        ("CAT", LONG, 5, Ok(LONG)),
+    ];
+    for (name, limit, failing_call, want) in cases {
+        let mut shelf = shelf_of(&rt, alloc, failing_call)?;
+        match read_whole(alloc, &mut shelf, name, usize::from(limit)) {
+            Ok(text) => {
+                let want = want.map(usize::from);
+                assert_eq!(rt; Ok(text.len()), want, "{name}, call {failing_call} fails");
+                assert!(rt; text.iter().all(|&byte| byte == b'x'));
+            }
+            Err(taking) => {
+                assert_eq!(rt; Err(taking), want, "{name}, call {failing_call} fails");
+            }
+        }
+    }
+    Ok(())
+}
+
+#[test]
+fn a_sink_takes_what_fits(rt: HostRuntime) -> Result<(), Fail> {
+    let alloc = rt.alloc();
+    // Room for eight bytes, with the write that fails, and what is taken of two texts.
+    let cases: [(u64, &str); 2] = [(0, "bundle a"), (2, "bundle")];
+    for (failing_write, want) in cases {
+        let mut sink = MemorySink::make(alloc, 8, vec![in alloc; failing_write]?).expect(
+            &rt, "memory",
+        );
+        assert_eq!(rt; write_whole(&mut sink, b"bundle"), Ok(()));
+        assert_eq!(rt; write_whole(&mut sink, b" ann"), Err(SinkFault));
+        assert_eq!(rt; sink.taken(), want.as_bytes());
+    }
+    Ok(())
+}
+
+#[test]
+fn files_are_read(rt: HostRuntime) -> Result<(), Fail> {
+    let alloc = rt.alloc();
+    let path = format!(in alloc; "/tmp/course_match_shelf_{}", process::id(rt.process()))?;
+    fs::write(&rt, path.as_str(), "section,course\n")?;
+    let mut shelf = FileShelf::new(&rt);
+    let text = read_whole(alloc, &mut shelf, path.as_str(), 15);
+    let long = read_whole(alloc, &mut shelf, path.as_str(), 14);
+    fs::remove_file(&rt, path.as_str())?;
+    let missing = read_whole(alloc, &mut shelf, path.as_str(), 15);
+    let folder = read_whole(alloc, &mut shelf, "/", 15);
+    assert_eq!(rt;
+        text.expect(&rt, "text").as_slice(),
+        b"section,course\n".as_slice()
+    );
+    assert_eq!(rt; long.err(), Some(Taking::TooLong));
+    assert_eq!(rt; missing.err(), Some(Taking::ShelfFault));
+    assert_eq!(rt; folder.err(), Some(Taking::ShelfFault));
+    Ok(())
+}
+
+// A writer that takes one byte of each piece, then none, then fails, as a pipe that is closed.
+#[derive(Drop)]
+struct Pipe {
+    open: usize,
+    stuck: usize,
+}
+
+impl Write for Pipe {
+    fn write(&mut self, piece: &[u8]) -> io::Result<usize> {
+        if self.open > 0 && !piece.is_empty() {
+            self.open -= 1;
+            return Ok(1);
+        }
+        if self.stuck > 0 {
+            self.stuck -= 1;
+            return Ok(0);
+        }
+        Err(io::Error::from(io::ErrorKind::BrokenPipe))
+    }
+
+    fn flush(&mut self) -> io::Result<()> {
+        Ok(())
+    }
+}
+
+#[test]
+fn a_closed_pipe_is_a_fault(rt: HostRuntime) {
+    let mut sink = StdoutSink::new(Pipe { open: 4, stuck: 1 });
+    assert_eq!(rt; sink.write(b"ab"), Ok(1));
+    assert_eq!(rt; write_whole(&mut sink, b"abc"), Ok(()));
+    assert_eq!(rt; sink.write(b"takes none"), Err(Failed));
+    assert_eq!(rt; write_whole(&mut sink, b"fails"), Err(SinkFault));
+}

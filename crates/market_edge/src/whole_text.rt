@@ -1,0 +1,99 @@
+// Whole texts, in and out.
+ghost use Rattle.std.specs.Prelude.{◌≡◌, ◌+◌, ◌<◌, ◌≤◌, List, ℕ, length, IsTrue, IfOk, OnOk, OnErr, IsErrOf};
+ghost use Rattle.market_edge.specs.declared.whole_text.Taking.TheVariants.{ShelfFault, NoMemory};
+ghost use Rattle.market_edge.specs.Faults.{Rose};
+ghost use Rattle.market_edge.specs.Holdings.{IsReadOut, IsTextOf, TakesAtMost, TakesExactly};
+ghost use Rattle.market_edge.specs.Sinks.{Takes, TakesFront};
+
+use crate::{Failed, Shelf, Sink};
+use market_units::MAX_TEXT_BYTES;
+use std::alloc::{AllocError, Global};
+
+// As many bytes as one read may put.
+const PIECE: usize = 8192;
+
+/// Why a text was not read whole.
+#[derive(Clone, Copy, Debug, PartialEq, Eq)]
+pub enum Taking {
+    /// The shelf could not begin the text, or could not read on.
+    ShelfFault,
+    /// The text has more bytes than the limit.
+    TooLong,
+    /// There was no memory for the text.
+    NoMemory,
+}
+
+impl From<Failed> for Taking {
+    ghost from_gives = { λ _ e. e ≡ ShelfFault };
+
+    fn from(_: Failed) -> Self {
+        Taking::ShelfFault
+    }
+}
+
+impl From<AllocError> for Taking {
+    ghost from_gives = { λ _ e. e ≡ NoMemory };
+
+    fn from(_: AllocError) -> Self {
+        Taking::NoMemory
+    }
+}
+
+/// The sink did not take the whole text.
+#[derive(Clone, Copy, Debug, PartialEq, Eq)]
+pub struct SinkFault;
+
+/// The whole text of a name, read to its end, where it has at most `limit` bytes.
+pub fn read_whole<H: Shelf>(
+    alloc: Global,
+    shelf: &mut H,
+    name: &str,
+    limit: usize,
+) -> Result<Vec<u8>, Taking>
+    requires { limit ≤ MAX_TEXT_BYTES }
+
+    ensures whole { IfOk result (λ text. IsTextOf (H.holds shelf.old) name.now text.items) }
+    ensures end { OnOk result (IsReadOut (H.holds shelf.old) (H.left shelf.new)) }
+    ensures within { IfOk result (λ text. length text.items ≤ limit) }
+
+    // It is too long exactly where one byte more than the limit was taken.
+    ensures too_long { IsErrOf result Taking.TooLong → TakesExactly (limit + 1) (H.holds shelf.old) name.now (H.left shelf.new) }
+    ensures at_most { ¬ IsErrOf result Taking.TooLong → IsTrue (H.is_begun shelf.new) → TakesAtMost limit (H.holds shelf.old) name.now (H.left shelf.new) }
+
+    ensures shelf_fault { IsErrOf result Taking.ShelfFault → Rose (H.faults shelf.old name.now) (H.faults shelf.new name.now) }
+
+    ensures holds { H.holds shelf.new ≡ H.holds shelf.old }
+    ensures later { (other : List ℕ) → H.faults shelf.old other ≤ H.faults shelf.new other }
+{
+    shelf.begin(name)?;
+    let mut text = Vec::new(alloc);
+    let mut room = [0; PIECE];
+    'pieces: loop {
+        let most = (limit + 1 - text.len()).min(PIECE);
+        let count = shelf.read(&mut room[..most])?;
+        if count == 0 {
+            return Ok(text);
+        }
+        if text.len() + count > limit {
+            return Err(Taking::TooLong);
+        }
+        text.extend_from_slice(&room[..count])?;
+    }
+}
+
+/// Writes the whole text. After a fault some bytes at its end were not taken. It takes no memory.
+pub fn write_whole<K: Sink>(sink: &mut K, text: &[u8]) -> Result<(), SinkFault>
+    ensures whole { OnOk result (Takes (K.taken sink.old) (K.taken sink.new) text.now) }
+    ensures front { OnErr result (TakesFront (K.taken sink.old) (K.taken sink.new) text.now) }
+    ensures cause { OnErr result (Rose (K.faults sink.old) (K.faults sink.new)) }
+    ensures later { K.faults sink.old ≤ K.faults sink.new }
+{
+    let mut done = 0;
+    'pieces: while done < text.len() {
+        match sink.write(&text[done..]) {
+            Ok(count) => done += count,
+            Err(Failed) => return Err(SinkFault),
+        }
+    }
+    Ok(())
+}

@@ -1,0 +1,8 @@
+-- The step sizes of the search.
+use Rattle.std.specs.Prelude.{ℕ, ◌≤◌, List, length, All}
+
+-- 1 to 16 numbers from 1 to 100,000
+pub record AreStepSizes (sizes : List ℕ) : Type 0 where
+  pub some : 1 ≤ length sizes
+  pub few : length sizes ≤ 16
+  pub within : All (λ size. (1 ≤ size) × (size ≤ 100000)) sizes

@@ -1,0 +1,25 @@
+// Numbers of at most six digits, with a sign where they are negative.
+ghost use Rattle.std.specs.Prelude.{ℤ, ◌≡◌, ◌≢◌, ◌<◌, ◌^◌, unsigned_abs, IfNone, IfSome};
+ghost use Rattle.std.specs.Fmt.{signed_decimal};
+
+use market_units::read_number;
+
+// The greatest number of six digits.
+const MAX_SHORT: u64 = 999_999;
+
+// The number of at most six digits that the word spells.
+pub(crate) fn read_short(word: &[u8]) -> Option<i32>
+    ensures short { IfSome result (λ n. unsigned_abs n < 10 ^ 6) }
+    ensures spelled { IfSome result (λ n. word.now ≡ signed_decimal n) }
+    ensures none { IfNone result ((n : ℤ) → unsigned_abs n < 10 ^ 6 → word.now ≢ signed_decimal n) }
+{
+    if word.is_empty() || word[0] != b'-' {
+        let n = read_number(word, MAX_SHORT)?;
+        return Some(n as i32);
+    }
+    let n = read_number(&word[1..], MAX_SHORT)?;
+    if n == 0 {
+        return None;
+    }
+    Some(-(n as i32))
+}
