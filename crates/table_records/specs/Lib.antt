@@ -1,0 +1,5 @@
+pub mod Columns
+pub mod Laws
+pub mod Reading
+pub mod Records
+pub mod Walk

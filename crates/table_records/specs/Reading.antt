@@ -1,0 +1,93 @@
+-- What the records of a table say: its rows, or the refusal of the first bad record at its first bad column.
+use Rattle.std.specs.Prelude.{◌≡◌, ℕ, ◌+◌, Bool, ◌&&◌, ◌==◌, if◌then◌else◌, nat_le, List, [], ◌∷◌, ◌++◌, length, map, Option, Some, None, option_map, position, Result, Ok, Err}
+use Rattle.std.specs.Cmp.Lexicographic.{pointwise}
+use Rattle.std.specs.Str.{bytes_eq}
+use Rattle.market_units.specs.declared.names.Name.{Name}
+use Rattle.market_units.specs.Name.{name_bytes}
+use Rattle.table_records.specs.declared.fault.Fault.{Fault}
+use Rattle.table_records.specs.declared.fault.Fault.TheVariants as fault
+use Rattle.table_records.specs.declared.fault.End.{End}
+use Rattle.table_records.specs.declared.fault.End.TheVariants as end
+use Rattle.table_records.specs.Columns.{is_name}
+use Rattle.table_records.specs.Records.{first_field}
+
+-- The rules of a table. R is what a row means, E is why a text is refused.
+pub record Rules (R E : Type 0) : Type 0 where
+  -- the fields of the first record
+  pub header : List (List ℕ)
+  -- the greatest number of rows, with the refusal of one more
+  pub most : Option (ℕ × E)
+  -- whether a row may have this name
+  pub knows : List ℕ → Bool
+  -- the refusal of a fault in no later column than the first
+  pub refusal : Fault → E
+  -- the row of this number that these fields are, or the refusal of their first bad column after the first
+  pub row : ℕ → List (List ℕ) → Result R E
+
+-- the refusal of one more row, where as many came before as the table may have
+abbrev pub refusal_if_full : {E : Type 0} → Option (ℕ × E) → ℕ → Option E
+refusal_if_full None rows = None
+refusal_if_full (Some most) rows = if nat_le most.0 rows then Some most.1 else None
+
+-- the first of these refusals, and where there is none, the answer
+abbrev pub unless : {R E : Type 0} → List (Option E) → Result R E → Result R E
+unless [] answer = answer
+unless (Some refusal ∷ more) answer = Err refusal
+unless (None ∷ more) answer = unless more answer
+
+-- the rows, with this one before them
+abbrev pub with_row : {R E : Type 0} → R → Result (List R) E → Result (List R) E
+with_row row (Ok rows) = Ok (row ∷ rows)
+with_row row (Err refusal) = Err refusal
+
+-- the row of each answer, or the first refusal among them
+abbrev pub rows_or_first_refusal : {R E : Type 0} → List (Result R E) → Result (List R) E
+rows_or_first_refusal [] = Ok []
+rows_or_first_refusal (Ok row ∷ more) = with_row row (rows_or_first_refusal more)
+rows_or_first_refusal (Err refusal ∷ more) = Err refusal
+
+-- `names` are those of the earlier rows
+module _ {R E : Type 0} (rules : Rules R E) where
+  -- the number of the record after these rows and the header, the header's being 1
+  abbrev pub row_after : List (List ℕ) → ℕ
+  row_after names = length names + 2
+
+  -- one row too many
+  abbrev pub surplus : List (List ℕ) → Option E
+  surplus names = refusal_if_full rules.most (length names)
+
+  -- another number of fields than the header's
+  abbrev pub other_width : List (List ℕ) → List (List ℕ) → Option E
+  other_width names fields = if length fields == length rules.header then None else Some (rules.refusal (fault.Fields (row_after names)))
+
+  -- column 1 is no name that a row may have
+  abbrev pub no_name : List (List ℕ) → List (List ℕ) → Option E
+  no_name names fields = if is_name (first_field fields) && rules.knows (first_field fields) then None else Some (rules.refusal (fault.Name (row_after names)))
+
+  -- column 1 is the name of an earlier row, the first of which is told
+  abbrev pub repeat : List (List ℕ) → List (List ℕ) → Option E
+  repeat names fields = option_map (λ place. rules.refusal (fault.Repeated (row_after names) (place + 2))) (position (bytes_eq (first_field fields)) names)
+
+  -- what a record says: its row, or the refusal of its first fault
+  abbrev pub answer_to : List (List ℕ) → List (List ℕ) → Result R E
+  answer_to names fields =
+      unless (surplus names ∷ other_width names fields ∷ no_name names fields ∷ repeat names fields ∷ []) (rules.row (row_after names) fields)
+
+  -- what each record says, after rows of these names and the records before it
+  abbrev pub answers : List (List ℕ) → List (List (List ℕ)) → List (Result R E)
+  answers names [] = []
+  answers names (fields ∷ more) = answer_to names fields ∷ answers (names ++ first_field fields ∷ []) more
+
+  -- what a table's records say: its rows, or the refusal of the first bad record
+  abbrev pub reading : List (List (List ℕ)) → Result (List R) E
+  reading [] = Err (rules.refusal fault.Header)
+  reading (first ∷ later) = if pointwise bytes_eq first rules.header then rows_or_first_refusal (answers [] later) else Err (rules.refusal fault.Header)
+
+-- an end tells the refusal that a reading gives, or else memory was wanted
+abbrev pub Tells : {R E : Type 0} → Result R E → End E → Type 0
+Tells answer end.NoMemory = Unit {0}
+Tells answer (end.Refused refusal) = answer ≡ Err refusal
+
+-- the bytes of each name
+abbrev pub bytes_of : List Name → List (List ℕ)
+bytes_of names = map name_bytes names

@@ -1,0 +1,56 @@
+// What a kind of table is.
+ghost use Rattle.std.specs.Prelude.{◌≡◌, ℕ, List, map, IfOk};
+ghost use Rattle.csv.specs.Records.{fields_of};
+ghost use Rattle.market_units.specs.Name.{name_bytes};
+ghost use Rattle.table_records.specs.Reading.{Rules};
+ghost use Rattle.table_records.specs.Records.{first_field};
+
+use crate::Fault;
+use csv::ByteRecord;
+use market_units::Name;
+
+/// A kind of table: what its records may be, and what they mean.
+pub trait Table {
+    /// A row. Contracts see it as what its record means.
+    type Row: Drop;
+
+    /// Why a text is refused.
+    type Refusal: Copy + Drop;
+
+    /// The rules of the table.
+    ghost rules: { Self → Rules Self.Row Self.Refusal };
+
+    /// The name of a row.
+    ghost name_of: { Self.Row → List ℕ };
+
+    /// What holds of every row that is read.
+    ghost is_row: { Self.Row → Type 0 };
+
+    /// The fields of the first record.
+    fn header(&self) -> &[&[u8]]
+        ensures { map (λ f. f.now) result.now ≡ (rules self.now).header };
+
+    /// The greatest number of rows, with the refusal of one more; `None` where there is no such number.
+    fn most(&self) -> Option<(usize, Self::Refusal)>
+        ensures { result ≡ (rules self.now).most };
+
+    /// Whether a row may have this name.
+    fn knows(&self, name: &Name) -> bool
+        ensures { result ≡ (rules self.now).knows (name_bytes name.now) };
+
+    /// The refusal of a fault in no later column than the first.
+    fn refuse(&self, fault: Fault) -> Self::Refusal
+        ensures { result ≡ (rules self.now).refusal fault };
+
+    /// The row of this number and name that the record is, or the refusal of its first bad column after the first.
+    fn read_row(
+        &self,
+        row: u32,
+        name: Name,
+        fields: &ByteRecord,
+    ) -> Result<Self::Row, Self::Refusal>
+        requires { name_bytes name ≡ first_field (fields_of fields.now) }
+        ensures row { result ≡ (rules self.now).row row (fields_of fields.now) }
+        ensures name { IfOk result (λ read. name_of read ≡ name_bytes name) }
+        ensures kept { IfOk result is_row };
+}

@@ -1,0 +1,88 @@
+// The walk along the records of a table.
+ghost use Rattle.std.specs.Prelude.{◌≡◌, ◌<◌, ◌≤◌, ◌^◌, ◌-◌, [], length, map, IfOk, IfErr, IfSome, Ok, All, true};
+ghost use Rattle.std.specs.List.{IsDistinct};
+ghost use Rattle.std.specs.Cmp.Lexicographic.{pointwise};
+ghost use Rattle.std.specs.Str.{bytes_eq};
+ghost use Rattle.csv.specs.Reading.{error_kind, stops_reader};
+ghost use Rattle.csv.specs.Records.{fields_of};
+ghost use Rattle.table_records.specs.Reading.{Tells, bytes_of, reading};
+ghost use Rattle.table_records.specs.Records.{records_of};
+ghost use Rattle.table_records.specs.Walk.{HasGiven};
+
+use crate::rows::take_record;
+use crate::{End, Fault, Rows, Table, field_in};
+use csv::{ByteRecord, ByteRecordsIntoIter, Error, ReaderBuilder};
+use indexmap::IndexSet;
+use std::alloc::Global;
+
+// The records of a text, of which none was given yet.
+fn records_in(alloc: Global, text: &[u8]) -> ByteRecordsIntoIter<&[u8]>
+    ensures { HasGiven text.now result [] }
+{
+    ReaderBuilder::new()
+        .has_headers(false)
+        .flexible(true)
+        .from_reader(alloc, text)
+        .into_byte_records()
+}
+
+// The end where the reader failed for what lies under it. Bytes in memory can be read, so memory was wanted.
+fn end_of_failure<E>(failure: &Error) -> End<E>
+    requires { stops_reader (error_kind failure.now) ≡ true }
+    ensures { result ≡ End.NoMemory }
+{
+    End::NoMemory
+}
+
+// Whether a record is the header.
+fn is_header(fields: &ByteRecord, header: &[&[u8]]) -> bool
+    ensures { result ≡ pointwise bytes_eq (fields_of fields.now) (map (λ f. f.now) header.now) }
+{
+    if fields.len() != header.len() {
+        return false;
+    }
+    for (i, field) in header.iter().enumerate() {
+        if field_in(fields, i + 1) != *field {
+            return false;
+        }
+    }
+    true
+}
+
+/// Reads the rows of a table from a text: every row, or the refusal of the first bad record at its first bad column.
+/// The reading stops there, and takes memory for no record after it.
+pub fn read_rows<T: Table>(
+    alloc: Global,
+    table: &T,
+    text: &[u8],
+) -> Result<Rows<T::Row>, End<T::Refusal>>
+    requires { length text.now < 2 ^ 32 - 1 }
+    ensures rows { IfOk result (λ read. reading (T.rules table.now) (records_of text.now) ≡ Ok read.rows.items) }
+    ensures names { IfOk result (λ read. bytes_of read.names.keys ≡ map T.name_of read.rows.items) }
+    ensures distinct { IfOk result (λ read. IsDistinct bytes_eq (bytes_of read.names.keys)) }
+    ensures few { IfOk result (λ read. IfSome (T.rules table.now).most (λ most. length read.rows.items ≤ most.0)) }
+    ensures each { IfOk result (λ read. All T.is_row read.rows.items) }
+    ensures refused { IfErr result (Tells (reading (T.rules table.now) (records_of text.now))) }
+{
+    let mut records = records_in(alloc, text);
+    let first = match records.next() {
+        Some(Ok(first)) => first,
+        Some(Err(failure)) => return Err(end_of_failure(&failure)),
+        None => return Err(End::Refused(table.refuse(Fault::Header))),
+    };
+    if !is_header(&first, table.header()) {
+        return Err(End::Refused(table.refuse(Fault::Header)));
+    }
+    let mut rows = Rows {
+        names: IndexSet::new(alloc),
+        rows: Vec::new(alloc),
+    };
+    for next in records {
+        let fields = match next {
+            Ok(fields) => fields,
+            Err(failure) => return Err(end_of_failure(&failure)),
+        };
+        take_record(table, &fields, &mut rows)?;
+    }
+    Ok(rows)
+}
