@@ -1,0 +1,3 @@
+pub mod ClashFacts
+pub mod CourseFacts
+pub mod Occurrences

@@ -1,0 +1,17 @@
+//! The catalogue: its sections, read from a table with each refusal at its exact place.
+#![tactic(auto)]
+
+mod catalog;
+mod courses;
+pub mod laws;
+mod reading;
+mod refusal;
+mod rows;
+mod rules;
+
+pub use catalog::Catalog;
+pub use reading::read_catalog;
+pub use refusal::CatalogRefusal;
+
+#[cfg(test)]
+mod tests;

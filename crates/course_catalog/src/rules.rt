@@ -1,0 +1,66 @@
+// What the records of a catalogue may be.
+ghost use Rattle.std.specs.Prelude.{◌≡◌};
+ghost use Rattle.course_catalog.specs.Reading.{catalog_rules};
+ghost use Rattle.course_catalog.specs.Sections.{IsSection};
+
+use crate::CatalogRefusal;
+use crate::rows::Row;
+use csv::ByteRecord;
+use market_units::{MAX_SEATS, MAX_SECTION_CREDITS, MAX_SECTIONS, Name};
+use table_records::{Fault, Table, field_in, name_in, number_in};
+use timetable_rules::read_meetings;
+
+/// The table of a catalogue.
+pub(crate) struct CatalogTable;
+
+impl Table for CatalogTable {
+    type Row = Row;
+
+    type Refusal = CatalogRefusal;
+
+    ghost rules = { λ _. catalog_rules };
+
+    ghost name_of = { λ section. section.name };
+
+    ghost is_row = { IsSection };
+
+    fn header(&self) -> &[&[u8]] {
+        &[b"section", b"course", b"seats", b"credits", b"meetings"]
+    }
+
+    fn most(&self) -> Option<(usize, CatalogRefusal)> {
+        Some((usize::from(MAX_SECTIONS), CatalogRefusal::TooMany))
+    }
+
+    fn knows(&self, _name: &Name) -> bool {
+        true
+    }
+
+    fn refuse(&self, fault: Fault) -> CatalogRefusal {
+        match fault {
+            Fault::Header => CatalogRefusal::Header,
+            Fault::Fields { row } => CatalogRefusal::Fields { row },
+            Fault::Name { row } => CatalogRefusal::Name { row, column: 1 },
+            Fault::Repeated { row, earlier } => CatalogRefusal::Repeated { row, earlier },
+        }
+    }
+
+    fn read_row(&self, row: u32, name: Name, fields: &ByteRecord) -> Result<Row, CatalogRefusal> {
+        let course = name_in(fields, 2).ok_or(CatalogRefusal::Name { row, column: 2 })?;
+        let seats = number_in(fields, 3, u64::from(MAX_SEATS)).ok_or(CatalogRefusal::Number {
+            row,
+            column: 3,
+        })?;
+        let credits = number_in(fields, 4, u64::from(MAX_SECTION_CREDITS)).ok_or(
+            CatalogRefusal::Number { row, column: 4 },
+        )?;
+        let meetings = read_meetings(field_in(fields, 5)).ok_or(CatalogRefusal::Meetings { row })?;
+        Ok(Row {
+            name,
+            course,
+            seats: seats as u16,
+            credits: credits as u16,
+            meetings,
+        })
+    }
+}

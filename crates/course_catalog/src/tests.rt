@@ -1,0 +1,217 @@
+use super::*;
+use market_units::{Name, SectionNo, read_name};
+use std::alloc::Global;
+use std::process::Abort;
+use std::test::Fail;
+
+const HEADER: &[u8] = b"section,course,seats,credits,meetings\n";
+
+// The header, and these records after it.
+fn table(alloc: Global, records: &[u8]) -> Result<Vec<u8>, Fail> {
+    let mut text = Vec::from_slice(alloc, HEADER)?;
+    text.extend_from_slice(records)?;
+    Ok(text)
+}
+
+fn read(alloc: Global, text: &[u8]) -> Result<Catalog, CatalogRefusal> {
+    if text.len() > 100_000 {
+        return Err(CatalogRefusal::NoMemory);
+    }
+    read_catalog(alloc, text)
+}
+
+fn refusal_of(alloc: Global, text: &[u8]) -> Option<CatalogRefusal> {
+    match read(alloc, text) {
+        Ok(_) => None,
+        Err(refusal) => Some(refusal),
+    }
+}
+
+#[test]
+fn refused_records(rt: HostRuntime) -> Result<(), Fail> {
+    let cases: [(&[u8], CatalogRefusal); 21] = [
+        (b"A,AA,2,1,\"M0900-10", CatalogRefusal::Meetings { row: 2 }),
+        (
+            b"A,AA,2,1,\nA,BB,2,1,\n",
+            CatalogRefusal::Repeated { row: 3, earlier: 2 },
+        ),
+        (
+            b"A,AA,1,1,\nB,BB,1,1,\nC,CC,1,1,\nB,BB,1,1,\n",
+            CatalogRefusal::Repeated { row: 5, earlier: 3 },
+        ),
+        (
+            b"A,AA,1,1,\nA,A A,x,1,\n",
+            CatalogRefusal::Repeated { row: 3, earlier: 2 },
+        ),
+        (
+            b"A,AA,007,1,\n",
+            CatalogRefusal::Number { row: 2, column: 3 },
+        ),
+        (
+            b"A,AA,+5,1,\n",
+            CatalogRefusal::Number { row: 2, column: 3 },
+        ),
+        (
+            b"A,AA,10000,1,\n",
+            CatalogRefusal::Number { row: 2, column: 3 },
+        ),
+        (
+            b"A,AA,1,101,\n",
+            CatalogRefusal::Number { row: 2, column: 4 },
+        ),
+        (
+            b"A,AA,1,0.5,\n",
+            CatalogRefusal::Number { row: 2, column: 4 },
+        ),
+        (b"A,AA,2,1\n", CatalogRefusal::Fields { row: 2 }),
+        (b"A,AA,2,1,,\n", CatalogRefusal::Fields { row: 2 }),
+        (b",AA,1,1,\n", CatalogRefusal::Name { row: 2, column: 1 }),
+        (
+            b"A,AA,1,1,\nB 1,BB,1,1,\n",
+            CatalogRefusal::Name { row: 3, column: 1 },
+        ),
+        (
+            b"A,\xc3\x89conomie,1,1,\n",
+            CatalogRefusal::Name { row: 2, column: 2 },
+        ),
+        (
+            b"A,\"A\nA\",1,1,\n",
+            CatalogRefusal::Name { row: 2, column: 2 },
+        ),
+        (b"A,A\"A,1,1,\n", CatalogRefusal::Name { row: 2, column: 2 }),
+        (
+            b"A,AA,x,y,z\n",
+            CatalogRefusal::Number { row: 2, column: 3 },
+        ),
+        (
+            b"A,AA,1,1,M\nA,AA,x,1,\n",
+            CatalogRefusal::Meetings { row: 2 },
+        ),
+        (
+            b"A,AA,1,1,M2300-2400\n",
+            CatalogRefusal::Meetings { row: 2 },
+        ),
+        (
+            b"\n\r\nA,AA,1,1,\n\n\nB,BB,x,1,\n",
+            CatalogRefusal::Number { row: 3, column: 3 },
+        ),
+        (
+            b"NNNNNNNNNNNNNNNNNNNNNNNNNNNNNNNNN,AA,1,1,\n",
+            CatalogRefusal::Name { row: 2, column: 1 },
+        ),
+    ];
+    for (records, refusal) in cases {
+        let text = table(rt.alloc(), records)?;
+        assert_eq!(rt; refusal_of(rt.alloc(), &text), Some(refusal), "{records:?}");
+    }
+    Ok(())
+}
+
+#[test]
+fn refused_headers(rt: HostRuntime) -> Result<(), Fail> {
+    let texts: [&[u8]; 6] = [
+        b"",
+        b"\xef\xbb\xbf",
+        b"\xef\xbb\xbf\xef\xbb\xbfsection,course,seats,credits,meetings\n",
+        b"course,section,seats,credits,meetings\nA,AA,1,1,\n",
+        b"section,course,seats,credits,meetings,room\nA,AA,1,1,\n",
+        b"section, course,seats,credits,meetings\nA,AA,1,1,\n",
+    ];
+    for text in texts {
+        assert_eq!(rt;
+            refusal_of(rt.alloc(), text),
+            Some(CatalogRefusal::Header),
+            "{text:?}"
+        );
+    }
+    Ok(())
+}
+
+fn name(text: &[u8]) -> Result<Name, Fail> {
+    match read_name(text) {
+        Some(name) => Ok(name),
+        None => Err(Fail::from("no name")),
+    }
+}
+
+// Three sections, of which the first and the third have one course, and the second overlaps the third.
+fn is_told(rt: &impl Abort, alloc: Global, text: &[u8]) -> Result<(), Fail> {
+    let Ok(catalog) = read(alloc, text) else {
+        return Err(Fail::from("refused"));
+    };
+    if catalog.len() != 3 {
+        return Err(Fail::from("not three sections"));
+    }
+    let (a, b, c) = (SectionNo(0), SectionNo(1), SectionNo(2));
+    assert_eq!(rt; catalog.name(c).bytes(), b"a-Z_0.9".as_slice());
+    assert_eq!(rt; catalog.all_seats(), [2, 0, 9999].as_slice());
+    assert_eq!(rt;
+        (catalog.seats(a), catalog.seats(b), catalog.seats(c)),
+        (2, 0, 9999)
+    );
+    assert_eq!(rt;
+        (catalog.credits(a), catalog.credits(b), catalog.credits(c)),
+        (1, 100, 0)
+    );
+    assert_eq!(rt;
+        (catalog.course(a), catalog.course(b), catalog.course(c)),
+        (0, 1, 0)
+    );
+    assert!(rt;
+        catalog.clash(a, c) && catalog.clash(c, b) && !catalog.clash(a, b) && !catalog.clash(a, a)
+    );
+    assert_eq!(rt; catalog.find(&name(b"B")?), Some(b));
+    assert_eq!(rt; catalog.find(&name(b"AA")?), None);
+    Ok(())
+}
+
+#[test]
+fn what_is_told(rt: HostRuntime) -> Result<(), Fail> {
+    is_told(
+        &rt,
+        rt.alloc(),
+        b"section,course,seats,credits,meetings\nA,AA,2,1,M0900-1020\nB,BB,0,100,T0900-1000;M1020-1140\na-Z_0.9,AA,9999,0,M1139-1200\n",
+    )?;
+    is_told(
+        &rt,
+        rt.alloc(),
+        b"\xef\xbb\xbfsection,course,seats,credits,meetings\r\nA,AA,2,1,M0900-1020\r\n\r\nB,BB,0,100,T0900-1000;M1020-1140\r\na-Z_0.9,AA,9999,0,M1139-1200\r\n",
+    )?;
+    is_told(
+        &rt,
+        rt.alloc(),
+        b"\r\r\"section\",\"course\",seats,credits,\"meet\"ings\r\"A\",AA,\"2\",1,\"M0900-1020\"\r\nB,\"BB\",0,100,T0900-1000;M1020-1140\na-Z_0.9,AA,9999,0,\"M1139-1200\"",
+    )
+}
+
+// The header and this many rows.
+fn long_table(alloc: Global, rows: u16) -> Result<Vec<u8>, Fail> {
+    let mut text = Vec::from_slice(alloc, HEADER)?;
+    for row in 0..rows {
+        text.push(b'a' + (row % 26) as u8)?;
+        text.push(b'a' + (row / 26 % 26) as u8)?;
+        text.extend_from_slice(b",A,1,1,\n")?;
+    }
+    Ok(text)
+}
+
+#[test]
+fn four_hundred_sections(rt: HostRuntime) -> Result<(), Fail> {
+    let text = long_table(rt.alloc(), 400)?;
+    match read(rt.alloc(), &text) {
+        Ok(catalog) => assert_eq!(rt; catalog.len(), 400),
+        Err(_) => return Err(Fail::from("refused")),
+    }
+    let text = long_table(rt.alloc(), 401)?;
+    assert_eq!(rt;
+        refusal_of(rt.alloc(), &text),
+        Some(CatalogRefusal::TooMany)
+    );
+    let mut text = long_table(rt.alloc(), 400)?;
+    text.extend_from_slice(b"?")?;
+    assert_eq!(rt;
+        refusal_of(rt.alloc(), &text),
+        Some(CatalogRefusal::TooMany)
+    );
+    Ok(())
+}
