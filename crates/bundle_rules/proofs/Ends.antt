@@ -7,7 +7,7 @@ use Rattle.std.proofs.lemmas.Option.{get_or_from_slice_get, slice_get_within}
 use Rattle.market_units.specs.declared.units.SectionNo.{SectionNo}
 use Rattle.bundle_rules.specs.Sets.{has, IsAscending}
 use Rattle.bundle_rules.specs.Ordinals.{ordinals}
-use Rattle.bundle_rules.proofs.Sets.{has-here, has-there, has-cases, IsAscending-front, IsAscending-last, last_below}
+use Rattle.bundle_rules.specs.Existence.Members.{has-here, has-there, has-cases, IsAscending-front, IsAscending-last, last_below}
 
 -- a list without its last item, and that item
 pub split_last : {A : Type 0} (xs : List A) (x : A) → Some x ≡ slice_get xs (length xs - 1) → xs ≡ take (length xs - 1) xs ++ x ∷ []

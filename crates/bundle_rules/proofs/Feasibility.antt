@@ -1,13 +1,14 @@
 -- Feasible bundles, by the places of their sections.
-use Rattle.std.proofs.Common.{◌≡◌, ◌≢◌, ◌<◌, ◌+◌, ◌+ℤ◌, ℕ, true, false, true≢false, List, [], ◌∷◌, All, length, map, arith, refl, ap, sym, subst, ◌∙◌, inl, inr}
+use Rattle.std.proofs.Common.{◌≡◌, ◌≢◌, ◌<◌, ◌+◌, ◌+ℤ◌, ℕ, zero, suc, true, false, true≢false, List, [], ◌∷◌, All, length, map, arith, refl, ap, sym, subst, ◌∙◌, inl, inr}
 use Rattle.std.proofs.lemmas.List.{length-map}
 use Rattle.market_lists.specs.Totals.{total}
+use Rattle.bundle_rules.specs.declared.menu.Rated.{Rated}
 use Rattle.bundle_rules.specs.Sets.{has, IsAscending}
 use Rattle.bundle_rules.specs.Wishes.{Wishes, adjustments, utility, AllRated, IsFeasible}
 use Rattle.bundle_rules.specs.Apart.{ClashesWithNone, AreApart, MayTake}
-use Rattle.bundle_rules.specs.Menus.{MenuData, by_place, wishes_of, place_in, credits_at, adjustment_in, IsMenu}
-use Rattle.bundle_rules.proofs.Sets.{has-here, has-there, has-cases, has-above, all_of_has, has_of_all}
-use Rattle.bundle_rules.proofs.PlaceFacts.{rated_on_menu, on_menu_rated}
+use Rattle.bundle_rules.specs.Menus.{MenuData, by_place, wishes_of, place_in, section_at, credits_at, adjustment_in, IsMenu}
+use Rattle.bundle_rules.specs.Existence.Members.{has-here, has-there, has-cases, has-above, all_of_has, has_of_all}
+use Rattle.bundle_rules.specs.Existence.Places.{rated_on_menu, on_menu_rated, section_at-place_in}
 
 -- sections of a set that are apart one by one are apart
 none_from : (w : Wishes) (s : ℕ) (ss : List ℕ) → ClashesWithNone w s ss → (t : ℕ) → has ss t ≡ true → w.clash s t ≡ false
@@ -90,7 +91,7 @@ rated_from_places m ss menu all s is = on_menu_rated m.places (place_in m.places
 
 both_ways : (m : MenuData) (ss : List ℕ) → IsMenu m → AllRated (wishes_of m) ss → (s t : ℕ) → has ss s ≡ true → has ss t ≡ true → (wishes_of m).clash s t ≡ (wishes_of m).clash t s
 unfolding wishes_of
-both_ways m ss menu rated s t is is' = menu.clashes.both_ways (place_in m.places s) (place_in m.places t) (rated_on_menu m.places (place_in m.places s) (rated s is)) (rated_on_menu m.places (place_in m.places t) (rated t is'))
+both_ways m ss menu rated s t is is' = (menu.clashes.each (place_in m.places s) (place_in m.places t) (rated_on_menu m.places (place_in m.places s) (rated s is)) (rated_on_menu m.places (place_in m.places t) (rated t is'))).both_ways
 
 -- places that may be taken are those of a feasible bundle
 pub feasible_from : (m : MenuData) (ss : List ℕ) → IsMenu m → IsAscending ss → MayTake m (map (place_in m.places) ss) → IsFeasible (wishes_of m) ss
@@ -111,3 +112,14 @@ feasible_to m ss feasible = record {
   within = record { courses = rw length-map feasible.courses; credits = rw (credits_by_place m ss) feasible.credits };
   apart = apart_at_places m ss (apart_of (wishes_of m) ss feasible.set feasible.apart);
 }
+
+-- rated sections are among those of the menu
+section_has : (places : List Rated) (k : ℕ) → k < length places → has (map (λ rated. rated.section.0) places) (section_at places k) ≡ true
+section_has [] k low = absurd (omega arith)
+section_has (r ∷ rs) zero low = has-here r.section.0 (map (λ rated. rated.section.0) rs)
+section_has (r ∷ rs) (suc k) low = has-there r.section.0 (map (λ rated. rated.section.0) rs) (section_at rs k) (section_has rs k (omega arith))
+
+pub among_sections : (m : MenuData) (ss : List ℕ) → AllRated (wishes_of m) ss → (s : ℕ) → has ss s ≡ true → has (map (λ rated. rated.section.0) m.places) s ≡ true
+among_sections m ss rated s is =
+    let low = place_of_rated m ss rated s is in
+    subst (λ t. has (map (λ rated. rated.section.0) m.places) t ≡ true) (section_at-place_in m.places s low) (section_has m.places (place_in m.places s) low)

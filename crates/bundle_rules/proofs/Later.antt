@@ -1,9 +1,9 @@
 -- The sections of later places.
-use Rattle.std.proofs.Common.{◌≤◌, ◌-◌, ◌++◌, ℕ, List, [], ◌∷◌, length, get_or, take, drop, map, subst, append_assoc}
+use Rattle.std.proofs.Common.{◌≡◌, ◌<◌, ◌≤◌, ◌-◌, ◌++◌, ℕ, List, [], ◌∷◌, length, get_or, take, drop, map, refl, arith, ap, subst, append_assoc}
 use Rattle.bundle_rules.specs.declared.menu.Rated.{Rated}
 use Rattle.bundle_rules.specs.Sets.{IsAscending}
 use Rattle.bundle_rules.proofs.Firsts.{first_rest}
-use Rattle.bundle_rules.proofs.Sets.{IsAscending-front, IsAscending-middle}
+use Rattle.bundle_rules.specs.Existence.Members.{IsAscending-front, IsAscending-middle}
 
 abbrev pub no_place : Rated
 no_place = record { section = record { 0 = 0 }; course = 0; rating = 0; credits = 0 }
@@ -25,3 +25,11 @@ module _ (front : List ℕ) (later : List Rated) (some : 1 ≤ length later) (up
 
   pub ascending-first : IsAscending (front ++ (get_or later 0 no_place).section.0 ∷ [])
   ascending-first = IsAscending-front _ (sections (take (length later - 1) (drop 1 later))) ascending-wider
+
+  -- the later sections are the first and the rest
+  pub later_split : sections later ≡ (get_or later 0 no_place).section.0 ∷ sections (take (length later - 1) (drop 1 later))
+  later_split = ap sections (first_rest later no_place some)
+
+pub no_later : (later : List Rated) → length later < 1 → sections later ≡ []
+no_later [] none = refl
+no_later (x ∷ xs) none = absurd (omega arith)

@@ -1,9 +1,15 @@
-pub mod Sets
+pub mod BestValue
+pub mod Agreements
+pub mod Bits
+pub mod BestBits
 pub mod Bundled
+pub mod EqualBundles
 pub mod Ends
 pub mod Firsts
+pub mod FirstDifferences
+pub mod ClashTests
 pub mod Later
-pub mod PlaceFacts
+pub mod Ascents
 pub mod Feasibility
 pub mod Choices
 pub mod Tables

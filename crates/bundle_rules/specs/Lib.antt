@@ -4,6 +4,13 @@ pub mod Wishes
 pub mod Apart
 pub mod Preferences
 pub mod Demand
+pub mod Extensions
+pub mod Agreement
+pub mod Laws
+pub mod Existence
+pub mod Best
 pub mod Menus
+pub mod Places
 pub mod Kept
+pub mod Rows
 pub mod Ordinals

@@ -1,5 +1,5 @@
 -- A menu as the data that it is built of, and the wishes that it says.
-use Rattle.std.specs.Prelude.{ℕ, zero, suc, ℤ, pos, negsuc, ◌≤ℤ◌, ◌<◌, ◌≤◌, ◌≡◌, ◌≢◌, ◌&&◌, ◌||◌, ◌==◌, if◌then◌else◌, Bool, true, false, List, [], ◌∷◌, map, length, slice_get, slice_index, Some, All}
+use Rattle.std.specs.Prelude.{ℕ, zero, suc, ℤ, pos, negsuc, ◌≤ℤ◌, ◌<◌, ◌≤◌, ◌≡◌, ◌≢◌, ◌&&◌, ◌||◌, ◌==◌, if◌then◌else◌, Bool, true, false, List, [], ◌∷◌, map, length, slice_index, All, ⊤}
 use Rattle.std.specs.Int.{bit_at}
 use Rattle.bundle_rules.specs.declared.menu.Rated.{Rated}
 use Rattle.bundle_rules.specs.Sets.{IsAscending}
@@ -27,11 +27,16 @@ abbrev pub place_in : List Rated → ℕ → ℕ
 place_in [] s = 0
 place_in (rated ∷ more) s = if rated.section.0 == s then 0 else suc (place_in more s)
 
--- the section, rating and credits at a place, 0 where there is no such place
+-- the section, course, rating and credits at a place, 0 where there is no such place
 abbrev pub section_at : List Rated → ℕ → ℕ
 section_at [] k = 0
 section_at (rated ∷ more) zero = rated.section.0
 section_at (rated ∷ more) (suc k) = section_at more k
+
+abbrev pub course_at : List Rated → ℕ → ℕ
+course_at [] k = 0
+course_at (rated ∷ more) zero = rated.course
+course_at (rated ∷ more) (suc k) = course_at more k
 
 abbrev pub rating_at : List Rated → ℕ → ℕ
 rating_at [] k = 0
@@ -85,18 +90,27 @@ pub record IsPair (places : ℕ) (pair : ℕ × ℕ × ℤ) : Type 0 where
   pub low : negsuc 199 ≤ℤ pair.2
   pub high : pair.2 ≤ℤ pos 200
 
+-- each pair names other places than all later ones
+abbrev pub AreDifferent : List (ℕ × ℕ × ℤ) → Type 0
+AreDifferent [] = ⊤
+AreDifferent (pair ∷ pairs) = All (λ other. pair.0 ≡ other.0 → pair.1 ≢ other.1) pairs × AreDifferent pairs
+
 -- at most 200 pairs, no two of which name the same two places
 pub record ArePairs (places : ℕ) (pairs : List (ℕ × ℕ × ℤ)) : Type 0 where
   pub few : length pairs ≤ 200
   pub each : All (IsPair places) pairs
-  pub different : (i j : ℕ) (first second : ℕ × ℕ × ℤ) → i < j → slice_get pairs i ≡ Some first → slice_get pairs j ≡ Some second → first.0 ≡ second.0 → first.1 ≢ second.1
+  pub different : AreDifferent pairs
 
--- one word for each place: no place clashes with itself, a clash is mutual, and places of one course clash
+-- the clash of two places is mutual, and there is one where they are of one course
+pub record ClashesWell (places : List Rated) (clashes : List ℕ) (a b : ℕ) : Type 0 where
+  pub both_ways : clash_in clashes a b ≡ clash_in clashes b a
+  pub one_course : a ≢ b → course_at places a ≡ course_at places b → clash_in clashes a b ≡ true
+
+-- one word for each place; no place clashes with itself, and each two places clash well
 pub record AreClashes (places : List Rated) (clashes : List ℕ) : Type 0 where
   pub words : length clashes ≡ length places
   pub not_itself : (a : ℕ) → a < length places → clash_in clashes a a ≡ false
-  pub both_ways : (a b : ℕ) → a < length places → b < length places → clash_in clashes a b ≡ clash_in clashes b a
-  pub one_course : (a b : ℕ) (first second : Rated) → a ≢ b → slice_get places a ≡ Some first → slice_get places b ≡ Some second → first.course ≡ second.course → clash_in clashes a b ≡ true
+  pub each : (a b : ℕ) → a < length places → b < length places → ClashesWell places clashes a b
 
 -- the credit cap is at most 800, and the course cap at most 8
 pub record AreCaps (credits courses : ℕ) : Type 0 where

@@ -2,6 +2,10 @@
 ghost use Rattle.std.specs.Prelude.{◌≡◌, ◌↔◌, ◌<◌, ◌≤◌, ◌-◌, ◌++◌, ◌∷◌, [], IsTrue, IsSome, IfSome, length, take, drop, replicate};
 ghost use Rattle.bundle_rules.specs.Sets.{has, IsAscending, IsAscending-prop};
 ghost use Rattle.bundle_rules.specs.Ordinals.{ordinals, IsBundle};
+ghost use Rattle.std.specs.Prelude.{nat_eq};
+ghost use Rattle.std.specs.Cmp.{on_equiv, partial_equiv_from_equiv};
+ghost use Rattle.std.specs.Ordering.{on};
+ghost use Rattle.std.specs.Cmp.Lexicographic.{nat_list_eq_equiv, pointwise};
 
 use market_units::SectionNo;
 
@@ -90,4 +94,22 @@ impl Bundle {
             len: self.len + 1,
         }
     }
+}
+
+impl PartialEq for Bundle {
+    ghost use Rattle.bundle_rules.specs.Bundles.{sections_of};
+
+    ghost eq = { on sections_of (pointwise nat_eq) };
+
+    ghost laws = { partial_equiv_from_equiv (on_equiv sections_of nat_list_eq_equiv) };
+
+    fn eq(&self, other: &Bundle) -> bool {
+        self.sections() == other.sections()
+    }
+}
+
+impl Eq for Bundle {
+    ghost use Rattle.bundle_rules.specs.Bundles.{sections_of};
+
+    ghost laws = { on_equiv sections_of nat_list_eq_equiv };
 }

@@ -1,22 +1,49 @@
 // What a student takes at given prices, by trying every choice.
-ghost use Rattle.std.specs.Prelude.{◌≡◌, ◌↔◌, ◌<◌, ◌≤◌, ◌*◌, ◌++◌, ◌∷◌, [], IsTrue, IfSome, length, map, All};
+ghost use Rattle.std.specs.Prelude.{◌≡◌, ◌↔◌, ◌<◌, ◌≤◌, ◌*◌, ◌++◌, ◌∷◌, [], IsTrue, IfSome, IfNone, length, map, All};
 ghost use Rattle.std.specs.FinSet as set;
 ghost use Rattle.market_lists.specs.Totals.{total};
 ghost use Rattle.bundle_rules.specs.Sets.{IsAscending};
 ghost use Rattle.bundle_rules.specs.Wishes.{IsFeasible};
-ghost use Rattle.bundle_rules.specs.Demand.{price_in, HasPrices, IsChoice, IsBest};
+ghost use Rattle.bundle_rules.specs.Demand.{price_in, IsPriced, ArePriced, HasPrices, IsChoice, IsBest};
+ghost use Rattle.bundle_rules.specs.Extensions.{IsBestExtension};
 ghost use Rattle.bundle_rules.specs.Bundles.{sections_of};
 ghost use Rattle.bundle_rules.specs.Ordinals.{ordinals};
 ghost use Rattle.bundle_rules.specs.Menus.{wishes_of, IsMenu};
 
 use crate::{Bundle, Menu, Rated, feasible, prefers};
-use market_units::{SectionNo, SectionSet, Tokens};
+use market_units::{MAX_PRICE, SectionNo, SectionSet, Tokens};
+
+/// Whether there is a price for each section of the menu, each at most 1,000,001: what `best_plain` needs.
+pub fn has_prices(menu: &Menu, prices: &[Tokens]) -> bool
+    ensures { IsTrue result ↔ HasPrices menu.now prices.now }
+{
+    all_priced(menu.places(), prices)
+}
+
+fn all_priced(places: &[Rated], prices: &[Tokens]) -> bool
+    ensures { IsTrue result ↔ ArePriced places.now prices.now }
+{
+    match places {
+        [] => true,
+        [rated, more @ ..] => is_priced(rated.section, prices) && all_priced(more, prices),
+    }
+}
+
+fn is_priced(section: SectionNo, prices: &[Tokens]) -> bool
+    ensures { IsTrue result ↔ IsPriced prices.now section.0 }
+{
+    match prices.get(usize::from(section.0)) {
+        Some(price) => price.0 <= MAX_PRICE,
+        None => false,
+    }
+}
 
 /// The best bundle: the feasible one of allowed sections, of price sum at most the budget, that is preferred to
 /// every other such bundle. It tries them all, without memory of its own. There is a price for each section of the
 /// menu, each at most 1,000,001.
 pub fn best_plain(menu: &Menu, prices: &[Tokens], budget: Tokens, allowed: &SectionSet) -> Bundle
     requires { HasPrices menu.now prices.now }
+    ensures { IsBest (wishes_of menu.now) (price_in prices.now) budget.0 (set.contains allowed.now) (sections_of result) }
 {
     best_from(
         menu,
@@ -39,10 +66,13 @@ fn best_from(
 ) -> Bundle
     requires menu { IsMenu menu.now }
     requires prices { HasPrices menu.now prices.now }
-    requires chosen { IsFeasible (wishes_of menu.now) (sections_of chosen) }
+    requires chosen { IsChoice (wishes_of menu.now) (price_in prices.now) budget.0 (set.contains allowed.now) (sections_of chosen) }
     requires later { IsAscending (sections_of chosen ++ map (λ rated. rated.section.0) later.now) }
-    ensures feasible { IsFeasible (wishes_of menu.now) (sections_of result) }
+    ensures { IsBestExtension (wishes_of menu.now) (price_in prices.now) budget.0 (set.contains allowed.now) (sections_of chosen) (map (λ rated. rated.section.0) later.now) (sections_of result) }
 {
+    if chosen.sections().len() >= usize::from(menu.courses()) {
+        return chosen;
+    }
     match later {
         [] => chosen,
         [rated, more @ ..] => {
@@ -73,13 +103,12 @@ fn extended(
 ) -> Option<Bundle>
     requires menu { IsMenu menu.now }
     requires prices { HasPrices menu.now prices.now }
+    requires room { length (sections_of chosen) < 8 }
     requires above { IsAscending (sections_of chosen ++ section.0 ∷ []) }
     ensures value { IfSome result (λ wider. sections_of wider ≡ sections_of chosen ++ section.0 ∷ []) }
     ensures choice { IfSome result (λ wider. IsChoice (wishes_of menu.now) (price_in prices.now) budget.0 (set.contains allowed.now) (sections_of wider)) }
+    ensures none { IfNone result (¬ IsChoice (wishes_of menu.now) (price_in prices.now) budget.0 (set.contains allowed.now) (sections_of chosen ++ section.0 ∷ [])) }
 {
-    if chosen.sections().len() >= 8 {
-        return None;
-    }
     let wider = chosen.with(section);
     if is_choice(menu, prices, budget, allowed, &wider) {
         Some(wider)
@@ -110,7 +139,7 @@ fn is_choice(
 }
 
 fn price_of(prices: &[Tokens], sections: &[SectionNo]) -> u32
-    requires priced { All (λ section. (section.0 < length prices.now) × (price_in prices.now section.0 ≤ 1000001)) sections.now }
+    requires priced { All (λ section. IsPriced prices.now section.0) sections.now }
     requires few { length sections.now ≤ 8 }
     ensures value { result ≡ total (price_in prices.now) (ordinals sections.now) }
     ensures high { result ≤ 1000001 * length sections.now }

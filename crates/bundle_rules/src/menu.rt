@@ -1,9 +1,10 @@
 // What one student may choose from.
-ghost use Rattle.std.specs.Prelude.{◌≡◌, ◌<◌, ◌≤◌, ◌*◌, ◌+◌, ◌≤ℤ◌, pos, negsuc, ℕ, [], Some, length, IfOk, All, slice_get};
+ghost use Rattle.std.specs.Prelude.{◌≡◌, ◌<◌, ◌≤◌, ◌*◌, ◌+◌, ◌≤ℤ◌, pos, negsuc, ℕ, [], Some, IsTrue, length, IfOk, All, slice_get};
 ghost use Rattle.bundle_rules.specs.Kept.{IsTable};
 ghost use Rattle.bundle_rules.specs.Menus.{adjustment_in, clash_in, place_in, IsRated, IsPair, ArePlaces, ArePairs, AreClashes, AreCaps, IsMenu};
 
-use market_units::{NoMemory, SectionNo};
+use crate::conditions::{are_clashes, are_pairs, are_places};
+use market_units::{MAX_COURSES, MAX_CREDITS, NoMemory, SectionNo};
 use std::alloc::Global;
 use std::marker::Model;
 
@@ -55,6 +56,32 @@ impl Model for Menu {
 }
 
 impl Menu {
+    /// Whether `build` may be called with these.
+    pub fn may_build(
+        places: &[Rated],
+        pairs: &[(u8, u8, i16)],
+        clashes: &[u64],
+        credits: u16,
+        courses: u8,
+    ) -> bool
+        ensures places { IsTrue result → ArePlaces places.now }
+        ensures pairs { IsTrue result → ArePairs (length places.now) pairs.now }
+        ensures clashes { IsTrue result → AreClashes places.now clashes.now }
+        ensures caps { IsTrue result → AreCaps credits courses }
+        ensures all { ArePlaces places.now → ArePairs (length places.now) pairs.now → AreClashes places.now clashes.now → AreCaps credits courses → IsTrue result }
+    {
+        if !are_places(places) {
+            return false;
+        }
+        if !are_pairs(places.len(), pairs) {
+            return false;
+        }
+        if !are_clashes(places, clashes) {
+            return false;
+        }
+        credits <= MAX_CREDITS && courses <= MAX_COURSES
+    }
+
     /// The menu of these places, pairs, clashes and caps. Bit t of the word of a place tells whether it clashes with place t.
     pub fn build(
         alloc: Global,

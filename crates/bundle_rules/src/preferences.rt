@@ -1,6 +1,8 @@
 // Which bundles a student may take, and which of two the student prefers.
 ghost use Rattle.std.specs.Prelude.{◌≡◌, ◌↔◌, ◌<◌, ◌≤◌, ◌*◌, ℕ, pos, neg_ℤ, ◌≤ℤ◌, IsTrue, length, map, take, All};
 ghost use Rattle.market_lists.specs.Totals.{total};
+ghost use Rattle.bundle_rules.specs.Sets.{IsAscending, DiffersFirstIn};
+ghost use Rattle.bundle_rules.specs.Ordinals.{ordinals};
 ghost use Rattle.bundle_rules.specs.Wishes.{AllRated, IsFeasible, utility, adjustments};
 ghost use Rattle.bundle_rules.specs.Apart.{ClashesWithNone, AreApart, IsWithinCaps, MayTake};
 ghost use Rattle.bundle_rules.specs.Preferences.{IsPreferred};
@@ -31,6 +33,7 @@ pub fn feasible(menu: &Menu, bundle: &Bundle) -> bool
 pub fn prefers(menu: &Menu, a: &Bundle, b: &Bundle) -> bool
     requires first { IsFeasible (wishes_of menu.now) (sections_of a.now) }
     requires second { IsFeasible (wishes_of menu.now) (sections_of b.now) }
+    ensures { IsTrue result ↔ IsPreferred (wishes_of menu.now) (sections_of a.now) (sections_of b.now) }
 {
     let first = utility(menu, a);
     let second = utility(menu, b);
@@ -163,16 +166,22 @@ fn credits_of(menu: &Menu, places: &[u8]) -> u32
 }
 
 // Whether the lowest section on which they differ is in the first.
-fn differs_first(a: &[SectionNo], b: &[SectionNo]) -> bool {
-    match (a, b) {
-        ([], _) => false,
-        (_, []) => true,
-        ([first, more @ ..], [other, others @ ..]) => {
-            if first == other {
-                differs_first(more, others)
-            } else {
-                first.0 < other.0
+fn differs_first(a: &[SectionNo], b: &[SectionNo]) -> bool
+    requires first { IsAscending (ordinals a.now) }
+    requires second { IsAscending (ordinals b.now) }
+    ensures { IsTrue result ↔ DiffersFirstIn (ordinals a.now) (ordinals b.now) }
+{
+    match a {
+        [] => false,
+        [first, more @ ..] => match b {
+            [] => true,
+            [other, others @ ..] => {
+                if first == other {
+                    differs_first(more, others)
+                } else {
+                    first.0 < other.0
+                }
             }
-        }
+        },
     }
 }

@@ -1,16 +1,16 @@
-use Rattle.std.proofs.Common.{◌≡◌, ◌<◌, ◌≤◌, true, length, sym, subst, ◌∙◌, ap}
+use Rattle.std.proofs.Common.{◌≡◌, ◌<◌, ◌≤◌, true, sym, subst, ◌∙◌, ap}
 use Rattle.std.specs.FinSet as set
 use Rattle.market_lists.specs.Totals.{total}
 use Rattle.bundle_rules.specs.Sets.{has}
 use Rattle.bundle_rules.specs.Bundles.{sections_of}
-use Rattle.bundle_rules.specs.Demand.{price_in}
+use Rattle.bundle_rules.specs.Demand.{IsPriced, price_in}
 use Rattle.bundle_rules.proofs.Ends.{all_of_ordinals, ordinals_of_all}
 use Rattle.bundle_rules.proofs.Choices.{priced, below_400}
 use Rattle.bundle_rules.proofs.demand.is_choice.Goals as goal
 
 pub price_of-requires-clause-priced : goal.price_of-requires-clause-priced
 price_of-requires-clause-priced c =
-    all_of_ordinals (λ s. (s < length c.args.prices.now) × (price_in c.args.prices.now s ≤ 1000001)) c.sections.result.now
+    all_of_ordinals (IsPriced c.args.prices.now) c.sections.result.now
     (λ s is. priced c.args.menu.now c.args.prices.now (sections_of c.args.bundle.now) c.requires.prices (c.feasible.ensures.0 c.if-not-feasible.false).rated s (subst (λ xs. has xs s ≡ true) c.sections.ensures.value is))
 
 pub all_allowed-requires : goal.all_allowed-requires

@@ -2,7 +2,7 @@ use Rattle.std.proofs.Common.{ap, sym}
 use Rattle.market_lists.specs.Totals.{total}
 use Rattle.bundle_rules.specs.Menus.{by_place}
 use Rattle.bundle_rules.proofs.Firsts.{first_rest}
-use Rattle.bundle_rules.proofs.PlaceFacts.{credits_at-is}
+use Rattle.bundle_rules.specs.Existence.Places.{credits_at-is}
 use Rattle.bundle_rules.proofs.preferences.+credits_of.Goals as goal
 
 pub returns-in-len1-up-clause-value : goal.returns-in-len1-up-clause-value

@@ -3,7 +3,7 @@ use Rattle.std.proofs.lemmas.Int.{ints}
 use Rattle.bundle_rules.specs.Wishes.{utility}
 use Rattle.bundle_rules.specs.Menus.{by_place}
 use Rattle.bundle_rules.proofs.Firsts.{first_rest}
-use Rattle.bundle_rules.proofs.PlaceFacts.{rating_at-is}
+use Rattle.bundle_rules.specs.Existence.Places.{rating_at-is}
 use Rattle.bundle_rules.proofs.preferences.+utility_of.Goals as goal
 
 pub returns-in-len1-up-clause-value : goal.returns-in-len1-up-clause-value

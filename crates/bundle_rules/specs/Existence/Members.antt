@@ -81,3 +81,16 @@ AllAbove-middle s (x ∷ xs) t ys above = (above.0, AllAbove-middle s xs t ys ab
 pub IsAscending-middle : (xs : List ℕ) (t : ℕ) (ys : List ℕ) → IsAscending (xs ++ t ∷ ys) → IsAscending (xs ++ ys)
 IsAscending-middle [] t ys up = up.1
 IsAscending-middle (x ∷ xs) t ys up = (AllAbove-middle x xs t ys up.0, IsAscending-middle xs t ys up.1)
+
+-- members of two lists, one after the other
+pub has-append_left : (xs ys : List ℕ) (s : ℕ) → has xs s ≡ true → has (xs ++ ys) s ≡ true
+has-append_left [] ys s is = absurd (true≢false (sym is))
+has-append_left (x ∷ xs) ys s is = elim (has-cases x xs s is) [
+  | inl here ↦ subst (λ t. has (x ∷ (xs ++ ys)) t ≡ true) here (has-here x (xs ++ ys))
+  | inr there ↦ has-there x (xs ++ ys) s (has-append_left xs ys s there)
+]
+
+-- what stands after a front is a set
+pub IsAscending-rest : (xs ys : List ℕ) → IsAscending (xs ++ ys) → IsAscending ys
+IsAscending-rest [] ys up = up
+IsAscending-rest (x ∷ xs) ys up = IsAscending-rest xs ys up.1

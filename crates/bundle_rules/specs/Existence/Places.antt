@@ -1,10 +1,10 @@
 -- What stands at the places of a menu.
-use Rattle.std.proofs.Common.{◌≡◌, ◌<◌, ◌≤◌, ◌==◌, ℕ, zero, suc, List, [], ◌∷◌, length, All, Some, inl, inr, arith, refl}
+use Rattle.std.proofs.Common.{◌≡◌, ◌<◌, ◌≤◌, ◌==◌, ℕ, zero, suc, List, [], ◌∷◌, length, All, Some, get_or, inl, inr, arith, refl}
 use Rattle.std.specs.List.{slice_get}
 use Rattle.std.proofs.lemmas.Bool.{cases_Bool, cases_lt}
 use Rattle.std.proofs.lemmas.Bool.Decides.{nat_tests}
 use Rattle.bundle_rules.specs.declared.menu.Rated.{Rated}
-use Rattle.bundle_rules.specs.Menus.{section_at, rating_at, credits_at, place_in, IsRated}
+use Rattle.bundle_rules.specs.Menus.{section_at, course_at, rating_at, credits_at, place_in, IsRated}
 
 -- what a place that was read holds
 pub credits_at-is : (places : List Rated) (k : ℕ) (rated : Rated) → slice_get places k ≡ Some rated → credits_at places k ≡ rated.credits
@@ -54,3 +54,8 @@ pub section_at-low : (places : List Rated) (k : ℕ) → All IsRated places → 
 section_at-low [] k all low = absurd (omega arith)
 section_at-low (r ∷ rs) zero all low = let is : IsRated r = all 0 r (omega arith) in is.section
 section_at-low (r ∷ rs) (suc k) all low = section_at-low rs k (λ i d h. all (suc i) d (let g : suc i < suc (length rs) = omega arith in g)) (omega arith)
+
+pub course_at-is : (places : List Rated) (k : ℕ) (d : Rated) → k < length places → course_at places k ≡ (get_or places k d).course
+course_at-is [] k d low = absurd (omega arith)
+course_at-is (r ∷ rs) zero d low = refl
+course_at-is (r ∷ rs) (suc k) d low = course_at-is rs k d (omega arith)

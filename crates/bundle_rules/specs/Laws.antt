@@ -1,0 +1,57 @@
+-- The laws of preference and of demand.
+use Rattle.std.specs.Prelude.{ℕ, ◌≡◌, ◌≢◌, ◌↔◌, ◌⊎◌, Bool, List, length}
+use Rattle.market_lists.specs.Subsets.{chosen}
+use Rattle.bundle_rules.specs.declared.bundle.Bundle.{Bundle}
+use Rattle.bundle_rules.specs.Bundles.{sections_of}
+use Rattle.bundle_rules.specs.Sets.{IsAscending}
+use Rattle.bundle_rules.specs.Wishes.{Wishes, AllRated, utility}
+use Rattle.bundle_rules.specs.Agreement.{Agrees}
+use Rattle.bundle_rules.specs.Preferences.{IsPreferred}
+use Rattle.bundle_rules.specs.Demand.{IsBest, HasOneBest}
+use Rattle.bundle_rules.specs.Best.{best}
+use Rattle.bundle_rules.specs.Menus.{MenuData, IsMenu, by_place, wishes_of}
+use Rattle.bundle_rules.specs.Places.{bits_of, menu_sections, menu_places, AreBestBits}
+
+-- no bundle is preferred to itself, what is preferred to a preferred one is preferred, and of two different sets one is preferred
+pub record OrdersStrictly (wishes : Wishes) : Type 0 where
+  pub irreflexive : (a : List ℕ) → ¬ IsPreferred wishes a a
+  pub transitive : (a b c : List ℕ) → IsPreferred wishes a b → IsPreferred wishes b c → IsPreferred wishes a c
+  pub total : (a b : List ℕ) → IsAscending a → IsAscending b → a ≢ b → IsPreferred wishes a b ⊎ IsPreferred wishes b a
+
+-- preference orders the sets of sections strictly, whatever the wishes
+abbrev pub StrictPreference : Type 0
+StrictPreference = (wishes : Wishes) → OrdersStrictly wishes
+
+-- exactly one set is the best, for every menu, prices, budget and allowed set
+abbrev pub UniqueDemand : Type 0
+UniqueDemand = (menu : MenuData) (price : ℕ → ℕ) (budget : ℕ) (allowed : ℕ → Bool) → HasOneBest (wishes_of menu) price budget allowed
+
+-- the value `best` is the best bundle, and whatever is the best is that value
+pub record IsTheBest (menu : MenuData) (price : ℕ → ℕ) (budget : ℕ) (allowed : ℕ → Bool) : Type 0 where
+  pub itself : IsBest (wishes_of menu) price budget allowed (best menu price budget allowed)
+  pub only : (other : List ℕ) → IsBest (wishes_of menu) price budget allowed other → other ≡ best menu price budget allowed
+
+abbrev pub BestIsTheBest : Type 0
+BestIsTheBest = (menu : MenuData) (price : ℕ → ℕ) (budget : ℕ) (allowed : ℕ → Bool) → IsTheBest menu price budget allowed
+
+-- two bundles of equal sections are equal
+abbrev pub EqualSectionsEqualBundles : Type 0
+EqualSectionsEqualBundles = (a b : Bundle) → sections_of a ≡ sections_of b → a ≡ b
+
+-- a set of rated sections is what its bits choose, and the bits are those of what they choose
+pub record AreItsBits (menu : MenuData) : Type 0 where
+  pub set : (bundle : List ℕ) → IsAscending bundle → AllRated (wishes_of menu) bundle → chosen (bits_of (menu_sections menu) bundle) (menu_sections menu) ≡ bundle
+  pub bits : (bits : List Bool) → length bits ≡ length (menu_sections menu) → bits_of (menu_sections menu) (chosen bits (menu_sections menu)) ≡ bits
+  pub utility : (bits : List Bool) → utility (wishes_of menu) (chosen bits (menu_sections menu)) ≡ utility (by_place menu) (chosen bits (menu_places menu))
+
+abbrev pub SetsAreBits : Type 0
+SetsAreBits = (menu : MenuData) → IsMenu menu → AreItsBits menu
+
+-- the best bundle is the one whose bits are the best
+abbrev pub BestByBits : Type 0
+BestByBits = (menu : MenuData) (price : ℕ → ℕ) (budget : ℕ) (allowed : ℕ → Bool) (bits : List Bool) → IsMenu menu → length bits ≡ length (menu_sections menu)
+    → AreBestBits (wishes_of menu) (menu_sections menu) price budget allowed bits ↔ IsBest (wishes_of menu) price budget allowed (chosen bits (menu_sections menu))
+
+-- where wishes agree on what is rated, the best bundle of the ones is that of the others
+abbrev pub BestByAgreement : Type 0
+BestByAgreement = (a b : Wishes) → Agrees a b → (price : ℕ → ℕ) (budget : ℕ) (allowed : ℕ → Bool) (bundle : List ℕ) → IsBest a price budget allowed bundle ↔ IsBest b price budget allowed bundle

@@ -1,0 +1,138 @@
+// What a menu may be built of.
+ghost use Rattle.std.specs.Prelude.{◌≡◌, ◌≢◌, ◌↔◌, ◌<◌, ◌≤◌, IsTrue, All, length, map};
+ghost use Rattle.bundle_rules.specs.Sets.{IsAscending};
+ghost use Rattle.bundle_rules.specs.Menus.{clash_in, IsRated, ArePlaces, IsPair, AreDifferent, ArePairs, ClashesWell, AreClashes};
+ghost use Rattle.bundle_rules.specs.Rows.{RowIsSound};
+
+use crate::Rated;
+use market_units::{
+    MAX_ADJUSTMENT, MAX_PAIRS, MAX_RATING, MAX_RATINGS, MAX_SECTION_CREDITS, MAX_SECTIONS,
+};
+
+pub(crate) fn are_places(places: &[Rated]) -> bool
+    ensures { IsTrue result ↔ ArePlaces places.now }
+{
+    if places.len() > MAX_RATINGS {
+        return false;
+    }
+    if !places.iter().all(is_rated) {
+        return false;
+    }
+    are_ascending(places)
+}
+
+fn is_rated(rated: &Rated) -> bool
+    ensures { IsTrue result ↔ IsRated rated.now }
+{
+    rated.section.0 < MAX_SECTIONS
+        && rated.rating >= 1
+        && rated.rating <= MAX_RATING
+        && rated.credits <= MAX_SECTION_CREDITS
+}
+
+fn are_ascending(places: &[Rated]) -> bool
+    ensures { IsTrue result ↔ IsAscending (map (λ rated. rated.section.0) places.now) }
+{
+    match places {
+        [] => true,
+        [first, more @ ..] => match more {
+            [] => true,
+            [second, ..] => first.section.0 < second.section.0 && are_ascending(more),
+        },
+    }
+}
+
+pub(crate) fn are_pairs(places: usize, pairs: &[(u8, u8, i16)]) -> bool
+    ensures { IsTrue result ↔ ArePairs places pairs.now }
+{
+    if pairs.len() > MAX_PAIRS {
+        return false;
+    }
+    all_are_pairs(places, pairs) && are_different(pairs)
+}
+
+fn all_are_pairs(places: usize, pairs: &[(u8, u8, i16)]) -> bool
+    ensures { IsTrue result ↔ All (IsPair places) pairs.now }
+{
+    pairs.iter().all(|pair| is_pair(places, *pair))
+}
+
+fn is_pair(places: usize, pair: (u8, u8, i16)) -> bool
+    ensures { IsTrue result ↔ IsPair places pair }
+{
+    pair.0 < pair.1
+        && usize::from(pair.1) < places
+        && pair.2 >= -MAX_ADJUSTMENT
+        && pair.2 <= MAX_ADJUSTMENT
+}
+
+fn are_different(pairs: &[(u8, u8, i16)]) -> bool
+    ensures { IsTrue result ↔ AreDifferent pairs.now }
+{
+    match pairs {
+        [] => true,
+        [pair, more @ ..] => all_name_others(*pair, more) && are_different(more),
+    }
+}
+
+fn all_name_others(pair: (u8, u8, i16), others: &[(u8, u8, i16)]) -> bool
+    ensures { IsTrue result ↔ All (λ other. pair.0 ≡ other.0 → pair.1 ≢ other.1) others.now }
+{
+    others
+        .iter()
+        .all(|other| pair.0 != other.0 || pair.1 != other.1)
+}
+
+pub(crate) fn are_clashes(places: &[Rated], clashes: &[u64]) -> bool
+    requires { length places.now ≤ 60 }
+    ensures { IsTrue result ↔ AreClashes places.now clashes.now }
+{
+    if clashes.len() != places.len() {
+        return false;
+    }
+    for a in 0..places.len() {
+        if !row_is_sound(places, clashes, a) {
+            return false;
+        }
+    }
+    true
+}
+
+fn row_is_sound(places: &[Rated], clashes: &[u64], a: usize) -> bool
+    requires few { length places.now ≤ 60 }
+    requires words { length clashes.now ≡ length places.now }
+    requires on_menu { a < length places.now }
+    ensures { IsTrue result ↔ RowIsSound places.now clashes.now a }
+{
+    for b in 0..places.len() {
+        if !clashes_well(places, clashes, a, b) {
+            return false;
+        }
+    }
+    !has_bit(clashes, a, a)
+}
+
+fn clashes_well(places: &[Rated], clashes: &[u64], a: usize, b: usize) -> bool
+    requires few { length places.now ≤ 60 }
+    requires words { length clashes.now ≡ length places.now }
+    requires first { a < length places.now }
+    requires second { b < length places.now }
+    ensures { IsTrue result ↔ ClashesWell places.now clashes.now a b }
+{
+    let clash = has_bit(clashes, a, b);
+    if clash != has_bit(clashes, b, a) {
+        return false;
+    }
+    if clash || a == b {
+        return true;
+    }
+    places[a].course != places[b].course
+}
+
+fn has_bit(clashes: &[u64], a: usize, b: usize) -> bool
+    requires first { a < length clashes.now }
+    requires second { b < 64 }
+    ensures { result ≡ clash_in clashes.now a b }
+{
+    (clashes[a] >> b) & 1 == 1
+}

@@ -1,0 +1,6 @@
+pub mod ClashWords
+pub mod InputCauses
+pub mod LineTexts
+pub mod PlacesSoFar
+pub mod SixWords
+pub mod ZeroPrices

@@ -1,0 +1,6 @@
+pub mod Causes
+pub mod Clashes
+pub mod Forms
+pub mod Inputs
+pub mod Lines
+pub mod Numbers

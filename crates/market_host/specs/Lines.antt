@@ -1,0 +1,39 @@
+-- What each status writes.
+use Rattle.std.specs.Prelude.{ℕ, ◌≡◌, List, [], ◌++◌, codes, ⊤}
+use Rattle.std.specs.Fmt.{decimal}
+use Rattle.market_settings.specs.Keys.{key_name}
+use Rattle.market_host.specs.declared.cause.Cause.{Cause}
+use Rattle.market_host.specs.declared.cause.Cause.TheVariants.{Header, Fields, Name, Repeated, Number, Meetings, TooMany, NotJson, NotObject, Missing, Unknown, Range, NotBuilt}
+use Rattle.market_host.specs.declared.status.Status.{Status}
+use Rattle.market_host.specs.declared.status.Status.TheVariants.{Done, Usage, ShelfFault, Refused, TooLong, SinkFault, OutOfMemory}
+
+-- the words of a cause
+abbrev pub cause_words : Cause → List ℕ
+cause_words Header = codes "header"
+cause_words Fields = codes "fields"
+cause_words (Name column) = codes "name in column " ++ decimal column
+cause_words (Repeated earlier) = codes "repeats row " ++ decimal earlier
+cause_words (Number column) = codes "number in column " ++ decimal column
+cause_words Meetings = codes "meetings"
+cause_words TooMany = codes "too many rows"
+cause_words NotJson = codes "not json"
+cause_words NotObject = codes "not an object"
+cause_words (Missing key) = codes "missing " ++ key_name key
+cause_words Unknown = codes "unknown key"
+cause_words (Range key) = codes "range of " ++ key_name key
+cause_words NotBuilt = codes "not built"
+
+-- the line of a status that has one
+abbrev pub line_of : Status → List ℕ
+line_of Done = []
+line_of Usage = codes "usage: run, check, prefer, demand, quote, make\n"
+line_of (ShelfFault input) = codes "input " ++ decimal input ++ codes " can not be read\n"
+line_of (Refused input row cause) = codes "input " ++ decimal input ++ codes " row " ++ decimal row ++ codes ": " ++ cause_words cause ++ codes "\n"
+line_of (TooLong input) = codes "input " ++ decimal input ++ codes " is too long\n"
+line_of SinkFault = []
+line_of OutOfMemory = codes "out of memory\n"
+
+-- A status may write this text. What is written where the work is done is not said yet.
+abbrev pub Writes : Status → List ℕ → Type 0
+Writes Done text = ⊤
+Writes status text = text ≡ line_of status

@@ -1,0 +1,24 @@
+//! The whole program, over whatever shelf, sink and gate it is given: from the words of the command line to the
+//! status, and from the bytes of the inputs to the bytes of the output.
+#![tactic(auto)]
+
+mod catalogue;
+mod cause;
+mod host;
+mod inputs;
+mod line;
+mod quote;
+mod session;
+mod status;
+mod unread;
+mod wishes;
+mod words;
+
+pub use cause::Cause;
+pub use host::course_match;
+pub use market_settings::Key;
+pub use status::Status;
+pub use words::{Form, read_words};
+
+#[cfg(test)]
+mod tests;

@@ -1,0 +1,131 @@
+// The line of a status, made without memory.
+ghost use Rattle.std.specs.Prelude.{◌≡◌, ◌≤◌, ◌+◌, ◌++◌, [], List, ℕ, length, take, codes};
+ghost use Rattle.std.specs.Fmt.{decimal};
+ghost use Rattle.market_settings.specs.Keys.{key_name};
+ghost use Rattle.market_host.specs.Lines.{cause_words, line_of};
+
+use crate::{Cause, Status};
+use market_settings::Key;
+use market_units::put_number;
+use std::marker::Model;
+
+// More than any line of a status has.
+const ROOM: usize = 128;
+
+/// A line that grows at its end. Contracts see it as its bytes.
+#[derive(Drop)]
+pub struct Line {
+    room: [u8; 128],
+    count: usize,
+}
+
+impl Model for Line {
+    ghost Value = { List ℕ };
+
+    ghost view = { λ line. take line.count line.room };
+
+    ghost invariant = { λ line. line.count ≤ 128 };
+}
+
+impl Line {
+    fn empty() -> Line
+        ensures { result ≡ [] }
+    {
+        Line {
+            room: [0; ROOM],
+            count: 0,
+        }
+    }
+
+    /// The bytes of the line.
+    pub fn as_bytes(&self) -> &[u8]
+        ensures { result.now ≡ self.now }
+    {
+        &self.room[..self.count]
+    }
+
+    // The line with a text behind it.
+    fn with(self, text: &[u8]) -> Line
+        requires { length self + length text.now ≤ 128 }
+        ensures { result ≡ self ++ text.now }
+    {
+        let mut room = self.room;
+        let count = self.count;
+        let end = count + text.len();
+        room[count..end].copy_from_slice(text);
+        Line { room, count: end }
+    }
+
+    // The line with a number behind it.
+    fn with_number(self, number: u64) -> Line
+        requires { length self + 20 ≤ 128 }
+        ensures line { result ≡ self ++ decimal number }
+        ensures short { length result ≤ length self + 20 }
+    {
+        let mut digits = [0; 20];
+        let count = put_number(number, &mut digits);
+        self.with(&digits[..count])
+    }
+}
+
+/// The line that a status writes; none where the work is done or the sink fails.
+pub fn line_for(status: Status) -> Line
+    ensures { result ≡ line_of status }
+{
+    match status {
+        Status::Done | Status::SinkFault => Line::empty(),
+        Status::Usage => { Line::empty().with(b"usage: run, check, prefer, demand, quote, make\n") }
+        Status::ShelfFault { input } => numbered(input).with(b" can not be read\n"),
+        Status::Refused { input, row, cause } => {
+            let line = numbered(input)
+                .with(b" row ")
+                .with_number(u64::from(row))
+                .with(b": ");
+            with_cause(line, cause).with(b"\n")
+        }
+        Status::TooLong { input } => numbered(input).with(b" is too long\n"),
+        Status::OutOfMemory => Line::empty().with(b"out of memory\n"),
+    }
+}
+
+// The line that begins with the number of an input.
+fn numbered(input: u16) -> Line
+    ensures line { result ≡ codes "input " ++ decimal input }
+    ensures short { length result ≤ 26 }
+{
+    Line::empty().with(b"input ").with_number(u64::from(input))
+}
+
+// The line with the words of a cause behind it.
+fn with_cause(line: Line, cause: Cause) -> Line
+    requires { length line ≤ 60 }
+    ensures words { result ≡ line ++ cause_words cause }
+    ensures short { length result ≤ 100 }
+{
+    match cause {
+        Cause::Header => line.with(b"header"),
+        Cause::Fields => line.with(b"fields"),
+        Cause::Name { column } => line.with(b"name in column ").with_number(u64::from(column)),
+        Cause::Repeated { earlier } => line.with(b"repeats row ").with_number(u64::from(earlier)),
+        Cause::Number { column } => line
+            .with(b"number in column ")
+            .with_number(u64::from(column)),
+        Cause::Meetings => line.with(b"meetings"),
+        Cause::TooMany => line.with(b"too many rows"),
+        Cause::NotJson => line.with(b"not json"),
+        Cause::NotObject => line.with(b"not an object"),
+        Cause::Missing(key) => with_key(line.with(b"missing "), key),
+        Cause::Unknown => line.with(b"unknown key"),
+        Cause::Range(key) => with_key(line.with(b"range of "), key),
+        Cause::NotBuilt => line.with(b"not built"),
+    }
+}
+
+// The line with the name of a setting behind it.
+fn with_key(line: Line, key: Key) -> Line
+    requires { length line ≤ 70 }
+    ensures words { result ≡ line ++ key_name key }
+    ensures short { length result ≤ length line + 8 }
+{
+    line.with(key.name().as_bytes())
+}

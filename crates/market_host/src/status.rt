@@ -1,0 +1,41 @@
+// What the program answers.
+ghost use Rattle.std.specs.Prelude.{◌≡◌};
+ghost use Rattle.market_host.specs.Numbers.{number_of};
+
+use crate::Cause;
+
+/// How a call went. Inputs are the file words, numbered from 1 in word order.
+#[derive(Clone, Copy, Debug, PartialEq, Eq)]
+pub enum Status {
+    /// The work is done, and its whole text was taken.
+    Done,
+    /// The words are none of the forms.
+    Usage,
+    /// This input could not be begun or read.
+    ShelfFault { input: u16 },
+    /// This input, the first such one, is not of its grammar, at its first bad row.
+    Refused { input: u16, row: u32, cause: Cause },
+    /// This input has more bytes than its limit.
+    TooLong { input: u16 },
+    /// The sink did not take the whole text of the status that was to be answered.
+    SinkFault,
+    /// There was not enough memory.
+    OutOfMemory,
+}
+
+impl Status {
+    /// The number with which the process ends.
+    pub fn number(&self) -> u8
+        ensures { result ≡ number_of self.now }
+    {
+        match self {
+            Status::Done => 0,
+            Status::Usage => 1,
+            Status::ShelfFault { .. } => 2,
+            Status::Refused { .. } => 3,
+            Status::TooLong { .. } => 4,
+            Status::SinkFault => 6,
+            Status::OutOfMemory => 7,
+        }
+    }
+}

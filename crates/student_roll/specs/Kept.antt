@@ -1,0 +1,10 @@
+-- How a roll keeps its students.
+use Rattle.std.specs.Prelude.{◌≡◌, List}
+use Rattle.market_units.specs.declared.names.Name.{Name}
+use Rattle.table_records.specs.Reading.{bytes_of}
+use Rattle.student_roll.specs.Students.{IsRoll, Student, names_of}
+
+-- the names stand beside the students, in one order
+pub record KeepsStudents (keys : List Name) (students : List Student) : Type 0 where
+  pub names : bytes_of keys ≡ names_of students
+  pub roll : IsRoll students

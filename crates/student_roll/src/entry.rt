@@ -1,0 +1,63 @@
+// A student as a roll keeps it.
+ghost use Rattle.std.specs.Prelude.{◌≡◌, ◌≤◌};
+ghost use Rattle.market_units.specs.Name.{name_bytes};
+ghost use Rattle.student_roll.specs.Students.{IsStudent};
+
+use market_units::Name;
+use std::marker::Model;
+
+/// A student, seen as the name, the base and the caps.
+#[derive(Drop)]
+pub(crate) struct Entry {
+    name: Name,
+    base: u32,
+    credits: u16,
+    courses: u8,
+}
+
+impl Model for Entry {
+    ghost use Rattle.std.specs.Prelude.{◌≤◌};
+    ghost use Rattle.market_units.specs.Name.{name_bytes};
+    ghost use Rattle.student_roll.specs.Students.{Student};
+
+    ghost Value = { Student };
+
+    ghost view = { λ entry. record { name = name_bytes entry.name; base = entry.base; credits = entry.credits; courses = entry.courses } };
+}
+
+impl Entry {
+    pub fn new(name: Name, base: u32, credits: u16, courses: u8) -> Entry
+        ensures { result ≡ record { name = name_bytes name; base = base; credits = credits; courses = courses } }
+    {
+        Entry {
+            name,
+            base,
+            credits,
+            courses,
+        }
+    }
+
+    pub fn name(&self) -> Name
+        ensures { name_bytes result ≡ self.now.name }
+    {
+        self.name
+    }
+
+    pub fn base(&self) -> u32
+        ensures { result ≡ self.now.base }
+    {
+        self.base
+    }
+
+    pub fn credits(&self) -> u16
+        ensures { result ≡ self.now.credits }
+    {
+        self.credits
+    }
+
+    pub fn courses(&self) -> u8
+        ensures { result ≡ self.now.courses }
+    {
+        self.courses
+    }
+}

@@ -1,0 +1,123 @@
+// The roll, and what it says of each student.
+ghost use Rattle.std.specs.Prelude.{◌≡◌, ◌==◌, ◌<◌, ◌≤◌, [], ◌∷◌, length, Some, option_map, position, slice_get, IfOk, IfSome};
+ghost use Rattle.std.specs.Str.{bytes_eq};
+ghost use Rattle.market_units.specs.Name.{name_bytes};
+ghost use Rattle.student_roll.specs.Students.{IsRoll, names_of, single_student};
+ghost use Rattle.student_roll.specs.Kept.{KeepsStudents};
+
+use crate::entry::Entry;
+use indexmap::IndexSet;
+use market_units::{Name, NoMemory, StudentNo};
+use std::alloc::Global;
+use std::marker::Model;
+use table_records::{Rows, place_of};
+
+/// The students of the market in file order: at most 2,000, each in its ranges, no two of one name. A student's number
+/// is its place, from 0.
+#[derive(Drop)]
+pub struct Roll {
+    names: IndexSet<Name>,
+    students: Vec<Entry>,
+}
+
+impl Model for Roll {
+    ghost use Rattle.std.specs.Prelude.{List};
+    ghost use Rattle.student_roll.specs.Students.{Student};
+    ghost use Rattle.student_roll.specs.Kept.{KeepsStudents};
+
+    ghost Value = { List Student };
+
+    ghost view = { λ roll. roll.students.items };
+
+    ghost invariant = { λ roll. KeepsStudents roll.names.keys roll.students.items };
+}
+
+impl Roll {
+    /// The roll of one student, with base 0 and these caps.
+    pub fn single(alloc: Global, name: Name, credits: u16, courses: u8) -> Result<Roll, NoMemory>
+        requires credits { credits ≤ 800 }
+        requires courses { courses ≤ 8 }
+        ensures { IfOk result (λ roll. roll ≡ single_student (name_bytes name) credits courses ∷ []) }
+    {
+        let mut names = IndexSet::new(alloc);
+        let mut students = Vec::new(alloc);
+        if names.insert(name).is_err() {
+            return Err(NoMemory);
+        }
+        students.push(Entry::new(name, 0, credits, courses))?;
+        Ok(Roll { names, students })
+    }
+
+    // The roll of the rows that were read.
+    pub(crate) fn of_rows(rows: Rows<Entry>) -> Roll
+        requires { KeepsStudents rows.names.keys rows.rows.items }
+        ensures { result ≡ rows.rows.items }
+    {
+        Roll {
+            names: rows.names,
+            students: rows.rows,
+        }
+    }
+
+    /// How many students there are.
+    pub fn len(&self) -> u16
+        ensures len { result ≡ length self.now }
+        ensures roll { IsRoll self.now }
+    {
+        self.students.len() as u16
+    }
+
+    /// Whether there is no student.
+    pub fn is_empty(&self) -> bool
+        ensures { result ≡ (length self.now == 0) }
+    {
+        self.students.is_empty()
+    }
+
+    /// The student's name.
+    pub fn name(&self, student: StudentNo) -> Name
+        requires { student.0 < length self.now }
+        ensures { option_map (λ s. s.name) (slice_get self.now student.0) ≡ Some (name_bytes result) }
+    {
+        self.students[usize::from(student.0)].name()
+    }
+
+    /// The base of the student's budget in tokens, at most 900,000.
+    pub fn base(&self, student: StudentNo) -> u32
+        requires { student.0 < length self.now }
+        ensures base { option_map (λ s. s.base) (slice_get self.now student.0) ≡ Some result }
+        ensures range { result ≤ 900000 }
+    {
+        self.students[usize::from(student.0)].base()
+    }
+
+    /// The most credits that the student may have, at most 800.
+    pub fn credits(&self, student: StudentNo) -> u16
+        requires { student.0 < length self.now }
+        ensures credits { option_map (λ s. s.credits) (slice_get self.now student.0) ≡ Some result }
+        ensures range { result ≤ 800 }
+    {
+        self.students[usize::from(student.0)].credits()
+    }
+
+    /// The most sections that the student may have, at most 8.
+    pub fn courses(&self, student: StudentNo) -> u8
+        requires { student.0 < length self.now }
+        ensures courses { option_map (λ s. s.courses) (slice_get self.now student.0) ≡ Some result }
+        ensures range { result ≤ 8 }
+    {
+        self.students[usize::from(student.0)].courses()
+    }
+
+    /// The student of this name, or `None` exactly where no student has it.
+    pub fn find(&self, name: &Name) -> Option<StudentNo>
+        ensures place { option_map (λ s. s.0) result ≡ position (bytes_eq (name_bytes name.now)) (names_of self.now) }
+        ensures found { IfSome result (λ s. slice_get (names_of self.now) s.0 ≡ Some (name_bytes name.now)) }
+        ensures within { IfSome result (λ s. s.0 < length self.now) }
+    {
+        match place_of(&self.names, name) {
+            Some(place) => Some(StudentNo(place as u16)),
+            None => None,
+        }
+    }
+}
