@@ -1,0 +1,10 @@
+use Rattle.std.proofs.Common.{rules}
+use Rattle.chronicle.proofs.TurnSteps.{draws_at}
+use Rattle.chronicle.proofs.chronicle.Chronicle.draw.Goals as goal
+
+pub fetch_add-requires : goal.fetch_add-requires
+fetch_add-requires g c = (
+  search rules,
+  search rules,
+  draws_at g.O.Object.base g.O.Object.state g.O.Object.room g.O.Object.sound g.O.Object.after g.O.Object.reply _ _ c.args.place.now.me c.requires.may_call,
+)

@@ -1,0 +1,6 @@
+use Rattle.std.proofs.Common.{◌≡◌}
+use Rattle.chronicle.proofs.chronicle.Chronicle.wait.Given as goal
+
+-- the seat is as it was
+abbrev pub invariant-loop : goal.invariant-loop
+invariant-loop g l = (l.place.table_id ≡ l.initial.place.table_id) × (l.place.id ≡ l.initial.place.id) × (l.place.me ≡ l.initial.place.me)

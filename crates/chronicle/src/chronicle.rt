@@ -1,0 +1,262 @@
+ghost use Rattle.std.specs.Prelude.{◌≡◌, ◌<◌, ◌≤◌, ◌+◌, ◌^◌, ◌++◌, ◌∷◌, [], true, ℕ, Some, IfOk, All, Any, length, vec_len, slice_index, slice_index_or};
+ghost use Rattle.market_lists.specs.Beginnings.{BeginsWith};
+ghost use Rattle.chronicle.specs.History.{state_after, IsLegal, calls_by, step_of, Extends};
+ghost use Rattle.chronicle.specs.Seats.{origin, standing, new_seats, IsDealing, HasJoined};
+ghost use Rattle.chronicle.specs.Turn.{MayCall, IsWaiting, Draws, Serves, MayStep, Steps, HasToPass, Passes};
+ghost use Rattle.chronicle.specs.Views.{sum_of};
+
+use crate::journal::Journal;
+use crate::kept::Kept;
+use crate::object::Object;
+use crate::rule::{Deal, Draw, Key, Look, Pass, Turns};
+use crate::seat::{Place, Seat};
+use crate::sums::sum;
+use crate::view::View;
+use atomic_table::{Refused, Table};
+use market_units::NoMemory;
+use std::alloc::Global;
+use std::marker::Model;
+use std::snapshot::Snapshot;
+use std::sync::Wait;
+use std::thread::yield_now;
+
+// The word that says which ticket is served.
+const SERVING: usize = 0;
+
+// The word that says which ticket is drawn next.
+const TICKET: usize = 1;
+
+/// An object that threads share, with the history of their calls. Calls take turns by ticket.
+/// Contracts see it as its `Origin`.
+#[derive(Drop)]
+pub struct Chronicle<O: Object> {
+    table: Table<
+        Kept<O, O::Request, O::Reply>,
+        Option<View<O::Base, O::State, O::Request, O::Reply>>,
+        Key<O>,
+        Turns<O>,
+        Global,
+    >,
+}
+
+impl<O: Object> Model for Chronicle<O> {
+    ghost use Rattle.std.specs.Prelude.{◌≡◌, ◌≤◌, length};
+    ghost use Rattle.chronicle.specs.declared.origin.Origin.{Origin};
+    ghost use Rattle.chronicle.specs.Seats.{origin};
+
+    ghost Value = { Origin O.Base O.State };
+
+    ghost view = { λ c. origin c.table.shared.table_id (O.base c.table.shared.key.object.value) (O.state c.table.shared.key.object.value) c.table.shared.key.allotments.value.items };
+
+    ghost invariant = { λ c. (c.table.shared.table_id.words ≡ 2) × (c.table.shared.table_id.slots ≡ 1) × (1 ≤ length c.table.shared.key.allotments.value.items) };
+}
+
+impl<O: Object> Chronicle<O> {
+    /// Begins a history of calls on the object, with one seat for each allotment, numbered from 0.
+    /// Seat n may make as many calls as the n-th allotment says. An `Err` hands nothing back.
+    pub fn start(
+        alloc: Global,
+        object: O,
+        allotments: Vec<u64>,
+    ) -> Result<(Chronicle<O>, Vec<Seat<O>>), NoMemory>
+        requires seats { (1 ≤ vec_len allotments) × (vec_len allotments ≤ 65535) }
+        requires room { sum_of allotments.items ≤ O.room object }
+        ensures chronicle { IfOk result (λ r. (r.0.base ≡ O.base object) × (r.0.opening ≡ O.state object) × (r.0.allotments ≡ allotments.items)) }
+        ensures count { IfOk result (λ r. vec_len r.1 ≡ vec_len allotments) }
+        ensures seats { IfOk result (λ r. (n : ℕ) (d : _) → n < vec_len allotments → slice_index_or r.1.items n d ≡ standing (Some r.0) n (slice_index allotments.items n) [] []) }
+    {
+        let key = Key {
+            object: Snapshot::of(&object),
+            allotments: Snapshot::of(&allotments),
+        };
+        // A journal of more steps than a `u64` counts fits in no memory.
+        let Some(calls) = sum(&allotments) else {
+            return Err(NoMemory);
+        };
+        let count = allotments.len() as u16;
+        let (chronicle, first) = Self::lay(alloc, object, &key, calls)?;
+        let seats = chronicle.all_seats(alloc, first, count)?;
+        Ok((chronicle, seats))
+    }
+
+    // The table with the object, and its first seat.
+    fn lay(
+        alloc: Global,
+        object: O,
+        key: &Key<O>,
+        calls: u64,
+    ) -> Result<(Chronicle<O>, Place<O>), NoMemory>
+        requires object { key.now.object.value ≡ object }
+        requires seats { 1 ≤ length key.now.allotments.value.items }
+        requires calls { calls ≡ sum_of key.now.allotments.value.items }
+        requires room { calls ≤ O.room object }
+        ensures chronicle { IfOk result (λ r. r.0 ≡ origin r.0.table (O.base key.now.object.value) (O.state key.now.object.value) key.now.allotments.value.items) }
+        ensures own { IfOk result (λ r. r.1.table_id ≡ r.0.table) }
+        ensures first { IfOk result (λ r. IsDealing r.0 1 r.1.me) }
+    {
+        let mut journal = Vec::new(alloc);
+        journal.reserve(calls as usize)?;
+        let mut slots = Vec::with_capacity(alloc, 1)?;
+        slots.push_reserved(Kept { object, journal });
+        match Table::new(alloc, &[0, 0], slots, key) {
+            Ok((table, first)) => Ok((Chronicle { table }, first)),
+            Err(Refused { slots: _ }) => Err(NoMemory),
+        }
+    }
+
+    // The seats of all allotments: the first one, and those that are split off from it.
+    fn all_seats(
+        &self,
+        alloc: Global,
+        mut first: Place<O>,
+        count: u16,
+    ) -> Result<Vec<Seat<O>>, NoMemory>
+        requires own { first.table_id ≡ self.now.table }
+        requires dealing { IsDealing self.now 1 first.me }
+        requires count { (1 ≤ count) × (count ≤ 65535) × (count ≡ length self.now.allotments) }
+        ensures { IfOk result (λ seats. seats.items ≡ new_seats self.now 0 self.now.allotments) }
+    {
+        let mut seats = Vec::with_capacity(alloc, count as usize)?;
+        for number in 1..count {
+            seats.push_reserved(self.deal(&mut first, number));
+        }
+        let seat = Seat {
+            number: 0,
+            place: first,
+        };
+        seats.insert(0, seat)?;
+        Ok(seats)
+    }
+
+    // Splits the seat with this number off the first one.
+    fn deal(&self, first: &mut Place<O>, number: u16) -> Seat<O>
+        requires own { first.old.table_id ≡ self.now.table }
+        requires dealing { IsDealing self.now number first.old.me }
+        requires next { (number < length self.now.allotments) × (number < 65535) }
+        ensures own { (first.new.table_id ≡ first.old.table_id) × (first.new.id ≡ first.old.id) }
+        ensures dealing { IsDealing self.now (number + 1) first.new.me }
+        ensures seat { result ≡ standing (Some self.now) number (slice_index self.now.allotments number) [] [] }
+    {
+        let place = self.table.shared.split_seat::<Deal>(first);
+        Seat { number, place }
+    }
+
+    /// Ends the history: with all its seats back, in any order, the object comes out, and the whole history.
+    pub fn close(self, seats: Vec<Seat<O>>) -> (O, Journal<O>)
+        requires chronicle { All (λ s. s.chronicle ≡ Some self) seats.items }
+        requires all { (n : ℕ) → n < length self.allotments → Any (λ s. s.number ≡ n) seats.items }
+        ensures legal { IsLegal O.sound O.after O.reply self.base self.opening result.1 }
+        ensures seats { All (λ step. Any (λ s. s.number ≡ step.seat) seats.items) result.1 }
+        ensures own { All (λ s. calls_by s.number result.1 ≡ s.own) seats.items }
+        ensures seen { All (λ s. BeginsWith result.1 s.seen) seats.items }
+        ensures base { O.base result.0 ≡ self.base }
+        ensures last { O.state result.0 ≡ state_after O.after self.base self.opening result.1 }
+    {
+        let place = self.gather(seats);
+        let Chronicle { table } = self;
+        let mut closed = table.close_with(place);
+        let kept = closed.take(0);
+        closed.free();
+        let Kept { object, journal } = kept;
+        (object, Journal::of(journal))
+    }
+
+    // Joins all seats.
+    fn gather(&self, mut seats: Vec<Seat<O>>) -> Place<O>
+        requires chronicle { All (λ s. s.chronicle ≡ Some self.now) seats.items }
+        requires some { 1 ≤ vec_len seats }
+        ensures own { result.table_id ≡ self.now.table }
+        ensures joined { HasJoined self.now seats.items result.me }
+    {
+        let Some(last) = seats.pop() else {
+            unreachable!()
+        };
+        let mut keeper = last.into_place();
+        'seats: while let Some(seat) = seats.pop() {
+            self.join(&mut keeper, seat);
+        }
+        keeper
+    }
+
+    // The keeper joins one more seat.
+    fn join(&self, keeper: &mut Place<O>, seat: Seat<O>)
+        requires own { keeper.old.table_id ≡ self.now.table }
+        requires chronicle { seat.chronicle ≡ Some self.now }
+        requires keeper { HasJoined self.now [] keeper.old.me }
+        ensures own { (keeper.new.table_id ≡ keeper.old.table_id) × (keeper.new.id ≡ keeper.old.id) }
+        ensures joined { (joined : _) → HasJoined self.now joined keeper.old.me → HasJoined self.now (seat ∷ joined) keeper.new.me }
+    {
+        self.table
+            .shared
+            .join_seat::<Deal>(keeper, seat.into_place());
+    }
+
+    /// Makes one call, and answers what the object replies at its turn. It may wait.
+    pub fn call<R: Wait>(&self, rt: &R, seat: &mut Seat<O>, request: O::Request) -> O::Reply
+        requires chronicle { seat.old.chronicle ≡ Some self.now }
+        requires left { 1 ≤ seat.old.left }
+        requires sound { O.sound self.now.base request ≡ true }
+        ensures seen { Extends seat.old.seen seat.new.seen (step_of seat.old.number request result) }
+        ensures legal { IsLegal O.sound O.after O.reply self.now.base self.now.opening seat.new.seen }
+        ensures own { seat.new.own ≡ seat.old.own ++ step_of seat.old.number request result ∷ [] }
+        ensures all_own { calls_by seat.old.number seat.new.seen ≡ seat.new.own }
+        ensures left { seat.new.left + 1 ≡ seat.old.left }
+        ensures same { (seat.new.chronicle ≡ seat.old.chronicle) × (seat.new.number ≡ seat.old.number) }
+    {
+        let number = seat.number;
+        let place = &mut seat.place;
+        let ticket = self.draw(place);
+        self.wait(rt, place, ticket);
+        let reply = self.act(place, number, request);
+        self.pass(place, number, &request, &reply);
+        reply
+    }
+
+    // Draws a ticket.
+    fn draw(&self, place: &mut Place<O>) -> u64
+        requires own { place.old.table_id ≡ self.now.table }
+        requires may_call { MayCall place.old.me }
+        ensures own { (place.new.table_id ≡ place.old.table_id) × (place.new.id ≡ place.old.id) }
+        ensures draws { Draws place.old.me result place.new.me }
+    {
+        self.table.shared.fetch_add::<Draw>(place, TICKET, 1)
+    }
+
+    // Looks again until the ticket is served.
+    fn wait<R: Wait>(&self, rt: &R, place: &mut Place<O>, ticket: u64)
+        requires own { place.old.table_id ≡ self.now.table }
+        requires waits { IsWaiting ticket place.old.me }
+        ensures own { (place.new.table_id ≡ place.old.table_id) × (place.new.id ≡ place.old.id) }
+        ensures turn { (v : _) → place.old.me ≡ (Some v, []) → Serves O.base O.state O.room O.sound O.after O.reply v ticket place.new.me }
+    {
+        for _ in rt.forever() {
+            if self.table.shared.load::<Look<O>>(place, SERVING) == ticket {
+                return;
+            }
+            yield_now();
+        }
+        unreachable!()
+    }
+
+    // Takes the seat's step, in its turn.
+    fn act(&self, place: &mut Place<O>, number: u16, request: O::Request) -> O::Reply
+        requires own { place.old.table_id ≡ self.now.table }
+        requires number { number < 65535 }
+        requires may_step { MayStep O.base O.state O.room O.sound O.after O.reply number request place.old.me }
+        ensures own { (place.new.table_id ≡ place.old.table_id) × (place.new.id ≡ place.old.id) }
+        ensures steps { Steps O.base O.state O.room O.sound O.after O.reply number request result place.old.me place.new.me }
+    {
+        let kept = place.slot_mut(&self.table.shared, 0);
+        kept.step(number, request)
+    }
+
+    // Gives the object back, and passes the turn on.
+    fn pass(&self, place: &mut Place<O>, number: u16, request: &O::Request, reply: &O::Reply)
+        requires own { place.old.table_id ≡ self.now.table }
+        requires has_to_pass { HasToPass O.base O.state O.room O.sound O.after O.reply (step_of number request.now reply.now) place.old.me }
+        ensures own { (place.new.table_id ≡ place.old.table_id) × (place.new.id ≡ place.old.id) }
+        ensures passes { Passes place.old.me place.new.me }
+    {
+        self.table.shared.fetch_add::<Pass>(place, SERVING, 1);
+    }
+}

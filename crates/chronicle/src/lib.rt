@@ -1,0 +1,23 @@
+//! One legal history of the calls of many threads on one object.
+#![tactic(auto)]
+
+mod chronicle;
+mod journal;
+mod kept;
+mod object;
+mod origin;
+mod rule;
+mod seat;
+mod standing;
+mod sums;
+mod view;
+
+pub use chronicle::Chronicle;
+pub use journal::{Journal, Step, StepOf};
+pub use object::Object;
+pub use origin::Origin;
+pub use seat::Seat;
+pub use standing::Standing;
+
+#[cfg(test)]
+mod tests;

@@ -1,0 +1,140 @@
+ghost use Rattle.std.specs.Prelude.{◌≡◌, ◌<◌, ◌≤◌, All, ℕ, length, slice_index_or};
+
+use super::*;
+use adder::Adder;
+use market_units::NoMemory;
+use std::alloc::Global;
+use std::sync::Wait;
+use std::test::Fail;
+use std::thread;
+use std::thread::Threads;
+
+mod adder;
+
+// How often each thread calls.
+const CALLS: u64 = 50;
+
+// Closes with seats that stand at their numbers.
+fn close_in_order(chronicle: Chronicle<Adder>, seats: Vec<Seat<Adder>>) -> (Adder, Journal<Adder>)
+    requires chronicle { All (λ s. s.chronicle ≡ Some chronicle) seats.items }
+    requires count { length chronicle.allotments ≤ length seats.items }
+    requires numbers { (n : ℕ) (d : _) → n < length seats.items → (slice_index_or seats.items n d).number ≡ n }
+{
+    chronicle.close(seats)
+}
+
+// The replies to two seats that one thread calls, and what the chronicle leaves.
+fn call_by_turns<R: Wait>(
+    rt: &R,
+    alloc: Global,
+) -> Result<([u64; 3], Adder, Journal<Adder>), NoMemory> {
+    let allotments = vec![in alloc; 2u64, 1u64]?;
+    let (chronicle, mut seats) = Chronicle::start(alloc, Adder { sum: 0, room: 3 }, allotments)?;
+    let first = chronicle.call(rt, &mut seats[0], 5);
+    let second = chronicle.call(rt, &mut seats[1], 7);
+    let third = chronicle.call(rt, &mut seats[0], 1);
+    let closed = close_in_order(chronicle, seats);
+    Ok(([first, second, third], closed.0, closed.1))
+}
+
+// Two seats, called by one thread.
+#[test]
+fn each_reply_is_the_sum(rt: HostRuntime) -> Result<(), Fail> {
+    let (replies, adder, journal) = call_by_turns(&rt, rt.alloc())?;
+    assert_eq!(rt; replies, [5, 12, 13]);
+    assert_eq!(rt; adder.sum, 13);
+    let steps = journal.steps();
+    assert_eq!(rt; steps.len(), 3);
+    assert_eq!(rt;
+        (steps[0].seat, steps[0].request, steps[0].reply),
+        (0, 5, 5)
+    );
+    assert_eq!(rt;
+        (steps[1].seat, steps[1].request, steps[1].reply),
+        (1, 7, 12)
+    );
+    assert_eq!(rt;
+        (steps[2].seat, steps[2].request, steps[2].reply),
+        (0, 1, 13)
+    );
+    Ok(())
+}
+
+// Calls with requests from 1 to 4, by the seat's number.
+fn call_often<R: Wait>(rt: &R, chronicle: &Chronicle<Adder>, seat: &mut Seat<Adder>)
+    requires chronicle { seat.old.chronicle ≡ Some chronicle.now }
+    requires left { seat.old.left ≡ CALLS }
+    ensures chronicle { seat.new.chronicle ≡ seat.old.chronicle }
+    ensures number { seat.new.number ≡ seat.old.number }
+{
+    let request = u32::from(seat.number() % 4) + 1;
+    for _ in 0..CALLS {
+        chronicle.call(rt, seat, request);
+    }
+}
+
+// Each seat calls in a thread of its own.
+fn call_all<R: Threads + Wait + Sync>(
+    rt: &R,
+    chronicle: &Chronicle<Adder>,
+    seats: &mut [Seat<Adder>],
+)
+    requires { All (λ s. (s.chronicle ≡ Some chronicle.now) × (s.left ≡ CALLS)) seats.old }
+    ensures chronicle { (i : ℕ) (d : _) → i < length seats.old → (slice_index_or seats.new i d).chronicle ≡ (slice_index_or seats.old i d).chronicle }
+    ensures number { (i : ℕ) (d : _) → i < length seats.old → (slice_index_or seats.new i d).number ≡ (slice_index_or seats.old i d).number }
+{
+    let threads = seats.len();
+    if threads == 0 {
+        return;
+    }
+    thread::for_each_mut(
+        rt,
+        seats,
+        threads,
+        &|_, seat| call_often(rt, chronicle, seat),
+    );
+}
+
+// The steps of the seat with this number, which replied the sums, among all of them.
+fn count_calls(steps: &[Step<Adder>], seat: u16) -> Option<u64> {
+    let mut sum = 0u64;
+    let mut calls = 0u64;
+    for step in steps {
+        sum = sum.wrapping_add(u64::from(step.request));
+        if step.reply != sum {
+            return None;
+        }
+        if step.seat == seat {
+            calls = calls.wrapping_add(1);
+        }
+    }
+    Some(calls)
+}
+
+// What four seats leave that call at once, each in a thread of its own.
+fn call_at_once<R: Threads + Wait + Sync>(
+    rt: &R,
+    alloc: Global,
+) -> Result<(Adder, Journal<Adder>), NoMemory> {
+    let allotments = vec![in alloc; CALLS, CALLS, CALLS, CALLS]?;
+    let adder = Adder {
+        sum: 0,
+        room: 4 * CALLS,
+    };
+    let (chronicle, mut seats) = Chronicle::start(alloc, adder, allotments)?;
+    call_all(rt, &chronicle, seats.as_mut_slice());
+    let closed = close_in_order(chronicle, seats);
+    Ok(closed)
+}
+
+// Several real threads share one history.
+#[test]
+fn threads_share_one_history(rt: HostRuntime) -> Result<(), Fail> {
+    let (adder, journal) = call_at_once(&rt, rt.alloc())?;
+    assert_eq!(rt; adder.sum, CALLS * 10);
+    assert_eq!(rt; journal.steps().len(), 200);
+    for seat in 0..4u16 {
+        assert_eq!(rt; count_calls(journal.steps(), seat), Some(CALLS));
+    }
+    Ok(())
+}
