@@ -1,0 +1,41 @@
+-- The budgets of the first students.
+use Rattle.std.proofs.Common.{◌≡◌, ◌∙◌, ◌<◌, ◌≤◌, ◌+◌, ◌*◌, ◌++◌, ◌∷◌, [], ℕ, List, length, map, take, get_or, Some, option_map, ap, arith, add-one, zero-add}
+use Rattle.std.specs.Prelude.{slice_get}
+use Rattle.std.specs.List.{enumerate_from}
+use Rattle.std.proofs.Math.Seq.{take-suc}
+use Rattle.std.proofs.lemmas.List.{get_or-map, length-map}
+use Rattle.std.proofs.lemmas.List.FromFn.{get_or-enumerate_from, length-enumerate_from, length-map-range_with_len}
+use Rattle.std.proofs.lemmas.Option.{slice_get-get_or}
+use Rattle.drawn_words.specs.Streams.{stream_word, stream_words}
+use Rattle.student_roll.specs.Students.{Student}
+use Rattle.budget_draw.specs.Budgets.{budgets_of}
+use Rattle.budget_draw.specs.Ranks.{rank_among}
+use Rattle.budget_draw.proofs.Counts.{rank_among-lt}
+
+nobody : Student
+nobody = record { name = []; base = 0; credits = 0; courses = 0 }
+
+pub length-budgets_of : (students : List Student) (seed spread : ℕ) → length (budgets_of students seed spread) ≡ length students
+length-budgets_of students seed spread = length-map (enumerate_from 0 students) _ ∙ length-enumerate_from 0 students
+
+-- the budget of one student more
+pub budgets_of-more : (students : List Student) (seed spread i base : ℕ) → i < length students → option_map (λ s. s.base) (slice_get students i) ≡ Some base
+    → take (i + 1) (budgets_of students seed spread) ≡ take i (budgets_of students seed spread) ++ (base + spread * rank_among (stream_words seed 0 (length students)) i) ∷ []
+budgets_of-more students seed spread i base within is =
+    let budget : ℕ × Student → ℕ = λ numbered. numbered.1.base + spread * rank_among (stream_words seed 0 (length students)) numbered.0 in
+    let numbered : get_or (enumerate_from 0 students) i (0, nobody) ≡ (i, get_or students i nobody) = get_or-enumerate_from 0 students i (0, nobody) within ∙ ap (λ (n : ℕ). (n, get_or students i nobody)) (zero-add i) in
+    let count : i < length (enumerate_from 0 students) = omega (arith, length-enumerate_from 0 students) in
+    let own : (get_or students i nobody).base ≡ base = (let h : option_map (λ s. s.base) (Some (get_or students i nobody)) ≡ Some base = rw (slice_get-get_or students i nobody within) at is in cc) in
+    let last : get_or (map budget (enumerate_from 0 students)) i 0 ≡ base + spread * rank_among (stream_words seed 0 (length students)) i =
+    get_or-map budget (enumerate_from 0 students) i (0, nobody) 0 count ∙ ap budget numbered ∙ ap (λ (b : ℕ). b + spread * rank_among (stream_words seed 0 (length students)) i) own in
+    rw add-one (take-suc (budgets_of students seed spread) i 0 (omega (arith, length-budgets_of students seed spread)) ∙ ap (λ (b : ℕ). take i (budgets_of students seed spread) ++ b ∷ []) last)
+
+-- a drawn budget adds at most 49 times the greatest rank
+pub spread-le : (spread rank : ℕ) → spread ≤ 49 → rank < 2000 → spread * rank ≤ 97951
+spread-le spread rank s r = grind arith
+
+-- a drawn rank is less than the greatest number of students
+pub drawn_rank-lt : (words : List ℕ) (seed students student : ℕ) → words ≡ stream_words seed 0 students → student < students → students ≤ 2000 → rank_among words student < 2000
+drawn_rank-lt words seed students student is within few =
+    let many : length words ≡ students = ap length is ∙ length-map-range_with_len (stream_word seed 0) 0 students in
+    omega (arith, rank_among-lt words student (omega arith))

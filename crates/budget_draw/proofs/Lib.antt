@@ -1,0 +1,4 @@
+pub mod BudgetFacts
+pub mod Counts
+pub mod OrderFacts
+pub mod OrderLaw

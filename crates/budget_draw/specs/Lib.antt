@@ -1,0 +1,4 @@
+pub mod AfterOrder
+pub mod Budgets
+pub mod Laws
+pub mod Ranks

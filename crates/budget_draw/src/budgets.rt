@@ -1,0 +1,46 @@
+// Budgets, drawn and raised.
+ghost use Rattle.std.specs.Prelude.{◌≡◌, ◌+◌, ◌*◌, ◌<◌, ◌≤◌, All, IfOk};
+ghost use Rattle.budget_draw.specs.Budgets.{amounts, budgets_of, raised_by};
+
+use crate::ranks::rank_among;
+use drawn_words::words;
+use market_units::{NoMemory, StudentNo, Tokens};
+use std::alloc::Global;
+use student_roll::Roll;
+
+// The budget of a base and a rank.
+fn budget_at(base: u32, spread: u8, rank: usize) -> Tokens
+    requires base { base ≤ 900000 }
+    requires spread { spread ≤ 49 }
+    requires rank { rank < 2000 }
+    ensures budget { result.0 ≡ base + spread * rank }
+    ensures range { result.0 ≤ 997951 }
+{
+    Tokens(base + u32::from(spread) * rank as u32)
+}
+
+/// The budget of each student in file order: the base, and the spread times the rank that the seed draws.
+pub fn draw(alloc: Global, roll: &Roll, seed: u64, spread: u8) -> Result<Vec<Tokens>, NoMemory>
+    requires { spread ≤ 49 }
+    ensures budgets { IfOk result (λ drawn. amounts drawn.items ≡ budgets_of roll.now seed spread) }
+    ensures range { IfOk result (λ drawn. All (λ budget. budget.0 ≤ 997951) drawn.items) }
+{
+    let students = roll.len();
+    let words = words(alloc, seed, 0, usize::from(students))?;
+    let mut drawn = Vec::with_capacity(alloc, usize::from(students))?;
+    for student in 0..students {
+        let rank = rank_among(&words, usize::from(student));
+        let base = roll.base(StudentNo(student));
+        drawn.push(budget_at(base, spread, rank))?;
+    }
+    Ok(drawn)
+}
+
+/// The budget raised by `raise` percent, rounded down.
+pub fn raised(budget: Tokens, raise: u8) -> Tokens
+    requires budget { budget.0 ≤ 1000000 }
+    requires raise { raise ≤ 50 }
+    ensures { result.0 ≡ raised_by raise budget.0 }
+{
+    Tokens(budget.0 + budget.0 * u32::from(raise) / 100)
+}

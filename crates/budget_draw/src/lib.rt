@@ -1,0 +1,13 @@
+//! Budgets: drawn by rank, raised, and put into the order of the aftermarket.
+#![tactic(auto)]
+
+mod after;
+mod budgets;
+pub mod laws;
+mod ranks;
+
+pub use after::after_order;
+pub use budgets::{draw, raised};
+
+#[cfg(test)]
+mod tests;
