@@ -1,0 +1,9 @@
+use Rattle.std.proofs.Common.{◌∙◌}
+use Rattle.preference_desk.proofs.PairLemmas.{stands_here, stands_nowhere}
+use Rattle.preference_desk.proofs.pairs.stands_at.Goals as goal
+
+pub returns-then-place-items : goal.returns-then-place-items
+returns-then-place-items c = c.is_pair.ensures ∙ stands_here (c.args.first.0, c.args.second.0) c.args.items.now c.args.place _ c.requires c.if-place-items.true
+
+pub returns-else-place-items : goal.returns-else-place-items
+returns-else-place-items c = stands_nowhere (c.args.first.0, c.args.second.0) c.args.items.now c.args.place c.requires c.if-place-items.false

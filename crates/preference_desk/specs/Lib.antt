@@ -1,0 +1,14 @@
+pub mod DeskNames
+pub mod DeskStep
+pub mod DeskView
+pub mod Entries
+pub mod Histories
+pub mod Journals
+pub mod MarketNames
+pub mod NamesView
+pub mod PairsView
+pub mod Places
+pub mod PreferencesView
+pub mod RatingsView
+pub mod Rows
+pub mod StudentPreferences

@@ -1,0 +1,26 @@
+-- Rows of entries in the order of their keys.
+use Rattle.std.specs.Prelude.{ℕ, ℤ, ◌<◌, ◌≤◌, IsTrue, List, All, length, map, unsigned_abs}
+use Rattle.std.specs.Ordering.{nat_cmp}
+use Rattle.std.specs.FinMap.{is_sorted}
+use Rattle.market_units.specs.declared.units.SectionNo.{SectionNo}
+use Rattle.preference_desk.specs.StudentPreferences.{pair_cmp}
+
+-- a section and its rating
+abbrev pub rating_entry : (SectionNo × ℕ) → ℕ × ℕ
+rating_entry rated = (rated.0.0, rated.1)
+
+-- a pair of sections and its adjustment
+abbrev pub pair_entry : (SectionNo × SectionNo × ℤ) → (ℕ × ℕ) × ℤ
+pair_entry adjusted = ((adjusted.0.0, adjusted.1.0), adjusted.2)
+
+-- at most 60 ratings from 1 to 100, sections ascending
+pub record AreRatings (items : List (SectionNo × ℕ)) : Type 0 where
+  pub sorted : IsTrue (is_sorted nat_cmp (map rating_entry items))
+  pub few : length items ≤ 60
+  pub each : All (λ (rated : SectionNo × ℕ). (1 ≤ rated.1) × (rated.1 ≤ 100)) items
+
+-- at most 200 adjustments from -200 to 200 other than 0, lower sections first, pairs ascending
+pub record ArePairs (items : List (SectionNo × SectionNo × ℤ)) : Type 0 where
+  pub sorted : IsTrue (is_sorted pair_cmp (map pair_entry items))
+  pub few : length items ≤ 200
+  pub each : All (λ (adjusted : SectionNo × SectionNo × ℤ). (adjusted.0.0 < adjusted.1.0) × (1 ≤ unsigned_abs adjusted.2) × (unsigned_abs adjusted.2 ≤ 200)) items

@@ -1,0 +1,54 @@
+// Copies of the market's names.
+ghost use Rattle.std.specs.Prelude.{◌≡◌, map, IfOk};
+ghost use Rattle.market_units.specs.Name.{name_bytes};
+ghost use Rattle.course_catalog.specs.Sections.{Section};
+ghost use Rattle.student_roll.specs.Students.{Student};
+ghost use Rattle.preference_desk.specs.MarketNames.{market_names};
+ghost use Rattle.preference_desk.specs.NamesView.{names_in};
+
+use crate::names::Names;
+use course_catalog::Catalog;
+use indexmap::IndexSet;
+use market_units::{Name, NoMemory, SectionNo, StudentNo};
+use std::alloc::Global;
+use student_roll::Roll;
+
+// The names of the students, in file order.
+pub(crate) fn students_of(alloc: Global, roll: &Roll) -> Result<IndexSet<Name>, NoMemory>
+    ensures { IfOk result (λ names. map name_bytes names.keys ≡ map (λ (student : Student). student.name) roll.now) }
+{
+    let students = roll.len();
+    let mut names = IndexSet::new(alloc);
+    for student in 0..students {
+        names.insert(roll.name(StudentNo(student)))?;
+    }
+    Ok(names)
+}
+
+// The names of the sections, in file order.
+pub(crate) fn sections_of(alloc: Global, catalog: &Catalog) -> Result<IndexSet<Name>, NoMemory>
+    ensures { IfOk result (λ names. map name_bytes names.keys ≡ map (λ (section : Section). section.name) catalog.now) }
+{
+    let sections = catalog.len();
+    let mut names = IndexSet::new(alloc);
+    for section in 0..sections {
+        names.insert(catalog.name(SectionNo(section)))?;
+    }
+    Ok(names)
+}
+
+// The names of the catalogue and of the roll, of which these are copies.
+pub(crate) fn names_in_limits(
+    catalog: &Catalog,
+    roll: &Roll,
+    students: IndexSet<Name>,
+    sections: IndexSet<Name>,
+) -> Names
+    requires students { map name_bytes students.keys ≡ map (λ (student : Student). student.name) roll.now }
+    requires sections { map name_bytes sections.keys ≡ map (λ (section : Section). section.name) catalog.now }
+    ensures { names_in result ≡ market_names catalog.now roll.now }
+{
+    let _few_students = roll.len();
+    let _few_sections = catalog.len();
+    Names::of(students, sections)
+}

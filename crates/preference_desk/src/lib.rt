@@ -1,0 +1,20 @@
+//! The desk: what the sessions' commands make of the students' preferences, and the journal of what was said and replied.
+#![tactic(auto)]
+
+mod copies;
+mod desk;
+mod entry;
+mod names;
+mod pairs;
+mod preferences;
+mod ratings;
+mod reply;
+mod steps;
+
+pub use desk::Desk;
+pub use entry::Entry;
+pub use preferences::Preferences;
+pub use reply::Reply;
+
+#[cfg(test)]
+mod tests;

@@ -1,0 +1,121 @@
+// One student's adjustments of pairs of sections.
+ghost use Rattle.std.specs.Prelude.{◌≡◌, ◌≤◌, ◌<◌, not, nat_lt, ◌&&◌, nat_le, map, if◌then◌else◌, unsigned_abs, IfOk};
+ghost use Rattle.std.specs.List.{position};
+ghost use Rattle.std.specs.Ordering.{is_eq, is_le};
+ghost use Rattle.std.specs.Vec.{vec_capacity};
+ghost use Rattle.preference_desk.specs.Places.{place_in, stands};
+ghost use Rattle.preference_desk.specs.Rows.{ArePairs, pair_entry};
+ghost use Rattle.preference_desk.specs.StudentPreferences.{pair_cmp};
+
+use market_units::{MAX_PAIRS, NoMemory, SectionNo};
+use std::alloc::Global;
+
+/// The adjustments of one student, pair by pair, in room that was taken once.
+#[derive(Drop)]
+pub(crate) struct Pairs {
+    items: Vec<(SectionNo, SectionNo, i16)>,
+    ghost kept: { ArePairs items.items },
+    ghost room: { 200 ≤ vec_capacity items },
+}
+
+impl Pairs {
+    ghost use Rattle.std.specs.FinMap.{empty, contains_key, entries, len};
+    ghost use Rattle.preference_desk.specs.StudentPreferences.{with_pair};
+    ghost use Rattle.preference_desk.specs.PairsView.{pairs_in};
+
+    // No adjustments, with room for 200.
+    pub(crate) fn new(alloc: Global) -> Result<Pairs, NoMemory>
+        ensures { IfOk result (λ pairs. pairs_in pairs ≡ empty) }
+    {
+        Ok(Pairs {
+            items: Vec::with_capacity(alloc, MAX_PAIRS)?,
+        })
+    }
+
+    // The pairs and their adjustments, pairs ascending.
+    pub(crate) fn as_slice(&self) -> &[(SectionNo, SectionNo, i16)]
+        ensures entries { map pair_entry result.now ≡ entries (pairs_in self.now) }
+        ensures kept { ArePairs result.now }
+    {
+        &self.items
+    }
+
+    // The pair's adjustment becomes this, and 0 takes it out; `false`, and nothing changes, where there is no room for one more.
+    pub(crate) fn set(&mut self, first: SectionNo, second: SectionNo, n: i16) -> bool
+        requires order { first.0 < second.0 }
+        requires small { unsigned_abs n ≤ 200 }
+        ensures room { result ≡ not (nat_lt 0 (unsigned_abs n) && not (contains_key (pairs_in self.old) (first.0, second.0)) && nat_le 200 (len (pairs_in self.old))) }
+        ensures set { pairs_in self.new ≡ (if result then with_pair (pairs_in self.old) (first.0, second.0) n else pairs_in self.old) }
+    {
+        let place = place_of(&self.items, first, second);
+        if stands_at(&self.items, place, first, second) {
+            if n == 0 {
+                self.items.remove(place);
+                return true;
+            }
+            self.items[place] = (first, second, n);
+            return true;
+        }
+        if n == 0 {
+            return true;
+        }
+        if self.items.len() >= MAX_PAIRS {
+            return false;
+        }
+        self.items.insert(place, (first, second, n)).unwrap();
+        true
+    }
+
+    pub(crate) fn clear(&mut self)
+        ensures { pairs_in self.new ≡ empty }
+    {
+        self.items.clear();
+    }
+}
+
+// The place of the pair among those that are adjusted, or of the next one.
+fn place_of(items: &[(SectionNo, SectionNo, i16)], first: SectionNo, second: SectionNo) -> usize
+    ensures { result ≡ place_in pair_cmp (first.0, second.0) (map pair_entry items.now) }
+{
+    match find_from(items, first, second) {
+        Some(place) => place,
+        None => items.len(),
+    }
+}
+
+fn find_from(
+    items: &[(SectionNo, SectionNo, i16)],
+    first: SectionNo,
+    second: SectionNo,
+) -> Option<usize>
+    ensures { result ≡ position (λ adjusted. is_le (pair_cmp (first.0, second.0) (pair_entry adjusted).0)) items.now }
+{
+    items
+        .iter()
+        .position(|adjusted| is_up_to(first, second, adjusted))
+}
+
+// Whether the pair stands before the adjusted one, or is that pair.
+fn is_up_to(first: SectionNo, second: SectionNo, adjusted: &(SectionNo, SectionNo, i16)) -> bool
+    ensures { result ≡ is_le (pair_cmp (first.0, second.0) (pair_entry adjusted.now).0) }
+{
+    first.0 < adjusted.0.0 || first.0 == adjusted.0.0 && second.0 <= adjusted.1.0
+}
+
+fn stands_at(
+    items: &[(SectionNo, SectionNo, i16)],
+    place: usize,
+    first: SectionNo,
+    second: SectionNo,
+) -> bool
+    requires { place ≡ place_in pair_cmp (first.0, second.0) (map pair_entry items.now) }
+    ensures { result ≡ stands pair_cmp (first.0, second.0) (map pair_entry items.now) }
+{
+    place < items.len() && is_pair(first, second, &items[place])
+}
+
+fn is_pair(first: SectionNo, second: SectionNo, adjusted: &(SectionNo, SectionNo, i16)) -> bool
+    ensures { result ≡ is_eq (pair_cmp (first.0, second.0) (pair_entry adjusted.now).0) }
+{
+    first.0 == adjusted.0.0 && second.0 == adjusted.1.0
+}
