@@ -1,0 +1,13 @@
+//! The price sheet: a price for each section of a catalogue, read from a table.
+#![tactic(auto)]
+
+mod entry;
+mod reading;
+mod refusal;
+mod rules;
+
+pub use reading::read_prices;
+pub use refusal::PriceRefusal;
+
+#[cfg(test)]
+mod tests;
