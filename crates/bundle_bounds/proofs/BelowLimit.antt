@@ -1,0 +1,68 @@
+-- A bound closes a node exactly where it is below the limit.
+use Rattle.std.proofs.Common.{◌≡◌, ℕ, ◌-◌, ◌<◌, true, List, [], ◌∷◌, Option, Some, None, length, take, drop, sym, ap, ◌∙◌, subst, arith, inl, inr}
+use Rattle.std.specs.Prelude.{ℤ, pos, ◌+ℤ◌, ◌*ℤ◌, ◌<ℤ◌, IfSome, IfNone}
+use Rattle.std.proofs.lemmas.Int.{ints}
+use Rattle.std.proofs.lemmas.Bool.{cases_Bool}
+use Rattle.bundle_rules.specs.Sets.{has, IsAscending}
+use Rattle.bundle_rules.specs.Wishes.{utility}
+use Rattle.bundle_rules.specs.Menus.{by_place}
+use Rattle.bundle_bounds.specs.declared.nodes.Leaf.{Leaf}
+use Rattle.bundle_bounds.specs.declared.prospects.Prospect.{Prospect}
+use Rattle.bundle_bounds.specs.Offers.{Offer}
+use Rattle.bundle_bounds.specs.Opens.{budget_left, credits_left, courses_left, open_places, prospects}
+use Rattle.bundle_bounds.specs.Bounds.{base_of, all_bounds, bounds, Closes, NoneCloses, IsFirstClosing}
+use Rattle.bundle_bounds.specs.Limits.{NoneBelow, IsFirstBelow}
+use Rattle.bundle_bounds.specs.Ahead.{is_ahead, limit_of}
+use Rattle.bundle_bounds.proofs.FirstDifference.{ahead_to, ahead_from}
+use Rattle.bundle_bounds.proofs.Outlook.{rest_whole}
+
+pub rest_of_room : (room : List Prospect) (s : ℕ) → length room ≡ 60 → take (60 - s) (drop s room) ≡ drop s room
+rest_of_room room s whole = ap (λ n. take (n - s) (drop s room)) (sym whole) ∙ rest_whole room s
+
+-- what the code computes with is the node's menu of bounds
+pub same_numbers : (offer : Offer) (k : ℕ) (cs : List ℕ) (base : ℤ) (budget credits courses : ℕ) (ps : List Prospect) → base ≡ base_of offer cs → budget ≡ budget_left offer cs → credits ≡ credits_left offer cs → courses ≡ courses_left offer cs
+    → ps ≡ prospects offer cs (open_places offer k cs) → all_bounds base budget credits courses ps ≡ bounds offer k cs
+same_numbers offer k cs base budget credits courses ps base_is budget_is credits_is courses_is ps_is = λ i. all_bounds (base_is i) (budget_is i) (credits_is i) (courses_is i) (ps_is i)
+
+module _ (offer : Offer) (k : ℕ) (cs ch : List ℕ) (up : IsAscending ch) (up' : IsAscending cs) (low : (c : ℕ) → has cs c ≡ true → c < k) where
+  abbrev pub limit : ℤ
+  limit = limit_of (utility (by_place offer.menu) ch) (is_ahead k ch cs)
+
+  below_closes : (b : ℤ) → b <ℤ limit → Closes offer k cs ch b
+  below_closes b below =
+      elim (cases_Bool (is_ahead k ch cs)) [
+        | inl ahead ↦ inr (rw ahead at below, ahead_to k ch cs up up' low ahead)
+        | inr behind ↦ inl (rw behind at below)
+      ]
+
+  closes_below : (b : ℤ) → Closes offer k cs ch b → b <ℤ limit
+  closes_below b (inl low_) =
+      let u : ℤ = utility (by_place offer.menu) ch in
+      let low' : b <ℤ (pos 1000 *ℤ u) = low_ in
+      elim (cases_Bool (is_ahead k ch cs)) [
+        | inl ahead ↦ rw ahead (let goal : b <ℤ (pos 1000 *ℤ (u +ℤ pos 1)) = omega (arith, ints) in goal)
+        | inr behind ↦ rw behind low'
+      ]
+  closes_below b (inr both) = rw (ahead_from k ch cs up up' low both.1) both.0
+
+  first_closing : (bs : List (Leaf × ℤ)) (leaf : Leaf) → IsFirstBelow limit bs leaf → IsFirstClosing offer k cs ch bs leaf
+  first_closing [] leaf first = first
+  first_closing (b ∷ bs) leaf (inl here) = inl (below_closes b.1 here.0, here.1)
+  first_closing (b ∷ bs) leaf (inr later) = inr ((λ closes. later.0 (closes_below b.1 closes)), first_closing bs leaf later.1)
+
+  none_closing : (bs : List (Leaf × ℤ)) → NoneBelow limit bs → NoneCloses offer k cs ch bs
+  none_closing [] none = tt
+  none_closing (b ∷ bs) none = ((λ closes. none.0 (closes_below b.1 closes)), none_closing bs none.1)
+
+  module _ (base most : ℤ) (budget credits courses : ℕ) (ps : List Prospect) (base_is : base ≡ base_of offer cs) (most_is : most ≡ limit) (budget_is : budget ≡ budget_left offer cs) (credits_is : credits ≡ credits_left offer cs)
+      (courses_is : courses ≡ courses_left offer cs) (ps_is : ps ≡ prospects offer cs (open_places offer k cs)) where
+    same_bounds : all_bounds base budget credits courses ps ≡ bounds offer k cs
+    same_bounds = λ i. all_bounds (base_is i) (budget_is i) (credits_is i) (courses_is i) (ps_is i)
+
+    pub some_closes : (r : Option Leaf) → IfSome r (IsFirstBelow most (all_bounds base budget credits courses ps)) → IfSome r (IsFirstClosing offer k cs ch (bounds offer k cs))
+    some_closes None h = h
+    some_closes (Some leaf) h = first_closing (bounds offer k cs) leaf (subst (λ l. IsFirstBelow l (bounds offer k cs) leaf) most_is (subst (λ bs. IsFirstBelow most bs leaf) same_bounds h))
+
+    pub none_closes : (r : Option Leaf) → IfNone r (NoneBelow most (all_bounds base budget credits courses ps)) → IfNone r (NoneCloses offer k cs ch (bounds offer k cs))
+    none_closes None h = none_closing (bounds offer k cs) (subst (λ l. NoneBelow l (bounds offer k cs)) most_is (subst (NoneBelow most) same_bounds h))
+    none_closes (Some leaf) h = h

@@ -1,0 +1,130 @@
+-- Bundles by their places on the menu.
+use Rattle.std.proofs.Common.{◌≡◌, ℕ, zero, suc, ◌+◌, ◌<◌, Bool, true, false, ◌==◌, List, [], ◌∷◌, length, map, refl, sym, ap, ◌∙◌, arith, inl, inr}
+use Rattle.std.proofs.lemmas.Bool.{cases_order, false≢true}
+use Rattle.std.proofs.lemmas.List.{length-map}
+use Rattle.std.proofs.lemmas.Bool.Decides.{nat_tests}
+use Rattle.market_lists.specs.Totals.{total}
+use Rattle.bundle_rules.specs.Sets.{has, AllAbove, IsAscending}
+use Rattle.bundle_rules.specs.Existence.Members.{has-here, has-there, has-cases, has-above}
+use Rattle.bundle_rules.specs.declared.menu.Rated.{Rated}
+use Rattle.bundle_rules.specs.Menus.{IsMenu, section_at, place_in, wishes_of, by_place}
+use Rattle.bundle_rules.specs.Existence.Places.{section_at-place_in, rated_on_menu}
+use Rattle.bundle_rules.proofs.Feasibility.{credits_by_place}
+use Rattle.bundle_bounds.specs.Offers.{Offer, price_at, allowed_at, places_of}
+use Rattle.bundle_bounds.specs.Laws.{IsTakable}
+use Rattle.bundle_bounds.proofs.Openness.{MayBeTaken}
+
+-- the sections of a menu, by place
+sections : List Rated → List ℕ
+sections places = map (λ rated. rated.section.0) places
+
+section_at-has : (places : List Rated) (j : ℕ) → j < length places → has (map (λ rated. rated.section.0) places) (section_at places j) ≡ true
+section_at-has [] j low = absurd (omega arith)
+section_at-has (rated ∷ places) zero low = has-here rated.section.0 (map (λ r. r.section.0) places)
+section_at-has (rated ∷ places) (suc j) low = has-there rated.section.0 (map (λ r. r.section.0) places) (section_at places j) (section_at-has places j (omega arith))
+
+-- a later place has a later section
+pub section_at-rises : (places : List Rated) (i j : ℕ) → IsAscending (map (λ rated. rated.section.0) places) → i < j → j < length places → section_at places i < section_at places j
+section_at-rises [] i j up rises low = absurd (omega arith)
+section_at-rises (rated ∷ places) i zero up rises low = absurd (omega arith)
+section_at-rises (rated ∷ places) zero (suc j) up rises low = has-above rated.section.0 (map (λ r. r.section.0) places) (section_at places j) up.0 (section_at-has places j (omega arith))
+section_at-rises (rated ∷ places) (suc i) (suc j) up rises low = section_at-rises places i j up.1 (omega arith) (omega arith)
+
+-- the place of the section at a place is that place
+pub place_in-section_at : (places : List Rated) (j : ℕ) → IsAscending (map (λ rated. rated.section.0) places) → j < length places → place_in places (section_at places j) ≡ j
+place_in-section_at [] j up low = absurd (omega arith)
+place_in-section_at (rated ∷ places) zero up low = let same : (rated.section.0 == rated.section.0) ≡ true = grind (arith, nat_tests) in rw same refl
+place_in-section_at (rated ∷ places) (suc j) up low =
+    let above : rated.section.0 < section_at places j = has-above rated.section.0 (map (λ r. r.section.0) places) (section_at places j) up.0 (section_at-has places j (omega arith)) in
+    let other : (rated.section.0 == section_at places j) ≡ false = grind (arith, nat_tests) in
+    rw other (ap suc (place_in-section_at places j up.1 (omega arith)))
+
+-- each of these sections is on the menu
+abbrev pub AllOnMenu : List Rated → List ℕ → Type 0
+AllOnMenu places ss = (s : ℕ) → has ss s ≡ true → place_in places s < length places
+
+-- a later section has a later place
+pub place_in-rises : (places : List Rated) (s t : ℕ) → IsAscending (map (λ rated. rated.section.0) places) → place_in places s < length places → place_in places t < length places → s < t → place_in places s < place_in places t
+place_in-rises places s t up on on' rises =
+    let first : section_at places (place_in places s) ≡ s = section_at-place_in places s on in
+    let second : section_at places (place_in places t) ≡ t = section_at-place_in places t on' in
+    elim (cases_order (place_in places s) (place_in places t)) [
+      | inl same ↦ let e : section_at places (place_in places s) ≡ section_at places (place_in places t) = ap (section_at places) same in absurd (omega arith)
+      | inr (inl below) ↦ below
+      | inr (inr above) ↦ let e : section_at places (place_in places t) < section_at places (place_in places s) = section_at-rises places (place_in places t) (place_in places s) up above on in absurd (omega arith)
+    ]
+
+-- a place of the bundle is that of one of its sections
+pub has-places : (places : List Rated) (ss : List ℕ) (p : ℕ) → has (map (place_in places) ss) p ≡ true → (s : ℕ) × (has ss s ≡ true) × (place_in places s ≡ p)
+has-places places [] p is = absurd (false≢true is)
+has-places places (s ∷ ss) p is =
+    elim (has-cases (place_in places s) (map (place_in places) ss) p is) [
+      | inl here ↦ (s, has-here s ss, here)
+      | inr there ↦ let rest = has-places places ss p there in (rest.0, has-there s ss rest.0 rest.1, rest.2)
+    ]
+
+pub places-has : (places : List Rated) (ss : List ℕ) (s : ℕ) → has ss s ≡ true → has (map (place_in places) ss) (place_in places s) ≡ true
+places-has places [] s is = absurd (false≢true is)
+places-has places (t ∷ ss) s is =
+    elim (has-cases t ss s is) [
+      | inl here ↦ rw here (has-here (place_in places s) (map (place_in places) ss))
+      | inr there ↦ has-there (place_in places t) (map (place_in places) ss) (place_in places s) (places-has places ss s there)
+    ]
+
+above_places : (places : List Rated) (s : ℕ) (ss : List ℕ) → IsAscending (map (λ rated. rated.section.0) places) → place_in places s < length places → AllOnMenu places ss → AllAbove s ss → AllAbove (place_in places s) (map (place_in places) ss)
+above_places places s [] up on all above = tt
+above_places places s (t ∷ ss) up on all above = (place_in-rises places s t up on (all t (has-here t ss)) above.0, above_places places s ss up on (λ x is. all x (has-there t ss x is)) above.1)
+
+pub ascending_places : (places : List Rated) (ss : List ℕ) → IsAscending (map (λ rated. rated.section.0) places) → AllOnMenu places ss → IsAscending ss → IsAscending (map (place_in places) ss)
+ascending_places places [] up all rises = tt
+ascending_places places (s ∷ ss) up all rises = (above_places places s ss up (all s (has-here s ss)) (λ x is. all x (has-there s ss x is)) rises.0, ascending_places places ss up (λ x is. all x (has-there s ss x is)) rises.1)
+
+prices_by_place : (offer : Offer) (ss : List ℕ) → AllOnMenu offer.menu.places ss → total (price_at offer) (map (place_in offer.menu.places) ss) ≡ total offer.price ss
+prices_by_place offer [] all = refl
+prices_by_place offer (s ∷ ss) all =
+    let here : price_at offer (place_in offer.menu.places s) ≡ offer.price s = ap offer.price (section_at-place_in offer.menu.places s (all s (has-here s ss))) in
+    let rest = prices_by_place offer ss (λ x is. all x (has-there s ss x is)) in
+    let a : ℕ = total (price_at offer) (map (place_in offer.menu.places) ss) in
+    let b : ℕ = total offer.price ss in
+    let rest' : a ≡ b = rest in
+    let goal : price_at offer (place_in offer.menu.places s) + a ≡ offer.price s + b = omega arith in goal
+
+-- what may be taken is on the menu
+pub on_menu : (offer : Offer) (bundle : List ℕ) → IsTakable offer bundle → AllOnMenu offer.menu.places bundle
+unfolding wishes_of
+on_menu offer bundle may s is = rated_on_menu offer.menu.places (place_in offer.menu.places s) (may.feasible.rated s is)
+
+-- a bundle that may be taken, by its places
+pub taken_places : (offer : Offer) (bundle : List ℕ) → IsMenu offer.menu → IsTakable offer bundle → MayBeTaken offer (places_of offer.menu bundle)
+unfolding wishes_of by_place
+taken_places offer bundle menu may =
+    let all = on_menu offer bundle may in
+    let places = offer.menu.places in
+    record {
+      ascending = ascending_places places bundle menu.places.ascending all may.feasible.set;
+      on_menu = λ p is. let at = has-places places bundle p is in rw (← at.2) (all at.0 at.1);
+      affordable = rw (prices_by_place offer bundle all) may.affordable;
+      credits = rw (credits_by_place offer.menu bundle) may.feasible.credits;
+      courses = rw (length-map bundle (place_in places)) may.feasible.courses;
+      allowed = λ p is.
+          let at = has-places places bundle p is in ap (allowed_at offer) (sym at.2) ∙ ap offer.allowed (section_at-place_in places at.0 (all at.0 at.1)) ∙ may.within at.0 at.1;
+      apart = λ p q is is' other.
+          let at = has-places places bundle p is in
+          let at' = has-places places bundle q is' in
+          rw (← at.2, ← at'.2) (may.feasible.apart at.0 at'.0 at.1 at'.1 (λ e. other (sym at.2 ∙ ap (place_in places) e ∙ at'.2)));
+    }
+
+bool_same : (a b : Bool) → (a ≡ true → b ≡ true) → (b ≡ true → a ≡ true) → a ≡ b
+bool_same true b f g = sym (f refl)
+bool_same false true f g = g refl
+bool_same false false f g = refl
+
+-- a place is among those of a bundle where its section is in the bundle
+pub has_by_place : (places : List Rated) (ss : List ℕ) (p : ℕ) → IsAscending (map (λ rated. rated.section.0) places) → AllOnMenu places ss → p < length places → has (map (place_in places) ss) p ≡ has ss (section_at places p)
+has_by_place places ss p up all low = bool_same _ _ there back
+  where
+    there : has (map (place_in places) ss) p ≡ true → has ss (section_at places p) ≡ true
+    there is = let at = has-places places ss p is in ap (has ss) (ap (section_at places) (sym at.2) ∙ section_at-place_in places at.0 (all at.0 at.1)) ∙ at.1
+
+    back : has ss (section_at places p) ≡ true → has (map (place_in places) ss) p ≡ true
+    back is = ap (has (map (place_in places) ss)) (sym (place_in-section_at places p up low)) ∙ places-has places ss (section_at places p) is

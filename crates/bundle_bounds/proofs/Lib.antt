@@ -1,0 +1,13 @@
+pub mod Courses
+pub mod Gains
+pub mod Steps
+pub mod Openness
+pub mod ByPlace
+pub mod Soundness
+pub mod Prices
+pub mod Outlook
+pub mod Limits
+pub mod FirstDifference
+pub mod BelowLimit
+pub mod LeafBounds
+pub mod NodeFacts

@@ -1,0 +1,11 @@
+-- Whether the first difference of two ascending lists of places is the champion's.
+use Rattle.std.specs.Prelude.{ℕ, ℤ, pos, ◌+ℤ◌, ◌*ℤ◌, ◌==◌, nat_lt, if◌then◌else◌, Bool, false, List, [], ◌∷◌}
+
+abbrev pub is_ahead : ℕ → List ℕ → List ℕ → Bool
+is_ahead k [] chosen = false
+is_ahead k (p ∷ ps) [] = nat_lt p k
+is_ahead k (p ∷ ps) (c ∷ cs) = if p == c then is_ahead k ps cs else nat_lt p c
+
+-- the number below which a bound closes a node, for a champion of this utility, and whether it is ahead
+abbrev pub limit_of : ℤ → Bool → ℤ
+limit_of most ahead = if ahead then pos 1000 *ℤ (most +ℤ pos 1) else pos 1000 *ℤ most

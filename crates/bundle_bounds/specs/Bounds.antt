@@ -1,0 +1,76 @@
+-- The bounds at a node, in their order: each a number above 1000 times the utility of what can still be reached.
+use Rattle.std.specs.Prelude.{ℕ, ◌+◌, ◌*◌, ◌-◌, ◌/◌, ◌<◌, ℤ, pos, ◌+ℤ◌, ◌*ℤ◌, ◌<ℤ◌, ◌≡◌, ◌⊎◌, ◌&&◌, nat_lt, if◌then◌else◌, true, false, ⊤, List, [], ◌∷◌, ◌++◌}
+use Rattle.bundle_rules.specs.Sets.{has}
+use Rattle.bundle_rules.specs.Wishes.{utility}
+use Rattle.bundle_rules.specs.Menus.{by_place}
+use Rattle.bundle_bounds.specs.declared.nodes.Leaf.{Leaf}
+use Rattle.bundle_bounds.specs.declared.nodes.Leaf.TheVariants.{Plain, Budget, Credits, Number}
+use Rattle.bundle_bounds.specs.Offers.{Offer}
+use Rattle.bundle_bounds.specs.Courses.{takes_of, by_course}
+use Rattle.bundle_bounds.specs.declared.prospects.Prospect.{Prospect}
+use Rattle.bundle_bounds.specs.declared.prospects.Resource.{Resource}
+use Rattle.bundle_bounds.specs.declared.prospects.Resource.TheVariants.{Money, Load, Count}
+use Rattle.bundle_bounds.specs.Opens.{left_of, open_places, prospects}
+
+-- what is left of 1000 times the worth at this price of what is taken of a resource
+abbrev pub over_price : Resource → ℕ → Prospect → ℕ
+over_price resource price p = 1000 * p.worth - price * takes_of resource p
+
+-- what a resource's price makes of a rest of the resource, and of one open place of each course
+abbrev pub at_price : Resource → ℕ → ℕ → List Prospect → ℕ
+at_price resource rest price ps = price * rest + by_course (over_price resource price) ps
+
+-- the bound of a resource by the place whose worth for what it takes is the price
+abbrev pub leaf_of : Resource → ℕ → Leaf
+leaf_of Money place = Budget place
+leaf_of Load place = Credits place
+leaf_of Count place = Number place
+
+-- a bound for each of these that is worth something and takes something, above this base and with this rest
+abbrev pub resource_bounds : ℤ → ℕ → Resource → List Prospect → List Prospect → List (Leaf × ℤ)
+resource_bounds base rest resource all [] = []
+resource_bounds base rest resource all (p ∷ ps) =
+    if nat_lt 0 p.worth && nat_lt 0 (takes_of resource p)
+    then (leaf_of resource p.place, base +ℤ pos (at_price resource rest (1000 * p.worth / takes_of resource p) all)) ∷ resource_bounds base rest resource all ps
+    else resource_bounds base rest resource all ps
+
+-- 1000 times the utility of the chosen places
+abbrev pub base_of : Offer → List ℕ → ℤ
+base_of offer chosen = pos 1000 *ℤ utility (by_place offer.menu) chosen
+
+-- all bounds above this base, with these rests: the plain one, then those of the budget, of the credits and of the number of sections
+abbrev pub all_bounds : ℤ → ℕ → ℕ → ℕ → List Prospect → List (Leaf × ℤ)
+all_bounds base budget credits courses ps =
+    (Plain, base +ℤ pos (by_course (λ p. 1000 * p.worth) ps))
+    ∷ (resource_bounds base budget Money ps ps ++ (resource_bounds base credits Load ps ps ++ resource_bounds base courses Count ps ps))
+
+abbrev pub bounds_over : Offer → List ℕ → List Prospect → List (Leaf × ℤ)
+bounds_over offer chosen ps = all_bounds (base_of offer chosen) (left_of offer chosen Money) (left_of offer chosen Load) (left_of offer chosen Count) ps
+
+abbrev pub bounds : Offer → ℕ → List ℕ → List (Leaf × ℤ)
+bounds offer k chosen = bounds_over offer chosen (prospects offer chosen (open_places offer k chosen))
+
+-- the first decided place on which the champion and the chosen ones differ is the champion's
+abbrev pub IsAhead : ℕ → List ℕ → List ℕ → Type 0
+IsAhead k champion chosen = (place : ℕ) × (place < k) × (has champion place ≡ true) × (has chosen place ≡ false) × ((t : ℕ) → t < place → has champion t ≡ has chosen t)
+
+-- the bound closes the node: nothing that can still be reached has the champion's utility, or more than it where the champion is ahead
+abbrev pub Closes : Offer → ℕ → List ℕ → List ℕ → ℤ → Type 0
+Closes offer k chosen champion bound = (bound <ℤ (pos 1000 *ℤ utility (by_place offer.menu) champion))
+    ⊎ ((bound <ℤ (pos 1000 *ℤ (utility (by_place offer.menu) champion +ℤ pos 1))) × IsAhead k champion chosen)
+
+-- none of these bounds closes the node
+abbrev pub NoneCloses : Offer → ℕ → List ℕ → List ℕ → List (Leaf × ℤ) → Type 0
+NoneCloses offer k chosen champion [] = ⊤
+NoneCloses offer k chosen champion (b ∷ bs) = (¬ Closes offer k chosen champion b.1) × NoneCloses offer k chosen champion bs
+
+-- the leaf of the first of these bounds that closes the node
+abbrev pub IsFirstClosing : Offer → ℕ → List ℕ → List ℕ → List (Leaf × ℤ) → Leaf → Type 0
+IsFirstClosing offer k chosen champion [] leaf = ⊥
+IsFirstClosing offer k chosen champion (b ∷ bs) leaf =
+    (Closes offer k chosen champion b.1 × (b.0 ≡ leaf)) ⊎ ((¬ Closes offer k chosen champion b.1) × IsFirstClosing offer k chosen champion bs leaf)
+
+-- the leaf is on this menu of bounds, with this number
+abbrev pub HasBound : List (Leaf × ℤ) → Leaf → ℤ → Type 0
+HasBound [] leaf bound = ⊥
+HasBound (b ∷ bs) leaf bound = ((b.0 ≡ leaf) × (b.1 ≡ bound)) ⊎ HasBound bs leaf bound

@@ -1,0 +1,189 @@
+// The bounds of the resources, and the first below a limit.
+ghost use Rattle.std.specs.Prelude.{◌≡◌, ◌<◌, ◌≤◌, ◌≤ℤ◌, ◌↔◌, ◌++◌, ◌*◌, ◌/◌, ◌+ℤ◌, ◌<ℤ◌, ◌&&◌, ◌==◌, ℤ, nat_lt, true, pos, neg_ℤ, IsTrue, IfSome, IfNone, length, All};
+ghost use Rattle.bundle_bounds.specs.Bounds.{leaf_of, at_price, resource_bounds, all_bounds, HasBound};
+ghost use Rattle.bundle_bounds.specs.Courses.{takes_of, by_course};
+ghost use Rattle.bundle_bounds.specs.Limits.{NoneBelow, IsFirstBelow};
+ghost use Rattle.bundle_bounds.specs.Modest.{IsModest};
+
+use crate::Leaf;
+use crate::opens::Rests;
+use crate::prospects::{Prospect, Resource, at_price, takes};
+
+// The leaf of a resource by a place.
+fn leaf_of(resource: Resource, place: u8) -> Leaf
+    ensures { result ≡ leaf_of resource place }
+{
+    match resource {
+        Resource::Money => Leaf::Budget(place),
+        Resource::Load => Leaf::Credits(place),
+        Resource::Count => Leaf::Number(place),
+    }
+}
+
+// Whether a prospect has a bound, and that is below the limit.
+fn is_below(
+    base: i64,
+    limit: i64,
+    rest: u32,
+    resource: Resource,
+    all: &[Prospect],
+    prospect: &Prospect,
+) -> bool
+    requires low { neg_ℤ (pos 3000000000000) ≤ℤ base }
+    requires high { base ≤ℤ pos 3000000000000 }
+    requires modest { All IsModest all.now }
+    requires few { length all.now ≤ 60 }
+    requires one_modest { IsModest prospect.now }
+    ensures { IsTrue result ↔ (((nat_lt 0 prospect.now.worth && nat_lt 0 (takes_of resource prospect.now)) ≡ true)
+        × ((base +ℤ pos (at_price resource rest (1000 * prospect.now.worth / takes_of resource prospect.now) all.now)) <ℤ limit)) }
+{
+    let taken = takes(prospect, resource);
+    if prospect.worth == 0 || taken == 0 {
+        return false;
+    }
+    let price = 1000 * u64::from(prospect.worth) / taken;
+    let bound = base + at_price(all, resource, rest, price) as i64;
+    bound < limit
+}
+
+// The leaf of the first of these that has a bound below the limit.
+fn first_of_resource(
+    base: i64,
+    limit: i64,
+    rest: u32,
+    resource: Resource,
+    all: &[Prospect],
+    some: &[Prospect],
+) -> Option<Leaf>
+    requires low { neg_ℤ (pos 3000000000000) ≤ℤ base }
+    requires high { base ≤ℤ pos 3000000000000 }
+    requires modest { All IsModest all.now }
+    requires few { length all.now ≤ 60 }
+    requires some_modest { All IsModest some.now }
+    ensures first { IfSome result (IsFirstBelow limit (resource_bounds base rest resource all.now some.now)) }
+    ensures none { IfNone result (NoneBelow limit (resource_bounds base rest resource all.now some.now)) }
+{
+    match some {
+        [] => None,
+        [prospect, more @ ..] => {
+            if is_below(base, limit, rest, resource, all, prospect) {
+                return Some(leaf_of(resource, prospect.place));
+            }
+            first_of_resource(base, limit, rest, resource, all, more)
+        }
+    }
+}
+
+// The leaf of the first bound below the limit, of all bounds in their order.
+pub(crate) fn first_below(base: i64, limit: i64, rests: Rests, all: &[Prospect]) -> Option<Leaf>
+    requires low { neg_ℤ (pos 3000000000000) ≤ℤ base }
+    requires high { base ≤ℤ pos 3000000000000 }
+    requires modest { All IsModest all.now }
+    requires few { length all.now ≤ 60 }
+    ensures first { IfSome result (IsFirstBelow limit (all_bounds base rests.budget rests.credits rests.courses all.now)) }
+    ensures none { IfNone result (NoneBelow limit (all_bounds base rests.budget rests.credits rests.courses all.now)) }
+{
+    let plain = base + plain_sum(all) as i64;
+    if plain < limit {
+        return Some(Leaf::Plain);
+    }
+    match first_of_resource(base, limit, rests.budget, Resource::Money, all, all) {
+        Some(leaf) => Some(leaf),
+        None => first_after_money(base, limit, rests, all),
+    }
+}
+
+// The same of the bounds of the credits and of the number of sections.
+fn first_after_money(base: i64, limit: i64, rests: Rests, all: &[Prospect]) -> Option<Leaf>
+    requires low { neg_ℤ (pos 3000000000000) ≤ℤ base }
+    requires high { base ≤ℤ pos 3000000000000 }
+    requires modest { All IsModest all.now }
+    requires few { length all.now ≤ 60 }
+    ensures first { IfSome result (IsFirstBelow limit (resource_bounds base rests.credits Resource.Load all.now all.now ++ resource_bounds base rests.courses Resource.Count all.now all.now)) }
+    ensures none { IfNone result (NoneBelow limit (resource_bounds base rests.credits Resource.Load all.now all.now ++ resource_bounds base rests.courses Resource.Count all.now all.now)) }
+{
+    match first_of_resource(base, limit, rests.credits, Resource::Load, all, all) {
+        Some(leaf) => Some(leaf),
+        None => first_of_resource(base, limit, rests.courses, Resource::Count, all, all),
+    }
+}
+
+// Of each course the greatest worth, a thousandfold, added up.
+fn plain_sum(all: &[Prospect]) -> u64
+    requires modest { All IsModest all.now }
+    requires few { length all.now ≤ 60 }
+    ensures value { result ≡ by_course (λ p. 1000 * p.worth) all.now }
+    ensures high { result ≤ 1200000000 }
+{
+    at_price(all, Resource::Count, 0, 0)
+}
+
+// Whether a prospect is at this place and has a bound.
+fn has_bound_at(prospect: &Prospect, resource: Resource, place: u8) -> bool
+    requires { IsModest prospect.now }
+    ensures { result ≡ (prospect.now.place == place && (nat_lt 0 prospect.now.worth && nat_lt 0 (takes_of resource prospect.now))) }
+{
+    let taken = takes(prospect, resource);
+    prospect.place == place && prospect.worth > 0 && taken > 0
+}
+
+// The bound of the resource by a place that has one.
+fn resource_bound(
+    base: i64,
+    rest: u32,
+    resource: Resource,
+    all: &[Prospect],
+    some: &[Prospect],
+    place: u8,
+) -> i64
+    requires low { neg_ℤ (pos 3000000000000) ≤ℤ base }
+    requires high { base ≤ℤ pos 3000000000000 }
+    requires modest { All IsModest all.now }
+    requires few { length all.now ≤ 60 }
+    requires some_modest { All IsModest some.now }
+    ensures { (bound : ℤ) → HasBound (resource_bounds base rest resource all.now some.now) (leaf_of resource place) bound
+        → HasBound (resource_bounds base rest resource all.now some.now) (leaf_of resource place) result }
+{
+    match some {
+        [] => base,
+        [prospect, more @ ..] => {
+            if has_bound_at(prospect, resource, place) {
+                let taken = takes(prospect, resource);
+                let price = 1000 * u64::from(prospect.worth) / taken;
+                return base + at_price(all, resource, rest, price) as i64;
+            }
+            resource_bound(base, rest, resource, all, more, place)
+        }
+    }
+}
+
+// The bound of a leaf that is on the menu of bounds.
+pub(crate) fn bound_of(base: i64, rests: Rests, all: &[Prospect], leaf: Leaf) -> i64
+    requires low { neg_ℤ (pos 3000000000000) ≤ℤ base }
+    requires high { base ≤ℤ pos 3000000000000 }
+    requires modest { All IsModest all.now }
+    requires few { length all.now ≤ 60 }
+    ensures { (bound : ℤ) → HasBound (all_bounds base rests.budget rests.credits rests.courses all.now) leaf bound
+        → HasBound (all_bounds base rests.budget rests.credits rests.courses all.now) leaf result }
+{
+    match leaf {
+        Leaf::Plain => base + plain_sum(all) as i64,
+        Leaf::Budget(place) => resource_bound(base, rests.budget, Resource::Money, all, all, place),
+        Leaf::Credits(place) => resource_bound(
+            base,
+            rests.credits,
+            Resource::Load,
+            all,
+            all,
+            place,
+        ),
+        Leaf::Number(place) => resource_bound(
+            base,
+            rests.courses,
+            Resource::Count,
+            all,
+            all,
+            place,
+        ),
+    }
+}

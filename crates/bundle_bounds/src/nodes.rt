@@ -1,0 +1,128 @@
+// Nodes of the search: what is open there, and which bound closes them.
+ghost use Rattle.std.specs.Prelude.{◌≡◌, ◌<◌, ◌&&◌, ℤ, nat_le, IfSome, IfNone, length};
+ghost use Rattle.std.specs.FinSet as set;
+ghost use Rattle.bundle_rules.specs.Demand.{HasPrices};
+ghost use Rattle.bundle_rules.specs.Wishes.{IsFeasible, utility};
+ghost use Rattle.bundle_rules.specs.Menus.{wishes_of};
+ghost use Rattle.bundle_rules.specs.Bundles.{sections_of};
+ghost use Rattle.bundle_bounds.specs.Offers.{offer_of, places_of};
+ghost use Rattle.bundle_bounds.specs.Opens.{is_open};
+ghost use Rattle.bundle_bounds.specs.Bounds.{bounds, HasBound, IsFirstClosing, NoneCloses};
+ghost use Rattle.bundle_bounds.specs.Ahead.{is_ahead, limit_of};
+ghost use Rattle.bundle_bounds.specs.Laws.{IsNode};
+
+use crate::ahead::is_ahead;
+use crate::closing::{bound_of, first_below};
+use crate::opens::{Places, collect, is_open_at, rests_of};
+use crate::prospects::NO_PROSPECTS;
+use bundle_rules::{Bundle, Menu, utility};
+use market_units::{SectionSet, Tokens};
+
+/// A node: the places below `place` are decided, and of them those of `chosen` are taken.
+#[derive(Clone, Copy, Debug)]
+pub struct Node {
+    pub place: u8,
+    pub chosen: Bundle,
+}
+
+/// A bound by name: the plain one, or that of a resource by the place whose worth for what it takes is the price.
+#[derive(Clone, Copy, Debug, PartialEq, Eq)]
+pub enum Leaf {
+    Plain,
+    Budget(u8),
+    Credits(u8),
+    Number(u8),
+}
+
+/// Whether a place is open at the node: not decided, allowed, without a clash with a chosen one, and within what
+/// they leave of the budget, the credit cap and the course cap.
+pub fn is_open(
+    menu: &Menu,
+    prices: &[Tokens],
+    budget: Tokens,
+    allowed: &SectionSet,
+    node: &Node,
+    place: u8,
+) -> bool
+    requires prices { HasPrices menu.now prices.now }
+    requires node { IsNode (offer_of menu.now prices.now budget.0 allowed.now) node.now.place (sections_of node.now.chosen) }
+    requires on_menu { place < length menu.now.places }
+    ensures { result ≡ (nat_le node.now.place place && is_open (offer_of menu.now prices.now budget.0 allowed.now) (places_of menu.now (sections_of node.now.chosen)) place) }
+{
+    if place < node.place {
+        return false;
+    }
+    let chosen = Places::of(menu, &node.chosen);
+    let chosen = chosen.as_slice();
+    let rests = rests_of(menu, prices, budget, chosen);
+    is_open_at(menu, prices, allowed, rests, chosen, place)
+}
+
+/// The number of a bound that is on the node's menu of bounds: at least 1000 times the utility of every bundle that
+/// can still be reached.
+pub fn bound(
+    menu: &Menu,
+    prices: &[Tokens],
+    budget: Tokens,
+    allowed: &SectionSet,
+    node: &Node,
+    leaf: Leaf,
+) -> i64
+    requires prices { HasPrices menu.now prices.now }
+    requires node { IsNode (offer_of menu.now prices.now budget.0 allowed.now) node.now.place (sections_of node.now.chosen) }
+    requires leaf { (number : ℤ) × HasBound (bounds (offer_of menu.now prices.now budget.0 allowed.now) node.now.place (places_of menu.now (sections_of node.now.chosen))) leaf number }
+    ensures { HasBound (bounds (offer_of menu.now prices.now budget.0 allowed.now) node.now.place (places_of menu.now (sections_of node.now.chosen))) leaf result }
+{
+    let chosen = Places::of(menu, &node.chosen);
+    let chosen = chosen.as_slice();
+    let rests = rests_of(menu, prices, budget, chosen);
+    let mut room = NO_PROSPECTS;
+    let from = node.place.min(menu.len());
+    let start = collect(menu, prices, allowed, rests, chosen, from, &mut room);
+    let base = 1000 * i64::from(utility(menu, &node.chosen));
+    bound_of(base, rests, &room[start..], leaf)
+}
+
+/// The first bound of the node's menu of bounds that closes it for this champion: one below 1000 times the champion's
+/// utility, or below 1000 times one more than it where the first decided place on which they differ is the
+/// champion's. `None` exactly where none closes it.
+pub fn bound_closes(
+    menu: &Menu,
+    prices: &[Tokens],
+    budget: Tokens,
+    allowed: &SectionSet,
+    node: &Node,
+    champion: &Bundle,
+) -> Option<Leaf>
+    requires prices { HasPrices menu.now prices.now }
+    requires node { IsNode (offer_of menu.now prices.now budget.0 allowed.now) node.now.place (sections_of node.now.chosen) }
+    requires champion { IsFeasible (wishes_of menu.now) (sections_of champion.now) }
+    ensures first { IfSome result (IsFirstClosing (offer_of menu.now prices.now budget.0 allowed.now) node.now.place (places_of menu.now (sections_of node.now.chosen)) (places_of menu.now (sections_of champion.now))
+        (bounds (offer_of menu.now prices.now budget.0 allowed.now) node.now.place (places_of menu.now (sections_of node.now.chosen)))) }
+    ensures none { IfNone result (NoneCloses (offer_of menu.now prices.now budget.0 allowed.now) node.now.place (places_of menu.now (sections_of node.now.chosen)) (places_of menu.now (sections_of champion.now))
+        (bounds (offer_of menu.now prices.now budget.0 allowed.now) node.now.place (places_of menu.now (sections_of node.now.chosen)))) }
+{
+    let chosen = Places::of(menu, &node.chosen);
+    let chosen = chosen.as_slice();
+    let rests = rests_of(menu, prices, budget, chosen);
+    let mut room = NO_PROSPECTS;
+    let from = node.place.min(menu.len());
+    let start = collect(menu, prices, allowed, rests, chosen, from, &mut room);
+    let base = 1000 * i64::from(utility(menu, &node.chosen));
+    let limit = limit_of(menu, node, chosen, champion);
+    first_below(base, limit, rests, &room[start..])
+}
+
+// The number below which a bound closes the node.
+fn limit_of(menu: &Menu, node: &Node, chosen: &[u8], champion: &Bundle) -> i64
+    requires champion { IsFeasible (wishes_of menu.now) (sections_of champion.now) }
+    ensures { result ≡ limit_of (utility (wishes_of menu.now) (sections_of champion.now)) (is_ahead node.now.place (places_of menu.now (sections_of champion.now)) chosen.now) }
+{
+    let places = Places::of(menu, champion);
+    let most = i64::from(utility(menu, champion));
+    if is_ahead(node.place, places.as_slice(), chosen) {
+        1000 * (most + 1)
+    } else {
+        1000 * most
+    }
+}

@@ -1,0 +1,279 @@
+// Which places are open at a node, and the most that each can add.
+ghost use Rattle.std.specs.Prelude.{◌≡◌, ◌<◌, ◌≤◌, ◌-◌, ◌+◌, ◌*◌, ◌≤ℤ◌, ◌+ℤ◌, neg_ℤ, pos, not, nat_le, ◌&&◌, ℕ, length, map, take, drop, All};
+ghost use Rattle.std.specs.List.{list_all};
+ghost use Rattle.std.specs.Ordering.{nat_cmp};
+ghost use Rattle.std.specs.FinSet as set;
+ghost use Rattle.market_lists.specs.Totals.{total, signed_total};
+ghost use Rattle.bundle_rules.specs.Demand.{price_in, HasPrices};
+ghost use Rattle.bundle_rules.specs.Menus.{section_at, credits_at, adjustment_in, clash_in, place_in, IsMenu};
+ghost use Rattle.bundle_rules.specs.Bundles.{sections_of};
+ghost use Rattle.bundle_bounds.specs.Offers.{offer_of, price_at, AreOnMenu, places_of};
+ghost use Rattle.bundle_bounds.specs.Opens.{budget_left, credits_left, courses_left, is_apart, is_open, opens_from, addition, hopes, prospect, prospects, first_of_course, above_zero};
+ghost use Rattle.bundle_bounds.specs.Modest.{IsModest};
+
+use crate::prospects::Prospect;
+use bundle_rules::{Bundle, Menu, Rated};
+use market_units::{SectionSet, Tokens};
+
+/// The places of a bundle's sections.
+#[derive(Clone, Copy)]
+pub(crate) struct Places {
+    places: [u8; 8],
+    len: usize,
+    ghost short: { len ≤ 8 },
+}
+
+impl Places {
+    pub(crate) fn of(menu: &Menu, bundle: &Bundle) -> Places
+        ensures { take result.len result.places ≡ places_of menu.now (sections_of bundle.now) }
+    {
+        let mut places = [0; 8];
+        for (i, section) in bundle.sections().iter().enumerate() {
+            places[i] = menu.place(*section);
+        }
+        Places {
+            places,
+            len: bundle.sections().len(),
+        }
+    }
+
+    pub(crate) fn as_slice(&self) -> &[u8]
+        ensures value { result.now ≡ take self.now.len self.now.places }
+        ensures few { length result.now ≤ 8 }
+    {
+        &self.places[..self.len]
+    }
+}
+
+/// What the chosen places leave of each resource.
+#[derive(Clone, Copy)]
+pub(crate) struct Rests {
+    pub(crate) budget: u32,
+    pub(crate) credits: u32,
+    pub(crate) courses: u32,
+}
+
+pub(crate) fn rests_of(menu: &Menu, prices: &[Tokens], budget: Tokens, chosen: &[u8]) -> Rests
+    requires prices { HasPrices menu.now prices.now }
+    requires on_menu { AreOnMenu menu.now chosen.now }
+    requires few { length chosen.now ≤ 8 }
+    ensures budget { (allowed : set.FinSet nat_cmp) → result.budget ≡ budget_left (offer_of menu.now prices.now budget.0 allowed) chosen.now }
+    ensures credits { (allowed : set.FinSet nat_cmp) → result.credits ≡ credits_left (offer_of menu.now prices.now budget.0 allowed) chosen.now }
+    ensures courses { (allowed : set.FinSet nat_cmp) → result.courses ≡ courses_left (offer_of menu.now prices.now budget.0 allowed) chosen.now }
+{
+    Rests {
+        budget: budget.0.saturating_sub(price_of(menu, prices, chosen)),
+        credits: u32::from(menu.credits()).saturating_sub(credits_of(menu, chosen)),
+        courses: u32::from(menu.courses()).saturating_sub(chosen.len() as u32),
+    }
+}
+
+fn price_of_place(menu: &Menu, prices: &[Tokens], place: u8) -> u32
+    requires prices { HasPrices menu.now prices.now }
+    requires on_menu { place < length menu.now.places }
+    ensures value { result ≡ price_in prices.now (section_at menu.now.places place) }
+    ensures high { result ≤ 1000001 }
+{
+    prices[usize::from(menu.rated(place).section.0)].0
+}
+
+fn price_of(menu: &Menu, prices: &[Tokens], chosen: &[u8]) -> u32
+    requires prices { HasPrices menu.now prices.now }
+    requires on_menu { AreOnMenu menu.now chosen.now }
+    requires few { length chosen.now ≤ 8 }
+    ensures value { result ≡ total (λ place. price_in prices.now (section_at menu.now.places place)) chosen.now }
+    ensures high { result ≤ 1000001 * length chosen.now }
+{
+    match chosen {
+        [] => 0,
+        [place, more @ ..] => price_of_place(menu, prices, *place) + price_of(menu, prices, more),
+    }
+}
+
+fn credits_of(menu: &Menu, chosen: &[u8]) -> u32
+    requires on_menu { AreOnMenu menu.now chosen.now }
+    requires few { length chosen.now ≤ 8 }
+    ensures value { result ≡ total (credits_at menu.now.places) chosen.now }
+    ensures high { result ≤ 100 * length chosen.now }
+{
+    match chosen {
+        [] => 0,
+        [place, more @ ..] => u32::from(menu.rated(*place).credits) + credits_of(menu, more),
+    }
+}
+
+// Whether the place clashes with none of the chosen ones.
+fn is_apart(menu: &Menu, chosen: &[u8], place: u8) -> bool
+    requires on_menu { AreOnMenu menu.now chosen.now }
+    requires place { place < length menu.now.places }
+    ensures { result ≡ list_all (λ other. not (clash_in menu.now.clashes place other)) chosen.now }
+{
+    chosen.iter().all(|other| !menu.clash(place, *other))
+}
+
+// What a place adds to the chosen ones by adjustments.
+fn adjustments_with(menu: &Menu, chosen: &[u8], place: u8) -> i32
+    requires on_menu { AreOnMenu menu.now chosen.now }
+    requires place { place < length menu.now.places }
+    requires few { length chosen.now ≤ 8 }
+    ensures value { result ≡ signed_total (λ other. adjustment_in menu.now.pairs other place) chosen.now }
+    ensures low { neg_ℤ (pos (200 * length chosen.now)) ≤ℤ result }
+    ensures high { result ≤ℤ pos (200 * length chosen.now) }
+{
+    match chosen {
+        [] => 0,
+        [other, more @ ..] => {
+            i32::from(menu.adjustment(*other, place)) + adjustments_with(menu, more, place)
+        }
+    }
+}
+
+// The positive adjustments of a place with later open ones.
+fn hopes(menu: &Menu, place: u8, later: &[Prospect]) -> u32
+    requires on_menu { All (λ other. other.place < length menu.now.places) later.now }
+    requires place { place < length menu.now.places }
+    requires few { length later.now ≤ 60 }
+    ensures value { result ≡ total (λ other. above_zero (adjustment_in menu.now.pairs place other.place)) later.now }
+    ensures high { result ≤ 200 * length later.now }
+{
+    match later {
+        [] => 0,
+        [other, more @ ..] => {
+            u32::from(menu.adjustment(place, other.place).max(0) as u16) + hopes(menu, place, more)
+        }
+    }
+}
+
+// Whether an undecided place is open.
+pub(crate) fn is_open_at(
+    menu: &Menu,
+    prices: &[Tokens],
+    allowed: &SectionSet,
+    rests: Rests,
+    chosen: &[u8],
+    place: u8,
+) -> bool
+    requires prices { HasPrices menu.now prices.now }
+    requires on_menu { AreOnMenu menu.now chosen.now }
+    requires place { place < length menu.now.places }
+    ensures { result ≡ (set.contains allowed.now (section_at menu.now.places place)
+        && (list_all (λ other. not (clash_in menu.now.clashes place other)) chosen.now
+        && (nat_le (price_in prices.now (section_at menu.now.places place)) rests.budget
+        && (nat_le (credits_at menu.now.places place) rests.credits && nat_le 1 rests.courses)))) }
+{
+    let rated = menu.rated(place);
+    if !allowed.has(rated.section) {
+        return false;
+    }
+    if !is_apart(menu, chosen, place) {
+        return false;
+    }
+    if price_of_place(menu, prices, place) > rests.budget {
+        return false;
+    }
+    u32::from(rated.credits) <= rests.credits && 1 <= rests.courses
+}
+
+// The first place of a course, or the number of places where there is none.
+fn first_of_course(places: &[Rated], course: u16) -> usize
+    ensures value { result ≡ first_of_course places.now course }
+    ensures within { result ≤ length places.now }
+{
+    match places {
+        [] => 0,
+        [rated, more @ ..] => {
+            if rated.course == course {
+                0
+            } else {
+                first_of_course(more, course) + 1
+            }
+        }
+    }
+}
+
+// A rating and adjustments added up, or 0 where the sum is negative.
+fn worth_of(rating: u8, adjustments: i32, hopes: u32) -> u32
+    requires rating { rating ≤ 100 }
+    requires low { neg_ℤ (pos 1600) ≤ℤ adjustments }
+    requires high { adjustments ≤ℤ pos 1600 }
+    requires hopes { hopes ≤ 12000 }
+    ensures value { result ≡ above_zero ((pos rating +ℤ adjustments) +ℤ pos hopes) }
+    ensures high { result ≤ 20000 }
+{
+    let sum = i32::from(rating) + adjustments + hopes as i32;
+    if sum < 0 { 0 } else { sum as u32 }
+}
+
+// The first place of a course on the menu.
+fn course_of(menu: &Menu, course: u16) -> u8
+    ensures value { result ≡ first_of_course menu.now.places course }
+    ensures menu { IsMenu menu.now }
+{
+    first_of_course(menu.places(), course) as u8
+}
+
+// What is known of an open place, before later open ones.
+fn prospect_at(
+    menu: &Menu,
+    prices: &[Tokens],
+    chosen: &[u8],
+    place: u8,
+    later: &[Prospect],
+) -> Prospect
+    requires prices { HasPrices menu.now prices.now }
+    requires on_menu { AreOnMenu menu.now chosen.now }
+    requires few { length chosen.now ≤ 8 }
+    requires place { place < length menu.now.places }
+    requires later_on_menu { All (λ other. other.place < length menu.now.places) later.now }
+    requires later_few { length later.now ≤ 60 }
+    ensures value { (budget : ℕ) (allowed : set.FinSet nat_cmp) → result ≡ prospect (offer_of menu.now prices.now budget allowed) chosen.now place (map (λ other. other.place) later.now) }
+    ensures modest { IsModest result }
+    ensures place { result.place < length menu.now.places }
+{
+    let rated = menu.rated(place);
+    let adjustments = adjustments_with(menu, chosen, place);
+    let later_ones = hopes(menu, place, later);
+    Prospect {
+        place,
+        course: course_of(menu, rated.course),
+        worth: worth_of(rated.rating, adjustments, later_ones),
+        price: price_of_place(menu, prices, place),
+        credits: rated.credits,
+    }
+}
+
+// Writes what is known of the open places from a place on to the end of the room, and gives where it begins.
+pub(crate) fn collect(
+    menu: &Menu,
+    prices: &[Tokens],
+    allowed: &SectionSet,
+    rests: Rests,
+    chosen: &[u8],
+    place: u8,
+    room: &mut [Prospect],
+) -> usize
+    requires prices { HasPrices menu.now prices.now }
+    requires on_menu { AreOnMenu menu.now chosen.now }
+    requires few { length chosen.now ≤ 8 }
+    requires place { place ≤ length menu.now.places }
+    requires room { length room.old ≡ 60 }
+    ensures value { (budget : ℕ) → rests.budget ≡ budget_left (offer_of menu.now prices.now budget allowed.now) chosen.now
+        → rests.credits ≡ credits_left (offer_of menu.now prices.now budget allowed.now) chosen.now
+        → rests.courses ≡ courses_left (offer_of menu.now prices.now budget allowed.now) chosen.now
+        → drop result room.new ≡ prospects (offer_of menu.now prices.now budget allowed.now) chosen.now (opens_from (offer_of menu.now prices.now budget allowed.now) chosen.now place (length menu.now.places - place)) }
+    ensures within { result ≤ 60 }
+    ensures space { 60 ≤ result + (length menu.now.places - place) }
+    ensures modest { All IsModest (drop result room.new) }
+    ensures on_menu { All (λ other. other.place < length menu.now.places) (drop result room.new) }
+{
+    if place == menu.len() {
+        return room.len();
+    }
+    let start = collect(menu, prices, allowed, rests, chosen, place + 1, room);
+    if !is_open_at(menu, prices, allowed, rests, chosen, place) {
+        return start;
+    }
+    let prospect = prospect_at(menu, prices, chosen, place, &room[start..]);
+    room[start - 1] = prospect;
+    start - 1
+}

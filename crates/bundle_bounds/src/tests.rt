@@ -1,0 +1,79 @@
+// Bounds of two small menus, worked by hand.
+use super::*;
+use bundle_rules::{Bundle, Menu, Rated, feasible, has_prices};
+use market_units::{SectionNo, SectionSet, Tokens};
+use std::alloc::Global;
+use std::process::Abort;
+use std::test::Fail;
+
+fn rated(section: u16, course: u16, rating: u8) -> Rated {
+    Rated {
+        section: SectionNo(section),
+        course,
+        rating,
+        credits: 1,
+    }
+}
+
+// The first bound that closes a node with nothing chosen for this champion, with its number.
+fn closing<R: Abort>(
+    rt: &R,
+    menu: &Menu,
+    prices: &[Tokens],
+    budget: u32,
+    place: u8,
+    champion: &[SectionNo],
+) -> Option<(Leaf, i64)> {
+    let champion = Bundle::of(champion).expect(rt, "ascending");
+    assert!(rt; has_prices(menu, prices));
+    assert!(rt; feasible(menu, &champion));
+    let node = Node {
+        place,
+        chosen: Bundle::empty(),
+    };
+    let allowed = SectionSet::full(400);
+    let leaf = bound_closes(menu, prices, Tokens(budget), &allowed, &node, &champion)?;
+    Some((
+        leaf,
+        bound(menu, prices, Tokens(budget), &allowed, &node, leaf),
+    ))
+}
+
+#[test]
+fn two_places_with_a_pair(rt: HostRuntime) -> Result<(), Fail> {
+    let places = [rated(0, 0, 60), rated(1, 1, 40)];
+    let pairs = [(0, 1, 10)];
+    assert!(rt; Menu::may_build(&places, &pairs, &[0, 0], 10, 2));
+    let menu = Menu::build(rt.alloc(), &places, &pairs, &[0, 0], 10, 2).expect(&rt, "memory");
+    let prices = [Tokens(50), Tokens(30)];
+    let (first, second) = (SectionNo(0), SectionNo(1));
+    assert_eq!(rt; closing(&rt, &menu, &prices, 60, 0, &[first]), None);
+    assert_eq!(rt;
+        closing(&rt, &menu, &prices, 60, 0, &[first, second]),
+        Some((Leaf::Budget(0), 84_000))
+    );
+    assert_eq!(rt;
+        closing(&rt, &menu, &prices, 60, 1, &[first]),
+        Some((Leaf::Plain, 40_000))
+    );
+    assert_eq!(rt; closing(&rt, &menu, &prices, 60, 1, &[second]), None);
+    Ok(())
+}
+
+#[test]
+fn two_places_of_one_course(rt: HostRuntime) -> Result<(), Fail> {
+    let places = [rated(3, 7, 30), rated(5, 7, 20), rated(9, 2, 10)];
+    assert!(rt; Menu::may_build(&places, &[], &[2, 1, 0], 10, 8));
+    let menu = Menu::build(rt.alloc(), &places, &[], &[2, 1, 0], 10, 8).expect(&rt, "memory");
+    let prices = [Tokens(10); 10];
+    let champion = [SectionNo(3), SectionNo(9)];
+    assert_eq!(rt;
+        closing(&rt, &menu, &prices, 15, 0, &champion),
+        Some((Leaf::Budget(2), 35_000))
+    );
+    assert_eq!(rt;
+        closing(&rt, &menu, &prices, 15, 1, &champion),
+        Some((Leaf::Plain, 30_000))
+    );
+    Ok(())
+}
