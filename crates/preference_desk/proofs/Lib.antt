@@ -6,3 +6,4 @@ pub mod PreferenceLemmas
 pub mod RatingLemmas
 pub mod RowLemmas
 pub mod SectionLemmas
+pub mod SharedLemmas

@@ -22,7 +22,7 @@ coded_preferences =
     code_by (FinMap {K = ℕ} nat_cmp ℕ × FinMap {K = ℕ × ℕ} pair_cmp ℤ) (coded× (code coded_ℕ coded_ℕ) (code (coded× coded_ℕ coded_ℕ) coded_ℤ))
     (λ wanted. (wanted.ratings, wanted.pairs)) (λ maps. record { ratings = maps.0; pairs = maps.1 }) (λ _. refl)
 
-coded_state : Coded DeskState
+pub coded_state : Coded DeskState
 coded_state =
     code_by (List StudentPreferences × Bool) (coded× (coded_list coded_preferences) coded_bool)
     (λ state. (state.preferences, state.closed)) (λ parts. record { preferences = parts.0; closed = parts.1 }) (λ _. refl)
@@ -58,7 +58,7 @@ reply_back reply.OutOfRange = refl
 reply_back reply.TooMany = refl
 reply_back reply.Done = refl
 
-coded_reply : Coded Reply
+pub coded_reply : Coded Reply
 coded_reply = code_by ℕ coded_ℕ number_of reply_of reply_back
 
 IsLegalFrom-prop : (names : DeskNames) (state : DeskState) (entries : List Entry) → IsProp (IsLegalFrom names state entries)

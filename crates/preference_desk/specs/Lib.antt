@@ -1,3 +1,4 @@
+pub mod Codes
 pub mod DeskNames
 pub mod DeskStep
 pub mod DeskView
@@ -11,4 +12,5 @@ pub mod Places
 pub mod PreferencesView
 pub mod RatingsView
 pub mod Rows
+pub mod Shared
 pub mod StudentPreferences

@@ -4,17 +4,20 @@
 mod copies;
 mod desk;
 mod entry;
+pub mod laws;
 mod names;
 mod pairs;
 mod preferences;
 mod ratings;
 mod reply;
+mod shared;
 mod steps;
 
 pub use desk::Desk;
 pub use entry::Entry;
 pub use preferences::Preferences;
 pub use reply::Reply;
+pub use shared::{Known, Told};
 
 #[cfg(test)]
 mod tests;
