@@ -11,9 +11,9 @@ use Rattle.market_host.specs.declared.cause.Cause.{Cause}
 use Rattle.market_host.specs.declared.cause.Cause.TheVariants.{NotBuilt}
 use Rattle.market_host.specs.declared.status.Status.{Status}
 use Rattle.market_host.specs.declared.status.Status.TheVariants.{Done, Usage, ShelfFault, Refused, TooLong, SinkFault, OutOfMemory}
-use Rattle.market_host.specs.declared.words.Form.{Form}
-use Rattle.market_host.specs.declared.words.Form.TheVariants.{Quote}
-use Rattle.market_host.specs.Forms.{HasForm, inputs_of}
+use Rattle.market_words.specs.declared.words.Form.{Form}
+use Rattle.market_words.specs.declared.words.Form.TheVariants.{Quote}
+use Rattle.market_words.specs.Forms.{HasForm, inputs_of}
 use Rattle.market_host.specs.Inputs.{IsBeyond, IsWithin, limit_of}
 
 -- a word that the code took from the words

@@ -2,5 +2,4 @@ pub mod ClashWords
 pub mod InputCauses
 pub mod LineTexts
 pub mod PlacesSoFar
-pub mod SixWords
 pub mod ZeroPrices

@@ -4,11 +4,11 @@ use Rattle.market_edge.specs.Faults.{Rose}
 use Rattle.market_edge.specs.Holdings.{Holding}
 use Rattle.market_host.specs.declared.cause.Cause.{Cause}
 use Rattle.market_host.specs.declared.cause.Cause.TheVariants.{NotBuilt}
-use Rattle.market_host.specs.declared.words.Form.{Form}
-use Rattle.market_host.specs.declared.words.Form.TheVariants.{Quote}
+use Rattle.market_words.specs.declared.words.Form.{Form}
+use Rattle.market_words.specs.declared.words.Form.TheVariants.{Quote}
 use Rattle.market_host.specs.declared.status.Status.{Status}
 use Rattle.market_host.specs.declared.status.Status.TheVariants.{Done, Usage, ShelfFault, Refused, TooLong, SinkFault, OutOfMemory}
-use Rattle.market_host.specs.Forms.{HasForm, HasNoForm, inputs_of}
+use Rattle.market_words.specs.Forms.{HasForm, HasNoForm, inputs_of}
 use Rattle.market_host.specs.Inputs.{AreWithin, InputHas, IsBeyond, limit_of}
 
 -- Where and why an input may be refused. When it is refused is not said yet.

@@ -1,9 +1,9 @@
 -- The inputs of a call.
 use Rattle.std.specs.Prelude.{ℕ, suc, ◌<◌, ◌≤◌, ◌-◌, List, [], ◌∷◌, length, Option, IfSome, IsSomeAnd, slice_get, ⊤}
 use Rattle.market_edge.specs.Holdings.{Holding, told_text}
-use Rattle.market_host.specs.declared.words.Form.{Form}
-use Rattle.market_host.specs.declared.words.Form.TheVariants.{Quote}
-use Rattle.market_host.specs.Forms.{inputs_of}
+use Rattle.market_words.specs.declared.words.Form.{Form}
+use Rattle.market_words.specs.declared.words.Form.TheVariants.{Quote}
+use Rattle.market_words.specs.Forms.{inputs_of}
 
 -- the most bytes that an input may have, by its number
 abbrev pub limit_of : Form → ℕ → ℕ

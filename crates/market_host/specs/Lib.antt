@@ -1,6 +1,5 @@
 pub mod Causes
 pub mod Clashes
-pub mod Forms
 pub mod Inputs
 pub mod Lines
 pub mod Numbers

@@ -6,10 +6,11 @@ ghost use Rattle.market_edge.specs.Sinks.{Takes, TakesFront};
 ghost use Rattle.market_host.specs.Causes.{HasCause};
 ghost use Rattle.market_host.specs.Lines.{Writes};
 
+use crate::Status;
 use crate::line::line_for;
 use crate::quote::quote;
-use crate::{Form, Status, read_words};
 use market_edge::{Gate, Shelf, Sink, SinkFault, write_whole};
+use market_words::{Form, read_words};
 use std::alloc::Global;
 use std::sync::Wait;
 use std::thread::Threads;

@@ -12,13 +12,11 @@ mod session;
 mod status;
 mod unread;
 mod wishes;
-mod words;
 
 pub use cause::Cause;
 pub use host::course_match;
 pub use market_settings::Key;
 pub use status::Status;
-pub use words::{Form, read_words};
 
 #[cfg(test)]
 mod tests;

@@ -2,17 +2,18 @@
 ghost use Rattle.std.specs.Prelude.{◌≡◌, ◌≤◌, List, ℕ, map, length, MatchResult};
 ghost use Rattle.std.specs.String.{string_bytes};
 ghost use Rattle.market_host.specs.Causes.{HasCause};
-ghost use Rattle.market_host.specs.Forms.{HasForm};
+ghost use Rattle.market_words.specs.Forms.{HasForm};
 
+use crate::Status;
 use crate::catalogue::{Section, read_sections};
 use crate::inputs::read_input;
 use crate::session::read_ratings;
 use crate::unread::Unread;
 use crate::wishes::menu_of;
-use crate::{Form, Status};
 use bundle_rules::{Bundle, best_plain, utility};
 use market_edge::Shelf;
 use market_units::{MAX_INPUT_BYTES, MAX_SECTIONS, Name, SectionSet, Tokens};
+use market_words::Form;
 use std::alloc::{AllocError, Global};
 
 /// The text of `quote`, or the status that says why there is none.

@@ -1,5 +1,5 @@
 use Rattle.std.proofs.lemmas.Result.{err_from_is_err_and}
-use Rattle.market_host.specs.declared.words.Form.TheVariants.{Quote}
+use Rattle.market_words.specs.declared.words.Form.TheVariants.{Quote}
 use Rattle.market_host.proofs.InputCauses.{done_of_two, inputs-quote, inputs-quote-both, refusal_of_first, refusal_of_second, trouble_of_first, trouble_of_second}
 use Rattle.market_host.proofs.quote.quote.Goals as goal
 

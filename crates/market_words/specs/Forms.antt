@@ -2,8 +2,8 @@
 use Rattle.std.specs.Prelude.{ℕ, ◌≡◌, ◌≤◌, List, [], ◌∷◌, codes, drop, take}
 use Rattle.std.specs.Fmt.{decimal}
 use Rattle.market_units.specs.Name.{name_bytes}
-use Rattle.market_host.specs.declared.words.Form.{Form}
-use Rattle.market_host.specs.declared.words.Form.TheVariants.{Quote}
+use Rattle.market_words.specs.declared.words.Form.{Form}
+use Rattle.market_words.specs.declared.words.Form.TheVariants.{Quote}
 
 -- these words ask for this: `quote CAT SES NAME CREDITS COURSES`
 abbrev pub HasForm : List (List ℕ) → Form → Type 0

@@ -3,8 +3,8 @@ use Rattle.std.specs.String.{string_bytes}
 use Rattle.std.specs.Prelude.{codes}
 use Rattle.std.specs.Fmt.{decimal}
 use Rattle.market_units.specs.Name.{name_bytes}
-use Rattle.market_host.proofs.SixWords.{quote_words}
-use Rattle.market_host.proofs.words.read_words.Goals as goal
+use Rattle.market_words.proofs.SixWords.{quote_words}
+use Rattle.market_words.proofs.words.read_words.Goals as goal
 
 pub returns-clause-form : goal.returns-clause-form
 returns-clause-form c =

@@ -1,7 +1,7 @@
 // The words of the command line.
 ghost use Rattle.std.specs.Prelude.{◌≡◌, map, IfSome, IfNone};
 ghost use Rattle.std.specs.String.{string_bytes};
-ghost use Rattle.market_host.specs.Forms.{HasForm, HasNoForm};
+ghost use Rattle.market_words.specs.Forms.{HasForm, HasNoForm};
 
 use market_units::{MAX_COURSES, MAX_CREDITS, Name, read_name, read_number};
 
