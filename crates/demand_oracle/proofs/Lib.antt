@@ -1,0 +1,5 @@
+pub mod Goodness
+pub mod Searching
+pub mod Closing
+pub mod Openings
+pub mod Branches

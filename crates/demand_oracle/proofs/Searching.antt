@@ -1,0 +1,164 @@
+-- The search finds the best bundle.
+use Rattle.std.proofs.Common.{◌≡◌, ◌≢◌, ◌⊎◌, ◌<◌, ◌≤◌, ◌+◌, ◌++◌, ℕ, zero, suc, true, List, [], ◌∷◌, length, map, drop, refl, sym, ◌∙◌, ap, subst, inl, inr, arith, append_assoc}
+use Rattle.std.proofs.lemmas.Bool.{cases_Bool, false≢true}
+use Rattle.bundle_rules.specs.declared.menu.Rated.{Rated}
+use Rattle.bundle_rules.specs.Sets.{has, IsAscending}
+use Rattle.bundle_rules.specs.Menus.{IsMenu, wishes_of, section_at, place_in}
+use Rattle.bundle_rules.specs.Places.{menu_sections}
+use Rattle.bundle_rules.specs.Preferences.{IsPreferred}
+use Rattle.bundle_rules.specs.Extensions.{Extends}
+use Rattle.bundle_rules.specs.Existence.Members.{has-here, has-there, has-cases, has-above, IsAscending-middle}
+use Rattle.bundle_rules.specs.Existence.Fronts.{choice_front}
+use Rattle.bundle_rules.specs.Existence.Extending.{with_or_without, nothing_later}
+use Rattle.bundle_rules.proofs.BestBits.{choice_among}
+use Rattle.bundle_bounds.specs.Offers.{Offer}
+use Rattle.bundle_bounds.specs.Laws.{IsTakable, IsNode, Completes}
+use Rattle.bundle_bounds.proofs.ByPlace.{place_in-section_at}
+use Rattle.bundle_bounds.proofs.NodeFacts.{nothing_chosen}
+use Rattle.demand_oracle.specs.Search.{IsAsGood, IsSearched}
+use Rattle.demand_oracle.specs.Laws.{SearchFindsTheBest}
+use Rattle.demand_oracle.proofs.Goodness.{as_good_trans, as_good_where_other, as_good_where_not}
+
+-- the sections of places
+abbrev pub sections : List Rated → List ℕ
+sections places = map (λ rated. rated.section.0) places
+
+-- the first undecided section is that of the next place
+pub record IsSplit (places : List Rated) (k s : ℕ) (undecided : List ℕ) : Type 0 where
+  pub on_menu : k < length places
+  pub first : s ≡ section_at places k
+  pub later : undecided ≡ drop (k + 1) (sections places)
+
+pub split_off : (places : List Rated) (k s : ℕ) (undecided : List ℕ) → s ∷ undecided ≡ drop k (sections places) → IsSplit places k s undecided
+split_off [] zero s undecided is = cc
+split_off [] (suc k) s undecided is = cc
+split_off (r ∷ rs) zero s undecided is = record { on_menu = omega arith; first = cc; later = cc }
+split_off (r ∷ rs) (suc k) s undecided is =
+    let rest = split_off rs k s undecided is in
+    let low : k < length rs = rest.on_menu in
+    let one_more : suc k + 1 ≡ suc (k + 1) = omega arith in record { on_menu = omega arith; first = rest.first; later = rw one_more rest.later }
+
+-- and the other way round
+pub next_section : (places : List Rated) (k : ℕ) → k < length places → drop k (sections places) ≡ section_at places k ∷ drop (k + 1) (sections places)
+next_section [] k low = absurd (omega arith)
+next_section (r ∷ rs) zero low = refl
+next_section (r ∷ rs) (suc k) low = let one_more : suc k + 1 ≡ suc (k + 1) = omega arith in rw one_more (next_section rs k (omega arith))
+
+pub none_undecided : (places : List Rated) (k : ℕ) → length places ≤ k → drop k (sections places) ≡ []
+none_undecided [] zero past = refl
+none_undecided [] (suc k) past = refl
+none_undecided (r ∷ rs) zero past = absurd (omega arith)
+none_undecided (r ∷ rs) (suc k) past = none_undecided rs k (omega arith)
+
+has-drop : (k : ℕ) (ss : List ℕ) (s : ℕ) → has (drop k ss) s ≡ true → has ss s ≡ true
+has-drop zero ss s is = is
+has-drop (suc k) [] s is = is
+has-drop (suc k) (x ∷ ss) s is = has-there x ss s (has-drop k ss s is)
+
+-- the section of a decided place is not undecided
+decided_section : (places : List Rated) (k p : ℕ) → IsAscending (sections places) → p < k → p < length places → has (drop k (sections places)) (section_at places p) ≡ true → ⊥
+decided_section [] k p up low on is = omega arith
+decided_section (r ∷ rs) zero p up low on is = omega arith
+decided_section (r ∷ rs) (suc k) zero up low on is =
+    let above : r.section.0 < r.section.0 = has-above r.section.0 (sections rs) r.section.0 up.0 (has-drop k (sections rs) r.section.0 is) in omega arith
+decided_section (r ∷ rs) (suc k) (suc p) up low on is = decided_section rs k p up.1 (omega arith) (omega arith) is
+
+-- a list and no more members of another
+has-append_none : (xs ys : List ℕ) (s : ℕ) → (has ys s ≡ true → ⊥) → has (xs ++ ys) s ≡ has xs s
+has-append_none [] ys s none = elim (cases_Bool (has ys s)) [ inl is ↦ absurd (none is) | inr not_in ↦ not_in ]
+has-append_none (x ∷ xs) ys s none = rw (has-append_none xs ys s none) refl
+
+-- a member of a list with one more at its end
+pub has-last : (xs : List ℕ) (s t : ℕ) → has (xs ++ s ∷ []) t ≡ true → (has xs t ≡ true) ⊎ (s ≡ t)
+has-last [] s t is = elim (has-cases s [] t is) [ inl here ↦ inr here | inr there ↦ absurd (false≢true there) ]
+has-last (x ∷ xs) s t is = elim (has-cases x (xs ++ s ∷ []) t is) [
+  | inl here ↦ inl (rw here (has-here t xs))
+  | inr there ↦ elim (has-last xs s t there) [ inl is' ↦ inl (has-there x xs t is') | inr last ↦ inr last ]
+]
+
+module _ (offer : Offer) (menu : IsMenu offer.menu) where
+  -- what extends the chosen sections by undecided ones completes them
+  extends_completes : (k : ℕ) (chosen bundle : List ℕ) → Extends chosen (drop k (menu_sections offer.menu)) bundle → Completes offer k chosen bundle
+  extends_completes k chosen bundle extends place low on =
+      ap (λ b. has b (section_at offer.menu.places place)) extends.whole
+      ∙ has-append_none chosen extends.more (section_at offer.menu.places place) (λ is. decided_section offer.menu.places k place menu.places.ascending low on (extends.among _ is))
+
+  -- the node with the next section, and the one without it
+  pub node_with : (k : ℕ) (chosen : List ℕ) → k < length offer.menu.places → IsNode offer k chosen → IsTakable offer (chosen ++ section_at offer.menu.places k ∷ []) → IsNode offer (k + 1) (chosen ++ section_at offer.menu.places k ∷ [])
+  node_with k chosen low node takable = record {
+    takable = takable;
+    decided = λ s is. elim (has-last chosen (section_at offer.menu.places k) s is) [
+      | inl before ↦ let below : place_in offer.menu.places s < k = node.decided s before in omega arith
+      | inr last ↦ let at : place_in offer.menu.places s ≡ k = ap (place_in offer.menu.places) (sym last) ∙ place_in-section_at offer.menu.places k menu.places.ascending low in omega arith
+    ];
+  }
+
+  pub node_without : (k : ℕ) (chosen : List ℕ) → IsNode offer k chosen → IsNode offer (k + 1) chosen
+  node_without k chosen node = record { takable = node.takable; decided = λ s is. (let below : place_in offer.menu.places s < k = node.decided s is in omega arith) }
+
+  -- what a search leaves: as good as the champion before and as all below the node
+  pub record IsFound (chosen undecided champion result : List ℕ) : Type 0 where
+    pub takable : IsTakable offer result
+    pub over_champion : IsAsGood offer result champion
+    pub over_all : (bundle : List ℕ) → IsTakable offer bundle → Extends chosen undecided bundle → IsAsGood offer result bundle
+
+  -- the chosen sections are as good as what extends them by nothing
+  over_extensions : (chosen : List ℕ) → IsTakable offer chosen → (bundle : List ℕ) → IsTakable offer bundle → Extends chosen [] bundle → IsAsGood offer chosen bundle
+  over_extensions chosen takable bundle is extends =
+      as_good_where_other offer chosen bundle takable.feasible.set is.feasible.set ((nothing_later (wishes_of offer.menu) offer.price offer.budget offer.allowed chosen takable).preferred bundle is extends)
+
+  finds : (k : ℕ) (chosen undecided champion result : List ℕ) → IsNode offer k chosen → undecided ≡ drop k (menu_sections offer.menu) → IsAscending (chosen ++ undecided) → IsTakable offer champion
+      → IsSearched offer k chosen undecided champion result → IsFound chosen undecided champion result
+  finds k chosen [] champion result node is up takable (inl more) =
+      subst (IsFound chosen [] champion) (sym more.1) record { takable = node.takable; over_champion = inr more.0; over_all = over_extensions chosen node.takable }
+  finds k chosen [] champion result node is up takable (inr none) =
+      subst (IsFound chosen [] champion) (sym none.1) record {
+        takable = takable;
+        over_champion = inl refl;
+        over_all = λ bundle may extends.
+            as_good_trans offer champion chosen bundle (as_good_where_not offer champion chosen takable.feasible.set node.takable.feasible.set none.0) (over_extensions chosen node.takable bundle may extends);
+      }
+  finds k chosen (s ∷ undecided) champion result node is up takable (inl closed) =
+      subst (IsFound chosen (s ∷ undecided) champion) (sym closed.1) record {
+        takable = takable;
+        over_champion = inl refl;
+        over_all = λ bundle may extends. closed.0 bundle may (extends_completes k chosen bundle (subst (λ later. Extends chosen later bundle) is extends));
+      }
+  finds k chosen (s ∷ undecided) champion result node is up takable (inr (inl both)) =
+      let split = split_off offer.menu.places k s undecided is in
+      let at : chosen ++ s ∷ [] ≡ chosen ++ section_at offer.menu.places k ∷ [] = ap (λ x. chosen ++ x ∷ []) split.first in
+      let node' : IsNode offer (k + 1) (chosen ++ s ∷ []) = subst (IsNode offer (k + 1)) (sym at) (node_with k chosen split.on_menu node (subst (IsTakable offer) at both.1)) in
+      let up' : IsAscending ((chosen ++ s ∷ []) ++ undecided) = rw append_assoc up in
+      let first = finds (k + 1) (chosen ++ s ∷ []) undecided champion both.0 node' split.later up' takable both.2 in
+      let second = finds (k + 1) chosen undecided both.0 result (node_without k chosen node) split.later (IsAscending-middle chosen s undecided up) first.takable both.3 in
+      record {
+        takable = second.takable;
+        over_champion = as_good_trans offer result both.0 champion second.over_champion first.over_champion;
+        over_all = λ bundle may extends. elim (with_or_without chosen s undecided bundle up may.feasible.set extends) [
+          | inl with_it ↦ as_good_trans offer result both.0 bundle second.over_champion (first.over_all bundle may with_it)
+          | inr without ↦ second.over_all bundle may without
+        ];
+      }
+  finds k chosen (s ∷ undecided) champion result node is up takable (inr (inr shut)) =
+      let split = split_off offer.menu.places k s undecided is in
+      let rest = finds (k + 1) chosen undecided champion result (node_without k chosen node) split.later (IsAscending-middle chosen s undecided up) takable shut.1 in
+      record {
+        takable = rest.takable;
+        over_champion = rest.over_champion;
+        over_all = λ bundle may extends. elim (with_or_without chosen s undecided bundle up may.feasible.set extends) [
+          | inl with_it ↦ absurd (shut.0 (choice_front (wishes_of offer.menu) offer.price offer.budget offer.allowed (chosen ++ s ∷ []) with_it.more (subst (IsTakable offer) with_it.whole may)))
+          | inr without ↦ rest.over_all bundle may without
+        ];
+      }
+
+pub search_finds_the_best : SearchFindsTheBest
+search_finds_the_best offer champion result menu takable searched =
+    let found = finds offer menu 0 [] (menu_sections offer.menu) champion result (nothing_chosen offer 0) refl menu.places.ascending takable searched in
+    record {
+      choice = found.takable;
+      preferred = λ other is apart. over other apart (found.over_all other is record { more = other; whole = refl; among = choice_among offer.menu offer.price offer.budget offer.allowed other is });
+    }
+  where
+    over : (other : List ℕ) → other ≢ result → IsAsGood offer result other → IsPreferred (wishes_of offer.menu) result other
+    over other apart (inl same) = absurd (apart same)
+    over other apart (inr more) = more

@@ -1,0 +1,150 @@
+// A menu whose best bundle is plain to see, and made menus at which `best_plain` tells the answer.
+ghost use Rattle.std.specs.Prelude.{◌<◌, ◌≤◌};
+
+use super::*;
+use bundle_rules::{Menu, Rated, best_plain, has_prices};
+use market_units::{SectionNo, SectionSet, Tokens};
+use std::alloc::Global;
+use std::process::Abort;
+use std::test::Fail;
+
+const PLAIN: Rated = Rated {
+    section: SectionNo(0),
+    course: 0,
+    rating: 1,
+    credits: 0,
+};
+
+#[test]
+fn the_first_eight_of_sixty(rt: HostRuntime) -> Result<(), Fail> {
+    let mut places = [PLAIN; 60];
+    for place in 0..60u8 {
+        places[usize::from(place)] = Rated {
+            section: SectionNo(u16::from(place)),
+            course: u16::from(place),
+            rating: 100 - place,
+            credits: 0,
+        };
+    }
+    assert!(rt; Menu::may_build(&places, &[], &[0; 60], 0, 8));
+    let menu = Menu::build(rt.alloc(), &places, &[], &[0; 60], 0, 8).expect(&rt, "memory");
+    let prices = [Tokens(0); 60];
+    assert!(rt; has_prices(&menu, &prices));
+    let allowed = SectionSet::full(60);
+    let mut workspace = Workspace::reserve(rt.alloc()).expect(&rt, "memory");
+    assert_eq!(rt; workspace.opened(), 0);
+    let best = demand(&mut workspace, &menu, &prices, Tokens(0), &allowed);
+    let first_eight = [0, 1, 2, 3, 4, 5, 6, 7].map(SectionNo);
+    assert_eq!(rt; best.sections(), first_eight.as_slice());
+    let opened = workspace.opened();
+    assert!(rt; (9..=1000).contains(&opened));
+    let again = demand(&mut workspace, &menu, &prices, Tokens(0), &allowed);
+    assert_eq!(rt; again, best);
+    assert_eq!(rt; workspace.opened(), opened);
+    Ok(())
+}
+
+// The next made number below the limit.
+fn made(seed: &mut u64, limit: u16) -> u16
+    requires { 0 < limit }
+    ensures { result < limit }
+{
+    *seed = seed
+        .wrapping_mul(6364136223846793005)
+        .wrapping_add(1442695040888963407);
+    ((*seed >> 33) % u64::from(limit)) as u16
+}
+
+const ROOM: usize = 12;
+
+fn made_places(seed: &mut u64) -> [Rated; ROOM] {
+    let mut places = [PLAIN; ROOM];
+    for i in 0..12u16 {
+        places[usize::from(i)] = Rated {
+            section: SectionNo(3 * i + made(seed, 3)),
+            course: made(seed, 9),
+            rating: 1 + made(seed, 100) as u8,
+            credits: made(seed, 5),
+        };
+    }
+    places
+}
+
+// A pair of each even place and the next.
+fn made_pairs(seed: &mut u64) -> [(u8, u8, i16); 6] {
+    let mut pairs = [(0, 0, 0); 6];
+    for i in 0..6u8 {
+        pairs[usize::from(i)] = (2 * i, 2 * i + 1, made(seed, 401) as i16 - 200);
+    }
+    pairs
+}
+
+// Writes the clashes of a place with the places before it.
+fn put_clashes(seed: &mut u64, places: &[Rated; ROOM], a: usize, clashes: &mut [u64; ROOM])
+    requires { a < 12 }
+{
+    for b in 0..a {
+        if places[a].course == places[b].course || made(seed, 8) == 0 {
+            clashes[a] |= 1 << b;
+            clashes[b] |= 1 << a;
+        }
+    }
+}
+
+fn made_clashes(seed: &mut u64, places: &[Rated; ROOM]) -> [u64; ROOM] {
+    let mut clashes = [0; ROOM];
+    for a in 0..ROOM {
+        put_clashes(seed, places, a, &mut clashes);
+    }
+    clashes
+}
+
+fn made_prices(seed: &mut u64) -> [Tokens; 36] {
+    let mut prices = [Tokens(0); 36];
+    for price in prices.iter_mut() {
+        *price = Tokens(u32::from(made(seed, 60)));
+    }
+    prices
+}
+
+fn made_allowed(seed: &mut u64) -> SectionSet {
+    let mut allowed = SectionSet::full(36);
+    for _ in 0..6 {
+        allowed = allowed.without(SectionNo(made(seed, 36)));
+    }
+    allowed
+}
+
+fn made_menu<R: Abort>(rt: &R, alloc: Global, seed: &mut u64) -> Menu {
+    let places = made_places(seed);
+    let pairs = made_pairs(seed);
+    let clashes = made_clashes(seed, &places);
+    let count = usize::from(1 + made(seed, 12));
+    let places = &places[..count];
+    let pairs = &pairs[..count / 2];
+    let clashes = &clashes[..count];
+    let credits = made(seed, 25);
+    let courses = made(seed, 9) as u8;
+    assert!(rt; Menu::may_build(places, pairs, clashes, credits, courses));
+    Menu::build(alloc, places, pairs, clashes, credits, courses).expect(rt, "memory")
+}
+
+#[test]
+fn what_trying_all_choices_finds(rt: HostRuntime) -> Result<(), Fail> {
+    let mut seed = 1;
+    let mut workspace = Workspace::reserve(rt.alloc()).expect(&rt, "memory");
+    for turn in 0..100 {
+        let menu = made_menu(&rt, rt.alloc(), &mut seed);
+        let prices = made_prices(&mut seed);
+        let budget = Tokens(u32::from(made(&mut seed, 200)));
+        let allowed = made_allowed(&mut seed);
+        assert!(rt; has_prices(&menu, &prices));
+        let best = demand(&mut workspace, &menu, &prices, budget, &allowed);
+        assert_eq!(rt;
+            best,
+            best_plain(&menu, &prices, budget, &allowed),
+            "at turn {turn}"
+        );
+    }
+    Ok(())
+}
