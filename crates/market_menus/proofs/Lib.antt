@@ -1,0 +1,7 @@
+mod ClashFacts
+mod Orders
+mod PairFacts
+mod PlaceFacts
+mod StudentFacts
+mod WantedFacts
+mod WordBits

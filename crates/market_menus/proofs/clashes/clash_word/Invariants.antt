@@ -1,0 +1,7 @@
+use Rattle.bundle_rules.specs.Menus.{section_at}
+use Rattle.course_catalog.specs.Sections.{sections_clash}
+use Rattle.market_menus.proofs.WordBits.{IsWordTo}
+use Rattle.market_menus.proofs.clashes.clash_word.Given as goal
+
+abbrev pub invariant-others : goal.invariant-others
+invariant-others l = IsWordTo (λ k. sections_clash l.catalog l.section.0 (section_at l.places k)) l.word l.place

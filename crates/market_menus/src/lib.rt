@@ -1,0 +1,13 @@
+//! Menus: what each student may choose from, by the closed preferences, the catalogue and the roll.
+#![tactic(auto)]
+
+mod clashes;
+pub mod laws;
+mod menu;
+mod pairs;
+mod places;
+
+pub use menu::menus;
+
+#[cfg(test)]
+mod tests;

@@ -1,0 +1,63 @@
+// The menus of the students.
+ghost use Rattle.std.specs.Prelude.{◌≡◌, ◌<◌, All, IfOk, length};
+ghost use Rattle.preference_desk.specs.PreferencesView.{preferences_of, wanted_by};
+ghost use Rattle.preference_desk.specs.StudentPreferences.{SectionsBelow};
+ghost use Rattle.market_menus.specs.MenusOf.{AreMenusOf, IsMenuOf};
+ghost use Rattle.market_menus.specs.Students.{student_at};
+
+use crate::clashes::clashes_of;
+use crate::pairs::pairs_of;
+use crate::places::places_of;
+use bundle_rules::Menu;
+use course_catalog::Catalog;
+use market_units::{NoMemory, StudentNo};
+use preference_desk::Preferences;
+use std::alloc::Global;
+use student_roll::Roll;
+
+/// The menu of each student of the roll, in file order: the sections that the student rates, with the catalogue's courses, credits and
+/// clashes, the adjustments of the pairs both of whose sections are rated, and the roll's caps.
+pub fn menus(
+    alloc: Global,
+    catalog: &Catalog,
+    roll: &Roll,
+    preferences: &Preferences,
+) -> Result<Vec<Menu>, NoMemory>
+    requires students { length (preferences_of preferences.now) ≡ length roll.now }
+    requires sections { All (SectionsBelow (length catalog.now)) (preferences_of preferences.now) }
+    ensures { IfOk result (λ menus. AreMenusOf catalog.now roll.now (preferences_of preferences.now) menus.items) }
+{
+    let students = roll.len();
+    let mut menus = Vec::with_capacity(alloc, usize::from(students))?;
+    'students: for student in 0..students {
+        menus.push(menu_of(alloc, catalog, roll, preferences, StudentNo(student))?)?;
+    }
+    Ok(menus)
+}
+
+// The menu of one student.
+fn menu_of(
+    alloc: Global,
+    catalog: &Catalog,
+    roll: &Roll,
+    preferences: &Preferences,
+    student: StudentNo,
+) -> Result<Menu, NoMemory>
+    requires student { student.0 < length roll.now }
+    requires students { length (preferences_of preferences.now) ≡ length roll.now }
+    requires sections { All (SectionsBelow (length catalog.now)) (preferences_of preferences.now) }
+    ensures { IfOk result (λ menu. IsMenuOf catalog.now (student_at roll.now student.0) (wanted_by preferences.now student.0) menu) }
+{
+    let _few_sections = catalog.len();
+    let places = places_of(alloc, catalog, preferences.ratings(student))?;
+    let pairs = pairs_of(alloc, &places, preferences.pairs(student))?;
+    let clashes = clashes_of(alloc, catalog, &places)?;
+    Menu::build(
+        alloc,
+        &places,
+        &pairs,
+        &clashes,
+        roll.credits(student),
+        roll.courses(student),
+    )
+}

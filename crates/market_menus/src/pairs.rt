@@ -1,0 +1,69 @@
+// The adjusted pairs of a student both of whose sections are rated.
+ghost use Rattle.std.specs.Prelude.{◌≡◌, ◌≤◌, IfOk, length};
+ghost use Rattle.std.specs.List.{filter_map};
+ghost use Rattle.bundle_rules.specs.Menus.{place_in};
+ghost use Rattle.preference_desk.specs.Rows.{pair_entry};
+ghost use Rattle.market_menus.specs.PairPlaces.{place_among, pair_among};
+
+use bundle_rules::Rated;
+use market_units::{NoMemory, SectionNo};
+use std::alloc::Global;
+
+// The pairs whose sections both have places, by these places.
+pub(crate) fn pairs_of(
+    alloc: Global,
+    places: &[Rated],
+    pairs: &[(SectionNo, SectionNo, i16)],
+) -> Result<Vec<(u8, u8, i16)>, NoMemory>
+    requires { length places.now ≤ 60 }
+    ensures { IfOk result (λ kept. kept.items ≡ filter_map (λ pair. pair_among places.now (pair_entry pair)) pairs.now) }
+{
+    let mut kept = Vec::with_capacity(alloc, pairs.len())?;
+    'pairs: for pair in pairs {
+        if let Some(pair) = pair_among(places, *pair) {
+            kept.push(pair)?;
+        }
+    }
+    Ok(kept)
+}
+
+// The places of the two sections, with their adjustment, where both have one.
+fn pair_among(places: &[Rated], pair: (SectionNo, SectionNo, i16)) -> Option<(u8, u8, i16)>
+    requires { length places.now ≤ 60 }
+    ensures { result ≡ pair_among places.now (pair_entry pair) }
+{
+    let (first, second, adjustment) = pair;
+    let first_place = place_among(places, first)?;
+    let second_place = place_among(places, second)?;
+    Some((first_place, second_place, adjustment))
+}
+
+// The place of the section, where it has one.
+fn place_among(places: &[Rated], section: SectionNo) -> Option<u8>
+    requires { length places.now ≤ 60 }
+    ensures { result ≡ place_among places.now section.0 }
+{
+    let place = place_or_len(places, section);
+    if place < places.len() {
+        Some(place as u8)
+    } else {
+        None
+    }
+}
+
+// The place of the section, or the number of places where it has none.
+fn place_or_len(places: &[Rated], section: SectionNo) -> usize
+    ensures value { result ≡ place_in places.now section.0 }
+    ensures within { result ≤ length places.now }
+{
+    match places {
+        [] => 0,
+        [rated, more @ ..] => {
+            if rated.section == section {
+                0
+            } else {
+                place_or_len(more, section) + 1
+            }
+        }
+    }
+}
