@@ -1,8 +1,8 @@
 -- What the search does at a place.
-use Rattle.std.proofs.Common.{◌≡◌, ◌<◌, ◌+◌, ◌++◌, ℕ, Bool, true, false, ◌&&◌, List, [], ◌∷◌, length, drop, refl, sym, subst, inl, inr, arith}
+use Rattle.std.proofs.Common.{◌≡◌, ◌<◌, ◌≤◌, ◌+◌, ◌++◌, ℕ, Bool, true, false, ◌&&◌, List, [], ◌∷◌, length, drop, refl, sym, subst, inl, inr, arith, length-append}
 use Rattle.std.specs.Prelude.{nat_le}
 use Rattle.std.proofs.lemmas.Bool.Decides.{nat_tests}
-use Rattle.bundle_rules.specs.Menus.{IsMenu, section_at}
+use Rattle.bundle_rules.specs.Menus.{IsMenu, section_at, wishes_of}
 use Rattle.bundle_rules.specs.Places.{menu_sections}
 use Rattle.bundle_bounds.specs.Offers.{Offer, places_of}
 use Rattle.bundle_bounds.specs.Opens.{is_open}
@@ -14,6 +14,17 @@ use Rattle.demand_oracle.proofs.Openings.{shut_not_takable}
 -- the next place is not decided
 pub not_decided : (k : ℕ) (test is : Bool) → test ≡ (nat_le k k && is) → is ≡ test
 not_decided k test is says = let at : nat_le k k ≡ true = grind (arith, nat_tests) in sym (rw at at says)
+
+none_fits : (offer : Offer) (chosen : List ℕ) (s : ℕ) → offer.menu.courses ≤ length chosen → IsTakable offer (chosen ++ s ∷ []) → ⊥
+unfolding wishes_of
+none_fits offer chosen s full takable =
+    let courses : length (chosen ++ s ∷ []) ≤ offer.menu.courses = takable.feasible.courses in
+    let count : length (chosen ++ s ∷ []) ≡ length chosen + 1 = length-append chosen (s ∷ []) in omega arith
+
+-- where as many sections are chosen as may be taken, all later places are passed over
+pub full_to_end : (offer : Offer) (k : ℕ) (chosen undecided champion result : List ℕ) → offer.menu.courses ≤ length chosen → IsSearched offer k chosen [] champion result → IsSearched offer k chosen undecided champion result
+full_to_end offer k chosen [] champion result full ended = ended
+full_to_end offer k chosen (s ∷ undecided) champion result full ended = inr (inr (none_fits offer chosen s full, full_to_end offer (k + 1) chosen undecided champion result full ended))
 
 module _ (offer : Offer) (k : ℕ) (chosen : List ℕ) (low : k < length offer.menu.places) where
   closed_branch : (champion : List ℕ) → MayClose offer k chosen champion → IsSearched offer k chosen (section_at offer.menu.places k ∷ drop (k + 1) (menu_sections offer.menu)) champion champion

@@ -96,6 +96,9 @@ fn search(
     if node.place == menu.len() {
         return preferred(menu, node.chosen, champion);
     }
+    if node.chosen.sections().len() >= usize::from(menu.courses()) {
+        return preferred(menu, node.chosen, champion);
+    }
     let without = Node {
         place: node.place + 1,
         chosen: node.chosen,

@@ -1,4 +1,5 @@
-use Rattle.std.proofs.Common.{◌≡◌, ◌<◌, ◌≤◌, ◌+◌, ◌++◌, ◌∷◌, [], ℕ, length, drop, true, false, rules, arith, sym, subst, ◌∙◌, ap, length-append}
+use Rattle.std.proofs.Common.{◌≡◌, ◌<◌, ◌≤◌, ◌+◌, ◌++◌, ◌∷◌, [], ℕ, length, drop, true, false, rules, arith, sym, subst, ◌∙◌, ap, inl, inr, length-append}
+use Rattle.std.proofs.lemmas.List.{length-map}
 use Rattle.bundle_rules.specs.Bundles.{sections_of}
 use Rattle.bundle_rules.specs.Sets.{IsAscending}
 use Rattle.bundle_rules.specs.Menus.{section_at, wishes_of}
@@ -10,8 +11,19 @@ use Rattle.bundle_bounds.specs.Laws.{IsNode}
 use Rattle.demand_oracle.specs.Search.{IsSearched}
 use Rattle.demand_oracle.proofs.Searching.{node_with}
 use Rattle.demand_oracle.proofs.Openings.{open_takable}
-use Rattle.demand_oracle.proofs.Branches.{not_decided, closed_here, shut_here, open_here}
+use Rattle.demand_oracle.proofs.Branches.{not_decided, full_to_end, closed_here, shut_here, open_here}
 use Rattle.demand_oracle.proofs.oracle.+search.Goals as goal
+
+pub returns-then-sections-from-clause-searched : goal.returns-then-sections-from-clause-searched
+returns-then-sections-from-clause-searched t c =
+    let menu = c.args.menu.now in
+    let offer = offer_of menu c.args.prices.now c.args.budget.0 c.args.allowed.now in
+    let chosen = sections_of c.args.node.chosen in
+    let champion = sections_of c.args.champion in
+    let count : length chosen ≡ length c.sections.result.now = sym (ap length c.sections.ensures.value) ∙ length-map c.sections.result.now (λ section. section.0) in
+    let full : menu.courses ≤ length chosen = omega (arith, c.if-sections-from.true, c.from.ensures, c.courses.ensures) in
+    full_to_end offer c.args.node.place chosen (drop c.args.node.place (menu_sections menu)) champion (sections_of c.preferred-then-sections-from.result) full
+    (elim c.preferred-then-sections-from.ensures.preferred [ inl more ↦ inl (more.0, ap sections_of more.1) | inr none ↦ inr (none.0, ap sections_of none.1) ])
 
 pub returns-then-not-is_open-clause-searched : goal.returns-then-not-is_open-clause-searched
 returns-then-not-is_open-clause-searched t c =
