@@ -1,0 +1,117 @@
+ghost use Rattle.std.specs.Prelude.{◌≤◌, length, IfOk};
+
+use super::*;
+use course_catalog::read_catalog;
+use gates::MeetingGate;
+use market_edge::Gate;
+use market_units::{SectionNo, StudentNo};
+use preference_desk::{Entry, Reply};
+use std::alloc::Global;
+use std::process::Abort;
+use std::sync::Wait;
+use std::sync::atomic::{AtomicU64, Ordering};
+use std::test::Fail;
+use std::thread::Threads;
+use student_roll::read_roll;
+use utility_language::{Command, read_line};
+
+mod gates;
+
+const CATALOG: &[u8] = b"section,course,seats,credits,meetings\nA,AA,1,1,\nB,BB,1,1,\n";
+
+const ROLL: &[u8] = b"student,budget,credits,courses\nann,100,10,2\nbob,101,10,2\n";
+
+// The lines of two sessions with their replies, which are the same in every order that keeps each session's own.
+const FIRST: [(&[u8], Reply); 4] = [
+    (b"rate ann A 10", Reply::Done),
+    (b"rate zoe A 1", Reply::NoStudent),
+    (b"rate ann A 30", Reply::Done),
+    (b"rate ann Q 1", Reply::NoSection),
+];
+
+const SECOND: [(&[u8], Reply); 3] = [
+    (b"rate bob B 20", Reply::Done),
+    (b"no command", Reply::Unreadable),
+    (b"pair bob B A -5", Reply::Done),
+];
+
+fn stream_of(alloc: Global, lines: &[(&[u8], Reply)]) -> Result<Vec<Command>, Fail>
+    ensures { IfOk result (λ commands. length commands.items ≤ 100) }
+{
+    let mut commands = Vec::new(alloc);
+    for (line, _) in lines {
+        commands.push(read_line(line).unwrap_or(Command::Unreadable))?;
+    }
+    if commands.len() > 100 {
+        return Err(Fail::new("a short stream"));
+    }
+    Ok(commands)
+}
+
+// What the two sessions leave.
+fn hold_two<R: Threads + Wait + Sync, G: Gate + Sync>(
+    rt: &R,
+    alloc: Global,
+    gate: &G,
+) -> Result<ClosedDesk, Fail> {
+    let catalog = read_catalog(alloc, CATALOG)?;
+    let roll = read_roll(alloc, ROLL)?;
+    let streams = [stream_of(alloc, &FIRST)?, stream_of(alloc, &SECOND)?];
+    Ok(hold(rt, alloc, &catalog, &roll, &streams, gate)?)
+}
+
+// Whether the entries of this session are these lines with their replies, in order.
+fn is_posted(entries: &[Entry], session: u16, lines: &[(&[u8], Reply)]) -> bool {
+    let mut at = 0usize;
+    for entry in entries {
+        if entry.session != session {
+            continue;
+        }
+        let Some((line, reply)) = lines.get(at) else {
+            return false;
+        };
+        if read_line(line) != Some(entry.command) || *reply != entry.reply {
+            return false;
+        }
+        at = at.wrapping_add(1);
+    }
+    at == lines.len()
+}
+
+fn count_of(counter: &AtomicU64) -> u64 {
+    counter.load(Ordering::SeqCst)
+}
+
+// The ratings of a student of the desk.
+fn ratings_of<'a>(rt: &impl Abort, closed: &'a ClosedDesk, student: u16) -> &'a [(SectionNo, u8)] {
+    let preferences = closed.desk.closed();
+    assert!(rt; usize::from(student) < preferences.len());
+    preferences.ratings(StudentNo(student))
+}
+
+// Two sessions whose calls meet: neither can post all its lines before the other has posted one.
+#[test]
+fn two_sessions_post_at_once(rt: HostRuntime) -> Result<(), Fail> {
+    let gate = MeetingGate::new();
+    let closed = hold_two(&rt, rt.alloc(), &gate)?;
+    let entries = closed.desk.journal();
+    assert_eq!(rt; entries.len(), 7);
+    assert!(rt; is_posted(entries, 1, &FIRST));
+    assert!(rt; is_posted(entries, 2, &SECOND));
+    assert_eq!(rt; closed.journal.steps().len(), 7);
+    assert_eq!(rt;
+        ratings_of(&rt, &closed, 0),
+        [(SectionNo(0), 30u8)].as_slice()
+    );
+    assert_eq!(rt;
+        ratings_of(&rt, &closed, 1),
+        [(SectionNo(1), 20u8)].as_slice()
+    );
+    assert_eq!(rt; count_of(&gate.missed), 0);
+    assert_eq!(rt; count_of(&gate.first_starts), 1);
+    assert_eq!(rt; count_of(&gate.second_starts), 1);
+    assert_eq!(rt; count_of(&gate.first_calls), 4);
+    assert_eq!(rt; count_of(&gate.second_calls), 3);
+    assert_eq!(rt; count_of(&gate.others), 0);
+    Ok(())
+}
