@@ -1,5 +1,4 @@
-pub mod ClashWords
 pub mod InputCauses
 pub mod LineTexts
-pub mod PlacesSoFar
+pub mod QuoteFacts
 pub mod ZeroPrices

@@ -1,5 +1,7 @@
 pub mod Causes
-pub mod Clashes
 pub mod Inputs
 pub mod Lines
 pub mod Numbers
+pub mod Quotes
+pub mod Refusals
+pub mod Sessions

@@ -1,9 +1,15 @@
 -- What each status writes.
-use Rattle.std.specs.Prelude.{ℕ, ◌≡◌, List, [], ◌++◌, codes, ⊤}
+use Rattle.std.specs.Prelude.{ℕ, ◌≡◌, List, [], ◌∷◌, ◌++◌, codes, Option, IfSome}
 use Rattle.std.specs.Fmt.{decimal}
+use Rattle.market_edge.specs.Holdings.{Holding, told_text}
+use Rattle.market_units.specs.Name.{name_bytes}
+use Rattle.market_host.specs.Quotes.{IsQuoteOf}
+use Rattle.market_words.specs.declared.words.Form.{Form}
+use Rattle.market_words.specs.declared.words.Form.TheVariants.{Quote}
+use Rattle.market_words.specs.Forms.{HasForm, inputs_of}
 use Rattle.market_settings.specs.Keys.{key_name}
 use Rattle.market_host.specs.declared.cause.Cause.{Cause}
-use Rattle.market_host.specs.declared.cause.Cause.TheVariants.{Header, Fields, Name, Repeated, Number, Meetings, TooMany, NotJson, NotObject, Missing, Unknown, Range, NotBuilt}
+use Rattle.market_host.specs.declared.cause.Cause.TheVariants.{Header, Fields, Name, Repeated, Number, Meetings, TooMany, NotJson, NotObject, Missing, Unknown, Range}
 use Rattle.market_host.specs.declared.status.Status.{Status}
 use Rattle.market_host.specs.declared.status.Status.TheVariants.{Done, Usage, ShelfFault, Refused, TooLong, SinkFault, OutOfMemory}
 
@@ -21,7 +27,6 @@ cause_words NotObject = codes "not an object"
 cause_words (Missing key) = codes "missing " ++ key_name key
 cause_words Unknown = codes "unknown key"
 cause_words (Range key) = codes "range of " ++ key_name key
-cause_words NotBuilt = codes "not built"
 
 -- the line of a status that has one
 abbrev pub line_of : Status → List ℕ
@@ -33,7 +38,13 @@ line_of (TooLong input) = codes "input " ++ decimal input ++ codes " is too long
 line_of SinkFault = []
 line_of OutOfMemory = codes "out of memory\n"
 
--- A status may write this text. What is written where the work is done is not said yet.
-abbrev pub Writes : Status → List ℕ → Type 0
-Writes Done text = ⊤
-Writes status text = text ≡ line_of status
+-- the text that a form prints, by what its inputs say, where they are told
+abbrev pub Prints : Form → Option Holding → List (List ℕ) → List ℕ → Type 0
+Prints (Quote name credits courses) held (catalog ∷ session ∷ []) text =
+    IfSome (told_text held catalog) (λ table. IfSome (told_text held session) (λ stream. IsQuoteOf (name_bytes name) credits courses table stream text))
+Prints (Quote name credits courses) held inputs text = ⊥
+
+-- A status writes this text: its line, and where the work is done, what the form prints.
+abbrev pub Writes : List (List ℕ) → Option Holding → Status → List ℕ → Type 0
+Writes words held Done text = (form : Form) × HasForm words form × Prints form held (inputs_of form words) text
+Writes words held status text = text ≡ line_of status

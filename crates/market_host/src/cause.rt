@@ -29,6 +29,4 @@ pub enum Cause {
     Unknown,
     /// This setting is out of its range.
     Range(Key),
-    /// The input is of its grammar or is not, and is beyond what is built so far. It always has row 0.
-    NotBuilt,
 }

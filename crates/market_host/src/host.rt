@@ -3,7 +3,7 @@ ghost use Rattle.std.specs.Prelude.{◌≡◌, ◌≢◌, List, ℕ, map, MatchR
 ghost use Rattle.std.specs.String.{string_bytes};
 ghost use Rattle.market_edge.specs.Faults.{Rose};
 ghost use Rattle.market_edge.specs.Sinks.{Takes, TakesFront};
-ghost use Rattle.market_host.specs.Causes.{HasCause};
+ghost use Rattle.market_host.specs.Causes.{Fails, HasCause};
 ghost use Rattle.market_host.specs.Lines.{Writes};
 
 use crate::Status;
@@ -30,13 +30,13 @@ pub fn course_match<R: Threads + Wait + Sync, H: Shelf, K: Sink, G: Gate + Sync>
     ensures cause { result ≢ Status.SinkFault → HasCause (map string_bytes words.now) (H.holds shelf.old) (H.faults shelf.old) (H.faults shelf.new) result }
 
     // What is written is the status's text, all of it unless the sink fails.
-    ensures written { result ≢ Status.SinkFault → (text : List ℕ) × Writes result text × Takes (K.taken sink.old) (K.taken sink.new) text }
+    ensures written { result ≢ Status.SinkFault → (text : List ℕ) × Writes (map string_bytes words.now) (H.holds shelf.old) result text × Takes (K.taken sink.old) (K.taken sink.new) text }
     ensures sink_fault { result ≡ Status.SinkFault → Rose (K.faults sink.old) (K.faults sink.new) }
 
     // A sink fault stands for a status that had its cause, and some of its text was not taken.
     ensures replaced { result ≡ Status.SinkFault → (instead : _) × (text : List ℕ)
         × HasCause (map string_bytes words.now) (H.holds shelf.old) (H.faults shelf.old) (H.faults shelf.new) instead
-        × Writes instead text × TakesFront (K.taken sink.old) (K.taken sink.new) text }
+        × Writes (map string_bytes words.now) (H.holds shelf.old) instead text × TakesFront (K.taken sink.old) (K.taken sink.new) text }
 {
     match answer(alloc, words, shelf) {
         Ok(text) => finish(sink, &text, Status::Done),
@@ -61,8 +61,9 @@ fn finish<K: Sink>(sink: &mut K, text: &[u8], status: Status) -> Status
 // The text to write, or the status that says why there is none.
 fn answer<H: Shelf>(alloc: Global, words: &[String], shelf: &mut H) -> Result<Vec<u8>, Status>
     ensures { MatchResult result
-        (λ _. HasCause (map string_bytes words.now) (H.holds shelf.old) (H.faults shelf.old) (H.faults shelf.new) Status.Done)
-        (HasCause (map string_bytes words.now) (H.holds shelf.old) (H.faults shelf.old) (H.faults shelf.new)) }
+        (λ text. HasCause (map string_bytes words.now) (H.holds shelf.old) (H.faults shelf.old) (H.faults shelf.new) Status.Done
+        × Writes (map string_bytes words.now) (H.holds shelf.old) Status.Done text.items)
+        (Fails (map string_bytes words.now) (H.holds shelf.old) (H.faults shelf.old) (H.faults shelf.new)) }
 {
     match read_words(words) {
         Some(

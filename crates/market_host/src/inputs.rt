@@ -1,8 +1,7 @@
 // The inputs of a call, each read whole.
-ghost use Rattle.std.specs.Prelude.{◌≡◌, ◌≤◌, List, ℕ, IfOk, OnOk, IfErr};
+ghost use Rattle.std.specs.Prelude.{◌≡◌, ◌≤◌, List, ℕ, length, IfOk, IfErr};
 ghost use Rattle.market_edge.specs.Holdings.{IsTextOf};
 ghost use Rattle.market_host.specs.Causes.{HasTrouble};
-ghost use Rattle.market_host.specs.Inputs.{IsWithin};
 
 use crate::Status;
 use market_edge::{Shelf, Taking, read_whole};
@@ -19,7 +18,7 @@ pub fn read_input<H: Shelf>(
 ) -> Result<Vec<u8>, Status>
     requires { limit ≤ MAX_TEXT_BYTES }
     ensures whole { IfOk result (λ text. IsTextOf (H.holds shelf.old) name.now text.items) }
-    ensures within { OnOk result (IsWithin limit (H.holds shelf.old) name.now) }
+    ensures within { IfOk result (λ text. length text.items ≤ limit) }
     ensures cause { IfErr result (HasTrouble limit (H.holds shelf.old) (H.faults shelf.old) (H.faults shelf.new) name.now input) }
     ensures holds { H.holds shelf.new ≡ H.holds shelf.old }
     ensures later { (other : List ℕ) → H.faults shelf.old other ≤ H.faults shelf.new other }

@@ -10,8 +10,7 @@ mod line;
 mod quote;
 mod session;
 mod status;
-mod unread;
-mod wishes;
+mod text;
 
 pub use cause::Cause;
 pub use host::course_match;

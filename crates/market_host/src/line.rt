@@ -117,7 +117,6 @@ fn with_cause(line: Line, cause: Cause) -> Line
         Cause::Missing(key) => with_key(line.with(b"missing "), key),
         Cause::Unknown => line.with(b"unknown key"),
         Cause::Range(key) => with_key(line.with(b"range of "), key),
-        Cause::NotBuilt => line.with(b"not built"),
     }
 }
 

@@ -1,20 +1,33 @@
 // One student's best bundle at zero prices.
-ghost use Rattle.std.specs.Prelude.{◌≡◌, ◌≤◌, List, ℕ, map, length, MatchResult};
+ghost use Rattle.std.specs.Prelude.{◌≡◌, ◌≤◌, List, ℕ, [], ◌∷◌, map, length, nat_lt, MatchResult, IfOk};
 ghost use Rattle.std.specs.String.{string_bytes};
-ghost use Rattle.market_host.specs.Causes.{HasCause};
+ghost use Rattle.bundle_rules.specs.Bundles.{sections_of};
+ghost use Rattle.bundle_rules.specs.Demand.{IsBest};
+ghost use Rattle.bundle_rules.specs.Menus.{wishes_of};
+ghost use Rattle.market_host.specs.Causes.{Fails, HasCause};
+ghost use Rattle.market_host.specs.Lines.{Writes};
+ghost use Rattle.market_host.specs.Quotes.{IsQuote, state_of_new_desk};
+ghost use Rattle.market_units.specs.Name.{name_bytes};
 ghost use Rattle.market_words.specs.Forms.{HasForm};
+ghost use Rattle.preference_desk.specs.DeskView.{names_of, state_of};
+ghost use Rattle.preference_desk.specs.MarketNames.{market_names};
+ghost use Rattle.student_roll.specs.Students.{single_student};
 
 use crate::Status;
-use crate::catalogue::{Section, read_sections};
+use crate::catalogue::catalog_in;
 use crate::inputs::read_input;
-use crate::session::read_ratings;
-use crate::unread::Unread;
-use crate::wishes::menu_of;
-use bundle_rules::{Bundle, best_plain, utility};
+use crate::session::commands_in;
+use crate::text::text_of;
+use bundle_rules::{Bundle, Menu, best_plain, utility};
+use course_catalog::Catalog;
 use market_edge::Shelf;
-use market_units::{MAX_INPUT_BYTES, MAX_SECTIONS, Name, SectionSet, Tokens};
+use market_menus::menus;
+use market_units::{MAX_INPUT_BYTES, MAX_SECTIONS, Name, NoMemory, SectionSet, Tokens};
 use market_words::Form;
-use std::alloc::{AllocError, Global};
+use preference_desk::Desk;
+use std::alloc::Global;
+use student_roll::Roll;
+use utility_language::Command;
 
 /// The text of `quote`, or the status that says why there is none.
 pub fn quote<H: Shelf>(
@@ -27,64 +40,66 @@ pub fn quote<H: Shelf>(
 ) -> Result<Vec<u8>, Status>
     requires { HasForm (map string_bytes words.now) (Form.Quote name credits courses) }
     ensures { MatchResult result
-        (λ _. HasCause (map string_bytes words.now) (H.holds shelf.old) (H.faults shelf.old) (H.faults shelf.new) Status.Done)
-        (HasCause (map string_bytes words.now) (H.holds shelf.old) (H.faults shelf.old) (H.faults shelf.new)) }
+        (λ text. HasCause (map string_bytes words.now) (H.holds shelf.old) (H.faults shelf.old) (H.faults shelf.new) Status.Done
+        × Writes (map string_bytes words.now) (H.holds shelf.old) Status.Done text.items)
+        (Fails (map string_bytes words.now) (H.holds shelf.old) (H.faults shelf.old) (H.faults shelf.new)) }
 {
-    let catalog = read_input(alloc, shelf, words[1].as_str(), 1, MAX_INPUT_BYTES)?;
-    let mut sections = match read_sections(alloc, &catalog) {
-        Ok(sections) => sections,
-        Err(unread) => return Err(unread.at(1)),
-    };
-    let session = read_input(alloc, shelf, words[2].as_str(), 2, MAX_INPUT_BYTES)?;
-    if read_ratings(&session, &name, &mut sections).is_none() {
-        return Err(Unread::NotBuilt.at(2));
-    }
-    match best_text(alloc, &name, &sections, credits, courses) {
+    let table = read_input(alloc, shelf, words[1].as_str(), 1, MAX_INPUT_BYTES)?;
+    let catalog = catalog_in(alloc, &table, 1)?;
+    let stream = read_input(alloc, shelf, words[2].as_str(), 2, MAX_INPUT_BYTES)?;
+    let commands = commands_in(alloc, &stream, 2)?;
+    match best_text(alloc, &catalog, &commands, name, credits, courses) {
         Ok(text) => Ok(text),
-        Err(unread) => Err(unread.at(2)),
+        Err(NoMemory) => Err(Status::OutOfMemory),
     }
 }
 
-// The two lines that tell the best bundle of the rated sections and its utility.
+// The two lines that tell the best bundle after these commands and its utility.
 fn best_text(
     alloc: Global,
-    name: &Name,
-    sections: &[Section],
+    catalog: &Catalog,
+    commands: &[Command],
+    name: Name,
     credits: u16,
     courses: u8,
-) -> Result<Vec<u8>, Unread>
-    requires sections { length sections.now ≤ 400 }
+) -> Result<Vec<u8>, NoMemory>
+    requires few { length commands.now ≤ 200000 }
     requires credits { credits ≤ 800 }
     requires courses { courses ≤ 8 }
+    ensures { IfOk result (λ text. IsQuote catalog.now (single_student (name_bytes name) credits courses) commands.now text.items) }
 {
-    let menu = menu_of(alloc, sections, credits, courses)?;
-    let prices = [Tokens(0); 400];
-    let bundle = best_plain(&menu, &prices, Tokens(0), &SectionSet::full(MAX_SECTIONS));
-    let worth = utility(&menu, &bundle);
-    Ok(text_of(alloc, name, sections, &bundle, worth)?)
+    let roll = Roll::single(alloc, name, credits, courses)?;
+    let desk = desk_after(alloc, catalog, &roll, commands)?;
+    let menus = menus(alloc, catalog, &roll, desk.closed())?;
+    let menu = &menus[0];
+    let bundle = best_of(menu);
+    let worth = utility(menu, &bundle);
+    Ok(text_of(alloc, catalog, &name, bundle.sections(), worth)?)
 }
 
-fn text_of(
+// The best bundle of the menu where nothing has a price and every section is allowed.
+fn best_of(menu: &Menu) -> Bundle
+    ensures { IsBest (wishes_of menu.now) (λ _. 0) 0 (λ s. nat_lt s 400) (sections_of result) }
+{
+    let _few_places = menu.len();
+    let prices = [Tokens(0); 400];
+    best_plain(menu, &prices, Tokens(0), &SectionSet::full(MAX_SECTIONS))
+}
+
+// A desk to which one session has said these commands.
+fn desk_after(
     alloc: Global,
-    name: &Name,
-    sections: &[Section],
-    bundle: &Bundle,
-    worth: i32,
-) -> Result<Vec<u8>, AllocError> {
-    let mut text = Vec::new(alloc);
-    text.extend_from_slice(b"bundle ")?;
-    text.extend_from_slice(name.bytes())?;
-    text.extend_from_slice(b" [")?;
-    for (at, number) in bundle.sections().iter().enumerate() {
-        if at > 0 {
-            text.push(b',')?;
-        }
-        if let Some(section) = sections.get(usize::from(number.0)) {
-            text.extend_from_slice(section.name.bytes())?;
-        }
+    catalog: &Catalog,
+    roll: &Roll,
+    commands: &[Command],
+) -> Result<Desk, NoMemory>
+    requires { length commands.now ≤ 200000 }
+    ensures names { IfOk result (λ desk. names_of desk ≡ market_names catalog.now roll.now) }
+    ensures state { IfOk result (λ desk. state_of desk ≡ state_of_new_desk catalog.now roll.now commands.now) }
+{
+    let mut desk = Desk::prepare(alloc, catalog, roll, commands.len() as u32)?;
+    'commands: for command in commands {
+        desk.post(1, *command);
     }
-    text.extend_from_slice(b"]\nutility ")?;
-    text.extend_from_slice(format!(in alloc; "{worth}")?.as_bytes())?;
-    text.push(b'\n')?;
-    Ok(text)
+    Ok(desk)
 }

@@ -1,9 +1,25 @@
-use Rattle.std.proofs.Common.{refl}
-use Rattle.market_host.proofs.ZeroPrices.{has_prices}
+use Rattle.std.proofs.Common.{◌≡◌, ◌∙◌, arith, to_z, of_z, w32}
+use Rattle.std.proofs.lemmas.Int.{ints}
+use Rattle.bundle_rules.specs.Bundles.{sections_of}
+use Rattle.bundle_rules.specs.Ordinals.{ordinals}
+use Rattle.preference_desk.specs.DeskView.{names_of, state_of}
+use Rattle.preference_desk.specs.PreferencesView.{preferences_of}
+use Rattle.market_units.specs.Name.{name_bytes}
+use Rattle.student_roll.specs.Students.{single_student}
+use Rattle.market_host.proofs.QuoteFacts.{menu_after, same_text, sections_listed}
 use Rattle.market_host.proofs.quote.best_text.Goals as goal
 
-pub best_plain-bundle-requires : goal.best_plain-bundle-requires
-best_plain-bundle-requires c = has_prices c.in_ok-menu.menu _ 400 c.in_ok-menu.ensures refl refl
+pub menus-requires-clause-sections : goal.menus-requires-clause-sections
+menus-requires-clause-sections c =
+    sections_listed (names_of c.in_ok-desk.desk) c.args.catalog.now _ (preferences_of c.closed.result.now) c.in_ok-desk.ensures.names c.closed.ensures.sections
 
-pub utility-worth-requires : goal.utility-worth-requires
-utility-worth-requires c = c.best_plain-bundle.ensures.choice.feasible.rated
+pub returns : goal.returns
+returns c =
+    let kept : to_z w32 (of_z w32 c.utility-worth.result) ≡ c.utility-worth.result = omega (arith, ints) in (
+      c.index-menu.result.now,
+      menu_after c.args.catalog.now (single_student (name_bytes c.args.name) c.args.credits c.args.courses) _ (preferences_of c.closed.result.now) _ (state_of c.in_ok-desk.desk) c.args.commands.now c.index-menu.result.now
+          c.in_ok-roll.ensures c.closed.ensures.state c.in_ok-desk.ensures.state c.in_ok-menus.ensures c.index-menu.ensures,
+      sections_of c.best_of-bundle.result,
+      c.best_of-bundle.ensures,
+      same_text c.args.catalog.now (name_bytes c.args.name) _ (sections_of c.best_of-bundle.result) (ordinals c.sections.result.now) _ (to_z w32 (of_z w32 c.utility-worth.result)) c.sections.ensures.value (kept ∙ c.utility-worth.ensures) c.in_ok-text_of.ensures,
+    )
