@@ -9,9 +9,9 @@ use Rattle.market_units.specs.declared.names.Name.{Name}
 use Rattle.market_units.specs.Name.{name_bytes}
 use Rattle.market_edge.specs.Faults.{Rose}
 use Rattle.market_edge.specs.Holdings.{Holding, IsTextOf, told_text}
-use Rattle.market_host.specs.Causes.{AtInput, Fails, HasCause, HasTrouble, IsFailure, IsSurplus}
+use Rattle.market_host.specs.Causes.{AtInput, Fails, HasCause, HasTrouble, IsSurplus}
 use Rattle.market_host.specs.Inputs.{IsFaulty, IsInOrder, IsTooLong}
-use Rattle.market_host.specs.Lines.{Writes, line_of}
+use Rattle.market_host.specs.Lines.{Writes}
 use Rattle.market_host.specs.Quotes.{IsQuoteOf}
 use Rattle.market_host.specs.Refusals.{IsNoCatalog, IsRefusal}
 use Rattle.market_host.specs.Sessions.{command_count}
@@ -146,13 +146,3 @@ module _ (words : List (List ℕ)) (name : Name) (credits courses : ℕ) (a b : 
     rw inputs (told held a table (λ bytes. IfSome (told_text held b) (λ more. IsQuoteOf (name_bytes name) credits courses bytes more text)) first
         (told held b stream (λ more. IsQuoteOf (name_bytes name) credits courses table more text) second quote)),
   )
-
--- the line of a failure is what it writes
-pub writes_line : (words : List (List ℕ)) (held : Option Holding) (status : Status) (text : List ℕ) → IsFailure status → text ≡ line_of status → Writes words held status text
-writes_line words held Done text failed is = absurd failed
-writes_line words held Usage text failed is = is
-writes_line words held (ShelfFault n) text failed is = is
-writes_line words held (Refused n row cause) text failed is = is
-writes_line words held (TooLong n) text failed is = is
-writes_line words held SinkFault text failed is = is
-writes_line words held OutOfMemory text failed is = is

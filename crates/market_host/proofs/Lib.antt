@@ -1,3 +1,4 @@
+pub mod Completions
 pub mod InputCauses
 pub mod LineTexts
 pub mod QuoteFacts

@@ -1,4 +1,5 @@
 pub mod Causes
+pub mod Completeness
 pub mod Inputs
 pub mod Lines
 pub mod Numbers

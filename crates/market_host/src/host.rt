@@ -1,9 +1,10 @@
 // From the words to the status, and from the inputs to the output.
-ghost use Rattle.std.specs.Prelude.{◌≡◌, ◌≢◌, List, ℕ, map, MatchResult};
+ghost use Rattle.std.specs.Prelude.{◌≡◌, ◌≢◌, ◌⊎◌, List, ℕ, map, MatchResult};
 ghost use Rattle.std.specs.String.{string_bytes};
 ghost use Rattle.market_edge.specs.Faults.{Rose};
 ghost use Rattle.market_edge.specs.Sinks.{Takes, TakesFront};
 ghost use Rattle.market_host.specs.Causes.{Fails, HasCause};
+ghost use Rattle.market_host.specs.Completeness.{CanBeDone};
 ghost use Rattle.market_host.specs.Lines.{Writes};
 
 use crate::Status;
@@ -37,6 +38,10 @@ pub fn course_match<R: Threads + Wait + Sync, H: Shelf, K: Sink, G: Gate + Sync>
     ensures replaced { result ≡ Status.SinkFault → (instead : _) × (text : List ℕ)
         × HasCause (map string_bytes words.now) (H.holds shelf.old) (H.faults shelf.old) (H.faults shelf.new) instead
         × Writes (map string_bytes words.now) (H.holds shelf.old) instead text × TakesFront (K.taken sink.old) (K.taken sink.new) text }
+
+    // Where every input is held and in order and no fault is counted, the work is done, or memory is wanted.
+    ensures complete { CanBeDone (map string_bytes words.now) (H.holds shelf.old) (H.faults shelf.old) (H.faults shelf.new)
+        → ¬ Rose (K.faults sink.old) (K.faults sink.new) → (result ≡ Status.Done) ⊎ (result ≡ Status.OutOfMemory) }
 {
     match answer(alloc, words, shelf) {
         Ok(text) => finish(sink, &text, Status::Done),

@@ -54,7 +54,7 @@ type Case = (
     &'static str,
 );
 
-const CASES: [Case; 56] = [
+const DAYS_AND_CAPS: [Case; 9] = [
     (
         "adjustment joins two sections",
         "quote CAT S1 ann 10 2",
@@ -78,14 +78,6 @@ const CASES: [Case; 56] = [
         b"rate ann A 0\nrate ann B 0\npair ann A B 200\n",
         0,
         "bundle ann []\nutility 0\n",
-    ),
-    (
-        "carriage return within quotes is kept",
-        "quote CAT S1 ann 10 8",
-        b"\"section\",\"course\",seats,credits,\"meetings\"\r\n\"A\",AA,\"1\",1,\"M0900-1020;\rT0900-1020\"\r\n",
-        b"rate ann A 10\nrate ann B 10\n",
-        3,
-        "input 1 row 2: meetings\n",
     ),
     (
         "empty session",
@@ -112,22 +104,6 @@ const CASES: [Case; 56] = [
         "bundle ann [A,B]\nutility 20\n",
     ),
     (
-        "missing catalogue",
-        "quote NONE S1 ann 10 8",
-        b"",
-        b"rate ann A 50\n",
-        2,
-        "input 1 can not be read\n",
-    ),
-    (
-        "missing session",
-        "quote CAT NONE ann 10 8",
-        b"section,course,seats,credits,meetings\nA,AA,1,1,\nB,BB,1,1,\n",
-        b"",
-        2,
-        "input 2 can not be read\n",
-    ),
-    (
         "no course allowed",
         "quote CAT S1 ann 10 0",
         b"section,course,seats,credits,meetings\nA,AA,1,1,\nB,BB,1,1,\n",
@@ -151,6 +127,9 @@ const CASES: [Case; 56] = [
         0,
         "bundle ann [B]\nutility 5\n",
     ),
+];
+
+const TIES_AND_OTHERS: [Case; 10] = [
     (
         "one of many meetings clashes",
         "quote CAT S1 ann 10 8",
@@ -176,20 +155,79 @@ const CASES: [Case; 56] = [
         "bundle ann [A]\nutility 10\n",
     ),
     (
-        "quote inside a field is literal",
-        "quote CAT S1 ann 10 8",
-        b"section,course,seats,credits,meetings\nA,A\"A,1,1,\n",
-        b"rate ann A 10\nrate ann B 10\n",
-        3,
-        "input 1 row 2: name in column 2\n",
-    ),
-    (
         "quoted fields and lone carriage returns",
         "quote CAT S1 ann 10 8",
         b"\r\r\"section\",\"course\",seats,credits,\"meet\"ings\r\"A\"1,AA,\"1\",1,\"M0900-1020;T0900-1020\"\r\r\nB,\"BB\",1,1,\"\"",
         b"rate ann A1 10\nrate ann B 10\n",
         0,
         "bundle ann [A1,B]\nutility 20\n",
+    ),
+    (
+        "seats play no part",
+        "quote CAT S1 ann 10 8",
+        b"section,course,seats,credits,meetings\nA,AA,0,1,\nB,BB,0,1,\n",
+        b"rate ann A 10\nrate ann B 10\n",
+        0,
+        "bundle ann [A,B]\nutility 20\n",
+    ),
+    (
+        "sections of one course clash",
+        "quote CAT S1 ann 10 8",
+        b"section,course,seats,credits,meetings\nA,AA,1,1,\nB,AA,1,1,\n",
+        b"rate ann A 10\nrate ann B 10\n",
+        0,
+        "bundle ann [A]\nutility 10\n",
+    ),
+    (
+        "tie of two sections and one",
+        "quote CAT S1 ann 2 8",
+        b"section,course,seats,credits,meetings\nA,AA,1,1,\nB,BB,1,1,\nC,CC,1,2,\n",
+        b"rate ann A 60\nrate ann B 40\nrate ann C 100\n",
+        0,
+        "bundle ann [A,B]\nutility 100\n",
+    ),
+    (
+        "tie takes lowest ordinal",
+        "quote CAT S1 ann 10 1",
+        b"section,course,seats,credits,meetings\nA,AA,1,1,\nB,BB,1,1,\n",
+        b"rate ann A 50\nrate ann B 50\n",
+        0,
+        "bundle ann [A]\nutility 50\n",
+    ),
+    (
+        "tie with the empty bundle takes sections",
+        "quote CAT S1 ann 10 8",
+        b"section,course,seats,credits,meetings\nA,AA,1,1,\nB,BB,1,1,\n",
+        b"rate ann A 10\nrate ann B 10\npair ann A B -10\n",
+        0,
+        "bundle ann [A,B]\nutility 10\n",
+    ),
+    (
+        "touching meetings do not clash",
+        "quote CAT S1 ann 10 8",
+        b"section,course,seats,credits,meetings\nA,AA,1,1,M0900-1020\nB,BB,1,1,M1020-1140\n",
+        b"rate ann A 10\nrate ann B 10\n",
+        0,
+        "bundle ann [A,B]\nutility 20\n",
+    ),
+];
+
+const HEADERS: [Case; 11] = [
+    (
+        "missing catalogue",
+        "quote NONE S1 ann 10 8",
+        b"",
+        b"rate ann A 50\n",
+        2,
+        "input 1 can not be read\n",
+    ),
+    (
+        "missing session",
+        "quote CAT NONE ann 10 8",
+        b"section,course,seats,credits,meetings\nA,AA,1,1,\nB,BB,1,1,\n",
+        b"",
+        2,
+        "input 2 can not be read\n",
     ),
     (
         "refusal comes before missing session",
@@ -216,68 +254,12 @@ const CASES: [Case; 56] = [
         "input 1 row 1: header\n",
     ),
     (
-        "refused course name not ascii",
-        "quote CAT S1 ann 10 8",
-        b"section,course,seats,credits,meetings\nA,\xc3\x89conomie,1,1,\n",
-        b"rate ann A 50\n",
-        3,
-        "input 1 row 2: name in column 2\n",
-    ),
-    (
-        "refused eleven meetings",
-        "quote CAT S1 ann 10 8",
-        b"section,course,seats,credits,meetings\nA,AA,1,1,M0000-0030;M0100-0130;M0200-0230;M0300-0330;M0400-0430;M0500-0530;M0600-0630;M0700-0730;M0800-0830;M0900-0930;M1000-1030\n",
-        b"rate ann A 50\n",
-        3,
-        "input 1 row 2: meetings\n",
-    ),
-    (
         "refused empty catalogue file",
         "quote CAT S1 ann 10 8",
         b"",
         b"rate ann A 50\n",
         3,
         "input 1 row 1: header\n",
-    ),
-    (
-        "refused empty lines are no rows",
-        "quote CAT S1 ann 10 8",
-        b"section,course,seats,credits,meetings\n\n\r\nA,AA,1,1,\n\n\nB,BB,x,1,\n",
-        b"rate ann A 50\n",
-        3,
-        "input 1 row 3: number in column 3\n",
-    ),
-    (
-        "refused empty section name",
-        "quote CAT S1 ann 10 8",
-        b"section,course,seats,credits,meetings\n,AA,1,1,\n",
-        b"rate ann A 50\n",
-        3,
-        "input 1 row 2: name in column 1\n",
-    ),
-    (
-        "refused first bad column is told",
-        "quote CAT S1 ann 10 8",
-        b"section,course,seats,credits,meetings\nA,AA,x,y,z\n",
-        b"rate ann A 50\n",
-        3,
-        "input 1 row 2: number in column 3\n",
-    ),
-    (
-        "refused first bad row is told",
-        "quote CAT S1 ann 10 8",
-        b"section,course,seats,credits,meetings\nA,AA,1,1,M\nA,AA,x,1,\n",
-        b"rate ann A 50\n",
-        3,
-        "input 1 row 2: meetings\n",
-    ),
-    (
-        "refused half a credit",
-        "quote CAT S1 ann 10 8",
-        b"section,course,seats,credits,meetings\nA,AA,1,0.5,\n",
-        b"rate ann A 50\n",
-        3,
-        "input 1 row 2: number in column 4\n",
     ),
     (
         "refused header in another order",
@@ -304,20 +286,47 @@ const CASES: [Case; 56] = [
         "input 1 row 1: header\n",
     ),
     (
-        "refused leading zeros in seats",
+        "refused too few fields",
         "quote CAT S1 ann 10 8",
-        b"section,course,seats,credits,meetings\nA,AA,007,1,\n",
+        b"section,course,seats,credits,meetings\nA,AA,2,1\n",
         b"rate ann A 50\n",
         3,
-        "input 1 row 2: number in column 3\n",
+        "input 1 row 2: fields\n",
     ),
     (
-        "refused line end within quotes is no row",
+        "refused too many fields",
         "quote CAT S1 ann 10 8",
-        b"section,course,seats,credits,meetings\nA,\"A\nA\",1,1,\n",
+        b"section,course,seats,credits,meetings\nA,AA,2,1,,\n",
         b"rate ann A 50\n",
         3,
-        "input 1 row 2: name in column 2\n",
+        "input 1 row 2: fields\n",
+    ),
+];
+
+const MEETINGS: [Case; 10] = [
+    (
+        "carriage return within quotes is kept",
+        "quote CAT S1 ann 10 8",
+        b"\"section\",\"course\",seats,credits,\"meetings\"\r\n\"A\",AA,\"1\",1,\"M0900-1020;\rT0900-1020\"\r\n",
+        b"rate ann A 10\nrate ann B 10\n",
+        3,
+        "input 1 row 2: meetings\n",
+    ),
+    (
+        "refused eleven meetings",
+        "quote CAT S1 ann 10 8",
+        b"section,course,seats,credits,meetings\nA,AA,1,1,M0000-0030;M0100-0130;M0200-0230;M0300-0330;M0400-0430;M0500-0530;M0600-0630;M0700-0730;M0800-0830;M0900-0930;M1000-1030\n",
+        b"rate ann A 50\n",
+        3,
+        "input 1 row 2: meetings\n",
+    ),
+    (
+        "refused first bad row is told",
+        "quote CAT S1 ann 10 8",
+        b"section,course,seats,credits,meetings\nA,AA,1,1,M\nA,AA,x,1,\n",
+        b"rate ann A 50\n",
+        3,
+        "input 1 row 2: meetings\n",
     ),
     (
         "refused meeting at hour twenty four",
@@ -366,6 +375,81 @@ const CASES: [Case; 56] = [
         b"rate ann A 50\n",
         3,
         "input 1 row 2: meetings\n",
+    ),
+    (
+        "refused unclosed quote hides bad meetings",
+        "quote CAT S1 ann 10 8",
+        b"section,course,seats,credits,meetings\nA,AA,2,1,\"M0900-10",
+        b"rate ann A 50\n",
+        3,
+        "input 1 row 2: meetings\n",
+    ),
+];
+
+const NAMES_AND_NUMBERS: [Case; 16] = [
+    (
+        "quote inside a field is literal",
+        "quote CAT S1 ann 10 8",
+        b"section,course,seats,credits,meetings\nA,A\"A,1,1,\n",
+        b"rate ann A 10\nrate ann B 10\n",
+        3,
+        "input 1 row 2: name in column 2\n",
+    ),
+    (
+        "refused course name not ascii",
+        "quote CAT S1 ann 10 8",
+        b"section,course,seats,credits,meetings\nA,\xc3\x89conomie,1,1,\n",
+        b"rate ann A 50\n",
+        3,
+        "input 1 row 2: name in column 2\n",
+    ),
+    (
+        "refused empty lines are no rows",
+        "quote CAT S1 ann 10 8",
+        b"section,course,seats,credits,meetings\n\n\r\nA,AA,1,1,\n\n\nB,BB,x,1,\n",
+        b"rate ann A 50\n",
+        3,
+        "input 1 row 3: number in column 3\n",
+    ),
+    (
+        "refused empty section name",
+        "quote CAT S1 ann 10 8",
+        b"section,course,seats,credits,meetings\n,AA,1,1,\n",
+        b"rate ann A 50\n",
+        3,
+        "input 1 row 2: name in column 1\n",
+    ),
+    (
+        "refused first bad column is told",
+        "quote CAT S1 ann 10 8",
+        b"section,course,seats,credits,meetings\nA,AA,x,y,z\n",
+        b"rate ann A 50\n",
+        3,
+        "input 1 row 2: number in column 3\n",
+    ),
+    (
+        "refused half a credit",
+        "quote CAT S1 ann 10 8",
+        b"section,course,seats,credits,meetings\nA,AA,1,0.5,\n",
+        b"rate ann A 50\n",
+        3,
+        "input 1 row 2: number in column 4\n",
+    ),
+    (
+        "refused leading zeros in seats",
+        "quote CAT S1 ann 10 8",
+        b"section,course,seats,credits,meetings\nA,AA,007,1,\n",
+        b"rate ann A 50\n",
+        3,
+        "input 1 row 2: number in column 3\n",
+    ),
+    (
+        "refused line end within quotes is no row",
+        "quote CAT S1 ann 10 8",
+        b"section,course,seats,credits,meetings\nA,\"A\nA\",1,1,\n",
+        b"rate ann A 50\n",
+        3,
+        "input 1 row 2: name in column 2\n",
     ),
     (
         "refused name of thirty three bytes",
@@ -424,14 +508,6 @@ const CASES: [Case; 56] = [
         "input 1 row 2: number in column 3\n",
     ),
     (
-        "refused too few fields",
-        "quote CAT S1 ann 10 8",
-        b"section,course,seats,credits,meetings\nA,AA,2,1\n",
-        b"rate ann A 50\n",
-        3,
-        "input 1 row 2: fields\n",
-    ),
-    (
         "refused too many credits of a section",
         "quote CAT S1 ann 10 8",
         b"section,course,seats,credits,meetings\nA,AA,1,101,\n",
@@ -439,82 +515,46 @@ const CASES: [Case; 56] = [
         3,
         "input 1 row 2: number in column 4\n",
     ),
-    (
-        "refused too many fields",
-        "quote CAT S1 ann 10 8",
-        b"section,course,seats,credits,meetings\nA,AA,2,1,,\n",
-        b"rate ann A 50\n",
-        3,
-        "input 1 row 2: fields\n",
-    ),
-    (
-        "refused unclosed quote hides bad meetings",
-        "quote CAT S1 ann 10 8",
-        b"section,course,seats,credits,meetings\nA,AA,2,1,\"M0900-10",
-        b"rate ann A 50\n",
-        3,
-        "input 1 row 2: meetings\n",
-    ),
-    (
-        "seats play no part",
-        "quote CAT S1 ann 10 8",
-        b"section,course,seats,credits,meetings\nA,AA,0,1,\nB,BB,0,1,\n",
-        b"rate ann A 10\nrate ann B 10\n",
-        0,
-        "bundle ann [A,B]\nutility 20\n",
-    ),
-    (
-        "sections of one course clash",
-        "quote CAT S1 ann 10 8",
-        b"section,course,seats,credits,meetings\nA,AA,1,1,\nB,AA,1,1,\n",
-        b"rate ann A 10\nrate ann B 10\n",
-        0,
-        "bundle ann [A]\nutility 10\n",
-    ),
-    (
-        "tie of two sections and one",
-        "quote CAT S1 ann 2 8",
-        b"section,course,seats,credits,meetings\nA,AA,1,1,\nB,BB,1,1,\nC,CC,1,2,\n",
-        b"rate ann A 60\nrate ann B 40\nrate ann C 100\n",
-        0,
-        "bundle ann [A,B]\nutility 100\n",
-    ),
-    (
-        "tie takes lowest ordinal",
-        "quote CAT S1 ann 10 1",
-        b"section,course,seats,credits,meetings\nA,AA,1,1,\nB,BB,1,1,\n",
-        b"rate ann A 50\nrate ann B 50\n",
-        0,
-        "bundle ann [A]\nutility 50\n",
-    ),
-    (
-        "tie with the empty bundle takes sections",
-        "quote CAT S1 ann 10 8",
-        b"section,course,seats,credits,meetings\nA,AA,1,1,\nB,BB,1,1,\n",
-        b"rate ann A 10\nrate ann B 10\npair ann A B -10\n",
-        0,
-        "bundle ann [A,B]\nutility 10\n",
-    ),
-    (
-        "touching meetings do not clash",
-        "quote CAT S1 ann 10 8",
-        b"section,course,seats,credits,meetings\nA,AA,1,1,M0900-1020\nB,BB,1,1,M1020-1140\n",
-        b"rate ann A 10\nrate ann B 10\n",
-        0,
-        "bundle ann [A,B]\nutility 20\n",
-    ),
 ];
 
-#[test]
-fn each_quote_has_its_answer(rt: HostRuntime) -> Result<(), Fail> {
-    let alloc = rt.alloc();
-    for (shows, line, catalogue, session, status, text) in CASES {
+// Each case has its answer.
+fn try_each<R: Threads + Wait + Sync + Abort>(
+    rt: &R,
+    alloc: Global,
+    cases: &[Case],
+) -> Result<(), Fail> {
+    for (shows, line, catalogue, session, status, text) in cases {
         let texts = (catalogue.to_vec(alloc)?, session.to_vec(alloc)?);
-        let (found, written) = run(&rt, alloc, line, texts, (0, 0), 200)?;
-        assert_eq!(rt; found.number(), status, "{shows}");
-        assert_eq!(rt; written.as_str(), text, "{shows}");
+        let (found, written) = run(rt, alloc, line, texts, (0, 0), 200)?;
+        assert_eq!(rt; found.number(), *status, "{shows}");
+        assert_eq!(rt; written.as_str(), *text, "{shows}");
     }
     Ok(())
+}
+
+#[test]
+fn bundles_by_days_and_caps(rt: HostRuntime) -> Result<(), Fail> {
+    try_each(&rt, rt.alloc(), &DAYS_AND_CAPS)
+}
+
+#[test]
+fn bundles_by_ties_and_other_students(rt: HostRuntime) -> Result<(), Fail> {
+    try_each(&rt, rt.alloc(), &TIES_AND_OTHERS)
+}
+
+#[test]
+fn refused_headers_and_missing_inputs(rt: HostRuntime) -> Result<(), Fail> {
+    try_each(&rt, rt.alloc(), &HEADERS)
+}
+
+#[test]
+fn refused_meetings(rt: HostRuntime) -> Result<(), Fail> {
+    try_each(&rt, rt.alloc(), &MEETINGS)
+}
+
+#[test]
+fn refused_names_and_numbers(rt: HostRuntime) -> Result<(), Fail> {
+    try_each(&rt, rt.alloc(), &NAMES_AND_NUMBERS)
 }
 
 // Words that are no form.
