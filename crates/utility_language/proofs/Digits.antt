@@ -1,9 +1,9 @@
 -- The spelling of numbers with a sign.
-use Rattle.std.proofs.Common.{ℕ, zero, suc, ◌≡◌, ◌≢◌, ◌+◌, ◌<◌, ◌≤◌, ◌^◌, List, [], ◌∷◌, length, get_or, drop, arith, ap, sym, ◌∙◌, inl, inr, refl}
+use Rattle.std.proofs.Common.{ℕ, suc, ◌≡◌, ◌≢◌, ◌<◌, ◌^◌, List, get_or, drop, arith, ap, sym, ◌∙◌, inl, inr}
 use Rattle.std.specs.Prelude.{ℤ, pos, negsuc, unsigned_abs}
 use Rattle.std.specs.Fmt.{decimal, signed_decimal}
 use Rattle.std.proofs.lemmas.Bool.{cases_lt}
-use Rattle.std.proofs.lemmas.Fmt.{decimal_digit, first_decimal, decimal_injective, signed_decimal_injective}
+use Rattle.std.proofs.lemmas.Fmt.{decimal_digit, first_decimal, signed_decimal_injective}
 use lib.Signed.{mag}
 
 -- a spelling does not begin with a sign

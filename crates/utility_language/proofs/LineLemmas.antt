@@ -1,12 +1,11 @@
 -- The first line of a text.
-use Rattle.std.proofs.Common.{ℕ, zero, ◌+◌, ◌≡◌, ◌<◌, ◌==◌, Bool, true, false, cond, List, [], ◌∷◌, ◌++◌, length, take, drop, map, arith, refl, ap, sym, ◌∙◌, inl, inr}
-use Rattle.std.specs.Prelude.{Option, Some, None}
+use Rattle.std.proofs.Common.{ℕ, ◌+◌, ◌≡◌, ◌<◌, ◌==◌, Bool, true, false, cond, List, [], ◌∷◌, ◌++◌, length, take, drop, map, arith, refl, ap, ◌∙◌, inl, inr}
+use Rattle.std.specs.Prelude.{Some, None}
 use Rattle.std.specs.List.{slice_split, onto_first, position, position_or_len, after_first, All}
 use Rattle.std.specs.Str.Lines.{strip_carriage_return}
 use Rattle.std.proofs.lemmas.Bool.{ne_eqb, cases_lt, lt-ltb, ltb-true}
 use Rattle.std.proofs.lemmas.List.Splits.{slice_split_none, slice_split_at, slice_split_first}
 use Rattle.std.proofs.lemmas.List.Sums.{fails_before_first}
-use Rattle.std.proofs.lemmas.List.{drop_all}
 use Rattle.utility_language.specs.Lines.{lines_of, without_empty_last}
 use Rattle.utility_language.specs.Laws.{IsOneLine, LinesOfATextLaw}
 

@@ -1,14 +1,13 @@
 -- What is printed is read as what it was.
-use Rattle.std.proofs.Common.{ℕ, zero, suc, ◌≡◌, ◌≢◌, ◌+◌, ◌<◌, ◌≤◌, ◌^◌, ◌==◌, ◌&&◌, true≢false, Bool, true, false, not, List, [], ◌∷◌, ◌++◌, length, get_or, refl, sym, ap, ◌∙◌, inl, inr, arith}
-use Rattle.std.specs.Prelude.{codes, unsigned_abs, IsTrue, ℤ, pos, negsuc, slice_index}
+use Rattle.std.proofs.Common.{ℕ, zero, suc, ◌≡◌, ◌<◌, ◌≤◌, ◌^◌, ◌&&◌, true≢false, Bool, true, false, not, List, [], ◌∷◌, length, get_or, refl, sym, ap, ◌∙◌, inl, inr, arith}
+use Rattle.std.specs.Prelude.{codes, unsigned_abs, IsTrue, ℤ, pos, negsuc}
 use Rattle.std.specs.List.{All, join_with_byte}
 use Rattle.std.specs.Fmt.{decimal, signed_decimal}
-use Rattle.std.specs.Str.Parse.{AllDigits, IsNumeral}
 use Rattle.std.proofs.lemmas.List.{get_or_default}
 use Rattle.std.proofs.lemmas.Bool.{cases_eq, ne_eqb}
 use Rattle.std.proofs.lemmas.Fmt.{decimal_is_IsNumeral, decimal_nonempty}
 use Rattle.std.proofs.lemmas.Str.Parse.{digit_at}
-use Rattle.market_units.specs.Names.{IsName, is_name_byte}
+use Rattle.market_units.specs.Names.{is_name_byte}
 use Rattle.market_units.specs.declared.names.Name.{Name}
 use Rattle.market_units.specs.Name.{name_bytes}
 use Rattle.utility_language.specs.declared.commands.Command.{Command}

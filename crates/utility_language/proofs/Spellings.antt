@@ -1,13 +1,13 @@
 -- Which commands given words can spell.
-use Rattle.std.proofs.Common.{ℕ, ◌≡◌, ◌≢◌, ◌<◌, ◌^◌, List, [], ◌∷◌, refl, sym, ap, ◌∙◌, inl, inr, get_or, arith}
-use Rattle.std.specs.Prelude.{codes, unsigned_abs}
+use Rattle.std.proofs.Common.{ℕ, ◌≡◌, ◌≢◌, List, [], ◌∷◌, refl, sym, ap, ◌∙◌, inl, inr, get_or, arith}
+use Rattle.std.specs.Prelude.{codes}
 use Rattle.std.specs.Fmt.{signed_decimal}
 use Rattle.market_units.specs.declared.names.Name.{Name}
 use Rattle.market_units.specs.Name.{name_bytes}
 use Rattle.market_units.proofs.EqualNames.{same_name}
 use Rattle.utility_language.specs.declared.commands.Command.{Command}
 use Rattle.utility_language.specs.declared.commands.Command.TheVariants.{Rate, Pair, Clear, Close, Unreadable}
-use Rattle.utility_language.specs.Commands.{Spells, IsCommandOf, words_by, HasShortNumber}
+use Rattle.utility_language.specs.Commands.{Spells, words_by}
 use Rattle.utility_language.specs.Laws.{OneCommandALineLaw}
 use Rattle.utility_language.proofs.Digits.{same_number}
 

@@ -1,5 +1,5 @@
 -- The commands of a text, line by line.
-use Rattle.std.proofs.Common.{ℕ, ◌≡◌, ◌+◌, ◌<◌, ◌≤◌, Bool, true, false, cond, List, [], ◌∷◌, ◌++◌, length, refl, sym, ap, ◌∙◌, inl, inr, arith, zero, suc, get_or, subst}
+use Rattle.std.proofs.Common.{ℕ, ◌≡◌, ◌<◌, true, false, cond, List, [], ◌∷◌, ◌++◌, length, refl, sym, ap, ◌∙◌, inl, inr, arith, zero, suc, get_or, subst}
 use Rattle.std.specs.List.{All, AllZip, filter}
 use Rattle.std.specs.Prelude.{map}
 use Rattle.utility_language.specs.declared.commands.Command.{Command}

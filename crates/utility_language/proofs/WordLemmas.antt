@@ -1,6 +1,6 @@
 -- The first word of a line, and words joined by spaces.
-use Rattle.std.proofs.Common.{ℕ, zero, suc, ◌+◌, ◌≡◌, ◌<◌, ◌==◌, Bool, true, false, not, cond, List, [], ◌∷◌, ◌++◌, length, take, drop, get_or, arith, add-zero, ◌-◌, refl, ap, sym, ◌∙◌, ◌≤◌, true≢false, inl, inr}
-use Rattle.std.specs.List.{All, filter, slice_split, position, position_or_len}
+use Rattle.std.proofs.Common.{ℕ, zero, suc, ◌+◌, ◌≡◌, ◌<◌, Bool, true, false, not, List, [], ◌∷◌, ◌++◌, length, take, drop, get_or, arith, add-zero, ◌-◌, refl, ap, sym, ◌∙◌, ◌≤◌, true≢false}
+use Rattle.std.specs.List.{filter, slice_split, position}
 use Rattle.std.specs.Prelude.{nat_lt, IsTrue, Some, None}
 use Rattle.std.proofs.lemmas.Bool.{lt-ltb}
 use Rattle.std.proofs.lemmas.List.{drop_all, drop_more, take-append-drop, take_rest, get_or-drop, get_or-take, length-drop, length-take}

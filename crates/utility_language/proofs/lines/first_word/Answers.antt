@@ -1,5 +1,5 @@
-use Rattle.std.proofs.Common.{sym, ◌∙◌, ap, take, drop, length, ◌-◌}
-use Rattle.utility_language.proofs.WordLemmas.{IsRest, only_blanks, from_first_word, word_ended, word_ended_some, word_last}
+use Rattle.std.proofs.Common.{sym, ◌∙◌}
+use Rattle.utility_language.proofs.WordLemmas.{only_blanks, from_first_word, word_ended, word_ended_some, word_last}
 use Rattle.utility_language.proofs.lines.first_word.Goals as goal
 
 pub returns-in_err-start-clause-none : goal.returns-in_err-start-clause-none

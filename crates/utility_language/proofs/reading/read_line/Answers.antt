@@ -1,6 +1,6 @@
 use Rattle.std.proofs.Common.{ap}
 use Rattle.std.specs.Prelude.{Some}
-use Rattle.utility_language.proofs.Printed.{read_back, not_passed}
+use Rattle.utility_language.proofs.Printed.{read_back}
 use Rattle.utility_language.proofs.reading.read_line.Goals as goal
 
 pub returns-clause-printed : goal.returns-clause-printed

@@ -1,4 +1,4 @@
-use Rattle.std.proofs.Common.{ℕ, ◌≡◌, ◌+◌, ◌<◌, ◌∷◌, [], ◌++◌, List, length, length-append, append_assoc, arith, sym, ◌∙◌, ap, rules}
+use Rattle.std.proofs.Common.{◌∷◌, [], ◌++◌, length, length-append, append_assoc, arith, sym, ◌∙◌, ap, rules}
 use Rattle.utility_language.specs.Words.{words_of}
 use Rattle.utility_language.specs.Commands.{IsCommandOf, command_lines}
 use Rattle.utility_language.proofs.StreamLemmas.{line_taken, zip_more, zip_length, no_lines, all_short}
