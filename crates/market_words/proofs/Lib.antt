@@ -1,1 +1,1 @@
-pub mod SixWords
+pub mod WordLists

@@ -1,16 +1,23 @@
 -- The forms of the command line. A word is its bytes.
-use Rattle.std.specs.Prelude.{ℕ, ◌≡◌, ◌≤◌, List, [], ◌∷◌, codes, drop, take}
+use Rattle.std.specs.Prelude.{ℕ, ◌≡◌, ◌≤◌, List, [], ◌∷◌, codes, drop, length, take}
 use Rattle.std.specs.Fmt.{decimal}
 use Rattle.market_units.specs.Name.{name_bytes}
 use Rattle.market_words.specs.declared.words.Form.{Form}
-use Rattle.market_words.specs.declared.words.Form.TheVariants.{Quote}
+use Rattle.market_words.specs.declared.words.Form.TheVariants.{Prefer, Quote}
 
--- these words ask for this: `quote CAT SES NAME CREDITS COURSES`
+-- words that name sessions: 1 to 64
+abbrev pub AreSessions : List (List ℕ) → Type 0
+AreSessions sessions = (1 ≤ length sessions) × (length sessions ≤ 64)
+
+-- these words ask for this: `quote CAT SES NAME CREDITS COURSES`, `prefer CAT STU SES..`
 abbrev pub HasForm : List (List ℕ) → Form → Type 0
 HasForm words (Quote name credits courses) =
     (catalog : List ℕ) × (session : List ℕ)
     × (words ≡ codes "quote" ∷ catalog ∷ session ∷ name_bytes name ∷ decimal credits ∷ decimal courses ∷ [])
     × (credits ≤ 800) × (courses ≤ 8)
+HasForm words Prefer =
+    (catalog : List ℕ) × (roll : List ℕ) × (sessions : List (List ℕ))
+    × (words ≡ codes "prefer" ∷ catalog ∷ roll ∷ sessions) × AreSessions sessions
 
 -- these words ask for nothing
 abbrev pub HasNoForm : List (List ℕ) → Type 0
@@ -19,3 +26,4 @@ HasNoForm words = (form : Form) → ¬ HasForm words form
 -- the words that name inputs, in order
 abbrev pub inputs_of : Form → List (List ℕ) → List (List ℕ)
 inputs_of (Quote name credits courses) words = take 2 (drop 1 words)
+inputs_of Prefer words = drop 1 words

@@ -1,9 +1,9 @@
 // The words of the command line.
-ghost use Rattle.std.specs.Prelude.{◌≡◌, map, IfSome, IfNone};
+ghost use Rattle.std.specs.Prelude.{◌≡◌, ◌∷◌, codes, map, IfSome, IfNone};
 ghost use Rattle.std.specs.String.{string_bytes};
 ghost use Rattle.market_words.specs.Forms.{HasForm, HasNoForm};
 
-use market_units::{MAX_COURSES, MAX_CREDITS, Name, read_name, read_number};
+use market_units::{MAX_COURSES, MAX_CREDITS, MAX_SESSIONS, Name, read_name, read_number};
 
 /// What the words of the command line ask for. The words that name inputs are not kept.
 #[derive(Clone, Copy)]
@@ -15,6 +15,8 @@ pub enum Form {
         credits: u16,
         courses: u8,
     },
+    /// `prefer CAT STU SES..`: the journal of 1 to 64 sessions, and the closed preferences.
+    Prefer,
 }
 
 /// What the words ask for, or `None` exactly where they are none of the forms. It takes no memory.
@@ -22,12 +24,26 @@ pub fn read_words(words: &[String]) -> Option<Form>
     ensures form { IfSome result (HasForm (map string_bytes words.now)) }
     ensures none { IfNone result (HasNoForm (map string_bytes words.now)) }
 {
-    let [verb, _, _, name, credits, courses] = words else {
+    let [verb, more @ ..] = words else {
         return None;
     };
-    if verb.as_str() != "quote" {
-        return None;
+    if verb.as_str() == "quote" {
+        return read_quote(more);
     }
+    if verb.as_str() == "prefer" {
+        return read_prefer(more);
+    }
+    None
+}
+
+// What the words behind `quote` ask for.
+fn read_quote(more: &[String]) -> Option<Form>
+    ensures form { IfSome result (HasForm (codes "quote" ∷ map string_bytes more.now)) }
+    ensures none { IfNone result (HasNoForm (codes "quote" ∷ map string_bytes more.now)) }
+{
+    let [_, _, name, credits, courses] = more else {
+        return None;
+    };
     let name = read_name(name.as_bytes())?;
     let credits = read_number(credits.as_bytes(), u64::from(MAX_CREDITS))?;
     let courses = read_number(courses.as_bytes(), u64::from(MAX_COURSES))?;
@@ -36,4 +52,18 @@ pub fn read_words(words: &[String]) -> Option<Form>
         credits: credits as u16,
         courses: courses as u8,
     })
+}
+
+// What the words behind `prefer` ask for.
+fn read_prefer(more: &[String]) -> Option<Form>
+    ensures form { IfSome result (HasForm (codes "prefer" ∷ map string_bytes more.now)) }
+    ensures none { IfNone result (HasNoForm (codes "prefer" ∷ map string_bytes more.now)) }
+{
+    let [_, _, sessions @ ..] = more else {
+        return None;
+    };
+    if sessions.is_empty() || sessions.len() > usize::from(MAX_SESSIONS) {
+        return None;
+    }
+    Some(Form::Prefer)
 }

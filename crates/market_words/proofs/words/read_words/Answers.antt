@@ -1,16 +1,15 @@
-use Rattle.std.proofs.Common.{rules, get_or, arith, ◌≡◌}
+use Rattle.std.proofs.Common.{rules, ◌≡◌, arith}
 use Rattle.std.specs.String.{string_bytes}
 use Rattle.std.specs.Prelude.{codes}
-use Rattle.std.specs.Fmt.{decimal}
-use Rattle.market_units.specs.Name.{name_bytes}
-use Rattle.market_words.proofs.SixWords.{quote_words}
+use Rattle.market_words.proofs.WordLists.{verb_first}
 use Rattle.market_words.proofs.words.read_words.Goals as goal
 
-pub returns-clause-form : goal.returns-clause-form
-returns-clause-form c =
-    let six = quote_words c.args.words.now c.verb-item.result c.name-item.result c.credits-item.result c.courses-item.result (omega arith) c.verb-item.is c.name-item.is c.credits-item.is c.courses-item.is in
+pub returns-then-eq-clause-form : goal.returns-then-eq-clause-form
+returns-then-eq-clause-form c =
     let verb : string_bytes c.verb-item.result ≡ codes "quote" = search rules in
-    let name : string_bytes c.name-item.result ≡ name_bytes c.in_ok-name.name = search rules in
-    let credits : string_bytes c.credits-item.result ≡ decimal c.in_ok-credits.credits = search rules in
-    let courses : string_bytes c.courses-item.result ≡ decimal c.in_ok-courses.courses = search rules in
-    (string_bytes (get_or c.args.words.now 1 c.verb-item.result), string_bytes (get_or c.args.words.now 2 c.verb-item.result), rw (← verb, ← name, ← credits, ← courses) six, omega (arith, c.in_ok-credits.ensures.within, c.from.ensures), omega (arith, c.in_ok-courses.ensures.within, c.from-2.ensures))
+    rw (verb_first c.args.words.now c.verb-item.result (omega arith) c.verb-item.is, verb) c.read_quote.ensures.form
+
+pub returns-then-eq-2-clause-form : goal.returns-then-eq-2-clause-form
+returns-then-eq-2-clause-form c =
+    let verb : string_bytes c.verb-item.result ≡ codes "prefer" = search rules in
+    rw (verb_first c.args.words.now c.verb-item.result (omega arith) c.verb-item.is, verb) c.read_prefer.ensures.form
