@@ -5,6 +5,7 @@ ghost use Rattle.chronicle.specs.Seats.{origin, standing, new_seats, IsDealing, 
 ghost use Rattle.chronicle.specs.Turn.{MayCall, IsWaiting, Draws, Serves, MayStep, Steps, HasToPass, Passes};
 ghost use Rattle.chronicle.specs.Views.{sum_of};
 
+use crate::bells::Bells;
 use crate::journal::Journal;
 use crate::kept::Kept;
 use crate::object::Object;
@@ -18,7 +19,6 @@ use std::alloc::Global;
 use std::marker::Model;
 use std::snapshot::Snapshot;
 use std::sync::Wait;
-use std::thread::yield_now;
 
 // The word that says which ticket is served.
 const SERVING: usize = 0;
@@ -26,10 +26,11 @@ const SERVING: usize = 0;
 // The word that says which ticket is drawn next.
 const TICKET: usize = 1;
 
-/// An object that threads share, with the history of their calls. Calls take turns by ticket.
-/// Contracts see it as its `Origin`.
+/// An object that threads share, with the history of their calls. Calls take turns by ticket; a thread that is not
+/// served yet sleeps at the bell of its ticket, which is rung when its turn comes. Contracts see it as its `Origin`.
 #[derive(Drop)]
 pub struct Chronicle<O: Object> {
+    bells: Bells,
     table: Table<
         Kept<O, O::Request, O::Reply>,
         Option<View<O::Base, O::State, O::Request, O::Reply>>,
@@ -73,9 +74,9 @@ impl<O: Object> Chronicle<O> {
         let Some(calls) = sum(&allotments) else {
             return Err(NoMemory);
         };
-        let count = allotments.len() as u16;
-        let (chronicle, first) = Self::lay(alloc, object, &key, calls)?;
-        let seats = chronicle.all_seats(alloc, first, count)?;
+        let count = allotments.len();
+        let (chronicle, first) = Self::lay(alloc, object, &key, calls, count)?;
+        let seats = chronicle.all_seats(alloc, first, count as u16)?;
         Ok((chronicle, seats))
     }
 
@@ -85,9 +86,11 @@ impl<O: Object> Chronicle<O> {
         object: O,
         key: &Key<O>,
         calls: u64,
+        count: usize,
     ) -> Result<(Chronicle<O>, Place<O>), NoMemory>
         requires object { key.now.object.value ≡ object }
         requires seats { 1 ≤ length key.now.allotments.value.items }
+        requires count { count ≡ length key.now.allotments.value.items }
         requires calls { calls ≡ sum_of key.now.allotments.value.items }
         requires room { calls ≤ O.room object }
         ensures chronicle { IfOk result (λ r. r.0 ≡ origin r.0.table (O.base key.now.object.value) (O.state key.now.object.value) key.now.allotments.value.items) }
@@ -96,10 +99,11 @@ impl<O: Object> Chronicle<O> {
     {
         let mut journal = Vec::new(alloc);
         journal.reserve(calls as usize)?;
+        let bells = Bells::hang(alloc, count)?;
         let mut slots = Vec::with_capacity(alloc, 1)?;
         slots.push_reserved(Kept { object, journal });
         match Table::new(alloc, &[0, 0], slots, key) {
-            Ok((table, first)) => Ok((Chronicle { table }, first)),
+            Ok((table, first)) => Ok((Chronicle { bells, table }, first)),
             Err(Refused { slots: _ }) => Err(NoMemory),
         }
     }
@@ -153,7 +157,7 @@ impl<O: Object> Chronicle<O> {
         ensures last { O.state result.0 ≡ state_after O.after self.base self.opening result.1 }
     {
         let place = self.gather(seats);
-        let Chronicle { table } = self;
+        let Chronicle { bells: _, table } = self;
         let mut closed = table.close_with(place);
         let kept = closed.take(0);
         closed.free();
@@ -222,7 +226,7 @@ impl<O: Object> Chronicle<O> {
         self.table.shared.fetch_add::<Draw>(place, TICKET, 1)
     }
 
-    // Looks again until the ticket is served.
+    // Looks, and sleeps, until the ticket is served.
     fn wait<R: Wait>(&self, rt: &R, place: &mut Place<O>, ticket: u64)
         requires own { place.old.table_id ≡ self.now.table }
         requires waits { IsWaiting ticket place.old.me }
@@ -233,7 +237,7 @@ impl<O: Object> Chronicle<O> {
             if self.table.shared.load::<Look<O>>(place, SERVING) == ticket {
                 return;
             }
-            yield_now();
+            self.bells.sleep(rt, ticket);
         }
         unreachable!()
     }
@@ -250,13 +254,14 @@ impl<O: Object> Chronicle<O> {
         kept.step(number, request)
     }
 
-    // Gives the object back, and passes the turn on.
+    // Gives the object back, passes the turn on, and wakes the thread whose turn it is now.
     fn pass(&self, place: &mut Place<O>, number: u16, request: &O::Request, reply: &O::Reply)
         requires own { place.old.table_id ≡ self.now.table }
         requires has_to_pass { HasToPass O.base O.state O.room O.sound O.after O.reply (step_of number request.now reply.now) place.old.me }
         ensures own { (place.new.table_id ≡ place.old.table_id) × (place.new.id ≡ place.old.id) }
         ensures passes { Passes place.old.me place.new.me }
     {
-        self.table.shared.fetch_add::<Pass>(place, SERVING, 1);
+        let served = self.table.shared.fetch_add::<Pass>(place, SERVING, 1);
+        self.bells.ring(served.wrapping_add(1));
     }
 }

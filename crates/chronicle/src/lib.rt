@@ -1,6 +1,7 @@
 //! One legal history of the calls of many threads on one object.
 #![tactic(auto)]
 
+mod bells;
 mod chronicle;
 mod journal;
 mod kept;

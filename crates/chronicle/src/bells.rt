@@ -1,0 +1,53 @@
+// Where threads sleep until their turns.
+ghost use Rattle.std.specs.Prelude.{◌≤◌};
+
+use market_units::NoMemory;
+use std::alloc::Global;
+use std::marker::Model;
+use std::sync::Wait;
+use std::thread::Parker;
+
+/// As many bells as there are seats. A thread sleeps at the bell of its ticket: the tickets that wait follow one
+/// another and are no more than the seats, so no two of them have the same bell. Contracts see how many there are.
+#[derive(Drop)]
+pub struct Bells {
+    parkers: Vec<Parker>,
+}
+
+impl Model for Bells {
+    ghost use Rattle.std.specs.Prelude.{ℕ, ◌≤◌, vec_len};
+
+    ghost Value = { ℕ };
+
+    ghost view = { λ bells. vec_len bells.parkers };
+
+    ghost invariant = { λ bells. 1 ≤ vec_len bells.parkers };
+}
+
+impl Bells {
+    /// A bell for each of so many seats.
+    pub fn hang(alloc: Global, seats: usize) -> Result<Bells, NoMemory>
+        requires { 1 ≤ seats }
+    {
+        let mut parkers = Vec::with_capacity(alloc, seats)?;
+        'seats: for _ in 0..seats {
+            parkers.push(Parker::new())?;
+        }
+        Ok(Bells { parkers })
+    }
+
+    /// Sleeps until the bell of this ticket rings, or has rung since it was last slept at.
+    pub fn sleep<R: Wait>(&self, rt: &R, ticket: u64) {
+        self.of(ticket).park(rt);
+    }
+
+    /// Rings the bell of this ticket.
+    pub fn ring(&self, ticket: u64) {
+        self.of(ticket).unpark();
+    }
+
+    fn of(&self, ticket: u64) -> &Parker {
+        let seats = self.parkers.len() as u64;
+        &self.parkers[(ticket % seats) as usize]
+    }
+}
