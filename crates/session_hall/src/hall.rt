@@ -1,6 +1,6 @@
 // Holding a desk for sessions.
 ghost use Rattle.std.specs.Prelude.{◌≡◌, ◌≤◌, length, map, IfOk};
-ghost use Rattle.preference_desk.specs.DeskView.{names_of, state_of, entries_of};
+ghost use Rattle.preference_desk.specs.DeskView.{names_of, entries_of};
 ghost use Rattle.preference_desk.specs.Journals.{IsLegalJournal, MergesStreams};
 ghost use Rattle.preference_desk.specs.MarketNames.{market_names};
 ghost use Rattle.preference_desk.specs.Shared.{entry_of_step};
