@@ -1,5 +1,5 @@
 // Where threads sleep until their turns.
-ghost use Rattle.std.specs.Prelude.{◌≤◌};
+ghost use Rattle.std.specs.Prelude.{◌≡◌, ◌≤◌, IfOk};
 
 use market_units::NoMemory;
 use std::alloc::Global;
@@ -28,6 +28,7 @@ impl Bells {
     /// A bell for each of so many seats.
     pub fn hang(alloc: Global, seats: usize) -> Result<Bells, NoMemory>
         requires { 1 ≤ seats }
+        ensures { IfOk result (λ bells. bells ≡ seats) }
     {
         let mut parkers = Vec::with_capacity(alloc, seats)?;
         'seats: for _ in 0..seats {

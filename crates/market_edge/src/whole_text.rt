@@ -54,6 +54,7 @@ pub fn read_whole<H: Shelf>(
 
     ensures whole { IfOk result (λ text. IsTextOf (H.holds shelf.old) name.now text.items) }
     ensures end { OnOk result (IsReadOut (H.holds shelf.old) (H.left shelf.new)) }
+    ensures served { OnOk result (IsTrue (H.serves shelf.new name.now)) }
     ensures within { IfOk result (λ text. length text.items ≤ limit) }
 
     // It is too long exactly where one byte more than the limit was taken.
