@@ -79,7 +79,7 @@ pub ascending_places : (places : List Rated) (ss : List ℕ) → IsAscending (ma
 ascending_places places [] up all rises = tt
 ascending_places places (s ∷ ss) up all rises = (above_places places s ss up (all s (has-here s ss)) (λ x is. all x (has-there s ss x is)) rises.0, ascending_places places ss up (λ x is. all x (has-there s ss x is)) rises.1)
 
-prices_by_place : (offer : Offer) (ss : List ℕ) → AllOnMenu offer.menu.places ss → total (price_at offer) (map (place_in offer.menu.places) ss) ≡ total offer.price ss
+pub prices_by_place : (offer : Offer) (ss : List ℕ) → AllOnMenu offer.menu.places ss → total (price_at offer) (map (place_in offer.menu.places) ss) ≡ total offer.price ss
 prices_by_place offer [] all = refl
 prices_by_place offer (s ∷ ss) all =
     let here : price_at offer (place_in offer.menu.places s) ≡ offer.price s = ap offer.price (section_at-place_in offer.menu.places s (all s (has-here s ss))) in
