@@ -1,0 +1,2 @@
+pub mod ShortCommands
+pub mod Students
