@@ -6,6 +6,7 @@ ghost use Rattle.preference_text.specs.Texts.{HasShortCommand};
 use super::*;
 use course_catalog::read_catalog;
 use preference_desk::Desk;
+use std::alloc::Global;
 use std::process::Abort;
 use std::test::Fail;
 use student_roll::read_roll;
@@ -111,32 +112,42 @@ fn say_each(rt: &impl Abort, desk: &mut Desk, said: &[(u16, &[u8])])
 }
 
 // The text after these lines is this one.
-fn try_text(rt: &HostRuntime, said: &[(u16, &[u8])], text: &[u8]) -> Result<(), Fail> {
-    let catalog = read_catalog(rt.alloc(), CATALOG)?;
-    let roll = read_roll(rt.alloc(), ROLL)?;
-    let mut desk = Desk::prepare(rt.alloc(), &catalog, &roll, 20)?;
+fn try_text(
+    rt: &impl Abort,
+    alloc: Global,
+    said: &[(u16, &[u8])],
+    text: &[u8],
+) -> Result<(), Fail> {
+    let catalog = read_catalog(alloc, CATALOG)?;
+    let roll = read_roll(alloc, ROLL)?;
+    let mut desk = Desk::prepare(alloc, &catalog, &roll, 20)?;
     say_each(rt, &mut desk, said);
-    let printed = preferences_text(rt.alloc(), &catalog, &roll, &desk)?;
+    let printed = preferences_text(alloc, &catalog, &roll, &desk)?;
     assert_eq!(rt; printed.as_slice(), text);
     Ok(())
 }
 
 #[test]
 fn preferences_student_by_student(rt: HostRuntime) -> Result<(), Fail> {
-    try_text(&rt, &STUDENT_BY_STUDENT, STUDENT_BY_STUDENT_TEXT)
+    try_text(
+        &rt,
+        rt.alloc(),
+        &STUDENT_BY_STUDENT,
+        STUDENT_BY_STUDENT_TEXT,
+    )
 }
 
 #[test]
 fn adjustments_stay_when_a_rating_goes(rt: HostRuntime) -> Result<(), Fail> {
-    try_text(&rt, &STAYING, STAYING_TEXT)
+    try_text(&rt, rt.alloc(), &STAYING, STAYING_TEXT)
 }
 
 #[test]
 fn replies_of_two_sessions(rt: HostRuntime) -> Result<(), Fail> {
-    try_text(&rt, &REPLIES, REPLIES_TEXT)
+    try_text(&rt, rt.alloc(), &REPLIES, REPLIES_TEXT)
 }
 
 #[test]
 fn nothing_said(rt: HostRuntime) -> Result<(), Fail> {
-    try_text(&rt, &[], b"")
+    try_text(&rt, rt.alloc(), &[], b"")
 }

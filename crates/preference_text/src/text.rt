@@ -12,8 +12,9 @@ use preference_desk::Desk;
 use std::alloc::Global;
 use student_roll::Roll;
 
-/// The text of the desk's journal, and behind it the preferences of all students after it. The desk is one for this catalogue and this
-/// roll, and the numbers of its entries' commands are from -999,999 to 999,999, as they are where they were read from texts. `NoMemory` is the only error.
+/// The text of the desk's journal, and behind it the preferences of all students after it. The desk is one for this
+/// catalogue and this roll, and the numbers of its entries' commands are from -999,999 to 999,999, as they are where
+/// the commands were read from texts. `NoMemory` is the only error.
 pub fn preferences_text(
     alloc: Global,
     catalog: &Catalog,
