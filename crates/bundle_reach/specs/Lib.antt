@@ -1,0 +1,6 @@
+pub mod Closings
+pub mod Branches
+pub mod Values
+pub mod Covers
+pub mod Reaches
+pub mod Laws

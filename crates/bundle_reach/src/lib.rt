@@ -1,0 +1,15 @@
+//! What can at most still be reached from a node of the search for a best bundle, looked up in a table that is made
+//! once a demand.
+#![tactic(auto)]
+
+mod ahead;
+mod branch;
+pub mod laws;
+mod places;
+mod rates;
+mod reach;
+mod tables;
+
+pub use branch::Branch;
+pub use rates::Rates;
+pub use reach::Reach;
