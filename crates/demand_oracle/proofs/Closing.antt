@@ -15,7 +15,7 @@ use Rattle.bundle_bounds.specs.Bounds.{bounds, IsAhead, Closes, IsFirstClosing}
 use Rattle.bundle_bounds.specs.Laws.{IsTakable, IsNode, Completes, EachAtLeast}
 use Rattle.bundle_bounds.proofs.ByPlace.{place_in-section_at, place_in-rises, on_menu, taken_places, has_by_place}
 use Rattle.bundle_bounds.proofs.Soundness.{bound_soundness}
-use Rattle.demand_oracle.specs.Search.{IsAsGood}
+use Rattle.bundle_reach.specs.Closings.{IsAsGood}
 use Rattle.demand_oracle.specs.Laws.{BoundsCloseSoundly}
 
 -- a bound that closes the node and is at least this number

@@ -1,5 +1,6 @@
 pub mod Goodness
 pub mod Searching
 pub mod Closing
-pub mod Openings
 pub mod Branches
+pub mod Keeping
+pub mod Stepping

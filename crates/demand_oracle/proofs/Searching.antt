@@ -1,21 +1,22 @@
 -- The search finds the best bundle.
-use Rattle.std.proofs.Common.{◌≡◌, ◌≢◌, ◌⊎◌, ◌<◌, ◌≤◌, ◌+◌, ◌++◌, ℕ, zero, suc, true, List, [], ◌∷◌, length, map, drop, refl, sym, ◌∙◌, ap, subst, inl, inr, arith, append_assoc}
-use Rattle.std.proofs.lemmas.Bool.{cases_Bool, false≢true}
+use Rattle.std.proofs.Common.{◌≡◌, ◌≢◌, ◌<◌, ◌≤◌, ◌+◌, ◌++◌, ℕ, zero, suc, true, List, [], ◌∷◌, length, map, drop, refl, sym, ◌∙◌, ap, subst, inl, inr, arith, append_assoc}
+use Rattle.std.proofs.lemmas.Bool.{cases_Bool}
 use Rattle.bundle_rules.specs.declared.menu.Rated.{Rated}
 use Rattle.bundle_rules.specs.Sets.{has, IsAscending}
-use Rattle.bundle_rules.specs.Menus.{IsMenu, wishes_of, section_at, place_in}
+use Rattle.bundle_rules.specs.Menus.{IsMenu, wishes_of, section_at}
 use Rattle.bundle_rules.specs.Places.{menu_sections}
 use Rattle.bundle_rules.specs.Preferences.{IsPreferred}
 use Rattle.bundle_rules.specs.Extensions.{Extends}
-use Rattle.bundle_rules.specs.Existence.Members.{has-here, has-there, has-cases, has-above, IsAscending-middle}
+use Rattle.bundle_rules.specs.Existence.Members.{has-there, has-above, IsAscending-middle}
 use Rattle.bundle_rules.specs.Existence.Fronts.{choice_front}
 use Rattle.bundle_rules.specs.Existence.Extending.{with_or_without, nothing_later}
 use Rattle.bundle_rules.proofs.BestBits.{choice_among}
 use Rattle.bundle_bounds.specs.Offers.{Offer}
 use Rattle.bundle_bounds.specs.Laws.{IsTakable, IsNode, Completes}
-use Rattle.bundle_bounds.proofs.ByPlace.{place_in-section_at}
 use Rattle.bundle_bounds.proofs.NodeFacts.{nothing_chosen}
-use Rattle.demand_oracle.specs.Search.{IsAsGood, IsSearched}
+use Rattle.bundle_reach.proofs.Openings.{node_with, node_without}
+use Rattle.bundle_reach.specs.Closings.{IsAsGood}
+use Rattle.demand_oracle.specs.Search.{IsSearched}
 use Rattle.demand_oracle.specs.Laws.{SearchFindsTheBest}
 use Rattle.demand_oracle.proofs.Goodness.{as_good_trans, as_good_where_other, as_good_where_not}
 
@@ -68,33 +69,12 @@ has-append_none : (xs ys : List ℕ) (s : ℕ) → (has ys s ≡ true → ⊥) �
 has-append_none [] ys s none = elim (cases_Bool (has ys s)) [ inl is ↦ absurd (none is) | inr not_in ↦ not_in ]
 has-append_none (x ∷ xs) ys s none = rw (has-append_none xs ys s none) refl
 
--- a member of a list with one more at its end
-pub has-last : (xs : List ℕ) (s t : ℕ) → has (xs ++ s ∷ []) t ≡ true → (has xs t ≡ true) ⊎ (s ≡ t)
-has-last [] s t is = elim (has-cases s [] t is) [ inl here ↦ inr here | inr there ↦ absurd (false≢true there) ]
-has-last (x ∷ xs) s t is = elim (has-cases x (xs ++ s ∷ []) t is) [
-  | inl here ↦ inl (rw here (has-here t xs))
-  | inr there ↦ elim (has-last xs s t there) [ inl is' ↦ inl (has-there x xs t is') | inr last ↦ inr last ]
-]
-
 module _ (offer : Offer) (menu : IsMenu offer.menu) where
   -- what extends the chosen sections by undecided ones completes them
   extends_completes : (k : ℕ) (chosen bundle : List ℕ) → Extends chosen (drop k (menu_sections offer.menu)) bundle → Completes offer k chosen bundle
   extends_completes k chosen bundle extends place low on =
       ap (λ b. has b (section_at offer.menu.places place)) extends.whole
       ∙ has-append_none chosen extends.more (section_at offer.menu.places place) (λ is. decided_section offer.menu.places k place menu.places.ascending low on (extends.among _ is))
-
-  -- the node with the next section, and the one without it
-  pub node_with : (k : ℕ) (chosen : List ℕ) → k < length offer.menu.places → IsNode offer k chosen → IsTakable offer (chosen ++ section_at offer.menu.places k ∷ []) → IsNode offer (k + 1) (chosen ++ section_at offer.menu.places k ∷ [])
-  node_with k chosen low node takable = record {
-    takable = takable;
-    decided = λ s is. elim (has-last chosen (section_at offer.menu.places k) s is) [
-      | inl before ↦ let below : place_in offer.menu.places s < k = node.decided s before in omega arith
-      | inr last ↦ let at : place_in offer.menu.places s ≡ k = ap (place_in offer.menu.places) (sym last) ∙ place_in-section_at offer.menu.places k menu.places.ascending low in omega arith
-    ];
-  }
-
-  pub node_without : (k : ℕ) (chosen : List ℕ) → IsNode offer k chosen → IsNode offer (k + 1) chosen
-  node_without k chosen node = record { takable = node.takable; decided = λ s is. (let below : place_in offer.menu.places s < k = node.decided s is in omega arith) }
 
   -- what a search leaves: as good as the champion before and as all below the node
   pub record IsFound (chosen undecided champion result : List ℕ) : Type 0 where
@@ -127,10 +107,10 @@ module _ (offer : Offer) (menu : IsMenu offer.menu) where
   finds k chosen (s ∷ undecided) champion result node is up takable (inr (inl both)) =
       let split = split_off offer.menu.places k s undecided is in
       let at : chosen ++ s ∷ [] ≡ chosen ++ section_at offer.menu.places k ∷ [] = ap (λ x. chosen ++ x ∷ []) split.first in
-      let node' : IsNode offer (k + 1) (chosen ++ s ∷ []) = subst (IsNode offer (k + 1)) (sym at) (node_with k chosen split.on_menu node (subst (IsTakable offer) at both.1)) in
+      let node' : IsNode offer (k + 1) (chosen ++ s ∷ []) = subst (IsNode offer (k + 1)) (sym at) (node_with offer k chosen menu split.on_menu node (subst (IsTakable offer) at both.1)) in
       let up' : IsAscending ((chosen ++ s ∷ []) ++ undecided) = rw append_assoc up in
       let first = finds (k + 1) (chosen ++ s ∷ []) undecided champion both.0 node' split.later up' takable both.2 in
-      let second = finds (k + 1) chosen undecided both.0 result (node_without k chosen node) split.later (IsAscending-middle chosen s undecided up) first.takable both.3 in
+      let second = finds (k + 1) chosen undecided both.0 result (node_without offer k chosen node) split.later (IsAscending-middle chosen s undecided up) first.takable both.3 in
       record {
         takable = second.takable;
         over_champion = as_good_trans offer result both.0 champion second.over_champion first.over_champion;
@@ -141,7 +121,7 @@ module _ (offer : Offer) (menu : IsMenu offer.menu) where
       }
   finds k chosen (s ∷ undecided) champion result node is up takable (inr (inr shut)) =
       let split = split_off offer.menu.places k s undecided is in
-      let rest = finds (k + 1) chosen undecided champion result (node_without k chosen node) split.later (IsAscending-middle chosen s undecided up) takable shut.1 in
+      let rest = finds (k + 1) chosen undecided champion result (node_without offer k chosen node) split.later (IsAscending-middle chosen s undecided up) takable shut.1 in
       record {
         takable = rest.takable;
         over_champion = rest.over_champion;

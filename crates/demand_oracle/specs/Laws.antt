@@ -7,7 +7,8 @@ use Rattle.bundle_bounds.specs.declared.nodes.Leaf.{Leaf}
 use Rattle.bundle_bounds.specs.Offers.{Offer, places_of}
 use Rattle.bundle_bounds.specs.Bounds.{bounds, IsFirstClosing}
 use Rattle.bundle_bounds.specs.Laws.{IsTakable, IsNode}
-use Rattle.demand_oracle.specs.Search.{MayClose, IsSearched}
+use Rattle.bundle_reach.specs.Closings.{MayClose}
+use Rattle.demand_oracle.specs.Search.{IsSearched}
 
 -- a search through all places of a menu from any takable champion finds the best bundle
 abbrev pub SearchFindsTheBest : Type 0

@@ -3,15 +3,8 @@ use Rattle.std.specs.Prelude.{ℕ, ◌+◌, ◌≡◌, ◌⊎◌, List, [], ◌�
 use Rattle.bundle_rules.specs.Menus.{wishes_of}
 use Rattle.bundle_rules.specs.Preferences.{IsPreferred}
 use Rattle.bundle_bounds.specs.Offers.{Offer}
-use Rattle.bundle_bounds.specs.Laws.{IsTakable, Completes}
-
--- the first bundle is the second, or preferred to it
-abbrev pub IsAsGood : Offer → List ℕ → List ℕ → Type 0
-IsAsGood offer a b = (b ≡ a) ⊎ IsPreferred (wishes_of offer.menu) a b
-
--- the champion is as good as every takable bundle that completes the node
-abbrev pub MayClose : Offer → ℕ → List ℕ → List ℕ → Type 0
-MayClose offer k chosen champion = (bundle : List ℕ) → IsTakable offer bundle → Completes offer k chosen bundle → IsAsGood offer champion bundle
+use Rattle.bundle_bounds.specs.Laws.{IsTakable}
+use Rattle.bundle_reach.specs.Closings.{MayClose}
 
 -- the champion after the node that has decided the places below k, where these sections are undecided: a node is closed where it may be, else it
 -- is tried with the next section, where that may be taken, and then without it; at the end the preferred one of the chosen sections and the champion stays

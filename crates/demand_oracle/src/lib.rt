@@ -3,6 +3,7 @@
 
 pub mod laws;
 mod oracle;
+mod pending;
 
 pub use oracle::{Workspace, demand};
 

@@ -2,6 +2,8 @@
 ghost use Rattle.std.specs.Prelude.{◌<◌, ◌≤◌};
 
 use super::*;
+use crate::pending::Pending;
+use bundle_reach::Branch;
 use bundle_rules::{Menu, Rated, best_plain, has_prices};
 use market_units::{SectionNo, SectionSet, Tokens};
 use std::alloc::Global;
@@ -41,6 +43,15 @@ fn the_first_eight_of_sixty(rt: HostRuntime) -> Result<(), Fail> {
     let again = demand(&mut workspace, &menu, &prices, Tokens(0), &allowed);
     assert_eq!(rt; again, best);
     assert_eq!(rt; workspace.opened(), opened);
+    let nothing = demand(
+        &mut workspace,
+        &menu,
+        &prices,
+        Tokens(0),
+        &SectionSet::empty(),
+    );
+    assert_eq!(rt; nothing.sections().len(), 0);
+    assert_eq!(rt; workspace.opened(), 60);
     Ok(())
 }
 
@@ -146,5 +157,24 @@ fn what_trying_all_choices_finds(rt: HostRuntime) -> Result<(), Fail> {
             "at turn {turn}"
         );
     }
+    Ok(())
+}
+
+#[test]
+fn the_last_that_was_put_is_next(rt: HostRuntime) -> Result<(), Fail> {
+    let mut pending = Pending::reserve(rt.alloc()).expect(&rt, "memory");
+    for _ in 0..2 {
+        assert!(rt; pending.take().is_none());
+        let mut branch = Branch::root();
+        for place in 0..60 {
+            branch.node.place = place;
+            pending.put(branch);
+        }
+        for place in (0..60).rev() {
+            let next = pending.take().map(|branch| branch.node.place);
+            assert_eq!(rt; next, Some(place));
+        }
+    }
+    assert!(rt; pending.take().is_none());
     Ok(())
 }

@@ -1,0 +1,78 @@
+// The branches that wait to be searched, in rows of a region.
+ghost use Rattle.std.specs.Prelude.{◌≡◌, ◌<◌, [], ◌∷◌, length, IfOk, MatchOption};
+
+use bundle_reach::Branch;
+use market_units::NoMemory;
+use row_region::{Region, RowId};
+use std::alloc::Global;
+use std::marker::Model;
+
+// A branch has decided at least as many places as branches wait under it, and a menu has at most 60 places: under one
+// that has decided all of them at most one waits for each place.
+const ROOM: usize = 60;
+
+/// Branches that wait to be searched, at most 60. The last that was put is the first that is taken. Only `reserve` takes
+/// memory.
+#[derive(Drop)]
+pub struct Pending {
+    rows: Region<Branch>,
+    ids: [u32; ROOM],
+    count: usize,
+}
+
+impl Model for Pending {
+    ghost use Rattle.std.specs.Prelude.{List};
+    ghost use Rattle.std.specs.Coded.{codes};
+    ghost use Rattle.bundle_reach.specs.declared.branch.Branch.{Branch};
+    ghost use Rattle.bundle_reach.specs.contracts.branch.Branch as branch;
+
+    ghost Value = { List Branch };
+
+    ghost coded = { Prim.hlevel (codes, branch.the_row.coded) };
+
+    ghost use Rattle.demand_oracle.specs.Rows.{branches_of, IsKept};
+
+    ghost view = { branches_of };
+
+    ghost invariant = { IsKept };
+}
+
+impl Pending {
+    /// Room for 60 branches, of which none waits.
+    pub fn reserve(alloc: Global) -> Result<Pending, NoMemory>
+        ensures { IfOk result (λ pending. pending ≡ []) }
+    {
+        let rows = Region::reserve(alloc, ROOM as u32, 1, Branch::root())?;
+        Ok(Pending {
+            rows,
+            ids: [0; ROOM],
+            count: 0,
+        })
+    }
+
+    /// Lets a branch wait, which is the next that is taken.
+    pub fn put(&mut self, branch: Branch)
+        requires { length self.old < 60 }
+        ensures { self.new ≡ branch ∷ self.old }
+    {
+        let id = self.rows.take();
+        let cells = self.rows.row_mut(id);
+        cells[0] = branch;
+        self.ids[self.count] = id.0;
+        self.count += 1;
+    }
+
+    /// Takes the branch that was put last of those that wait, and `None` exactly where none waits.
+    pub fn take(&mut self) -> Option<Branch>
+        ensures { MatchOption result ((self.old ≡ []) × (self.new ≡ [])) (λ branch. self.old ≡ branch ∷ self.new) }
+    {
+        if self.count == 0 {
+            return None;
+        }
+        self.count -= 1;
+        let id = RowId(self.ids[self.count]);
+        let branch = self.rows.row(id)[0];
+        self.rows.give(id);
+        Some(branch)
+    }
+}
