@@ -1,5 +1,12 @@
 pub mod Completions
-pub mod InputCauses
+pub mod Ends
+pub mod InputTroubles
 pub mod LineTexts
+pub mod ListedSections
+pub mod PreferFacts
 pub mod QuoteFacts
+pub mod QuoteWords
+pub mod SessionsRead
+pub mod Stops
+pub mod StreamFacts
 pub mod ZeroPrices

@@ -1,66 +1,67 @@
--- The inputs of a call.
-use Rattle.std.specs.Prelude.{ℕ, zero, suc, ◌≡◌, ◌<◌, ◌≤◌, ◌-◌, ◌⊎◌, List, [], ◌∷◌, length, Option, IfSome, IsSomeAnd, slice_get, Ok, ⊤}
+-- What the inputs of a call may say. A text is judged behind the texts of the inputs before it.
+use Rattle.std.specs.Prelude.{ℕ, ◌≡◌, ◌<◌, ◌≤◌, ◌⊎◌, List, [], ◌∷◌, ◌++◌, length, drop, Option, Some, Ok, ⊤}
+use Rattle.std.specs.List.{AllZip}
 use Rattle.course_catalog.specs.Reading.{catalog_of}
 use Rattle.course_catalog.specs.Sections.{Section}
-use Rattle.market_edge.specs.Holdings.{Holding, told_text}
-use Rattle.market_host.specs.declared.cause.Cause.{Cause}
-use Rattle.market_host.specs.Refusals.{IsNoCatalog}
-use Rattle.market_host.specs.Sessions.{command_count}
+use Rattle.student_roll.specs.Rolls.{roll_of}
+use Rattle.student_roll.specs.Students.{Student}
+use Rattle.market_edge.specs.Holdings.{Holding, IsTextOf, told_text}
+use Rattle.market_lists.specs.Totals.{total}
 use Rattle.market_words.specs.declared.words.Form.{Form}
-use Rattle.market_words.specs.declared.words.Form.TheVariants.{Quote}
-use Rattle.market_words.specs.Forms.{inputs_of}
+use Rattle.market_host.specs.declared.cause.Cause.{Cause}
+use Rattle.market_host.specs.Kinds.{Kind, Catalogue, Roll, Session, front_of, kind_of, limit_of}
+use Rattle.market_host.specs.Refusals.{IsNoCatalog, IsNoRoll}
+use Rattle.market_host.specs.Sessions.{command_count}
 
--- the most bytes that an input may have, by its number
-abbrev pub limit_of : Form → ℕ → ℕ
-limit_of (Quote name credits courses) input = 16777216
+-- the texts of the sessions among the texts of a form's first inputs
+abbrev pub sessions_among : Form → List (List ℕ) → List (List ℕ)
+sessions_among form texts = drop (length (front_of form)) texts
 
--- the text of a name has more bytes, where it is told
-abbrev pub IsBeyond : ℕ → Option Holding → List ℕ → Type 0
-IsBeyond limit held name = IfSome (told_text held name) (λ text. limit < length text)
+-- how many commands these sessions have together
+abbrev pub commands_among : Form → List (List ℕ) → ℕ
+commands_among form texts = total command_count (sessions_among form texts)
 
--- the sessions up to and with this input have at most 200,000 commands
-abbrev pub HasRoom : Form → ℕ → List ℕ → Type 0
-HasRoom (Quote name credits courses) (suc (suc zero)) text = command_count text ≤ 200000
-HasRoom (Quote name credits courses) input text = ⊤
+-- a text of this kind, behind these others, is of its grammar; a session always is
+abbrev pub IsOfGrammar : Kind → List (List ℕ) → List ℕ → Type 0
+IsOfGrammar Catalogue earlier text = (sections : List Section) × (catalog_of text ≡ Ok sections)
+IsOfGrammar Roll earlier text = (students : List Student) × (roll_of text ≡ Ok students)
+IsOfGrammar Session earlier text = ⊤
 
--- the sessions up to and with this input have more commands
-abbrev pub HasSurplus : Form → ℕ → List ℕ → Type 0
-HasSurplus (Quote name credits courses) (suc (suc zero)) text = 200000 < command_count text
-HasSurplus (Quote name credits courses) input text = ⊥
+-- a text of this kind, behind these others, is not of its grammar, and its first fault has this row and this cause; a session has none
+abbrev pub HasFault : Kind → List (List ℕ) → ℕ → Cause → List ℕ → Type 0
+HasFault Catalogue earlier row cause text = IsNoCatalog text row cause
+HasFault Roll earlier row cause text = IsNoRoll text row cause
+HasFault Session earlier row cause text = ⊥
 
--- the text of this input is of its grammar; a session always is
-abbrev pub IsOfGrammar : Form → ℕ → List ℕ → Type 0
-IsOfGrammar (Quote name credits courses) (suc zero) text = (sections : List Section) × (catalog_of text ≡ Ok sections)
-IsOfGrammar (Quote name credits courses) input text = ⊤
+-- The text of a form's next input, behind these others, is within its limits and of its grammar: its bytes, the commands of all sessions
+-- up to and with it, and what it says.
+pub record IsInOrder (form : Form) (earlier : List (List ℕ)) (text : List ℕ) : Type 0 where
+  pub within : length text ≤ limit_of (kind_of form (length earlier))
+  pub room : commands_among form (earlier ++ text ∷ []) ≤ 200000
+  pub grammar : IsOfGrammar (kind_of form (length earlier)) earlier text
 
--- the text of this input is not of its grammar, and its first fault has this row and this cause; a session has none
-abbrev pub HasFault : Form → ℕ → ℕ → Cause → List ℕ → Type 0
-HasFault (Quote name credits courses) (suc zero) row cause text = IsNoCatalog text row cause
-HasFault (Quote name credits courses) input row cause text = ⊥
+-- each of the texts of a form's next inputs, behind these others, is in order
+abbrev pub AreInOrder : Form → List (List ℕ) → List (List ℕ) → Type 0
+AreInOrder form earlier [] = ⊤
+AreInOrder form earlier (text ∷ more) = IsInOrder form earlier text × AreInOrder form (earlier ++ text ∷ []) more
 
--- this input has a grammar, of which a text may not be
-abbrev pub HasGrammar : Form → ℕ → Type 0
-HasGrammar (Quote name credits courses) input = input ≡ 1
+-- the text of a form's next input, behind these others, has more bytes than its limit, or brings the commands of the sessions above 200,000
+abbrev pub IsTooLong : Form → List (List ℕ) → List ℕ → Type 0
+IsTooLong form earlier text = (limit_of (kind_of form (length earlier)) < length text) ⊎ (200000 < commands_among form (earlier ++ text ∷ []))
 
--- a text is within the limits of this input, and of its grammar
-pub record IsInOrder (form : Form) (input : ℕ) (text : List ℕ) : Type 0 where
-  pub within : length text ≤ limit_of form input
-  pub room : HasRoom form input text
-  pub grammar : IsOfGrammar form input text
+-- the text of a form's next input, behind these others, is within its limit of bytes, and has this fault
+abbrev pub IsFaulty : Form → ℕ → Cause → List (List ℕ) → List ℕ → Type 0
+IsFaulty form row cause earlier text = (length text ≤ limit_of (kind_of form (length earlier))) × HasFault (kind_of form (length earlier)) earlier row cause text
 
--- each of these inputs, which are numbered from this number on, is in order, where its text is told
-abbrev pub AreInOrder : Form → Option Holding → ℕ → List (List ℕ) → Type 0
-AreInOrder form held input [] = ⊤
-AreInOrder form held input (name ∷ names) = IfSome (told_text held name) (IsInOrder form input) × AreInOrder form held (suc input) names
+-- these may be the texts of the inputs of these names; where the shelf tells, they are
+abbrev pub AreTextsOf : Option Holding → List (List ℕ) → List (List ℕ) → Type 0
+AreTextsOf held names texts = AllZip (IsTextOf held) names texts
 
--- the text of this input has more bytes than its limit, or too many commands, where it is told
-abbrev pub IsTooLong : Form → Option Holding → ℕ → List ℕ → Type 0
-IsTooLong form held input name = IfSome (told_text held name) (λ text. (limit_of form input < length text) ⊎ HasSurplus form input text)
+-- these may be the texts of a form's first inputs, which have these names, and they are in order
+pub record AreRead (form : Form) (held : Option Holding) (names texts : List (List ℕ)) : Type 0 where
+  pub each : AreTextsOf held names texts
+  pub order : AreInOrder form [] texts
 
--- the text of this input is within its limit, and has this fault, where it is told
-abbrev pub IsFaulty : Form → Option Holding → ℕ → ℕ → Cause → List ℕ → Type 0
-IsFaulty form held input row cause name = HasGrammar form input × IfSome (told_text held name) (λ text. (length text ≤ limit_of form input) × HasFault form input row cause text)
-
--- there is an input of this number, counted from 1, and its name has P
-abbrev pub InputHas : Form → List (List ℕ) → ℕ → (List ℕ → Type 0) → Type 0
-InputHas form words input P = (0 < input) × IsSomeAnd (slice_get (inputs_of form words) (input - 1)) P
+-- the shelf tells that the inputs of these names have these texts
+abbrev pub AreTold : Option Holding → List (List ℕ) → List (List ℕ) → Type 0
+AreTold held names texts = AllZip (λ name text. told_text held name ≡ Some text) names texts

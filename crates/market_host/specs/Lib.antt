@@ -1,8 +1,11 @@
 pub mod Causes
 pub mod Completeness
 pub mod Inputs
+pub mod Kinds
 pub mod Lines
 pub mod Numbers
+pub mod Preferences
 pub mod Quotes
+pub mod Reading
 pub mod Refusals
 pub mod Sessions

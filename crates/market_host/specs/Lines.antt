@@ -1,11 +1,13 @@
 -- What each status writes.
-use Rattle.std.specs.Prelude.{ℕ, ◌≡◌, List, [], ◌∷◌, ◌++◌, codes, Option, IfSome}
+use Rattle.std.specs.Prelude.{ℕ, ◌≡◌, List, [], ◌∷◌, ◌++◌, codes, Option}
 use Rattle.std.specs.Fmt.{decimal}
-use Rattle.market_edge.specs.Holdings.{Holding, told_text}
+use Rattle.market_edge.specs.Holdings.{Holding}
 use Rattle.market_units.specs.Name.{name_bytes}
+use Rattle.market_host.specs.Inputs.{AreTextsOf}
+use Rattle.market_host.specs.Preferences.{IsPreferencesOf}
 use Rattle.market_host.specs.Quotes.{IsQuoteOf}
 use Rattle.market_words.specs.declared.words.Form.{Form}
-use Rattle.market_words.specs.declared.words.Form.TheVariants.{Quote}
+use Rattle.market_words.specs.declared.words.Form.TheVariants.{Prefer, Quote}
 use Rattle.market_words.specs.Forms.{HasForm, inputs_of}
 use Rattle.market_settings.specs.Keys.{key_name}
 use Rattle.market_host.specs.declared.cause.Cause.{Cause}
@@ -38,13 +40,14 @@ line_of (TooLong input) = codes "input " ++ decimal input ++ codes " is too long
 line_of SinkFault = []
 line_of OutOfMemory = codes "out of memory\n"
 
--- the text that a form prints, by what its inputs say, where they are told
-abbrev pub Prints : Form → Option Holding → List (List ℕ) → List ℕ → Type 0
-Prints (Quote name credits courses) held (catalog ∷ session ∷ []) text =
-    IfSome (told_text held catalog) (λ table. IfSome (told_text held session) (λ stream. IsQuoteOf (name_bytes name) credits courses table stream text))
-Prints (Quote name credits courses) held inputs text = ⊥
+-- the text that a form prints, where its inputs have these texts
+abbrev pub Prints : Form → List (List ℕ) → List ℕ → Type 0
+Prints (Quote name credits courses) (catalog ∷ session ∷ []) text = IsQuoteOf (name_bytes name) credits courses catalog session text
+Prints Prefer (catalog ∷ roll ∷ sessions) text = IsPreferencesOf catalog roll sessions text
+Prints form inputs text = ⊥
 
--- A status writes this text: its line, and where the work is done, what the form prints.
+-- a status writes this text: its line, and where the work is done, what the form prints for texts of its inputs
 abbrev pub Writes : List (List ℕ) → Option Holding → Status → List ℕ → Type 0
-Writes words held Done text = (form : Form) × HasForm words form × Prints form held (inputs_of form words) text
+Writes words held Done text =
+    (form : Form) × HasForm words form × (texts : List (List ℕ)) × AreTextsOf held (inputs_of form words) texts × Prints form texts text
 Writes words held status text = text ≡ line_of status

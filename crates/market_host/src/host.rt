@@ -3,12 +3,13 @@ ghost use Rattle.std.specs.Prelude.{◌≡◌, ◌≢◌, ◌⊎◌, List, ℕ, 
 ghost use Rattle.std.specs.String.{string_bytes};
 ghost use Rattle.market_edge.specs.Faults.{Rose};
 ghost use Rattle.market_edge.specs.Sinks.{Takes, TakesFront};
-ghost use Rattle.market_host.specs.Causes.{Fails, HasCause};
+ghost use Rattle.market_host.specs.Causes.{Fails, HasCause, IsReadOutAt};
 ghost use Rattle.market_host.specs.Completeness.{CanBeDone};
 ghost use Rattle.market_host.specs.Lines.{Writes};
 
 use crate::Status;
 use crate::line::line_for;
+use crate::prefer::prefer;
 use crate::quote::quote;
 use market_edge::{Gate, Shelf, Sink, SinkFault, write_whole};
 use market_words::{Form, read_words};
@@ -42,8 +43,11 @@ pub fn course_match<R: Threads + Wait + Sync, H: Shelf, K: Sink, G: Gate + Sync>
     // Where every input is held and in order and no fault is counted, the work is done, or memory is wanted.
     ensures complete { CanBeDone (map string_bytes words.now) (H.holds shelf.old) (H.faults shelf.old) (H.faults shelf.new)
         → ¬ Rose (K.faults sink.old) (K.faults sink.new) → (result ≡ Status.Done) ⊎ (result ≡ Status.OutOfMemory) }
+
+    // Where the work is done, the last input was read to its end, and where an input is refused, that one.
+    ensures read_out { IsReadOutAt (map string_bytes words.now) (H.holds shelf.old) (H.serves shelf.new) (H.left shelf.new) result }
 {
-    match answer(alloc, words, shelf) {
+    match answer(rt, alloc, words, shelf, gate) {
         Ok(text) => finish(sink, &text, Status::Done),
         Err(status) => finish(sink, line_for(status).as_bytes(), status),
     }
@@ -64,11 +68,18 @@ fn finish<K: Sink>(sink: &mut K, text: &[u8], status: Status) -> Status
 }
 
 // The text to write, or the status that says why there is none.
-fn answer<H: Shelf>(alloc: Global, words: &[String], shelf: &mut H) -> Result<Vec<u8>, Status>
-    ensures { MatchResult result
+fn answer<R: Threads + Wait + Sync, H: Shelf, G: Gate + Sync>(
+    rt: &R,
+    alloc: Global,
+    words: &[String],
+    shelf: &mut H,
+    gate: &G,
+) -> Result<Vec<u8>, Status>
+    ensures answer { MatchResult result
         (λ text. HasCause (map string_bytes words.now) (H.holds shelf.old) (H.faults shelf.old) (H.faults shelf.new) Status.Done
         × Writes (map string_bytes words.now) (H.holds shelf.old) Status.Done text.items)
         (Fails (map string_bytes words.now) (H.holds shelf.old) (H.faults shelf.old) (H.faults shelf.new)) }
+    ensures end { MatchResult result (λ _. IsReadOutAt (map string_bytes words.now) (H.holds shelf.old) (H.serves shelf.new) (H.left shelf.new) Status.Done) (IsReadOutAt (map string_bytes words.now) (H.holds shelf.old) (H.serves shelf.new) (H.left shelf.new)) }
 {
     match read_words(words) {
         Some(
@@ -78,6 +89,7 @@ fn answer<H: Shelf>(alloc: Global, words: &[String], shelf: &mut H) -> Result<Ve
                 courses,
             },
         ) => quote(alloc, words, shelf, name, credits, courses),
+        Some(Form::Prefer) => prefer(rt, alloc, words, shelf, gate),
         None => Err(Status::Usage),
     }
 }

@@ -1,7 +1,8 @@
 // The inputs of a call, each read whole.
-ghost use Rattle.std.specs.Prelude.{◌≡◌, ◌≤◌, List, ℕ, length, IfOk, IfErr};
+ghost use Rattle.std.specs.Prelude.{◌≡◌, ◌≤◌, List, ℕ, length, IfOk, OnOk, IfErr};
 ghost use Rattle.market_edge.specs.Holdings.{IsTextOf};
-ghost use Rattle.market_host.specs.Causes.{HasTrouble};
+ghost use Rattle.market_host.specs.Causes.{IsAtEnd};
+ghost use Rattle.market_host.specs.Reading.{IsUnread};
 
 use crate::Status;
 use market_edge::{Shelf, Taking, read_whole};
@@ -19,7 +20,8 @@ pub fn read_input<H: Shelf>(
     requires { limit ≤ MAX_TEXT_BYTES }
     ensures whole { IfOk result (λ text. IsTextOf (H.holds shelf.old) name.now text.items) }
     ensures within { IfOk result (λ text. length text.items ≤ limit) }
-    ensures cause { IfErr result (HasTrouble limit (H.holds shelf.old) (H.faults shelf.old) (H.faults shelf.new) name.now input) }
+    ensures end { OnOk result (IsAtEnd (H.holds shelf.old) (H.serves shelf.new) (H.left shelf.new) name.now) }
+    ensures unread { IfErr result (IsUnread limit (H.holds shelf.old) (H.faults shelf.old) (H.faults shelf.new) name.now input) }
     ensures holds { H.holds shelf.new ≡ H.holds shelf.old }
     ensures later { (other : List ℕ) → H.faults shelf.old other ≤ H.faults shelf.new other }
 {

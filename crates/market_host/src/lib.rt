@@ -7,8 +7,11 @@ mod cause;
 mod host;
 mod inputs;
 mod line;
+mod prefer;
 mod quote;
+mod roll;
 mod session;
+mod sessions;
 mod status;
 mod text;
 

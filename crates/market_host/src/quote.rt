@@ -4,7 +4,7 @@ ghost use Rattle.std.specs.String.{string_bytes};
 ghost use Rattle.bundle_rules.specs.Bundles.{sections_of};
 ghost use Rattle.bundle_rules.specs.Demand.{IsBest};
 ghost use Rattle.bundle_rules.specs.Menus.{wishes_of};
-ghost use Rattle.market_host.specs.Causes.{Fails, HasCause};
+ghost use Rattle.market_host.specs.Causes.{Fails, HasCause, IsReadOutAt};
 ghost use Rattle.market_host.specs.Lines.{Writes};
 ghost use Rattle.market_host.specs.Quotes.{IsQuote, state_of_new_desk};
 ghost use Rattle.market_units.specs.Name.{name_bytes};
@@ -14,15 +14,15 @@ ghost use Rattle.preference_desk.specs.MarketNames.{market_names};
 ghost use Rattle.student_roll.specs.Students.{single_student};
 
 use crate::Status;
-use crate::catalogue::catalog_in;
-use crate::inputs::read_input;
-use crate::session::commands_in;
+use crate::catalogue::take_catalogue;
+use crate::session::take_session;
 use crate::text::text_of;
-use bundle_rules::{Bundle, Menu, best_plain, utility};
+use bundle_rules::{Bundle, Menu, utility};
 use course_catalog::Catalog;
+use demand_oracle::{Workspace, demand};
 use market_edge::Shelf;
 use market_menus::menus;
-use market_units::{MAX_INPUT_BYTES, MAX_SECTIONS, Name, NoMemory, SectionSet, Tokens};
+use market_units::{MAX_COMMANDS, MAX_SECTIONS, Name, NoMemory, SectionSet, Tokens};
 use market_words::Form;
 use preference_desk::Desk;
 use std::alloc::Global;
@@ -39,19 +39,15 @@ pub fn quote<H: Shelf>(
     courses: u8,
 ) -> Result<Vec<u8>, Status>
     requires { HasForm (map string_bytes words.now) (Form.Quote name credits courses) }
-    ensures { MatchResult result
+    ensures answer { MatchResult result
         (λ text. HasCause (map string_bytes words.now) (H.holds shelf.old) (H.faults shelf.old) (H.faults shelf.new) Status.Done
         × Writes (map string_bytes words.now) (H.holds shelf.old) Status.Done text.items)
         (Fails (map string_bytes words.now) (H.holds shelf.old) (H.faults shelf.old) (H.faults shelf.new)) }
+    ensures end { MatchResult result (λ _. IsReadOutAt (map string_bytes words.now) (H.holds shelf.old) (H.serves shelf.new) (H.left shelf.new) Status.Done) (IsReadOutAt (map string_bytes words.now) (H.holds shelf.old) (H.serves shelf.new) (H.left shelf.new)) }
 {
-    let table = read_input(alloc, shelf, words[1].as_str(), 1, MAX_INPUT_BYTES)?;
-    let catalog = catalog_in(alloc, &table, 1)?;
-    let stream = read_input(alloc, shelf, words[2].as_str(), 2, MAX_INPUT_BYTES)?;
-    let commands = commands_in(alloc, &stream, 2)?;
-    match best_text(alloc, &catalog, &commands, name, credits, courses) {
-        Ok(text) => Ok(text),
-        Err(NoMemory) => Err(Status::OutOfMemory),
-    }
+    let catalog = take_catalogue(alloc, shelf, words[1].as_str(), 1)?;
+    let commands = take_session(alloc, shelf, words[2].as_str(), 2, MAX_COMMANDS)?;
+    Ok(best_text(alloc, &catalog, &commands, name, credits, courses)?)
 }
 
 // The two lines that tell the best bundle after these commands and its utility.
@@ -72,18 +68,20 @@ fn best_text(
     let desk = desk_after(alloc, catalog, &roll, commands)?;
     let menus = menus(alloc, catalog, &roll, desk.closed())?;
     let menu = &menus[0];
-    let bundle = best_of(menu);
+    let bundle = best_of(alloc, menu)?;
     let worth = utility(menu, &bundle);
     Ok(text_of(alloc, catalog, &name, bundle.sections(), worth)?)
 }
 
 // The best bundle of the menu where nothing has a price and every section is allowed.
-fn best_of(menu: &Menu) -> Bundle
-    ensures { IsBest (wishes_of menu.now) (λ _. 0) 0 (λ s. nat_lt s 400) (sections_of result) }
+fn best_of(alloc: Global, menu: &Menu) -> Result<Bundle, NoMemory>
+    ensures { IfOk result (λ bundle. IsBest (wishes_of menu.now) (λ _. 0) 0 (λ s. nat_lt s 400) (sections_of bundle)) }
 {
+    let mut workspace = Workspace::reserve(alloc)?;
     let _few_places = menu.len();
     let prices = [Tokens(0); 400];
-    best_plain(menu, &prices, Tokens(0), &SectionSet::full(MAX_SECTIONS))
+    let allowed = SectionSet::full(MAX_SECTIONS);
+    Ok(demand(&mut workspace, menu, &prices, Tokens(0), &allowed))
 }
 
 // A desk to which one session has said these commands.

@@ -1,21 +1,43 @@
-// The session of a call.
-ghost use Rattle.std.specs.Prelude.{◌≡◌, ◌≤◌, length, IfOk, OnOk, IfErr};
+// One session of a call.
+ghost use Rattle.std.specs.Prelude.{◌≡◌, ◌≤◌, List, ℕ, length, IfOk, IfErr, MatchResult};
 ghost use Rattle.utility_language.specs.Commands.{AreCommands};
-ghost use Rattle.market_host.specs.Causes.{IsSurplus};
+ghost use Rattle.market_host.specs.Causes.{IsAtEnd};
+ghost use Rattle.market_host.specs.Kinds.{Session};
+ghost use Rattle.market_host.specs.Reading.{IsNoRefusal, IsRead, IsSurplus, IsTroubleOfSession};
 ghost use Rattle.market_host.specs.Sessions.{command_count, session_text};
 
 use crate::Status;
-use market_units::MAX_COMMANDS;
+use crate::inputs::read_input;
+use market_edge::Shelf;
+use market_units::MAX_INPUT_BYTES;
 use std::alloc::Global;
 use utility_language::{Command, StreamEnd, read_stream};
 
-/// The commands that this input says, or the status that says why there are none.
-pub fn commands_in(alloc: Global, bytes: &[u8], input: u16) -> Result<Vec<Command>, Status>
-    ensures commands { IfOk result (λ commands. AreCommands (session_text bytes.now) commands.items) }
-    ensures room { OnOk result (command_count bytes.now ≤ 200000) }
-    ensures surplus { IfErr result (IsSurplus bytes.now input) }
+/// The commands of the session of this name and number, where there is room for so many, or the status that says why
+/// there are none. Of the session itself nothing is kept.
+pub fn take_session<H: Shelf>(
+    alloc: Global,
+    shelf: &mut H,
+    name: &str,
+    input: u16,
+    room: u32,
+) -> Result<Vec<Command>, Status>
+    ensures read { IfOk result (λ commands. IsRead Session (H.holds shelf.old) name.now (λ text. AreCommands (session_text text) commands.items × (command_count text ≤ room))) }
+    ensures trouble { IfErr result (IsTroubleOfSession (H.holds shelf.old) (H.faults shelf.old) (H.faults shelf.new) room name.now input) }
+    ensures end { MatchResult result (λ _. IsAtEnd (H.holds shelf.old) (H.serves shelf.new) (H.left shelf.new) name.now) IsNoRefusal }
+    ensures holds { H.holds shelf.new ≡ H.holds shelf.old }
+    ensures later { (other : List ℕ) → H.faults shelf.old other ≤ H.faults shelf.new other }
 {
-    match read_stream(alloc, without_mark(bytes), MAX_COMMANDS) {
+    let bytes = read_input(alloc, shelf, name, input, MAX_INPUT_BYTES)?;
+    commands_in(alloc, &bytes, input, room)
+}
+
+// The commands that the text of this input says, where there is room for so many, or the status that says why there are none.
+fn commands_in(alloc: Global, bytes: &[u8], input: u16, room: u32) -> Result<Vec<Command>, Status>
+    ensures commands { IfOk result (λ commands. AreCommands (session_text bytes.now) commands.items × (command_count bytes.now ≤ room)) }
+    ensures surplus { IfErr result (IsSurplus bytes.now room input) }
+{
+    match read_stream(alloc, without_mark(bytes), room) {
         Ok(commands) => Ok(commands),
         Err(StreamEnd::TooMany) => Err(Status::TooLong { input }),
         Err(StreamEnd::NoMemory) => Err(Status::OutOfMemory),

@@ -1,8 +1,11 @@
 // What the program answers.
 ghost use Rattle.std.specs.Prelude.{◌≡◌};
 ghost use Rattle.market_host.specs.Numbers.{number_of};
+ghost use Rattle.market_host.specs.declared.status.Status.TheVariants.{OutOfMemory};
 
 use crate::Cause;
+use market_units::NoMemory;
+use std::alloc::AllocFailed;
 
 /// How a call went. Inputs are the file words, numbered from 1 in word order.
 #[derive(Clone, Copy, Debug, PartialEq, Eq)]
@@ -37,5 +40,21 @@ impl Status {
             Status::SinkFault => 6,
             Status::OutOfMemory => 7,
         }
+    }
+}
+
+impl From<NoMemory> for Status {
+    ghost from_gives = { λ _ status. status ≡ OutOfMemory };
+
+    fn from(_: NoMemory) -> Self {
+        Status::OutOfMemory
+    }
+}
+
+impl<T: Drop> From<AllocFailed<T>> for Status {
+    ghost from_gives = { λ _ status. status ≡ OutOfMemory };
+
+    fn from(_: AllocFailed<T>) -> Self {
+        Status::OutOfMemory
     }
 }

@@ -1,16 +1,37 @@
 // The program over texts in memory. The cases named for what they show are worked examples that were computed apart
 // from this program.
-use super::*;
-use market_edge::{MemoryShelf, MemorySink, OpenGate};
+use crate::{Status, course_match};
+use market_edge::{Gate, MemoryShelf, MemorySink, OpenGate};
 use std::alloc::Global;
 use std::process::Abort;
 use std::sync::Wait;
 use std::test::Fail;
 use std::thread::Threads;
 
-const TWO: &str = "section,course,seats,credits,meetings\nA,AA,1,1,\nB,BB,1,1,\n";
+mod faults;
+mod gates;
+mod limits;
+mod prefer;
+mod quote;
 
-const TIE: &str = "rate ann A 50\nrate ann B 50\n";
+const HEADER: &[u8] = b"section,course,seats,credits,meetings\n";
+
+const ONE: &[u8] = b"section,course,seats,credits,meetings\nA,AA,1,1,\n";
+
+const TWO: &[u8] = b"section,course,seats,credits,meetings\nA,AA,1,1,\nB,BB,1,1,\n";
+
+const THREE: &[u8] = b"section,course,seats,credits,meetings\nA,AA,1,1,\nB,BB,1,1,\nC,CC,1,1,\n";
+
+const TIE: &[u8] = b"rate ann A 50\nrate ann B 50\n";
+
+const STUDENTS: &[u8] = b"student,budget,credits,courses\n";
+
+const ANN: &[u8] = b"student,budget,credits,courses\nann,100,10,1\n";
+
+const ANN_AND_BOB: &[u8] = b"student,budget,credits,courses\nann,100,10,1\nbob,100,10,1\n";
+
+// A file's name and its bytes.
+type File<'a> = (&'a str, &'a [u8]);
 
 fn words_of(alloc: Global, line: &str) -> Result<Vec<String>, Fail> {
     let mut words = Vec::new(alloc);
@@ -20,617 +41,56 @@ fn words_of(alloc: Global, line: &str) -> Result<Vec<String>, Fail> {
     Ok(words)
 }
 
-// The status of a command over a catalogue `CAT` and a session `S1`, and what it wrote into so much room. The shelf's
-// call and the sink's write of these numbers fail; 0 is none.
+// The status of a command over these files, and what it wrote.
 fn run<R: Threads + Wait + Sync + Abort>(
     rt: &R,
     alloc: Global,
     line: &str,
-    texts: (Vec<u8>, Vec<u8>),
+    files: &[File],
+) -> Result<(Status, String), Fail> {
+    run_by(rt, alloc, line, files, (0, 0), 30_000, &OpenGate)
+}
+
+// The same where the shelf's call and the sink's write of these numbers fail, 0 being none, the sink has so much room,
+// and the sessions pass this gate.
+fn run_by<R: Threads + Wait + Sync + Abort, G: Gate + Sync>(
+    rt: &R,
+    alloc: Global,
+    line: &str,
+    files: &[File],
     failing: (u64, u64),
     room: usize,
+    gate: &G,
 ) -> Result<(Status, String), Fail> {
-    let (catalogue, session) = texts;
-    let mut files = Vec::new(alloc);
-    files.push((String::from_str(alloc, "CAT")?, catalogue))?;
-    files.push((String::from_str(alloc, "S1")?, session))?;
-    let mut shelf = MemoryShelf::make(alloc, files, vec![in alloc; failing.0]?).expect(rt, "room");
+    let mut held = Vec::new(alloc);
+    for (name, bytes) in files {
+        held.push((String::from_str(alloc, name)?, bytes.to_vec(alloc)?))?;
+    }
+    let mut shelf = MemoryShelf::make(alloc, held, vec![in alloc; failing.0]?).expect(rt, "room");
     let mut sink = MemorySink::make(alloc, room, vec![in alloc; failing.1]?).expect(rt, "room");
     let words = words_of(alloc, line)?;
-    let status = course_match(rt, alloc, &words, &mut shelf, &mut sink, &OpenGate);
+    let status = course_match(rt, alloc, &words, &mut shelf, &mut sink, gate);
     Ok((
         status,
         String::from_utf8(sink.taken().to_vec(alloc)?).expect(rt, "text"),
     ))
 }
 
-// What the case shows, the words, the catalogue and the session, the number of the status, and the text.
-type Case = (
-    &'static str,
-    &'static str,
-    &'static [u8],
-    &'static [u8],
-    u8,
-    &'static str,
-);
-
-const DAYS_AND_CAPS: [Case; 9] = [
-    (
-        "adjustment joins two sections",
-        "quote CAT S1 ann 10 2",
-        b"section,course,seats,credits,meetings\nA,AA,1,1,\nB,BB,1,1,\nC,CC,1,1,\n",
-        b"rate ann A 90\nrate ann B 1\nrate ann C 1\npair ann C B 200\n",
-        0,
-        "bundle ann [B,C]\nutility 202\n",
-    ),
-    (
-        "adjustment keeps two sections apart",
-        "quote CAT S1 ann 10 8",
-        b"section,course,seats,credits,meetings\nA,AA,1,1,\nB,BB,1,1,\n",
-        b"rate ann A 80\nrate ann B 50\npair ann A B -200\n",
-        0,
-        "bundle ann [A]\nutility 80\n",
-    ),
-    (
-        "bundle of no worth stays empty",
-        "quote CAT S1 ann 10 8",
-        b"section,course,seats,credits,meetings\nA,AA,1,1,\nB,BB,1,1,\n",
-        b"rate ann A 0\nrate ann B 0\npair ann A B 200\n",
-        0,
-        "bundle ann []\nutility 0\n",
-    ),
-    (
-        "empty session",
-        "quote CAT S1 ann 10 1",
-        b"section,course,seats,credits,meetings\nA,AA,1,1,\nB,BB,1,1,\n",
-        b"",
-        0,
-        "bundle ann []\nutility 0\n",
-    ),
-    (
-        "greatest numbers and names",
-        "quote CAT S1 ssssssssssssssssssssssssssssssss 800 8",
-        b"section,course,seats,credits,meetings\nNNNNNNNNNNNNNNNNNNNNNNNNNNNNNNNN,CCCCCCCCCCCCCCCCCCCCCCCCCCCCCCCC,9999,100,U0000-0059;U0100-0159;U0200-0259;U0300-0359;U0400-0459;U0500-0559;U0600-0659;U0700-0759;U0800-0859;U0900-0959\na-Z_0.9,-,0,0,M0000-2359\n",
-        b"rate ssssssssssssssssssssssssssssssss NNNNNNNNNNNNNNNNNNNNNNNNNNNNNNNN 100\nrate ssssssssssssssssssssssssssssssss a-Z_0.9 100\n",
-        0,
-        "bundle ssssssssssssssssssssssssssssssss [NNNNNNNNNNNNNNNNNNNNNNNNNNNNNNNN,a-Z_0.9]\nutility 200\n",
-    ),
-    (
-        "meetings on other days do not clash",
-        "quote CAT S1 ann 10 8",
-        b"section,course,seats,credits,meetings\nA,AA,1,1,T0900-1020\nB,BB,1,1,R0900-1020\n",
-        b"rate ann A 10\nrate ann B 10\n",
-        0,
-        "bundle ann [A,B]\nutility 20\n",
-    ),
-    (
-        "no course allowed",
-        "quote CAT S1 ann 10 0",
-        b"section,course,seats,credits,meetings\nA,AA,1,1,\nB,BB,1,1,\n",
-        b"rate ann A 10\nrate ann B 10\n",
-        0,
-        "bundle ann []\nutility 0\n",
-    ),
-    (
-        "no credit allowed",
-        "quote CAT S1 ann 0 8",
-        b"section,course,seats,credits,meetings\nA,AA,1,1,\nB,BB,1,0,\n",
-        b"rate ann A 10\nrate ann B 10\n",
-        0,
-        "bundle ann [B]\nutility 10\n",
-    ),
-    (
-        "nothing counts after close",
-        "quote CAT S1 ann 10 8",
-        b"section,course,seats,credits,meetings\nA,AA,1,1,\nB,BB,1,1,\n",
-        b"rate ann B 5\nclose\nrate ann A 90\n",
-        0,
-        "bundle ann [B]\nutility 5\n",
-    ),
-];
-
-const TIES_AND_OTHERS: [Case; 10] = [
-    (
-        "one of many meetings clashes",
-        "quote CAT S1 ann 10 8",
-        b"section,course,seats,credits,meetings\nA,AA,1,1,M0900-1000;W0900-1000;F0900-1000\nB,BB,1,1,T0900-1000;F0959-1100\n",
-        b"rate ann A 10\nrate ann B 10\n",
-        0,
-        "bundle ann [A]\nutility 10\n",
-    ),
-    (
-        "other students have no effect",
-        "quote CAT S1 ann 10 8",
-        b"section,course,seats,credits,meetings\nA,AA,1,1,\nB,BB,1,1,\n",
-        b"rate bob A 90\nrate ann B 5\nclear bob\n",
-        0,
-        "bundle ann [B]\nutility 5\n",
-    ),
-    (
-        "overlapping meetings clash",
-        "quote CAT S1 ann 10 8",
-        b"section,course,seats,credits,meetings\nA,AA,1,1,M0900-1020\nB,BB,1,1,M1019-1140\n",
-        b"rate ann A 10\nrate ann B 10\n",
-        0,
-        "bundle ann [A]\nutility 10\n",
-    ),
-    (
-        "quoted fields and lone carriage returns",
-        "quote CAT S1 ann 10 8",
-        b"\r\r\"section\",\"course\",seats,credits,\"meet\"ings\r\"A\"1,AA,\"1\",1,\"M0900-1020;T0900-1020\"\r\r\nB,\"BB\",1,1,\"\"",
-        b"rate ann A1 10\nrate ann B 10\n",
-        0,
-        "bundle ann [A1,B]\nutility 20\n",
-    ),
-    (
-        "seats play no part",
-        "quote CAT S1 ann 10 8",
-        b"section,course,seats,credits,meetings\nA,AA,0,1,\nB,BB,0,1,\n",
-        b"rate ann A 10\nrate ann B 10\n",
-        0,
-        "bundle ann [A,B]\nutility 20\n",
-    ),
-    (
-        "sections of one course clash",
-        "quote CAT S1 ann 10 8",
-        b"section,course,seats,credits,meetings\nA,AA,1,1,\nB,AA,1,1,\n",
-        b"rate ann A 10\nrate ann B 10\n",
-        0,
-        "bundle ann [A]\nutility 10\n",
-    ),
-    (
-        "tie of two sections and one",
-        "quote CAT S1 ann 2 8",
-        b"section,course,seats,credits,meetings\nA,AA,1,1,\nB,BB,1,1,\nC,CC,1,2,\n",
-        b"rate ann A 60\nrate ann B 40\nrate ann C 100\n",
-        0,
-        "bundle ann [A,B]\nutility 100\n",
-    ),
-    (
-        "tie takes lowest ordinal",
-        "quote CAT S1 ann 10 1",
-        b"section,course,seats,credits,meetings\nA,AA,1,1,\nB,BB,1,1,\n",
-        b"rate ann A 50\nrate ann B 50\n",
-        0,
-        "bundle ann [A]\nutility 50\n",
-    ),
-    (
-        "tie with the empty bundle takes sections",
-        "quote CAT S1 ann 10 8",
-        b"section,course,seats,credits,meetings\nA,AA,1,1,\nB,BB,1,1,\n",
-        b"rate ann A 10\nrate ann B 10\npair ann A B -10\n",
-        0,
-        "bundle ann [A,B]\nutility 10\n",
-    ),
-    (
-        "touching meetings do not clash",
-        "quote CAT S1 ann 10 8",
-        b"section,course,seats,credits,meetings\nA,AA,1,1,M0900-1020\nB,BB,1,1,M1020-1140\n",
-        b"rate ann A 10\nrate ann B 10\n",
-        0,
-        "bundle ann [A,B]\nutility 20\n",
-    ),
-];
-
-const HEADERS: [Case; 11] = [
-    (
-        "missing catalogue",
-        "quote NONE S1 ann 10 8",
-        b"",
-        b"rate ann A 50\n",
-        2,
-        "input 1 can not be read\n",
-    ),
-    (
-        "missing session",
-        "quote CAT NONE ann 10 8",
-        b"section,course,seats,credits,meetings\nA,AA,1,1,\nB,BB,1,1,\n",
-        b"",
-        2,
-        "input 2 can not be read\n",
-    ),
-    (
-        "refusal comes before missing session",
-        "quote CAT NONE ann 10 8",
-        b"",
-        b"",
-        3,
-        "input 1 row 1: header\n",
-    ),
-    (
-        "refused catalogue with only a byte order mark",
-        "quote CAT S1 ann 10 8",
-        b"\xef\xbb\xbf",
-        b"rate ann A 50\n",
-        3,
-        "input 1 row 1: header\n",
-    ),
-    (
-        "refused catalogue with two byte order marks",
-        "quote CAT S1 ann 10 8",
-        b"\xef\xbb\xbf\xef\xbb\xbfsection,course,seats,credits,meetings\nA,AA,1,1,\nB,BB,1,1,\n",
-        b"rate ann A 50\n",
-        3,
-        "input 1 row 1: header\n",
-    ),
-    (
-        "refused empty catalogue file",
-        "quote CAT S1 ann 10 8",
-        b"",
-        b"rate ann A 50\n",
-        3,
-        "input 1 row 1: header\n",
-    ),
-    (
-        "refused header in another order",
-        "quote CAT S1 ann 10 8",
-        b"course,section,seats,credits,meetings\nA,AA,1,1,\nB,BB,1,1,\n",
-        b"rate ann A 50\n",
-        3,
-        "input 1 row 1: header\n",
-    ),
-    (
-        "refused header with a field more",
-        "quote CAT S1 ann 10 8",
-        b"section,course,seats,credits,meetings,room\nA,AA,1,1,\nB,BB,1,1,\n",
-        b"rate ann A 50\n",
-        3,
-        "input 1 row 1: header\n",
-    ),
-    (
-        "refused header with a space",
-        "quote CAT S1 ann 10 8",
-        b"section, course,seats,credits,meetings\nA,AA,1,1,\nB,BB,1,1,\n",
-        b"rate ann A 50\n",
-        3,
-        "input 1 row 1: header\n",
-    ),
-    (
-        "refused too few fields",
-        "quote CAT S1 ann 10 8",
-        b"section,course,seats,credits,meetings\nA,AA,2,1\n",
-        b"rate ann A 50\n",
-        3,
-        "input 1 row 2: fields\n",
-    ),
-    (
-        "refused too many fields",
-        "quote CAT S1 ann 10 8",
-        b"section,course,seats,credits,meetings\nA,AA,2,1,,\n",
-        b"rate ann A 50\n",
-        3,
-        "input 1 row 2: fields\n",
-    ),
-];
-
-const MEETINGS: [Case; 10] = [
-    (
-        "carriage return within quotes is kept",
-        "quote CAT S1 ann 10 8",
-        b"\"section\",\"course\",seats,credits,\"meetings\"\r\n\"A\",AA,\"1\",1,\"M0900-1020;\rT0900-1020\"\r\n",
-        b"rate ann A 10\nrate ann B 10\n",
-        3,
-        "input 1 row 2: meetings\n",
-    ),
-    (
-        "refused eleven meetings",
-        "quote CAT S1 ann 10 8",
-        b"section,course,seats,credits,meetings\nA,AA,1,1,M0000-0030;M0100-0130;M0200-0230;M0300-0330;M0400-0430;M0500-0530;M0600-0630;M0700-0730;M0800-0830;M0900-0930;M1000-1030\n",
-        b"rate ann A 50\n",
-        3,
-        "input 1 row 2: meetings\n",
-    ),
-    (
-        "refused first bad row is told",
-        "quote CAT S1 ann 10 8",
-        b"section,course,seats,credits,meetings\nA,AA,1,1,M\nA,AA,x,1,\n",
-        b"rate ann A 50\n",
-        3,
-        "input 1 row 2: meetings\n",
-    ),
-    (
-        "refused meeting at hour twenty four",
-        "quote CAT S1 ann 10 8",
-        b"section,course,seats,credits,meetings\nA,AA,1,1,M2300-2400\n",
-        b"rate ann A 50\n",
-        3,
-        "input 1 row 2: meetings\n",
-    ),
-    (
-        "refused meeting at minute sixty",
-        "quote CAT S1 ann 10 8",
-        b"section,course,seats,credits,meetings\nA,AA,1,1,M0900-0960\n",
-        b"rate ann A 50\n",
-        3,
-        "input 1 row 2: meetings\n",
-    ),
-    (
-        "refused meeting in small letters",
-        "quote CAT S1 ann 10 8",
-        b"section,course,seats,credits,meetings\nA,AA,1,1,m0900-1000\n",
-        b"rate ann A 50\n",
-        3,
-        "input 1 row 2: meetings\n",
-    ),
-    (
-        "refused meeting on no day",
-        "quote CAT S1 ann 10 8",
-        b"section,course,seats,credits,meetings\nA,AA,1,1,X0900-1000\n",
-        b"rate ann A 50\n",
-        3,
-        "input 1 row 2: meetings\n",
-    ),
-    (
-        "refused meeting that ends as it starts",
-        "quote CAT S1 ann 10 8",
-        b"section,course,seats,credits,meetings\nA,AA,1,1,M0900-0900\n",
-        b"rate ann A 50\n",
-        3,
-        "input 1 row 2: meetings\n",
-    ),
-    (
-        "refused meetings end with a semicolon",
-        "quote CAT S1 ann 10 8",
-        b"section,course,seats,credits,meetings\nA,AA,1,1,M0900-1000;\n",
-        b"rate ann A 50\n",
-        3,
-        "input 1 row 2: meetings\n",
-    ),
-    (
-        "refused unclosed quote hides bad meetings",
-        "quote CAT S1 ann 10 8",
-        b"section,course,seats,credits,meetings\nA,AA,2,1,\"M0900-10",
-        b"rate ann A 50\n",
-        3,
-        "input 1 row 2: meetings\n",
-    ),
-];
-
-const NAMES_AND_NUMBERS: [Case; 16] = [
-    (
-        "quote inside a field is literal",
-        "quote CAT S1 ann 10 8",
-        b"section,course,seats,credits,meetings\nA,A\"A,1,1,\n",
-        b"rate ann A 10\nrate ann B 10\n",
-        3,
-        "input 1 row 2: name in column 2\n",
-    ),
-    (
-        "refused course name not ascii",
-        "quote CAT S1 ann 10 8",
-        b"section,course,seats,credits,meetings\nA,\xc3\x89conomie,1,1,\n",
-        b"rate ann A 50\n",
-        3,
-        "input 1 row 2: name in column 2\n",
-    ),
-    (
-        "refused empty lines are no rows",
-        "quote CAT S1 ann 10 8",
-        b"section,course,seats,credits,meetings\n\n\r\nA,AA,1,1,\n\n\nB,BB,x,1,\n",
-        b"rate ann A 50\n",
-        3,
-        "input 1 row 3: number in column 3\n",
-    ),
-    (
-        "refused empty section name",
-        "quote CAT S1 ann 10 8",
-        b"section,course,seats,credits,meetings\n,AA,1,1,\n",
-        b"rate ann A 50\n",
-        3,
-        "input 1 row 2: name in column 1\n",
-    ),
-    (
-        "refused first bad column is told",
-        "quote CAT S1 ann 10 8",
-        b"section,course,seats,credits,meetings\nA,AA,x,y,z\n",
-        b"rate ann A 50\n",
-        3,
-        "input 1 row 2: number in column 3\n",
-    ),
-    (
-        "refused half a credit",
-        "quote CAT S1 ann 10 8",
-        b"section,course,seats,credits,meetings\nA,AA,1,0.5,\n",
-        b"rate ann A 50\n",
-        3,
-        "input 1 row 2: number in column 4\n",
-    ),
-    (
-        "refused leading zeros in seats",
-        "quote CAT S1 ann 10 8",
-        b"section,course,seats,credits,meetings\nA,AA,007,1,\n",
-        b"rate ann A 50\n",
-        3,
-        "input 1 row 2: number in column 3\n",
-    ),
-    (
-        "refused line end within quotes is no row",
-        "quote CAT S1 ann 10 8",
-        b"section,course,seats,credits,meetings\nA,\"A\nA\",1,1,\n",
-        b"rate ann A 50\n",
-        3,
-        "input 1 row 2: name in column 2\n",
-    ),
-    (
-        "refused name of thirty three bytes",
-        "quote CAT S1 ann 10 8",
-        b"section,course,seats,credits,meetings\nNNNNNNNNNNNNNNNNNNNNNNNNNNNNNNNNN,AA,1,1,\n",
-        b"rate ann A 50\n",
-        3,
-        "input 1 row 2: name in column 1\n",
-    ),
-    (
-        "refused repeat comes before later columns",
-        "quote CAT S1 ann 10 8",
-        b"section,course,seats,credits,meetings\nA,AA,1,1,\nA,A A,x,1,\n",
-        b"rate ann A 50\n",
-        3,
-        "input 1 row 3: repeats row 2\n",
-    ),
-    (
-        "refused repeat names the first row",
-        "quote CAT S1 ann 10 8",
-        b"section,course,seats,credits,meetings\nA,AA,1,1,\nB,BB,1,1,\nC,CC,1,1,\nB,BB,1,1,\n",
-        b"rate ann A 50\n",
-        3,
-        "input 1 row 5: repeats row 3\n",
-    ),
-    (
-        "refused repeated section",
-        "quote CAT S1 ann 10 8",
-        b"section,course,seats,credits,meetings\nA,AA,2,1,\nA,BB,2,1,\n",
-        b"rate ann A 50\n",
-        3,
-        "input 1 row 3: repeats row 2\n",
-    ),
-    (
-        "refused signed seats",
-        "quote CAT S1 ann 10 8",
-        b"section,course,seats,credits,meetings\nA,AA,+5,1,\n",
-        b"rate ann A 50\n",
-        3,
-        "input 1 row 2: number in column 3\n",
-    ),
-    (
-        "refused space in a section name",
-        "quote CAT S1 ann 10 8",
-        b"section,course,seats,credits,meetings\nA,AA,1,1,\nB 1,BB,1,1,\n",
-        b"rate ann A 50\n",
-        3,
-        "input 1 row 3: name in column 1\n",
-    ),
-    (
-        "refused ten thousand seats",
-        "quote CAT S1 ann 10 8",
-        b"section,course,seats,credits,meetings\nA,AA,10000,1,\n",
-        b"rate ann A 50\n",
-        3,
-        "input 1 row 2: number in column 3\n",
-    ),
-    (
-        "refused too many credits of a section",
-        "quote CAT S1 ann 10 8",
-        b"section,course,seats,credits,meetings\nA,AA,1,101,\n",
-        b"rate ann A 50\n",
-        3,
-        "input 1 row 2: number in column 4\n",
-    ),
-];
-
-// Each case has its answer.
-fn try_each<R: Threads + Wait + Sync + Abort>(
-    rt: &R,
+// Puts a row behind the text for each number from the first to before the last: the head, and each of the pieces behind the number.
+fn put_rows(
+    text: &mut Vec<u8>,
     alloc: Global,
-    cases: &[Case],
+    numbers: (u32, u32),
+    head: &str,
+    pieces: &[&str],
 ) -> Result<(), Fail> {
-    for (shows, line, catalogue, session, status, text) in cases {
-        let texts = (catalogue.to_vec(alloc)?, session.to_vec(alloc)?);
-        let (found, written) = run(rt, alloc, line, texts, (0, 0), 200)?;
-        assert_eq!(rt; found.number(), *status, "{shows}");
-        assert_eq!(rt; written.as_str(), *text, "{shows}");
+    for number in numbers.0..numbers.1 {
+        let digits = format!(in alloc; "{number}")?;
+        text.extend_from_slice(head.as_bytes())?;
+        for piece in pieces {
+            text.extend_from_slice(digits.as_bytes())?;
+            text.extend_from_slice(piece.as_bytes())?;
+        }
     }
-    Ok(())
-}
-
-#[test]
-fn bundles_by_days_and_caps(rt: HostRuntime) -> Result<(), Fail> {
-    try_each(&rt, rt.alloc(), &DAYS_AND_CAPS)
-}
-
-#[test]
-fn bundles_by_ties_and_other_students(rt: HostRuntime) -> Result<(), Fail> {
-    try_each(&rt, rt.alloc(), &TIES_AND_OTHERS)
-}
-
-#[test]
-fn refused_headers_and_missing_inputs(rt: HostRuntime) -> Result<(), Fail> {
-    try_each(&rt, rt.alloc(), &HEADERS)
-}
-
-#[test]
-fn refused_meetings(rt: HostRuntime) -> Result<(), Fail> {
-    try_each(&rt, rt.alloc(), &MEETINGS)
-}
-
-#[test]
-fn refused_names_and_numbers(rt: HostRuntime) -> Result<(), Fail> {
-    try_each(&rt, rt.alloc(), &NAMES_AND_NUMBERS)
-}
-
-// Words that are no form.
-#[test]
-fn each_other_form_is_the_usage(rt: HostRuntime) -> Result<(), Fail> {
-    let alloc = rt.alloc();
-    let usage = "usage: run, check, prefer, demand, quote, make\n";
-    for line in [
-        "quote CAT S1 ann 010 1",
-        "quote CAT S1 ann 10 9",
-        "prefer CAT STU S1",
-    ] {
-        let texts = (TWO.as_bytes().to_vec(alloc)?, TIE.as_bytes().to_vec(alloc)?);
-        let (found, written) = run(&rt, alloc, line, texts, (0, 0), 100)?;
-        assert_eq!(rt; found, Status::Usage);
-        assert_eq!(rt; written.as_str(), usage);
-    }
-    Ok(())
-}
-
-#[test]
-fn each_fault_has_its_answer(rt: HostRuntime) -> Result<(), Fail> {
-    let alloc = rt.alloc();
-    // The shelf's call and the sink's write that fail, the sink's room, and the answer. Each input takes a call to
-    // begin it, one to read it and one to find its end.
-    let cases: [((u64, u64), usize, Status, &str); 9] = [
-        (
-            (1, 0),
-            100,
-            Status::ShelfFault { input: 1 },
-            "input 1 can not be read\n",
-        ),
-        (
-            (2, 0),
-            100,
-            Status::ShelfFault { input: 1 },
-            "input 1 can not be read\n",
-        ),
-        (
-            (3, 0),
-            100,
-            Status::ShelfFault { input: 1 },
-            "input 1 can not be read\n",
-        ),
-        (
-            (4, 0),
-            100,
-            Status::ShelfFault { input: 2 },
-            "input 2 can not be read\n",
-        ),
-        (
-            (6, 0),
-            100,
-            Status::ShelfFault { input: 2 },
-            "input 2 can not be read\n",
-        ),
-        ((7, 0), 100, Status::Done, "bundle ann [A]\nutility 50\n"),
-        ((0, 1), 100, Status::SinkFault, ""),
-        ((0, 0), 7, Status::SinkFault, "bundle "),
-        ((2, 1), 100, Status::SinkFault, ""),
-    ];
-    for (failing, room, status, text) in cases {
-        let texts = (TWO.as_bytes().to_vec(alloc)?, TIE.as_bytes().to_vec(alloc)?);
-        let (found, written) = run(&rt, alloc, "quote CAT S1 ann 10 1", texts, failing, room)?;
-        assert_eq!(rt; found, status);
-        assert_eq!(rt; written.as_str(), text);
-    }
-    Ok(())
-}
-
-#[test]
-fn an_input_has_a_limit(rt: HostRuntime) -> Result<(), Fail> {
-    let alloc = rt.alloc();
-    let texts = (vec![in alloc; b' '; 16_777_217]?, Vec::new(alloc));
-    let (status, text) = run(&rt, alloc, "quote CAT S1 ann 10 1", texts, (0, 0), 100)?;
-    assert_eq!(rt; status, Status::TooLong { input: 1 });
-    assert_eq!(rt; text.as_str(), "input 1 is too long\n");
     Ok(())
 }

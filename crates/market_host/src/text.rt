@@ -1,5 +1,5 @@
 // What `quote` prints.
-ghost use Rattle.std.specs.Prelude.{◌≡◌, ◌++◌, ℕ, [], ◌∷◌, map, length, IfOk, OnOk};
+ghost use Rattle.std.specs.Prelude.{◌≡◌, ◌<◌, ◌++◌, ℕ, All, [], ◌∷◌, map, length, IfOk, OnOk};
 ghost use Rattle.std.specs.List.{join_with_byte};
 ghost use Rattle.bundle_rules.specs.Ordinals.{ordinals};
 ghost use Rattle.course_catalog.specs.Sections.{section_at};
@@ -18,6 +18,7 @@ pub fn text_of(
     bundle: &[SectionNo],
     worth: i32,
 ) -> Result<Vec<u8>, AllocError>
+    requires { All (λ section. section.0 < length catalog.now) bundle.now }
     ensures { IfOk result (λ text. text.items ≡ quoted_text catalog.now (name_bytes name.now) (ordinals bundle.now) worth) }
 {
     let mut text = Vec::new(alloc);
@@ -37,6 +38,7 @@ fn put_names(
     catalog: &Catalog,
     sections: &[SectionNo],
 ) -> Result<(), AllocError>
+    requires { All (λ section. section.0 < length catalog.now) sections.now }
     ensures { OnOk result (text.new.items ≡ text.old.items ++ names_with_commas catalog.now (ordinals sections.now)) }
 {
     match sections {
@@ -53,10 +55,8 @@ fn put_names(
 
 // Puts the name of the section behind the text.
 fn put_name(text: &mut Vec<u8>, catalog: &Catalog, section: SectionNo) -> Result<(), AllocError>
+    requires { section.0 < length catalog.now }
     ensures { OnOk result (text.new.items ≡ text.old.items ++ (section_at catalog.now section.0).name) }
 {
-    if section.0 < catalog.len() {
-        text.extend_from_slice(catalog.name(section).bytes())?;
-    }
-    Ok(())
+    text.extend_from_slice(catalog.name(section).bytes())
 }

@@ -1,0 +1,74 @@
+-- The inputs of `prefer`, and what it prints.
+use Rattle.std.proofs.Common.{ℕ, ◌≡◌, ◌≤◌, ◌+◌, ◌-◌, List, [], ◌∷◌, ◌++◌, length, take, drop, get_or, map, arith, ap, sym, subst, ◌∙◌, refl, Global}
+use Rattle.std.specs.Prelude.{Option, Ok, String, Vec}
+use Rattle.std.specs.String.{string_bytes}
+use Rattle.std.proofs.lemmas.List.{length-drop, length-map, length-take-le, take_all}
+use Rattle.course_catalog.specs.Reading.{catalog_of}
+use Rattle.course_catalog.specs.Sections.{Section}
+use Rattle.student_roll.specs.Rolls.{roll_of}
+use Rattle.student_roll.specs.Students.{Student}
+use Rattle.market_edge.specs.Holdings.{Holding}
+use Rattle.market_words.specs.declared.words.Form.{Form}
+use Rattle.market_words.specs.declared.words.Form.TheVariants.{Prefer}
+use Rattle.market_words.specs.Forms.{HasForm, inputs_of}
+use Rattle.preference_desk.specs.declared.entry.Entry.{Entry}
+use Rattle.preference_desk.specs.Journals.{IsLegalJournal, MergesStreams}
+use Rattle.preference_desk.specs.MarketNames.{market_names}
+use Rattle.preference_text.specs.Texts.{preferences_text}
+use Rattle.session_hall.specs.Streams.{command_lists}
+use Rattle.utility_language.specs.declared.commands.Command.{Command}
+use Rattle.market_host.specs.Causes.{HasCause}
+use Rattle.market_host.specs.Inputs.{AreRead}
+use Rattle.market_host.specs.Kinds.{Catalogue, Roll}
+use Rattle.market_host.specs.Lines.{Writes}
+use Rattle.market_host.specs.Preferences.{IsHeld}
+use Rattle.market_host.specs.Reading.{AreReadSessions, IsRead}
+use Rattle.market_host.specs.declared.status.Status.TheVariants.{Done}
+use Rattle.market_host.proofs.InputTroubles.{catalogue_first, roll_second}
+use Rattle.market_host.proofs.SessionsRead.{sessions_read}
+
+-- the words of `prefer`: the verb, a catalogue, a roll, and 1 to 64 sessions
+pub length-prefer : (words : List (String Global)) → HasForm (map string_bytes words) Prefer → (4 ≤ length words) × (length words ≤ 67)
+length-prefer words (catalog, roll, sessions, is, count) =
+    let long : length words ≡ 3 + length sessions = sym (length-map words string_bytes) ∙ ap length is ∙ omega arith in
+    let some : 1 ≤ length sessions = count.0 in
+    let few : length sessions ≤ 64 = count.1 in
+    (omega arith, omega arith)
+
+-- how many sessions the words name
+pub length-sessions : (words : List (String Global)) → length (map string_bytes (take (length words - 3) (drop 3 words))) ≡ length words - 3
+length-sessions words =
+    let rest : length (drop 3 words) ≡ length words - 3 = length-drop 3 words in
+    length-map (take (length words - 3) (drop 3 words)) string_bytes ∙ length-take-le (length words - 3) (drop 3 words) (omega arith)
+
+-- its first input is the word behind the verb
+pub first-prefer : (words : List (String Global)) (a : String Global) → 4 ≤ length words → a ≡ get_or words 1 a → inputs_of Prefer (map string_bytes words) ≡ string_bytes a ∷ drop 2 (map string_bytes words)
+first-prefer [] a some p = absurd (omega arith)
+first-prefer (w ∷ []) a some p = absurd (omega arith)
+first-prefer (w ∷ x ∷ more) a some p = ap (λ (n : String Global). string_bytes n ∷ map string_bytes more) (sym p)
+
+-- its inputs are the words behind the verb
+pub inputs-prefer : (words : List (String Global)) (a b : String Global) → 4 ≤ length words → a ≡ get_or words 1 a → b ≡ get_or words 2 b
+    → inputs_of Prefer (map string_bytes words) ≡ string_bytes a ∷ string_bytes b ∷ map string_bytes (take (length words - 3) (drop 3 words))
+inputs-prefer [] a b some p q = absurd (omega arith)
+inputs-prefer (w ∷ []) a b some p q = absurd (omega arith)
+inputs-prefer (w ∷ x ∷ []) a b some p q = absurd (omega arith)
+inputs-prefer (w ∷ x ∷ y ∷ more) a b some p q =
+    let all : take (length (w ∷ x ∷ y ∷ more) - 3) more ≡ more = take_all (length (w ∷ x ∷ y ∷ more) - 3) more (omega arith) in
+    cc
+
+-- what is printed is told of what was read
+pub prints_preferences : (words : List (List ℕ)) (held : Option Holding) (before after : List ℕ → ℕ) (a b : List ℕ) (names sessions : List (List ℕ)) (room : ℕ) (sections : List Section) (students : List Student)
+    (streams : List (Vec Command Global)) (text : List ℕ) → HasForm words Prefer → inputs_of Prefer words ≡ a ∷ b ∷ names → IsRead Catalogue held a (λ bytes. catalog_of bytes ≡ Ok sections)
+    → IsRead Roll held b (λ bytes. roll_of bytes ≡ Ok students) → AreReadSessions held names sessions streams room
+    → ((journal : List Entry) × IsLegalJournal (market_names sections students) journal × MergesStreams (command_lists streams) journal × (text ≡ preferences_text sections students journal))
+    → HasCause words held before after Done × Writes words held Done text
+prints_preferences words held before after a b names sessions room sections students streams text has inputs first second are (journal, legal, merges, printed) =
+    let front : AreRead Prefer held (a ∷ b ∷ []) (first.0 ∷ second.0 ∷ []) = roll_second Prefer held a b sections students refl (omega arith) refl first second in
+    let all : AreRead Prefer held (a ∷ b ∷ names) (first.0 ∷ second.0 ∷ sessions) =
+    sessions_read Prefer held (a ∷ b ∷ []) (first.0 ∷ second.0 ∷ []) names sessions front (omega arith) are.each (omega (arith, are.count)) in
+    let market : IsHeld first.0 second.0 sessions sections students journal = record { offered = first.3; enrolled = second.3; legal = legal; merged = (command_lists streams, are.commands, merges) } in
+    let read : AreRead Prefer held (inputs_of Prefer words) (first.0 ∷ second.0 ∷ sessions) = subst (λ names. AreRead Prefer held names (first.0 ∷ second.0 ∷ sessions)) (sym inputs) all in (
+      (Prefer, has, first.0 ∷ second.0 ∷ sessions, read),
+      (Prefer, has, first.0 ∷ second.0 ∷ sessions, read.each, (sections, students, journal, market, printed)),
+    )

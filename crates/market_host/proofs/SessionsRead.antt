@@ -1,0 +1,137 @@
+-- Sessions that were read, one by one and all together.
+use Rattle.std.proofs.Common.{ℕ, zero, suc, ◌≡◌, ◌<◌, ◌≤◌, ◌+◌, List, [], ◌∷◌, ◌++◌, length, take, drop, get_or, map, arith, ap, sym, subst, ◌∙◌, refl, append_assoc, inl, inr, Global}
+use Rattle.std.specs.Prelude.{Option, String, Vec, ⊤}
+use Rattle.std.specs.List.{AllZip}
+use Rattle.std.specs.String.{string_bytes}
+use Rattle.std.proofs.Math.ListN.{drop_of_length-le}
+use Rattle.std.proofs.Math.Seq.{drop-cons}
+use Rattle.std.proofs.lemmas.List.{append-nil, drop-append-le, length-append, length-map, length-take-le, map-append, map_more, take-append-drop}
+use Rattle.std.proofs.lemmas.List.Elements.{AllZip-push}
+use Rattle.std.proofs.lemmas.Slice.Zip.{AllZip-long}
+use Rattle.market_edge.specs.Holdings.{Holding, IsTextOf}
+use Rattle.market_lists.specs.Totals.{total}
+use Rattle.market_lists.proofs.Sums.{total-append}
+use Rattle.market_words.specs.declared.words.Form.{Form}
+use Rattle.utility_language.specs.declared.commands.Command.{Command}
+use Rattle.utility_language.specs.Commands.{AreCommands}
+use Rattle.market_host.specs.Causes.{HasTrouble}
+use Rattle.market_host.specs.Inputs.{AreRead, IsInOrder, IsOfGrammar, IsTooLong, commands_among}
+use Rattle.market_host.specs.Kinds.{Kind, Session, front_of, kind_behind, kind_of, limit_of}
+use Rattle.market_host.specs.Reading.{AreReadSessions, IsRead, IsSurplus, IsTroubleOfSession, IsTroubleOfSessions}
+use Rattle.market_host.specs.Sessions.{command_count, session_text}
+use Rattle.market_host.specs.declared.status.Status.{Status}
+use Rattle.market_host.specs.declared.status.Status.TheVariants.{Done, Usage, ShelfFault, Refused, TooLong, SinkFault, OutOfMemory}
+use Rattle.market_host.proofs.InputTroubles.{at_input, read_more, texts_long, trouble_before}
+use Rattle.market_host.proofs.StreamFacts.{as_many_streams, count_of_session, streams_more}
+
+session_behind : (kinds : List Kind) (count : ℕ) → length kinds ≤ count → kind_behind kinds count ≡ Session
+session_behind [] count behind = refl
+session_behind (kind ∷ kinds) zero behind = absurd (omega arith)
+session_behind (kind ∷ kinds) (suc count) behind = session_behind kinds count (omega arith)
+
+-- behind the inputs in front of the sessions, each input is a session
+pub is_session : (form : Form) (count : ℕ) → length (front_of form) ≤ count → kind_of form count ≡ Session
+is_session form count behind = session_behind (front_of form) count behind
+
+-- the commands of the sessions, with more sessions behind them
+commands_behind : (form : Form) (texts sessions : List (List ℕ)) → length (front_of form) ≤ length texts → commands_among form (texts ++ sessions) ≡ commands_among form texts + total command_count sessions
+commands_behind form texts sessions behind =
+    ap (total command_count) (drop-append-le (length (front_of form)) texts sessions behind) ∙ total-append command_count (drop (length (front_of form)) texts) sessions
+
+-- the same with one session more
+commands_more : (form : Form) (texts : List (List ℕ)) (text : List ℕ) → length (front_of form) ≤ length texts → commands_among form (texts ++ text ∷ []) ≡ commands_among form texts + command_count text
+commands_more form texts text behind = commands_behind form texts (text ∷ []) behind ∙ omega arith
+
+-- where no session was read yet, there is no command
+pub no_commands : (form : Form) (texts : List (List ℕ)) → length texts ≡ length (front_of form) → commands_among form texts ≡ 0
+no_commands form texts all = ap (total command_count) (drop_of_length-le texts (omega arith))
+
+-- a session that is within the limits is in order
+session_in_order : (form : Form) (texts : List (List ℕ)) (text : List ℕ) → length (front_of form) ≤ length texts → length text ≤ 16777216 → commands_among form texts + command_count text ≤ 200000
+    → IsInOrder form texts text
+session_in_order form texts text behind within room =
+    let of = sym (is_session form (length texts) behind) in
+    record {
+      within = subst (λ kind. length text ≤ limit_of kind) of within;
+      room = omega (arith, commands_more form texts text behind);
+      grammar = subst (λ kind. IsOfGrammar kind texts text) of tt;
+    }
+
+-- sessions that are within the limits were read behind the other inputs
+pub sessions_read : (form : Form) (held : Option Holding) (earlier texts names sessions : List (List ℕ)) → AreRead form held earlier texts → length (front_of form) ≤ length texts
+    → AllZip (λ name text. IsTextOf held name text × (length text ≤ limit_of Session)) names sessions → commands_among form texts + total command_count sessions ≤ 200000
+    → AreRead form held (earlier ++ names) (texts ++ sessions)
+sessions_read form held earlier texts [] [] read behind each room = rw (append-nil earlier, append-nil texts) read
+sessions_read form held earlier texts [] (text ∷ sessions) read behind each room = absurd each
+sessions_read form held earlier texts (name ∷ names) [] read behind each room = absurd each
+sessions_read form held earlier texts (name ∷ names) (text ∷ sessions) read behind each room =
+    let more : AreRead form held (earlier ++ name ∷ []) (texts ++ text ∷ []) =
+    read_more form held earlier texts name text read each.0.0 (session_in_order form texts text behind each.0.1 (omega arith)) in
+    let rest = sessions_read form held (earlier ++ name ∷ []) (texts ++ text ∷ []) names sessions more (omega (arith, length-append texts (text ∷ []))) each.1
+    (omega (arith, commands_more form texts text behind)) in
+    rw (append_assoc earlier (name ∷ []) names, append_assoc texts (text ∷ []) sessions) at rest
+
+-- a session that brings the commands above what there is room for
+pub trouble_of_session : (form : Form) (held : Option Holding) (before after : List ℕ → ℕ) (earlier texts later : List (List ℕ)) (name text : List ℕ) (number room : ℕ) (status : Status)
+    → AreRead form held earlier texts → number ≡ length earlier + 1 → length (front_of form) ≤ length earlier → commands_among form texts + room ≡ 200000 → IsTextOf held name text
+    → IsSurplus text room number status → HasTrouble form held before after (earlier ++ name ∷ later) status
+trouble_of_session form held before after earlier texts later name text number room (TooLong n) read is behind left whole surplus =
+    let long : length texts ≡ length earlier = texts_long form held earlier texts read in
+    at_input form held earlier texts later name n number (λ all input. (bytes : List ℕ) × IsTextOf held input bytes × IsTooLong form all bytes) read surplus.0 is
+    (text, whole, inr (omega (arith, commands_more form texts text (omega arith), surplus.1)))
+trouble_of_session form held before after earlier texts later name text number room OutOfMemory read is behind left whole surplus = tt
+trouble_of_session form held before after earlier texts later name text number room Done read is behind left whole surplus = absurd surplus
+trouble_of_session form held before after earlier texts later name text number room Usage read is behind left whole surplus = absurd surplus
+trouble_of_session form held before after earlier texts later name text number room (ShelfFault n) read is behind left whole surplus = absurd surplus
+trouble_of_session form held before after earlier texts later name text number room (Refused n row cause) read is behind left whole surplus = absurd surplus
+trouble_of_session form held before after earlier texts later name text number room SinkFault read is behind left whole surplus = absurd surplus
+
+names_split : (names : List (String Global)) (k : ℕ) (name : String Global) → k < length names → name ≡ get_or names k name
+    → map string_bytes names ≡ map string_bytes (take k names) ++ string_bytes name ∷ map string_bytes (drop (suc k) names)
+names_split names k name below is =
+    ap (map string_bytes) (sym (take-append-drop k names) ∙ ap (λ rest. take k names ++ rest) (drop-cons names k name below))
+    ∙ map-append string_bytes (take k names) (get_or names k name ∷ drop (suc k) names)
+    ∙ ap (λ (n : String Global). map string_bytes (take k names) ++ string_bytes n ∷ map string_bytes (drop (suc k) names)) (sym is)
+
+-- one name more
+pub names_more : (names : List (String Global)) (k : ℕ) (name : String Global) → k < length names → name ≡ get_or names k name
+    → map string_bytes (take (k + 1) names) ≡ map string_bytes (take k names) ++ string_bytes name ∷ []
+names_more names k name below is = map_more string_bytes names k name below ∙ ap (λ (n : String Global). map string_bytes (take k names) ++ string_bytes n ∷ []) (sym is)
+
+-- one session more was read
+pub sessions_more : (held : Option Holding) (names : List (String Global)) (k : ℕ) (name : String Global) (sessions : List (List ℕ)) (streams : List (Vec Command Global)) (room left : ℕ) (stream : Vec Command Global)
+    → k < length names → name ≡ get_or names k name → AreReadSessions held (map string_bytes (take k names)) sessions streams room
+    → (read : IsRead Session held (string_bytes name) (λ text. AreCommands (session_text text) stream.items × (command_count text ≤ room))) → left + length stream.items ≡ room
+    → AreReadSessions held (map string_bytes (take (k + 1) names)) (sessions ++ read.0 ∷ []) (streams ++ stream ∷ []) left
+sessions_more held names k name sessions streams room left stream below is are read fewer =
+    let one : map string_bytes (take (k + 1) names) ≡ map string_bytes (take k names) ++ string_bytes name ∷ [] = names_more names k name below is in
+    let many : length stream.items ≡ command_count read.0 = count_of_session read.0 stream.items read.3.0 in
+    let all : total command_count (sessions ++ read.0 ∷ []) ≡ total command_count sessions + command_count read.0 = total-append command_count sessions (read.0 ∷ []) ∙ omega arith in
+    record {
+      each = rw one (AllZip-push (λ given text. IsTextOf held given text × (length text ≤ 16777216)) (map string_bytes (take k names)) sessions (string_bytes name) read.0 are.each (read.1, read.2));
+      commands = streams_more sessions streams read.0 stream are.commands read.3.0;
+      count = omega (arith, are.count, all, many, fewer);
+    }
+
+-- as many streams as names
+pub streams_of_names : (held : Option Holding) (names sessions : List (List ℕ)) (streams : List (Vec Command Global)) (room : ℕ) → AreReadSessions held names sessions streams room → length streams ≡ length names
+streams_of_names held names sessions streams room are =
+    as_many_streams sessions streams are.commands ∙ AllZip-long (λ name text. IsTextOf held name text × (length text ≤ 16777216)) names sessions are.each
+
+-- the trouble of one session is the trouble of all
+pub trouble_among : (held : Option Holding) (before middle after : List ℕ → ℕ) (names : List (String Global)) (k : ℕ) (name : String Global) (first input room : ℕ) (sessions : List (List ℕ))
+    (streams : List (Vec Command Global)) (status : Status) → k < length names → name ≡ get_or names k name → input ≡ first + k → ((other : List ℕ) → before other ≤ middle other)
+    → AreReadSessions held (map string_bytes (take k names)) sessions streams room → IsTroubleOfSession held middle after room (string_bytes name) input status
+    → IsTroubleOfSessions held before after (map string_bytes names) first status
+trouble_among held before middle after names k name first input room sessions streams status below is number later are trouble = λ form earlier texts read behind counted.
+    let done = map string_bytes (take k names) in
+    let long : length texts ≡ length earlier = texts_long form held earlier texts read in
+    let none : commands_among form texts ≡ 0 = no_commands form texts (omega arith) in
+    let all : commands_among form (texts ++ sessions) ≡ commands_among form texts + total command_count sessions = commands_behind form texts sessions (omega arith) in
+    let so_far : AreRead form held (earlier ++ done) (texts ++ sessions) = sessions_read form held earlier texts done sessions read (omega arith) are.each (omega (arith, are.count)) in
+    let count : length (earlier ++ done) ≡ length earlier + k =
+    length-append earlier done ∙ ap (λ n. length earlier + n) (length-map (take k names) string_bytes ∙ length-take-le k names (omega arith)) in
+    let found = trouble form (earlier ++ done) (texts ++ sessions) (map string_bytes (drop (suc k) names)) so_far (omega arith) (omega arith) (omega (arith, are.count)) in
+    let split : (earlier ++ done) ++ string_bytes name ∷ map string_bytes (drop (suc k) names) ≡ earlier ++ map string_bytes names =
+    append_assoc earlier done (string_bytes name ∷ map string_bytes (drop (suc k) names)) ∙ ap (λ rest. earlier ++ rest) (sym (names_split names k name below is)) in
+    trouble_before form held before middle after (earlier ++ map string_bytes names) status later (subst (λ inputs. HasTrouble form held middle after inputs status) split found)

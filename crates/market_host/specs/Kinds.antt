@@ -1,0 +1,30 @@
+-- The kinds of inputs. Limits, grammars and faults go by kind; a form says which kinds its inputs have.
+use Rattle.std.specs.Prelude.{ℕ, zero, suc, List, [], ◌∷◌}
+use Rattle.market_words.specs.declared.words.Form.{Form}
+use Rattle.market_words.specs.declared.words.Form.TheVariants.{Prefer, Quote}
+
+pub data Kind : Type 0 where
+  Catalogue : Kind
+  Roll : Kind
+  Session : Kind
+
+-- the kinds of a form's inputs in front of its sessions
+abbrev pub front_of : Form → List Kind
+front_of (Quote name credits courses) = Catalogue ∷ []
+front_of Prefer = Catalogue ∷ Roll ∷ []
+
+-- the kind of the input that stands behind so many others, where these kinds stand in front of the sessions
+abbrev pub kind_behind : List Kind → ℕ → Kind
+kind_behind [] count = Session
+kind_behind (kind ∷ kinds) zero = kind
+kind_behind (kind ∷ kinds) (suc count) = kind_behind kinds count
+
+-- the kind of a form's input that stands behind so many others
+abbrev pub kind_of : Form → ℕ → Kind
+kind_of form count = kind_behind (front_of form) count
+
+-- the most bytes that an input of this kind may have
+abbrev pub limit_of : Kind → ℕ
+limit_of Catalogue = 16777216
+limit_of Roll = 16777216
+limit_of Session = 16777216

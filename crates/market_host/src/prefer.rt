@@ -1,0 +1,68 @@
+// The journal of the sessions, and the preferences that it closes with.
+ghost use Rattle.std.specs.Prelude.{◌≡◌, ◌≤◌, List, ℕ, length, map, MatchResult, IfOk};
+ghost use Rattle.std.specs.String.{string_bytes};
+ghost use Rattle.market_host.specs.Causes.{Fails, HasCause, IsReadOutAt};
+ghost use Rattle.market_host.specs.Lines.{Writes};
+ghost use Rattle.market_host.specs.Preferences.{AreStreams};
+ghost use Rattle.market_words.specs.Forms.{HasForm};
+ghost use Rattle.preference_desk.specs.Journals.{IsLegalJournal, MergesStreams};
+ghost use Rattle.preference_desk.specs.MarketNames.{market_names};
+ghost use Rattle.preference_text.specs.Texts as texts;
+ghost use Rattle.session_hall.specs.Streams.{command_count, command_lists};
+
+use crate::Status;
+use crate::catalogue::take_catalogue;
+use crate::roll::take_roll;
+use crate::sessions::take_sessions;
+use course_catalog::Catalog;
+use market_edge::{Gate, Shelf};
+use market_units::NoMemory;
+use market_words::Form;
+use preference_desk::Entry;
+use preference_text::preferences_text;
+use session_hall::hold;
+use std::alloc::Global;
+use std::sync::Wait;
+use std::thread::Threads;
+use student_roll::Roll;
+use utility_language::Command;
+
+/// The text of `prefer`, or the status that says why there is none.
+pub fn prefer<R: Threads + Wait + Sync, H: Shelf, G: Gate + Sync>(
+    rt: &R,
+    alloc: Global,
+    words: &[String],
+    shelf: &mut H,
+    gate: &G,
+) -> Result<Vec<u8>, Status>
+    requires { HasForm (map string_bytes words.now) Form.Prefer }
+    ensures answer { MatchResult result
+        (λ text. HasCause (map string_bytes words.now) (H.holds shelf.old) (H.faults shelf.old) (H.faults shelf.new) Status.Done
+        × Writes (map string_bytes words.now) (H.holds shelf.old) Status.Done text.items)
+        (Fails (map string_bytes words.now) (H.holds shelf.old) (H.faults shelf.old) (H.faults shelf.new)) }
+    ensures end { MatchResult result (λ _. IsReadOutAt (map string_bytes words.now) (H.holds shelf.old) (H.serves shelf.new) (H.left shelf.new) Status.Done) (IsReadOutAt (map string_bytes words.now) (H.holds shelf.old) (H.serves shelf.new) (H.left shelf.new)) }
+{
+    let catalog = take_catalogue(alloc, shelf, words[1].as_str(), 1)?;
+    let roll = take_roll(alloc, shelf, words[2].as_str(), 2)?;
+    let streams = take_sessions(alloc, shelf, &words[3..], 3)?;
+    Ok(text_of(rt, alloc, &catalog, &roll, &streams, gate)?)
+}
+
+// The text of the journal that a desk for this catalogue and this roll keeps of these streams.
+fn text_of<R: Threads + Wait + Sync, G: Gate + Sync>(
+    rt: &R,
+    alloc: Global,
+    catalog: &Catalog,
+    roll: &Roll,
+    streams: &[Vec<Command>],
+    gate: &G,
+) -> Result<Vec<u8>, NoMemory>
+    requires sessions { (1 ≤ length streams.now) × (length streams.now ≤ 64) }
+    requires commands { command_count streams.now ≤ 200000 }
+    requires told { (sessions : List (List ℕ)) × AreStreams sessions (command_lists streams.now) }
+    ensures { IfOk result (λ text. (journal : List Entry) × IsLegalJournal (market_names catalog.now roll.now) journal
+        × MergesStreams (command_lists streams.now) journal × (text.items ≡ texts.preferences_text catalog.now roll.now journal)) }
+{
+    let closed = hold(rt, alloc, catalog, roll, streams, gate)?;
+    preferences_text(alloc, catalog, roll, &closed.desk)
+}

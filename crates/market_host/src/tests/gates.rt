@@ -1,0 +1,146 @@
+// Sessions that meet, and how often they pass the gate.
+use super::*;
+use market_edge::Stop;
+use std::sync::atomic::{AtomicU64, Ordering};
+
+// How often a session looks for the other one before it passes on alone.
+const TURNS: u32 = 1_000_000_000;
+
+// The stops of one session.
+#[derive(Drop)]
+struct Passes {
+    starts: AtomicU64,
+    calls: AtomicU64,
+}
+
+impl Passes {
+    fn none() -> Self {
+        Passes {
+            starts: AtomicU64::new(0),
+            calls: AtomicU64::new(0),
+        }
+    }
+
+    fn counts(&self) -> (u64, u64) {
+        (count_of(&self.starts), count_of(&self.calls))
+    }
+}
+
+fn count_of(counter: &AtomicU64) -> u64 {
+    counter.load(Ordering::SeqCst)
+}
+
+fn count_one(counter: &AtomicU64) {
+    counter.fetch_add(1, Ordering::SeqCst);
+}
+
+// Counts the stops of three sessions. The calls of the first two meet: after each reply they wait until the other has had one.
+#[derive(Drop)]
+struct MeetingGate {
+    first: Passes,
+    second: Passes,
+    third: Passes,
+    others: AtomicU64,
+    // How often a session passed on alone.
+    missed: AtomicU64,
+}
+
+impl MeetingGate {
+    fn new() -> Self {
+        MeetingGate {
+            first: Passes::none(),
+            second: Passes::none(),
+            third: Passes::none(),
+            others: AtomicU64::new(0),
+            missed: AtomicU64::new(0),
+        }
+    }
+
+    fn meet(&self, mine: &Passes, other: &Passes) {
+        count_one(&mine.calls);
+        for _ in 0..TURNS {
+            if count_of(&other.calls) > 0 {
+                return;
+            }
+        }
+        count_one(&self.missed);
+    }
+}
+
+impl Gate for MeetingGate {
+    fn pass(&self, stop: Stop) {
+        match stop {
+            Stop::SessionStart(1) => count_one(&self.first.starts),
+            Stop::SessionStart(2) => count_one(&self.second.starts),
+            Stop::SessionStart(3) => count_one(&self.third.starts),
+            Stop::SessionCall(1) => self.meet(&self.first, &self.second),
+            Stop::SessionCall(2) => self.meet(&self.second, &self.first),
+            Stop::SessionCall(3) => count_one(&self.third.calls),
+            _ => count_one(&self.others),
+        }
+    }
+}
+
+const FIRST: &str = "rate ann A 10\nrate zoe A 1\nrate ann A 30\nrate ann Q 1\n";
+
+const SECOND: &str = "rate bob B 20\n# no command\nno command\npair bob B A -5\n";
+
+const FIRST_ENTRIES: [&str; 4] = [
+    "entry 1 done rate ann A 10",
+    "entry 1 no-student rate zoe A 1",
+    "entry 1 done rate ann A 30",
+    "entry 1 no-section rate ann Q 1",
+];
+
+const SECOND_ENTRIES: [&str; 3] = [
+    "entry 2 done rate bob B 20",
+    "entry 2 unreadable unreadable",
+    "entry 2 done pair bob B A -5",
+];
+
+const CLOSED: &str = "rate ann A 30\nrate bob B 20\npair bob A B -5\n";
+
+// Whether the entries of the text that begin so are these, in order.
+fn has_entries(text: &str, start: &str, entries: &[&str]) -> bool {
+    let mut rest = entries;
+    for line in text.split('\n') {
+        if line.strip_prefix(start).is_none() {
+            continue;
+        }
+        let [entry, more @ ..] = rest else {
+            return false;
+        };
+        if *entry != line {
+            return false;
+        }
+        rest = more;
+    }
+    rest.is_empty()
+}
+
+// Two sessions whose calls meet: neither can post all its commands before the other has posted one. A third session
+// has no command.
+#[test]
+fn two_sessions_post_at_once(rt: HostRuntime) -> Result<(), Fail> {
+    let gate = MeetingGate::new();
+    let files = [
+        ("CAT", TWO),
+        ("STU", ANN_AND_BOB),
+        ("S1", FIRST.as_bytes()),
+        ("S2", SECOND.as_bytes()),
+        ("S3", b"".as_slice()),
+    ];
+    let line = "prefer CAT STU S1 S2 S3";
+    let (status, text) = run_by(&rt, rt.alloc(), line, &files, (0, 0), 1000, &gate)?;
+    assert_eq!(rt; status, Status::Done);
+    assert_eq!(rt; count_of(&gate.missed), 0);
+    assert!(rt; has_entries(text.as_str(), "entry 1 ", &FIRST_ENTRIES));
+    assert!(rt; has_entries(text.as_str(), "entry 2 ", &SECOND_ENTRIES));
+    assert!(rt; has_entries(text.as_str(), "entry 3 ", &[]));
+    assert!(rt; text.as_str().ends_with(CLOSED));
+    assert_eq!(rt; gate.first.counts(), (1, 4));
+    assert_eq!(rt; gate.second.counts(), (1, 3));
+    assert_eq!(rt; gate.third.counts(), (1, 0));
+    assert_eq!(rt; count_of(&gate.others), 0);
+    Ok(())
+}

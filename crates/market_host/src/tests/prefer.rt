@@ -1,0 +1,368 @@
+// `prefer` over texts in memory.
+use super::*;
+
+// What the case shows, the catalogue, the roll and the session, the number of the status, and the text.
+type Case = (
+    &'static str,
+    &'static [u8],
+    &'static [u8],
+    &'static [u8],
+    u8,
+    &'static str,
+);
+
+const DESK: [Case; 8] = [
+    (
+        "adjustments stay when a rating goes",
+        THREE,
+        ANN_AND_BOB,
+        b"rate ann A 4\npair ann A B 9\nrate ann A 0\n",
+        0,
+        "entry 1 done rate ann A 4\nentry 1 done pair ann A B 9\nentry 1 done rate ann A 0\npair ann A B 9\n",
+    ),
+    (
+        "clear removes ratings and adjustments",
+        THREE,
+        ANN_AND_BOB,
+        b"rate ann A 4\nrate bob A 3\npair ann A B 9\nclear ann\nrate ann C 1\nclear zoe\n",
+        0,
+        "entry 1 done rate ann A 4\nentry 1 done rate bob A 3\nentry 1 done pair ann A B 9\nentry 1 done clear ann\nentry 1 done rate ann C 1\nentry 1 no-student clear zoe\nrate ann C 1\nrate bob A 3\n",
+    ),
+    (
+        "empty roll",
+        THREE,
+        STUDENTS,
+        b"rate ann A 1\nclose\n",
+        0,
+        "entry 1 no-student rate ann A 1\nentry 1 done close\n",
+    ),
+    (
+        "nothing counts after close",
+        ONE,
+        ANN,
+        b"rate ann A 5\nclose\nrate ann A 9\nclose\n",
+        0,
+        "entry 1 done rate ann A 5\nentry 1 done close\nentry 1 closed rate ann A 9\nentry 1 closed close\nrate ann A 5\n",
+    ),
+    (
+        "preferences student by student",
+        THREE,
+        ANN_AND_BOB,
+        b"pair bob C A 7\nrate bob C 1\nrate ann B 2\npair ann B A -3\nrate ann A 4\nrate bob A 5\npair ann C B 6\n",
+        0,
+        "entry 1 done pair bob C A 7\nentry 1 done rate bob C 1\nentry 1 done rate ann B 2\nentry 1 done pair ann B A -3\nentry 1 done rate ann A 4\nentry 1 done rate bob A 5\nentry 1 done pair ann C B 6\nrate ann A 4\nrate ann B 2\npair ann A B -3\npair ann B C 6\nrate bob A 5\nrate bob C 1\npair bob A C 7\n",
+    ),
+    (
+        "replies in their order",
+        THREE,
+        ANN_AND_BOB,
+        b"rate zoe Q 101\nrate ann Q 101\npair ann Q Q 999\npair zoe A A 1\npair ann A A 999\nrate ann A -1\nrate ann A -0\npair ann A B -201\npair ann A B 0\nrate ann A 0\n",
+        0,
+        "entry 1 no-student rate zoe Q 101\nentry 1 no-section rate ann Q 101\nentry 1 no-section pair ann Q Q 999\nentry 1 no-student pair zoe A A 1\nentry 1 same-pair pair ann A A 999\nentry 1 out-of-range rate ann A -1\nentry 1 unreadable unreadable\nentry 1 out-of-range pair ann A B -201\nentry 1 done pair ann A B 0\nentry 1 done rate ann A 0\n",
+    ),
+    (
+        "ratings and pairs of two students, one pair of a section that is not rated",
+        THREE,
+        ANN_AND_BOB,
+        b"rate bob B 3\npair bob A B 4\nrate ann C 2\nrate ann A 1\npair ann C A -5\npair bob C B 6\nrate bob A 7\n",
+        0,
+        "entry 1 done rate bob B 3\nentry 1 done pair bob A B 4\nentry 1 done rate ann C 2\nentry 1 done rate ann A 1\nentry 1 done pair ann C A -5\nentry 1 done pair bob C B 6\nentry 1 done rate bob A 7\nrate ann A 1\nrate ann C 2\npair ann A C -5\nrate bob A 7\nrate bob B 3\npair bob A B 4\npair bob B C 6\n",
+    ),
+    ("empty session", THREE, ANN_AND_BOB, b"", 0, ""),
+];
+
+const LINES: [Case; 4] = [
+    (
+        "bytes that are no text",
+        THREE,
+        ANN_AND_BOB,
+        b"\xff\xfe\x00\nrate ann A 1\n",
+        0,
+        "entry 1 unreadable unreadable\nentry 1 done rate ann A 1\nrate ann A 1\n",
+    ),
+    (
+        "lines that are commands and lines that are not",
+        THREE,
+        ANN_AND_BOB,
+        b"rate ann A 1\r\n\t rate \t ann  B 2 \r\n\r\n \t\n# rate ann C 3\n #rate ann C 3\n#\nrate ann C 3 #\nclose\r\r\nRATE ann A 1\nrate ann A\nrate ann A 1 1\nrate ann A 1000000\nrate ann A 999999\nrate ann A --1\nrate ann A 1.0\nrate ann A +1\nrate an!n A 1\npair ann A B\nclear\nclear ann bob\nclose now\nrate\xc2\xa0ann A 1\nrate ann C 9\r",
+        0,
+        "entry 1 done rate ann A 1\nentry 1 done rate ann B 2\nentry 1 unreadable unreadable\nentry 1 unreadable unreadable\nentry 1 unreadable unreadable\nentry 1 unreadable unreadable\nentry 1 unreadable unreadable\nentry 1 unreadable unreadable\nentry 1 out-of-range rate ann A 999999\nentry 1 unreadable unreadable\nentry 1 unreadable unreadable\nentry 1 unreadable unreadable\nentry 1 unreadable unreadable\nentry 1 unreadable unreadable\nentry 1 unreadable unreadable\nentry 1 unreadable unreadable\nentry 1 unreadable unreadable\nentry 1 unreadable unreadable\nentry 1 done rate ann C 9\nrate ann A 1\nrate ann B 2\nrate ann C 9\n",
+    ),
+    (
+        "session with byte order mark and line ends of a spreadsheet",
+        THREE,
+        ANN_AND_BOB,
+        b"\xef\xbb\xbfrate ann A 1\r\nclose\r\n",
+        0,
+        "entry 1 done rate ann A 1\nentry 1 done close\nrate ann A 1\n",
+    ),
+    (
+        "session with two byte order marks",
+        THREE,
+        ANN_AND_BOB,
+        b"\xef\xbb\xbf\xef\xbb\xbfrate ann A 1\nrate ann B 2\n",
+        0,
+        "entry 1 unreadable unreadable\nentry 1 done rate ann B 2\nrate ann B 2\n",
+    ),
+];
+
+const REFUSED_ROLLS: [Case; 8] = [
+    (
+        "refused budget above its limit",
+        TWO,
+        b"student,budget,credits,courses\nann,900001,10,1\n",
+        b"",
+        3,
+        "input 2 row 2: number in column 2\n",
+    ),
+    (
+        "refused credit cap above its limit",
+        TWO,
+        b"student,budget,credits,courses\nann,900000,801,1\n",
+        b"",
+        3,
+        "input 2 row 2: number in column 3\n",
+    ),
+    (
+        "refused nine courses",
+        TWO,
+        b"student,budget,credits,courses\nann,900000,800,8\nbob,0,0,9\n",
+        b"",
+        3,
+        "input 2 row 3: number in column 4\n",
+    ),
+    (
+        "refused repeated student",
+        TWO,
+        b"student,budget,credits,courses\nann,1,1,1\nbob,1,1,1\nann,2,2,2\n",
+        b"",
+        3,
+        "input 2 row 4: repeats row 2\n",
+    ),
+    (
+        "refused roll with the header of a catalogue",
+        TWO,
+        b"section,course,seats,credits,meetings\n",
+        b"",
+        3,
+        "input 2 row 1: header\n",
+    ),
+    (
+        "refused student name with a space",
+        TWO,
+        b"student,budget,credits,courses\nann lee,1,1,1\n",
+        b"",
+        3,
+        "input 2 row 2: name in column 1\n",
+    ),
+    (
+        "refused roll with a field more",
+        TWO,
+        b"student,budget,credits,courses\nann,1,1,1\nbob,1,1,1,1\n",
+        b"",
+        3,
+        "input 2 row 3: fields\n",
+    ),
+    (
+        "refused catalogue comes before refused roll",
+        b"section,course,seats,credits,meetings\nsection,course,seats,credits,meetings\n",
+        b"",
+        b"",
+        3,
+        "input 1 row 2: number in column 3\n",
+    ),
+];
+
+// What the case shows, the two sessions, and each lawful text.
+type PairCase = (
+    &'static str,
+    &'static [u8],
+    &'static [u8],
+    &'static [&'static str],
+);
+
+const TWO_SESSIONS: [PairCase; 2] = [
+    (
+        "close in one session closes the other",
+        b"close\n",
+        b"rate ann A 20\nrate ann A 30\n",
+        &[
+            "entry 1 done close\nentry 2 closed rate ann A 20\nentry 2 closed rate ann A 30\n",
+            "entry 2 done rate ann A 20\nentry 1 done close\nentry 2 closed rate ann A 30\nrate ann A 20\n",
+            "entry 2 done rate ann A 20\nentry 2 done rate ann A 30\nentry 1 done close\nrate ann A 30\n",
+        ],
+    ),
+    (
+        "two sessions rate one section",
+        b"rate ann A 10\n",
+        b"rate ann A 20\n",
+        &[
+            "entry 1 done rate ann A 10\nentry 2 done rate ann A 20\nrate ann A 20\n",
+            "entry 2 done rate ann A 20\nentry 1 done rate ann A 10\nrate ann A 10\n",
+        ],
+    ),
+];
+
+// Each case has its answer.
+fn try_each<R: Threads + Wait + Sync + Abort>(
+    rt: &R,
+    alloc: Global,
+    cases: &[Case],
+) -> Result<(), Fail> {
+    for (shows, catalogue, roll, session, status, text) in cases {
+        let files = [("CAT", *catalogue), ("STU", *roll), ("S1", *session)];
+        let (found, written) = run(rt, alloc, "prefer CAT STU S1", &files)?;
+        assert_eq!(rt; found.number(), *status, "{shows}");
+        assert_eq!(rt; written.as_str(), *text, "{shows}");
+    }
+    Ok(())
+}
+
+#[test]
+fn the_desk_replies_and_closes(rt: HostRuntime) -> Result<(), Fail> {
+    try_each(&rt, rt.alloc(), &DESK)
+}
+
+#[test]
+fn lines_of_a_session(rt: HostRuntime) -> Result<(), Fail> {
+    try_each(&rt, rt.alloc(), &LINES)
+}
+
+#[test]
+fn refused_rolls(rt: HostRuntime) -> Result<(), Fail> {
+    try_each(&rt, rt.alloc(), &REFUSED_ROLLS)
+}
+
+// Each text is one of those that some order of the sessions gives.
+#[test]
+fn two_sessions_in_any_order(rt: HostRuntime) -> Result<(), Fail> {
+    let alloc = rt.alloc();
+    for (shows, first, second, lawful) in TWO_SESSIONS {
+        let files = [("CAT", ONE), ("STU", ANN), ("S1", first), ("S2", second)];
+        let (status, written) = run(&rt, alloc, "prefer CAT STU S1 S2", &files)?;
+        assert_eq!(rt; status, Status::Done, "{shows}");
+        assert!(rt; lawful.contains(&written.as_str()), "{shows}: {written}");
+    }
+    Ok(())
+}
+
+#[test]
+fn missing_inputs(rt: HostRuntime) -> Result<(), Fail> {
+    let alloc = rt.alloc();
+    let files = [("CAT", ONE), ("STU", ANN), ("S1", TIE)];
+    for (line, text) in [
+        ("prefer NONE NONE NONE", "input 1 can not be read\n"),
+        ("prefer CAT NONE NONE", "input 2 can not be read\n"),
+        ("prefer CAT STU NONE", "input 3 can not be read\n"),
+        ("prefer CAT STU S1 NONE", "input 4 can not be read\n"),
+        ("prefer CAT CAT NONE", "input 2 row 1: header\n"),
+    ] {
+        let (_, written) = run(&rt, alloc, line, &files)?;
+        assert_eq!(rt; written.as_str(), text, "{line}");
+    }
+    Ok(())
+}
+
+// Sixty-three sessions without a command, and one with one. A name may stand for several sessions.
+#[test]
+fn sixty_four_sessions(rt: HostRuntime) -> Result<(), Fail> {
+    let alloc = rt.alloc();
+    let mut line = String::from_str(alloc, "prefer CAT STU")?;
+    for _ in 0..63u32 {
+        line.push_str(" S1")?;
+    }
+    line.push_str(" LAST")?;
+    let files: [File; 4] = [
+        ("CAT", ONE),
+        ("STU", ANN),
+        ("S1", b"# nothing\n"),
+        ("LAST", b"rate ann A 64\n"),
+    ];
+    let (status, text) = run(&rt, alloc, line.as_str(), &files)?;
+    assert_eq!(rt; status, Status::Done);
+    assert_eq!(rt;
+        text.as_str(),
+        "entry 64 done rate ann A 64\nrate ann A 64\n"
+    );
+    line.push_str(" LAST")?;
+    let (status, _) = run(&rt, alloc, line.as_str(), &files)?;
+    assert_eq!(rt; status, Status::Usage);
+    Ok(())
+}
+
+// A student rates at most sixty sections.
+#[test]
+fn at_most_sixty_rated_sections(rt: HostRuntime) -> Result<(), Fail> {
+    let alloc = rt.alloc();
+    let mut catalogue = HEADER.to_vec(alloc)?;
+    put_rows(&mut catalogue, alloc, (1, 62), "X", &[",K", ",1,1,\n"])?;
+    let mut session = Vec::new(alloc);
+    put_rows(&mut session, alloc, (1, 62), "rate ann X", &[" 1\n"])?;
+    session.extend_from_slice(
+        b"rate ann X1 2\nrate ann X1 0\nrate ann X61 3\nrate ann X2 05\nrate zoe X2 1\nrate ann Q 1\npair ann X2 X2 5\nrate ann X2 101\npair ann X2 X3 201\n",
+    )?;
+    let mut expected = Vec::new(alloc);
+    put_rows(
+        &mut expected,
+        alloc,
+        (1, 61),
+        "entry 1 done rate ann X",
+        &[" 1\n"],
+    )?;
+    expected.extend_from_slice(
+        b"entry 1 too-many rate ann X61 1\nentry 1 done rate ann X1 2\nentry 1 done rate ann X1 0\nentry 1 done rate ann X61 3\nentry 1 unreadable unreadable\nentry 1 no-student rate zoe X2 1\nentry 1 no-section rate ann Q 1\nentry 1 same-pair pair ann X2 X2 5\nentry 1 out-of-range rate ann X2 101\nentry 1 out-of-range pair ann X2 X3 201\n",
+    )?;
+    put_rows(&mut expected, alloc, (2, 61), "rate ann X", &[" 1\n"])?;
+    expected.extend_from_slice(b"rate ann X61 3\n")?;
+    let files = [
+        ("CAT", catalogue.as_slice()),
+        ("STU", ANN),
+        ("S1", session.as_slice()),
+    ];
+    let (status, text) = run(&rt, alloc, "prefer CAT STU S1", &files)?;
+    assert_eq!(rt; status, Status::Done);
+    assert_eq!(rt; text.as_bytes(), expected.as_slice());
+    Ok(())
+}
+
+// A student has at most two hundred adjustments.
+#[test]
+fn at_most_two_hundred_adjustments(rt: HostRuntime) -> Result<(), Fail> {
+    let alloc = rt.alloc();
+    let mut catalogue = HEADER.to_vec(alloc)?;
+    put_rows(&mut catalogue, alloc, (1, 22), "X", &[",K", ",1,1,\n"])?;
+    let mut session = Vec::new(alloc);
+    let mut entries = Vec::new(alloc);
+    let mut pairs = Vec::new(alloc);
+    let mut value = 0u32;
+    for first in 1..17u32 {
+        for second in first + 1..22 {
+            value = value.wrapping_add(1);
+            let line = format!(in alloc; "pair ann X{first} X{second} {value}\n")?;
+            session.extend_from_slice(line.as_bytes())?;
+            entries.extend_from_slice(b"entry 1 done ")?;
+            entries.extend_from_slice(line.as_bytes())?;
+            if second > 2 {
+                pairs.extend_from_slice(line.as_bytes())?;
+            }
+        }
+    }
+    assert_eq!(rt; value, 200);
+    session.extend_from_slice(
+        b"pair ann X17 X18 1\npair ann X2 X1 -200\npair ann X1 X2 0\npair ann X17 X18 1\npair ann X21 X20 0\n",
+    )?;
+    entries.extend_from_slice(
+        b"entry 1 too-many pair ann X17 X18 1\nentry 1 done pair ann X2 X1 -200\nentry 1 done pair ann X1 X2 0\nentry 1 done pair ann X17 X18 1\nentry 1 done pair ann X21 X20 0\n",
+    )?;
+    pairs.extend_from_slice(b"pair ann X17 X18 1\n")?;
+    entries.extend_from_slice(&pairs)?;
+    let files = [
+        ("CAT", catalogue.as_slice()),
+        ("STU", ANN),
+        ("S1", session.as_slice()),
+    ];
+    let (status, text) = run(&rt, alloc, "prefer CAT STU S1", &files)?;
+    assert_eq!(rt; status, Status::Done);
+    assert_eq!(rt; text.as_bytes(), entries.as_slice());
+    Ok(())
+}
