@@ -40,13 +40,13 @@ IsFailure status = ⊤
 abbrev pub Fails : List (List ℕ) → Option Holding → (List ℕ → ℕ) → (List ℕ → ℕ) → Status → Type 0
 Fails words held before after status = HasCause words held before after status × IsFailure status
 
--- the text of this name is begun, and nothing is left of it, where the shelf tells
+-- the shelf serves this name, as it does from the begin of its text on, and nothing of the begun text is left, where it tells
 abbrev pub IsAtEnd : Option Holding → (List ℕ → Bool) → Option (List ℕ) → List ℕ → Type 0
 IsAtEnd held serves left name = IsTrue (serves name) × IsReadOut held left
 
--- Where the work is done, the text that is begun is that of the last input, and it was read to its end; where an input is refused, it is the
--- refused one's. A clause on the shelf before and after the call can say no more: what was left of an earlier text when the next was
--- begun is not to be seen in either.
+-- Where the work is done, the shelf serves the last input's name and nothing is left to read; where an input is refused, the same of that
+-- input. A clause on the shelf before and after the call can say no more: what was left of an earlier text when the next was begun is not
+-- to be seen in either.
 abbrev pub IsReadOutAt : List (List ℕ) → Option Holding → (List ℕ → Bool) → Option (List ℕ) → Status → Type 0
 IsReadOutAt words held serves left Done =
     (form : Form) → HasForm words form → (earlier : List (List ℕ)) (last : List ℕ) → inputs_of form words ≡ earlier ++ last ∷ [] → IsAtEnd held serves left last
