@@ -11,7 +11,7 @@ use Rattle.market_units.specs.declared.units.SectionNo.{SectionNo}
 use Rattle.bundle_rules.specs.declared.menu.Rated.{Rated}
 use Rattle.bundle_rules.specs.Menus.{ArePlaces, IsRated, place_in, course_at, section_at}
 use Rattle.bundle_rules.specs.Sets.{IsAscending}
-use Rattle.course_catalog.specs.Catalog.{IsCatalog}
+use Rattle.course_catalog.specs.Catalog.{CatalogData, IsCatalog}
 use Rattle.course_catalog.specs.Courses.{course_number}
 use Rattle.course_catalog.specs.Sections.{Section, section_at as listed}
 use Rattle.preference_desk.specs.Rows.{AreRatings, rating_entry}
@@ -33,24 +33,24 @@ pub place_sections : (catalog : List Section) (es : List (ℕ × ℕ)) → map (
 place_sections catalog [] = refl
 place_sections catalog (e ∷ es) = ap (λ rest. e.0 ∷ rest) (place_sections catalog es)
 
-is_rated : (catalog : List Section) (rating : ℕ × ℕ) → IsCatalog catalog → rating.0 < length catalog → (1 ≤ rating.1) × (rating.1 ≤ 100) → IsRated (rated_of catalog rating)
+is_rated : (catalog : CatalogData) (rating : ℕ × ℕ) → IsCatalog catalog → rating.0 < length catalog.sections → (1 ≤ rating.1) × (rating.1 ≤ 100) → IsRated (rated_of catalog.sections rating)
 is_rated catalog rating is inside range = record {
   section = omega (arith, is.few);
   rating_low = range.0;
   rating_high = range.1;
-  credits = (is.each rating.0 _ inside).few_credits;
+  credits = (is.each rating.0 _ inside).section.few_credits;
 }
 
 -- the places of ratings are such as a menu has
-pub are_places : (catalog : List Section) (items : List (SectionNo × ℕ)) → IsCatalog catalog → AreRatings items → All (λ (rating : SectionNo × ℕ). rating.0.0 < length catalog) items
-    → ArePlaces (map (λ rating. rated_of catalog (rating_entry rating)) items)
+pub are_places : (catalog : CatalogData) (items : List (SectionNo × ℕ)) → IsCatalog catalog → AreRatings items → All (λ (rating : SectionNo × ℕ). rating.0.0 < length catalog.sections) items
+    → ArePlaces (map (λ rating. rated_of catalog.sections (rating_entry rating)) items)
 are_places catalog items is ratings inside = record {
-  few = omega (arith, ratings.few, length-map items (λ rating. rated_of catalog (rating_entry rating)));
+  few = omega (arith, ratings.few, length-map items (λ rating. rated_of catalog.sections (rating_entry rating)));
   ascending =
-      let e : map (λ (rated : Rated). rated.section.0) (map (λ rating. rated_of catalog (rating_entry rating)) items) ≡ map (λ e. e.0) (map rating_entry items) =
-      ap (map (λ (rated : Rated). rated.section.0)) (map_twice (rated_of catalog) rating_entry items) ∙ place_sections catalog (map rating_entry items) in
+      let e : map (λ (rated : Rated). rated.section.0) (map (λ rating. rated_of catalog.sections (rating_entry rating)) items) ≡ map (λ e. e.0) (map rating_entry items) =
+      ap (map (λ (rated : Rated). rated.section.0)) (map_twice (rated_of catalog.sections) rating_entry items) ∙ place_sections catalog.sections (map rating_entry items) in
       subst IsAscending (sym e) (ascending_keys (map rating_entry items) ratings.sorted);
-  each = All-map IsRated (λ rating. rated_of catalog (rating_entry rating)) items (λ k d below. is_rated catalog (rating_entry (get_or items k d)) is (inside k d below) (ratings.each k d below));
+  each = All-map IsRated (λ rating. rated_of catalog.sections (rating_entry rating)) items (λ k d below. is_rated catalog (rating_entry (get_or items k d)) is (inside k d below) (ratings.each k d below));
 }
 
 by_test : (b : Bool) (p n : ℕ) (found : Bool) → nat_lt p n ≡ found → nat_lt (cond b 0 (suc p)) (suc n) ≡ (b || found)
@@ -94,20 +94,20 @@ pub record AreGoodPlaces (catalog : List Section) (places : List Rated) : Type 0
 section_below : (n : ℕ) (places : List Rated) (d : Rated) → All (λ (rated : Rated). rated.section.0 < n) places → (k : ℕ) → k < length places → section_at places k < n
 section_below n places d each k inside = rw (section_at-get_or places k d inside) (each k d inside)
 
-made_places : (catalog : List Section) (items : List (SectionNo × ℕ)) → IsCatalog catalog → AreRatings items → All (λ (rating : SectionNo × ℕ). rating.0.0 < length catalog) items
-    → AreGoodPlaces catalog (map (λ rating. rated_of catalog (rating_entry rating)) items)
+made_places : (catalog : CatalogData) (items : List (SectionNo × ℕ)) → IsCatalog catalog → AreRatings items → All (λ (rating : SectionNo × ℕ). rating.0.0 < length catalog.sections) items
+    → AreGoodPlaces catalog.sections (map (λ rating. rated_of catalog.sections (rating_entry rating)) items)
 made_places catalog items is ratings inside =
-    let made = map (λ rating. rated_of catalog (rating_entry rating)) items in
-    let each : All (λ (rated : Rated). rated.section.0 < length catalog) made = All-map (λ (rated : Rated). rated.section.0 < length catalog) (λ rating. rated_of catalog (rating_entry rating)) items inside in
+    let made = map (λ rating. rated_of catalog.sections (rating_entry rating)) items in
+    let each : All (λ (rated : Rated). rated.section.0 < length catalog.sections) made = All-map (λ (rated : Rated). rated.section.0 < length catalog.sections) (λ rating. rated_of catalog.sections (rating_entry rating)) items inside in
     record {
       places_are = are_places catalog items is ratings inside;
       below = each;
-      courses = subst (λ (places : List Rated). (k : ℕ) → k < length places → course_at places k ≡ course_number catalog (listed catalog (section_at places k)).course) (sym (map_twice (rated_of catalog) rating_entry items)) (course_of_place catalog (map rating_entry items));
-      sections = section_below (length catalog) made (rated_of catalog (0, 0)) each;
+      courses = subst (λ (places : List Rated). (k : ℕ) → k < length places → course_at places k ≡ course_number catalog.sections (listed catalog.sections (section_at places k)).course) (sym (map_twice (rated_of catalog.sections) rating_entry items)) (course_of_place catalog.sections (map rating_entry items));
+      sections = section_below (length catalog.sections) made (rated_of catalog.sections (0, 0)) each;
     }
 
 -- places made of a student's ratings are good
-pub good_places : (catalog : List Section) (wanted : StudentPreferences) (items : List (SectionNo × ℕ)) (places : List Rated) → IsCatalog catalog → AreRatings items → SectionsBelow (length catalog) wanted → map rating_entry items ≡ entries wanted.ratings
-    → places ≡ map (λ rating. rated_of catalog (rating_entry rating)) items → AreGoodPlaces catalog places
+pub good_places : (catalog : CatalogData) (wanted : StudentPreferences) (items : List (SectionNo × ℕ)) (places : List Rated) → IsCatalog catalog → AreRatings items → SectionsBelow (length catalog.sections) wanted → map rating_entry items ≡ entries wanted.ratings
+    → places ≡ map (λ rating. rated_of catalog.sections (rating_entry rating)) items → AreGoodPlaces catalog.sections places
 good_places catalog wanted items places is ratings below entries made =
-    subst (AreGoodPlaces catalog) (sym made) (made_places catalog items is ratings (ratings_below (length catalog) wanted items below entries))
+    subst (AreGoodPlaces catalog.sections) (sym made) (made_places catalog items is ratings (ratings_below (length catalog.sections) wanted items below entries))

@@ -5,5 +5,6 @@ pub mod PairLemmas
 pub mod PreferenceLemmas
 pub mod RatingLemmas
 pub mod RowLemmas
+pub mod RowWrites
 pub mod SectionLemmas
 pub mod SharedLemmas
