@@ -18,7 +18,7 @@ pub record CatalogData : Type 0 where
 
 -- a section that a table of this version may list: in version 1 it runs in the whole term
 pub record IsListed (version : ℕ) (section : Section) : Type 0 where
-  pub section : IsSection section
+  pub is_section : IsSection section
   pub whole : version ≡ 1 → section.parts ≡ whole_term
 
 -- of version 1 or 2; at most 400 sections, of different names, within their ranges; in version 1 each runs in the whole term
@@ -31,7 +31,7 @@ pub record IsCatalog (catalog : CatalogData) : Type 0 where
 
 -- what is kept beside the sections, each worked out once: their names, seats, course numbers and clashes
 pub record KeepsCatalog (catalog : CatalogData) (name_keys : List Name) (seat_list course_list : List ℕ) (table : List (set.FinSet nat_cmp)) : Type 0 where
-  pub catalog : IsCatalog catalog
+  pub is_catalog : IsCatalog catalog
   pub names : bytes_of name_keys ≡ map (λ section. section.name) catalog.sections
   pub seats : seat_list ≡ map (λ section. section.seats) catalog.sections
   pub courses : course_list ≡ course_numbers catalog.sections

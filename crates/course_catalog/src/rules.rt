@@ -1,8 +1,9 @@
 // What the records of a catalogue may be.
-ghost use Rattle.std.specs.Prelude.{◌≡◌};
+ghost use Rattle.std.specs.Prelude.{◌≡◌, ◌||◌, IsTrue, IfSome};
 ghost use Rattle.csv.specs.Records.{fields_of};
 ghost use Rattle.course_catalog.specs.Reading.{catalog_rules, parts_in};
 ghost use Rattle.course_catalog.specs.Catalog.{IsListed};
+ghost use Rattle.timetable_rules.specs.Parts.{whole_term};
 
 use crate::CatalogRefusal;
 use crate::rows::Row;
@@ -86,7 +87,9 @@ impl Table for CatalogTable {
 
 // The parts of the term in which a row's section runs, in a table of this version.
 fn parts_in(version: usize, fields: &ByteRecord) -> Option<Parts>
-    ensures { result ≡ parts_in version (fields_of fields.now) }
+    ensures value { result ≡ parts_in version (fields_of fields.now) }
+    ensures whole { IfSome result (λ parts. version ≡ 1 → parts ≡ whole_term) }
+    ensures some { IfSome result (λ parts. IsTrue (parts.first || parts.second)) }
 {
     if version == 1 {
         Some(Parts {

@@ -7,4 +7,4 @@ use Rattle.student_roll.specs.Students.{IsRoll, RollData, names_of}
 -- the names stand beside the students, in one order
 pub record KeepsStudents (keys : List Name) (roll : RollData) : Type 0 where
   pub names : bytes_of keys ≡ names_of roll.students
-  pub roll : IsRoll roll
+  pub is_roll : IsRoll roll

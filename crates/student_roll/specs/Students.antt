@@ -21,7 +21,7 @@ pub record IsStudent (student : Student) : Type 0 where
 
 -- a student that a table of this version may list: in version 1 nothing is carried over
 pub record IsListed (version : ℕ) (student : Student) : Type 0 where
-  pub student : IsStudent student
+  pub is_student : IsStudent student
   pub fresh : version ≡ 1 → student.carry ≡ 0
 
 -- the student that a number beyond the last one stands for: of no name, with neither tokens nor caps

@@ -12,6 +12,7 @@ use Rattle.table_records.specs.Columns.{is_name, name_of}
 use Rattle.table_records.specs.Records.{first_field}
 use Rattle.table_records.specs.Reading.{IsVersion, Rules, Tells, answer_to, answers, bytes_of, header_of, reading, refusal_if_full, rows_or_first_refusal, unless, version_of, with_row}
 use Rattle.table_records.specs.Walk.{TakesRow}
+use Rattle.table_records.proofs.HeaderFacts.{place-within}
 use Rattle.table_records.specs.declared.rows.Rows.{Rows}
 use Rattle.table_records.specs.declared.fault.Fault.TheVariants as fault
 use Rattle.table_records.specs.declared.fault.End.{End}
@@ -91,7 +92,7 @@ pub record HasRead {R E : Type 0} (rules : Rules R E) (name_of : R → List ℕ)
 
 -- the version of a header is one of a table of these headers
 pub version_of-known : (headers : List (List (List ℕ))) (fields : List (List ℕ)) (version : ℕ) → version_of headers fields ≡ Some version → IsVersion headers version
-version_of-known headers fields version is = ?
+version_of-known headers fields version is = place-within (pointwise bytes_eq fields) headers version is
 
 none_few : {E : Type 0} (most : Option (ℕ × E)) → IfSome most (λ m. 0 ≤ m.0)
 none_few None = tt

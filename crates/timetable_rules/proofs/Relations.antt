@@ -67,7 +67,7 @@ SomeOverlap-other_way : (ones others : List Meeting) → SomeOverlap ones others
 SomeOverlap-other_way ones others (k, m, inside, here, (j, n, within, there, o)) =
     (j, n, within, there, (k, m, inside, here, record { same_day = sym o.same_day; first_starts = o.second_starts; second_starts = o.first_starts }))
 
-some_overlap-other_way : (ones others : List Meeting) → some_overlap ones others ≡ some_overlap others ones
+pub some_overlap-other_way : (ones others : List Meeting) → some_overlap ones others ≡ some_overlap others ones
 some_overlap-other_way ones others =
     let there = some_overlap-relation ones others in
     let back = some_overlap-relation others ones in
