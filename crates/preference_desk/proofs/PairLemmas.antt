@@ -74,14 +74,14 @@ tie first second n true = refl
 tie first second n false = refl
 
 fine : (first second : SectionNo) (n : ℤ) → first.0 < second.0 → unsigned_abs n ≤ 200 → (b : Bool) → (unsigned_abs n == 0) ≡ b → (e : SectionNo × SectionNo × ℤ) → cond b None (Some (first, second, n)) ≡ Some e → IsAdjustment e
-fine first second n order small true zero e is = cc
+fine first second n order small true nought e is = cc
 fine first second n order small false other e is =
     let same : (first, second, n) ≡ e = cc in
     let some : 1 ≤ unsigned_abs n = grind (arith, nat_tests) in
     subst IsAdjustment same (order, some, small)
 
 wants : (n : ℤ) (b : Bool) → (unsigned_abs n == 0) ≡ b → nat_lt 0 (unsigned_abs n) ≡ is_some (cond b None (Some n))
-wants n true zero = grind (arith, nat_tests)
+wants n true nought = grind (arith, nat_tests)
 wants n false other = grind (arith, nat_tests)
 
 valued : (m : FinMap {K = ℕ × ℕ} pair_cmp ℤ) (pair : ℕ × ℕ) (n : ℤ) (b : Bool) → with_value pair_cmp pair_cmp_total pair_cmp_same pair_entry IsAdjustment 200 m pair (cond b None (Some n)) ≡ cond b (remove_from m pair) (insert_in m pair n)

@@ -31,14 +31,14 @@ tie section rating true = refl
 tie section rating false = refl
 
 fine : (section : SectionNo) (rating : ℕ) → rating ≤ 100 → (b : Bool) → (rating == 0) ≡ b → (e : SectionNo × ℕ) → cond b None (Some (section, rating)) ≡ Some e → IsRating e
-fine section rating small true zero e is = cc
+fine section rating small true nought e is = cc
 fine section rating small false other e is =
     let same : (section, rating) ≡ e = cc in
     let some : 1 ≤ rating = grind (arith, nat_tests) in
     subst IsRating same (some, small)
 
 wants : (rating : ℕ) (b : Bool) → (rating == 0) ≡ b → nat_lt 0 rating ≡ is_some (cond b None (Some rating))
-wants rating true zero = grind (arith, nat_tests)
+wants rating true nought = grind (arith, nat_tests)
 wants rating false other = grind (arith, nat_tests)
 
 valued : (m : FinMap {K = ℕ} nat_cmp ℕ) (section rating : ℕ) (b : Bool) → with_value nat_cmp nat_cmp_total nat_cmp-IsAntisymmetric rating_entry IsRating 60 m section (cond b None (Some rating)) ≡ cond b (remove_from m section) (insert_in m section rating)

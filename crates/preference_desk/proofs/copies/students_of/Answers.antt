@@ -2,7 +2,7 @@ use Rattle.std.proofs.Common.{◌<◌, [], map, length, arith, ◌∙◌}
 use Rattle.std.proofs.lemmas.List.{take_all}
 use Rattle.student_roll.specs.Students.{Student}
 use Rattle.preference_desk.proofs.CopyLemmas.{one_name_more, read_option}
-use Rattle.preference_desk.proofs.RatingLemmas.{length-entries}
+use Rattle.preference_desk.proofs.RowLemmas.{length-entries}
 use Rattle.preference_desk.proofs.copies.students_of.Goals as goal
 
 pub loop-student-preserved : goal.loop-student-preserved
