@@ -3,7 +3,7 @@ use Rattle.std.proofs.lemmas.Int.{ints}
 use Rattle.market_lists.specs.Totals.{signed_total}
 use Rattle.bundle_rules.specs.Menus.{adjustment_in}
 use Rattle.bundle_rules.proofs.Firsts.{first_rest}
-use Rattle.bundle_bounds.proofs.opens.+adjustments_with.Goals as goal
+use Rattle.bundle_bounds.proofs.places.+adjustments_with.Goals as goal
 
 pub returns-in-len1-up-clause-value : goal.returns-in-len1-up-clause-value
 returns-in-len1-up-clause-value t c =
