@@ -31,7 +31,7 @@ first_closes offer k chosen champion least leaf (b ∷ bs) (inr later) each = fi
 
 module _ (offer : Offer) (menu : IsMenu offer.menu) (k : ℕ) (chosen champion : List ℕ) (node : IsNode offer k chosen) (takable : IsTakable offer champion) where
   -- where the champion has the first decided difference, it has the first difference from all that completes the node
-  differs_first : (bundle : List ℕ) → IsTakable offer bundle → Completes offer k chosen bundle → IsAhead k (places_of offer.menu champion) (places_of offer.menu chosen) → DiffersFirstIn champion bundle
+  pub differs_first : (bundle : List ℕ) → IsTakable offer bundle → Completes offer k chosen bundle → IsAhead k (places_of offer.menu champion) (places_of offer.menu chosen) → DiffersFirstIn champion bundle
   differs_first bundle may completes ahead = (
     s,
     by_champion d on ∙ ahead.2,

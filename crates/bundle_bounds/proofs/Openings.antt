@@ -155,7 +155,7 @@ pub node_same : (offer : Offer) (k j : ℕ) (chosen others : List ℕ) → k ≡
 node_same offer k j chosen others same equal node = subst (λ n. IsNode offer n others) same (subst (IsNode offer k) equal node)
 
 -- a node is one also where more places count as decided
-node_later : (offer : Offer) (k place : ℕ) (chosen : List ℕ) → k ≤ place → IsNode offer k chosen → IsNode offer place chosen
+pub node_later : (offer : Offer) (k place : ℕ) (chosen : List ℕ) → k ≤ place → IsNode offer k chosen → IsNode offer place chosen
 node_later offer k place chosen later node = record { takable = node.takable; decided = λ s is. (let below : place_in offer.menu.places s < k = node.decided s is in omega arith) }
 
 le_to : (a b : ℕ) → a ≤ b → nat_le a b ≡ true
