@@ -1,7 +1,6 @@
 -- The clashes of places, as a menu has them.
-use Rattle.std.proofs.Common.{ℕ, zero, suc, ◌≡◌, ◌≢◌, ◌<◌, ◌∙◌, true, List, [], ◌∷◌, map, length, refl, sym, inl, inr, arith}
+use Rattle.std.proofs.Common.{ℕ, zero, suc, ◌≡◌, ◌≢◌, ◌<◌, ◌∙◌, List, [], ◌∷◌, map, length, sym, inl, inr, arith}
 use Rattle.std.proofs.lemmas.Bool.{cases_lt}
-use Rattle.std.proofs.lemmas.Bool.Decides.{nat_tests}
 use Rattle.bundle_rules.specs.declared.menu.Rated.{Rated}
 use Rattle.bundle_rules.specs.Menus.{AreClashes, course_at, section_at}
 use Rattle.bundle_rules.specs.Sets.{AllAbove, IsAscending}

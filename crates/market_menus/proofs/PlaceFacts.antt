@@ -5,7 +5,7 @@ use Rattle.std.specs.List.{list_any}
 use Rattle.std.specs.Ordering.{nat_cmp, eq_by_cmp}
 use Rattle.std.specs.FinMap.{FinMap, contains_key, contains_key-keys, entries}
 use Rattle.std.proofs.lemmas.Bool.Decides.{nat_tests}
-use Rattle.std.proofs.lemmas.List.{length-map, get_or-map}
+use Rattle.std.proofs.lemmas.List.{length-map}
 use Rattle.std.proofs.lemmas.List.Elements.{All-map}
 use Rattle.market_units.specs.declared.units.SectionNo.{SectionNo}
 use Rattle.bundle_rules.specs.declared.menu.Rated.{Rated}
@@ -16,6 +16,7 @@ use Rattle.course_catalog.specs.Courses.{course_number}
 use Rattle.course_catalog.specs.Sections.{Section, section_at as listed}
 use Rattle.preference_desk.specs.Rows.{AreRatings, rating_entry}
 use Rattle.preference_desk.specs.StudentPreferences.{SectionsBelow, StudentPreferences}
+use Rattle.preference_desk.proofs.BelowLemmas.{rated_below}
 use Rattle.market_menus.specs.MenusOf.{rated_of}
 use Rattle.market_menus.proofs.Orders.{ascending_keys, equal_is}
 use Rattle.market_menus.proofs.WordBits.{section_at-get_or}
@@ -23,10 +24,6 @@ use Rattle.market_menus.proofs.WordBits.{section_at-get_or}
 pub map_twice : {A B C : Type 0} (g : B → C) (f : A → B) (xs : List A) → map (λ x. g (f x)) xs ≡ map g (map f xs)
 map_twice g f [] = refl
 map_twice g f (x ∷ xs) = ap (λ rest. g (f x) ∷ rest) (map_twice g f xs)
-
--- what holds of each image
-pub All-from_map : {A B : Type 0} (P : B → Type 0) (f : A → B) (xs : List A) → All P (map f xs) → All (λ x. P (f x)) xs
-All-from_map P f xs each k d inside = subst P (get_or-map f xs k d (f d) inside) (each k (f d) (omega (arith, length-map xs f)))
 
 -- the sections of the places
 pub place_sections : (catalog : List Section) (es : List (ℕ × ℕ)) → map (λ (rated : Rated). rated.section.0) (map (rated_of catalog) es) ≡ map (λ e. e.0) es
@@ -38,7 +35,7 @@ is_rated catalog rating is inside range = record {
   section = omega (arith, is.few);
   rating_low = range.0;
   rating_high = range.1;
-  credits = (is.each rating.0 _ inside).section.few_credits;
+  credits = (is.each rating.0 _ inside).is_section.few_credits;
 }
 
 -- the places of ratings are such as a menu has
@@ -79,11 +76,6 @@ course_of_place catalog [] k below = absurd (omega arith)
 course_of_place catalog (e ∷ es) zero below = refl
 course_of_place catalog (e ∷ es) (suc k) below = course_of_place catalog es k (omega arith)
 
--- rated sections are sections of the catalogue
-pub ratings_below : (n : ℕ) (wanted : StudentPreferences) (items : List (SectionNo × ℕ)) → SectionsBelow n wanted → map rating_entry items ≡ entries wanted.ratings → All (λ (rating : SectionNo × ℕ). rating.0.0 < n) items
-ratings_below n wanted items below is =
-    All-from_map (λ (rated : ℕ × ℕ). rated.0 < n) rating_entry items (subst (All (λ (rated : ℕ × ℕ). rated.0 < n)) (sym is) below.rated)
-
 -- what holds of the places of ratings
 pub record AreGoodPlaces (catalog : List Section) (places : List Rated) : Type 0 where
   pub places_are : ArePlaces places
@@ -110,4 +102,4 @@ made_places catalog items is ratings inside =
 pub good_places : (catalog : CatalogData) (wanted : StudentPreferences) (items : List (SectionNo × ℕ)) (places : List Rated) → IsCatalog catalog → AreRatings items → SectionsBelow (length catalog.sections) wanted → map rating_entry items ≡ entries wanted.ratings
     → places ≡ map (λ rating. rated_of catalog.sections (rating_entry rating)) items → AreGoodPlaces catalog.sections places
 good_places catalog wanted items places is ratings below entries made =
-    subst (AreGoodPlaces catalog.sections) (sym made) (made_places catalog items is ratings (ratings_below (length catalog.sections) wanted items below entries))
+    subst (AreGoodPlaces catalog.sections) (sym made) (made_places catalog items is ratings (rated_below (length catalog.sections) wanted items below entries))

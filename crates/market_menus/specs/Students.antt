@@ -1,5 +1,5 @@
 -- Students by number.
-use Rattle.std.specs.Prelude.{ℕ, [], List, slice_index_or}
+use Rattle.std.specs.Prelude.{ℕ, List, slice_index_or}
 use Rattle.student_roll.specs.Students.{Student, no_student}
 
 -- the student of a number; a number that no student has stands for one of no name and with caps of 0

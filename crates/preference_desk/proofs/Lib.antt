@@ -1,3 +1,4 @@
+pub mod BelowLemmas
 pub mod CopyLemmas
 pub mod JournalLemmas
 pub mod NameLemmas

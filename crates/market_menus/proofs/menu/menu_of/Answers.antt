@@ -1,19 +1,21 @@
-use Rattle.std.proofs.Common.{[], length, sym, subst, arith}
+use Rattle.std.proofs.Common.{length, sym, subst, arith}
 use Rattle.preference_desk.specs.PreferencesView.{wanted_by}
 use Rattle.preference_desk.specs.StudentPreferences.{no_preferences}
+use Rattle.preference_desk.proofs.BelowLemmas.{rated_below}
+use Rattle.preference_desk.proofs.CopyLemmas.{read_at}
 use Rattle.student_roll.specs.Students.{Student, no_student}
 use Rattle.market_menus.specs.MenusOf.{IsMenuOf}
 use Rattle.market_menus.specs.Students.{student_at}
 use Rattle.market_menus.proofs.ClashFacts.{are_clashes}
 use Rattle.market_menus.proofs.PairFacts.{are_pairs}
-use Rattle.market_menus.proofs.PlaceFacts.{AreGoodPlaces, good_places, ratings_below}
-use Rattle.market_menus.proofs.StudentFacts.{if_ok, is_menu, menu_data, read_at}
+use Rattle.market_menus.proofs.PlaceFacts.{AreGoodPlaces, good_places}
+use Rattle.market_menus.proofs.StudentFacts.{if_ok, is_menu, menu_data}
 use Rattle.market_menus.proofs.menu.menu_of.Goals as goal
 
 pub places_of-requires : goal.places_of-requires
 places_of-requires c =
     let wanted = wanted_by c.args.preferences.now c.args.student.0 in
-    ratings_below (length c.args.catalog.now.sections) wanted c.ratings.result.now (c.requires.sections c.args.student.0 no_preferences (omega arith)) c.ratings.ensures.entries
+    rated_below (length c.args.catalog.now.sections) wanted c.ratings.result.now (c.requires.sections c.args.student.0 no_preferences (omega arith)) c.ratings.ensures.entries
 
 pub clashes_of-requires-clause-sections : goal.clashes_of-requires-clause-sections
 clashes_of-requires-clause-sections c =

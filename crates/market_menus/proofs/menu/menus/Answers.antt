@@ -1,4 +1,4 @@
-use Rattle.std.proofs.Common.{[], arith}
+use Rattle.std.proofs.Common.{arith}
 use Rattle.preference_desk.specs.PreferencesView.{preferences_of}
 use Rattle.preference_desk.specs.StudentPreferences.{no_preferences}
 use Rattle.student_roll.specs.Students.{no_student}

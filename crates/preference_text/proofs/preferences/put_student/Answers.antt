@@ -1,7 +1,7 @@
 use Rattle.std.proofs.Common.{length, arith}
 use Rattle.preference_desk.specs.PreferencesView.{wanted_by}
 use Rattle.preference_desk.specs.StudentPreferences.{no_preferences}
-use Rattle.preference_text.proofs.Students.{adjusted_below, rated_below}
+use Rattle.preference_desk.proofs.BelowLemmas.{adjusted_below, rated_below}
 use Rattle.preference_text.proofs.preferences.put_student.Goals as goal
 
 pub put_ratings-requires : goal.put_ratings-requires

@@ -1,4 +1,4 @@
-use Rattle.std.proofs.Common.{[], arith}
+use Rattle.std.proofs.Common.{arith}
 use Rattle.market_units.specs.Name.{name_bytes}
 use Rattle.preference_desk.specs.PreferencesView.{preferences_of}
 use Rattle.preference_desk.specs.StudentPreferences.{no_preferences}
