@@ -1,0 +1,5 @@
+pub mod Nodes
+pub mod Sound
+pub mod Complete
+pub mod Uniqueness
+pub mod Settling

@@ -1,0 +1,6 @@
+pub mod Given
+pub mod Trees
+pub mod Texts
+pub mod Walks
+pub mod Defects
+pub mod Laws

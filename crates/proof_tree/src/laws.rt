@@ -1,0 +1,17 @@
+//! What holds of trees: each call here does nothing, and its contract is a law.
+ghost use Rattle.proof_tree.specs.Laws.{OneTree, TreesProveTheBest, TreesProveTheBestWith};
+
+/// A feasible, affordable, allowed champion has a canonical tree exactly where it is the best bundle.
+pub fn trees_prove_the_best()
+    ensures { TreesProveTheBest }
+{}
+
+/// Such a champion that has a section has a forced tree exactly where it is the best bundle with that section.
+pub fn trees_prove_the_best_with()
+    ensures { TreesProveTheBestWith }
+{}
+
+/// A node has at most one canonical sign, and at most one tree.
+pub fn one_tree()
+    ensures { OneTree }
+{}

@@ -1,0 +1,9 @@
+//! Trees that prove a bundle best.
+#![tactic(auto)]
+
+mod defects;
+pub mod laws;
+mod signs;
+
+pub use defects::TreeDefect;
+pub use signs::Sign;
