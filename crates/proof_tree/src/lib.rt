@@ -4,6 +4,7 @@
 mod defects;
 pub mod laws;
 mod signs;
+mod walk;
 
 pub use defects::TreeDefect;
 pub use signs::Sign;
