@@ -2,7 +2,8 @@ use Rattle.std.proofs.Common.{◌≡◌, ◌<◌, ◌++◌, ◌∷◌, [], ◌�
 use Rattle.std.proofs.lemmas.List.{take_more, take_more_set, take_all, map-append, length-map}
 use Rattle.bundle_rules.specs.Menus.{place_in}
 use Rattle.bundle_rules.specs.Ordinals.{ordinals}
-use Rattle.bundle_rules.proofs.preferences.Places.of.Goals as goal
+use Rattle.bundle_rules.specs.PlaceLists.{listed}
+use Rattle.bundle_rules.proofs.place_list.Places.of.Goals as goal
 
 pub loop-i-preserved : goal.loop-i-preserved
 loop-i-preserved c =
@@ -22,6 +23,7 @@ loop-i-preserved c =
     }
 
 pub returns : goal.returns
+unfolding listed
 returns c =
     let end : c.loop-i.i ≡ length c.sections-section-items.result.now = omega (arith, c.loop-i-test.false, c.loop-i.auto.i-end) in
     let one : length c.sections.result.now ≡ c.loop-i.i = omega (arith, length-map c.sections.result.now (λ section. section.0), length-map c.sections-section-items.result.now (λ section. section.0), ap length c.sections.ensures.value, ap length c.sections-section-items.ensures.value) in
