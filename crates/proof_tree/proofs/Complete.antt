@@ -10,19 +10,21 @@ use Rattle.bundle_rules.specs.Preferences.{IsPreferred}
 use Rattle.bundle_rules.specs.Existence.Orders.{int_order}
 use Rattle.bundle_rules.specs.Existence.Places.{section_at-place_in}
 use Rattle.bundle_rules.proofs.Feasibility.{utility_by_place}
+use Rattle.bundle_rules.proofs.PlacesFirst.{section_at-rises}
 use Rattle.bundle_bounds.specs.declared.nodes.Leaf.{Leaf}
 use Rattle.bundle_bounds.specs.Offers.{Offer, places_of}
 use Rattle.bundle_bounds.specs.Opens.{budget_left, credits_left, courses_left, is_open, open_places, opens_from, prospects}
-use Rattle.bundle_bounds.specs.Bounds.{base_of, bounds, bounds_over, IsAhead, IsFirstClosing, NoneCloses}
+use Rattle.bundle_bounds.specs.Bounds.{base_of, bounds, bounds_over, IsFirstClosing, NoneCloses}
 use Rattle.bundle_bounds.specs.Limits.{NoneBelow, IsFirstBelow}
-use Rattle.bundle_bounds.specs.Ahead.{is_ahead, limit_of}
+use Rattle.bundle_rules.specs.Ahead.{IsAhead, is_ahead}
+use Rattle.bundle_bounds.specs.Ahead.{limit_of}
 use Rattle.bundle_bounds.specs.Laws.{IsTakable, IsNode}
-use Rattle.bundle_bounds.proofs.ByPlace.{section_at-rises, places-has, has_by_place, on_menu, taken_places}
+use Rattle.bundle_bounds.proofs.ByPlace.{places-has, has_by_place, on_menu, taken_places}
 use Rattle.bundle_bounds.proofs.BelowLimit.{some_closes, none_closes}
 use Rattle.bundle_bounds.proofs.NodeFacts.{nothing_chosen}
 use Rattle.bundle_bounds.proofs.Openings.{node_without}
 use Rattle.proof_tree.specs.Trees.{Tree, Wins, Bars, Cuts, Takes, Splits, Passes, IsTree, IsShut, IsChampionsEnd, GoesOn}
-use Rattle.proof_tree.specs.Given.{IsBestWith}
+use Rattle.bundle_rules.specs.Given.{IsBestWith}
 use Rattle.proof_tree.specs.Laws.{HasTree, TreesProveTheBest, TreesProveTheBestWith}
 use Rattle.proof_tree.proofs.Nodes.{places_with, places_low, last_here, last_other}
 use Rattle.proof_tree.proofs.Sound.{HasRequired, IsOnMenu, node_where_open, tree_is_sound}

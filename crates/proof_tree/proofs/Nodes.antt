@@ -12,8 +12,9 @@ use Rattle.bundle_rules.specs.Existence.Places.{section_at-place_in}
 use Rattle.bundle_bounds.specs.Offers.{Offer, price_at, allowed_at, places_of}
 use Rattle.bundle_bounds.specs.Opens.{budget_left, credits_left, is_apart, is_open}
 use Rattle.bundle_bounds.specs.Laws.{IsTakable, IsNode, Completes}
+use Rattle.bundle_rules.proofs.PlacesFirst.{AllOnMenu, section_at-rises}
 use Rattle.bundle_bounds.proofs.Openness.{MayBeTaken, front_of, is_open-more}
-use Rattle.bundle_bounds.proofs.ByPlace.{AllOnMenu, place_in-section_at, section_at-rises, has-places, has_by_place, on_menu, taken_places}
+use Rattle.bundle_bounds.proofs.ByPlace.{place_in-section_at, has-places, has_by_place, on_menu, taken_places}
 use Rattle.bundle_bounds.proofs.Soundness.{same_below}
 
 has_either : (xs ys : List ℕ) (s : ℕ) → has (xs ++ ys) s ≡ true → (has xs s ≡ true) ⊎ (has ys s ≡ true)

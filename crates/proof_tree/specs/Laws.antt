@@ -3,7 +3,7 @@ use Rattle.std.specs.Prelude.{ℕ, ◌<◌, ◌≡◌, ◌↔◌, true, Option, 
 use Rattle.bundle_rules.specs.Sets.{has}
 use Rattle.bundle_rules.specs.Menus.{IsMenu, wishes_of, section_at}
 use Rattle.bundle_rules.specs.Demand.{IsBest}
-use Rattle.proof_tree.specs.Given.{IsBestWith}
+use Rattle.bundle_rules.specs.Given.{IsBestWith}
 use Rattle.bundle_bounds.specs.Offers.{Offer, places_of}
 use Rattle.bundle_bounds.specs.Laws.{IsTakable}
 use Rattle.proof_tree.specs.declared.signs.Sign.{Sign}

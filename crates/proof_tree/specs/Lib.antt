@@ -1,4 +1,3 @@
-pub mod Given
 pub mod Trees
 pub mod Texts
 pub mod Walks
