@@ -3,3 +3,11 @@ pub mod Sound
 pub mod Complete
 pub mod Uniqueness
 pub mod Settling
+pub mod Stepping
+pub mod Digits
+pub mod Reading
+pub mod Spelling
+pub mod OneSymbol
+pub mod LowLeaves
+pub mod NoDefects
+pub mod Following

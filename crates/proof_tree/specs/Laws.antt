@@ -7,7 +7,10 @@ use Rattle.bundle_rules.specs.Given.{IsBestWith}
 use Rattle.bundle_bounds.specs.Offers.{Offer, places_of}
 use Rattle.bundle_bounds.specs.Laws.{IsTakable}
 use Rattle.proof_tree.specs.declared.signs.Sign.{Sign}
+use Rattle.proof_tree.specs.declared.defects.TreeDefect.{TreeDefect}
 use Rattle.proof_tree.specs.Trees.{Tree, IsSign, IsTree}
+use Rattle.proof_tree.specs.Texts.{IsTreeText}
+use Rattle.proof_tree.specs.Defects.{IsDefect}
 
 -- the champion has a tree at the root
 abbrev pub HasTree : Offer → Option ℕ → List ℕ → Type 0
@@ -31,3 +34,7 @@ pub record AreOne (offer : Offer) (required : Option ℕ) (champion : List ℕ) 
 
 abbrev pub OneTree : Type 0
 OneTree = (offer : Offer) (required : Option ℕ) (champion : List ℕ) (k : ℕ) (chosen : List ℕ) → AreOne offer required champion k chosen
+
+-- the text of the canonical tree has no defect
+abbrev pub NoDefectInATree : Type 0
+NoDefectInATree = (offer : Offer) (champion text : List ℕ) (defect : TreeDefect) → IsMenu offer.menu → IsTreeText offer None champion text → ¬ IsDefect offer champion text defect

@@ -3,4 +3,5 @@ pub mod Texts
 pub mod Walks
 pub mod Defects
 pub mod Steps
+pub mod Mismatches
 pub mod Laws

@@ -1,5 +1,5 @@
 -- How a tree is written.
-use Rattle.std.specs.Prelude.{ℕ, ◌<◌, ◌≤◌, ◌≡◌, ⊤, Option, List, [], ◌∷◌, ◌++◌}
+use Rattle.std.specs.Prelude.{ℕ, ◌<◌, ◌≤◌, ◌≡◌, ⊤, Option, Some, None, List, [], ◌∷◌, ◌++◌}
 use Rattle.std.specs.Fmt.{decimal}
 use Rattle.bundle_bounds.specs.declared.nodes.Leaf.{Leaf}
 use Rattle.bundle_bounds.specs.Offers.{Offer, places_of}
@@ -46,14 +46,19 @@ abbrev pub NoDigitFirst : List ℕ → Type 0
 NoDigitFirst [] = ⊤
 NoDigitFirst (byte ∷ bytes) = ¬ IsDigit byte
 
--- a symbol's number has one or two digits, and as many are taken as follow
-abbrev pub EndsWhole : Sign → List ℕ → Type 0
-EndsWhole (Closed (Budget place)) rest = (place < 100) × NoDigitFirst rest
-EndsWhole (Closed (Credits place)) rest = (place < 100) × NoDigitFirst rest
-EndsWhole (Closed (Number place)) rest = (place < 100) × NoDigitFirst rest
-EndsWhole sign rest = ⊤
+-- the number in a sign's symbol, where it has one
+abbrev pub number_of : Sign → Option ℕ
+number_of (Closed (Budget place)) = Some place
+number_of (Closed (Credits place)) = Some place
+number_of (Closed (Number place)) = Some place
+number_of sign = None
 
--- the symbol of the sign stands first in the text, before this rest
+-- that number has one or two digits
+abbrev pub IsShort : Sign → Type 0
+IsShort sign = (place : ℕ) → number_of sign ≡ Some place → place < 100
+
+-- the symbol of the sign stands first in the text, before this rest: as many digits are taken as follow, one or two
 pub record Stands (sign : Sign) (text rest : List ℕ) : Type 0 where
   pub spelled : text ≡ symbol sign ++ rest
-  pub whole : EndsWhole sign rest
+  pub short : IsShort sign
+  pub whole : (place : ℕ) → number_of sign ≡ Some place → NoDigitFirst rest

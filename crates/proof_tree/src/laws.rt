@@ -1,5 +1,5 @@
 //! What holds of trees: each call here does nothing, and its contract is a law.
-ghost use Rattle.proof_tree.specs.Laws.{OneTree, TreesProveTheBest, TreesProveTheBestWith};
+ghost use Rattle.proof_tree.specs.Laws.{NoDefectInATree, OneTree, TreesProveTheBest, TreesProveTheBestWith};
 
 /// A feasible, affordable, allowed champion has a canonical tree exactly where it is the best bundle.
 pub fn trees_prove_the_best()
@@ -14,4 +14,9 @@ pub fn trees_prove_the_best_with()
 /// A node has at most one canonical sign, and at most one tree.
 pub fn one_tree()
     ensures { OneTree }
+{}
+
+/// The text of the canonical tree has no defect.
+pub fn no_defect_in_a_tree()
+    ensures { NoDefectInATree }
 {}

@@ -1,10 +1,10 @@
 // The walk of a tree: its nodes one after another, each with its canonical sign.
-ghost use Rattle.std.specs.Prelude.{◌≡◌, ◌<◌, ◌≤◌, ◌+◌, ◌++◌, ◌∷◌, [], ℕ, List, Option, true, IfSome, length};
+ghost use Rattle.std.specs.Prelude.{◌≡◌, ◌<◌, ◌≤◌, ◌+◌, ◌++◌, ◌∷◌, [], ℕ, List, Option, true, IfSome, IfNone, OnSome, length};
 ghost use Rattle.std.specs.Ordering.{nat_cmp};
 ghost use Rattle.std.specs.FinSet as set;
 ghost use Rattle.market_units.specs.declared.units.Tokens.{Tokens};
 ghost use Rattle.bundle_rules.specs.Demand.{HasPrices};
-ghost use Rattle.bundle_rules.specs.Menus.{MenuData, section_at};
+ghost use Rattle.bundle_rules.specs.Menus.{MenuData, IsMenu, section_at};
 ghost use Rattle.bundle_rules.specs.Bundles.{sections_of};
 ghost use Rattle.bundle_bounds.specs.Offers.{Offer, offer_of, places_of};
 ghost use Rattle.bundle_bounds.specs.Opens.{is_open};
@@ -30,6 +30,7 @@ pub(crate) enum Step {
 }
 
 /// The nodes of a tree that wait to be visited, the next one last.
+#[derive(Drop)]
 pub(crate) struct Walk {
     waiting: [Node; ROOM],
     count: usize,
@@ -70,11 +71,9 @@ impl Walk {
         ensures waiting { AreWaiting (offer_of menu.now prices.now budget.0 allowed.now) self.new }
         ensures step { IsStep (offer_of menu.now prices.now budget.0 allowed.now) required (places_of menu.now (sections_of champion.now)) (spots_of menu.now (waiting_of self.old)) result (spots_of menu.now (waiting_of self.new)) }
     {
-        if self.count == 0 {
+        let Some(node) = self.take() else {
             return Step::Ended;
-        }
-        self.count -= 1;
-        let node = self.waiting[self.count];
+        };
         let Some(sign) = sign_at(menu, prices, budget, allowed, required, champion, &node) else {
             return Step::Unsigned;
         };
@@ -82,10 +81,26 @@ impl Walk {
         Step::Signed(sign)
     }
 
+    // Takes the next node, and `None` exactly where none waits.
+    fn take(&mut self) -> Option<Node>
+        requires { self.old.count ≤ 9 }
+        ensures some { IfSome result (λ node. waiting_of self.old ≡ node ∷ waiting_of self.new) }
+        ensures few { OnSome result (self.new.count ≤ 8) }
+        ensures none { IfNone result (waiting_of self.old ≡ []) }
+        ensures same { IfNone result (self.new ≡ self.old) }
+    {
+        if self.count == 0 {
+            return None;
+        }
+        self.count -= 1;
+        Some(self.waiting[self.count])
+    }
+
     // Lets a node wait, which is the next that is visited.
     fn put(&mut self, node: Node)
         requires { self.old.count < 9 }
         ensures count { self.new.count ≡ self.old.count + 1 }
+        ensures whole { length self.new.waiting ≡ 9 }
         ensures waiting { waiting_of self.new ≡ node ∷ waiting_of self.old }
     {
         self.waiting[self.count] = node;
@@ -120,6 +135,8 @@ impl Walk {
 fn with_next(menu: &Menu, node: &Node) -> Node
     requires left { node.now.place < length menu.now.places }
     requires open { (prices : List Tokens) × (budget : ℕ) × (allowed : set.FinSet nat_cmp) × IsNode (offer_of menu.now prices budget allowed) node.now.place (sections_of node.now.chosen) × (is_open (offer_of menu.now prices budget allowed) (places_of menu.now (sections_of node.now.chosen)) node.now.place ≡ true) }
+    ensures menu { IsMenu menu.now }
+    ensures room { length (sections_of node.now.chosen) < 8 }
     ensures place { result.place ≡ node.now.place + 1 }
     ensures chosen { sections_of result.chosen ≡ sections_of node.now.chosen ++ section_at menu.now.places node.now.place ∷ [] }
 {

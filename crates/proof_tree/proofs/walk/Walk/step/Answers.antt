@@ -1,0 +1,28 @@
+use Rattle.std.proofs.Common.{ap, sym, subst, ◌∙◌}
+use Rattle.bundle_rules.specs.Bundles.{sections_of}
+use Rattle.bundle_bounds.specs.Offers.{offer_of, places_of}
+use Rattle.proof_tree.specs.Steps.{MayWait, spots_of}
+use Rattle.proof_tree.proofs.walk.Walk.step.Goals as goal
+
+pub put_below-requires-clause-sign : goal.put_below-requires-clause-sign
+put_below-requires-clause-sign c =
+    let offer = offer_of c.args.menu.now c.args.prices.now c.args.budget.0 c.args.allowed.now in (
+      c.args.prices.now,
+      c.args.budget.0,
+      c.args.allowed.now,
+      c.args.required,
+      places_of c.args.menu.now (sections_of c.args.champion.now),
+      subst (MayWait offer) c.in-Some.ensures.some c.requires.waiting.nodes,
+      c.in-Some-sign_at.ensures.some,
+    )
+
+pub returns-clause-waiting : goal.returns-clause-waiting
+returns-clause-waiting c =
+    let offer = offer_of c.args.menu.now c.args.prices.now c.args.budget.0 c.args.allowed.now in
+    c.put_below.ensures.may_wait c.args.prices.now c.args.budget.0 c.args.allowed.now c.args.required (places_of c.args.menu.now (sections_of c.args.champion.now)) (subst (MayWait offer) c.in-Some.ensures.some c.requires.waiting.nodes) c.in-Some-sign_at.ensures.some
+
+pub returns-clause-step : goal.returns-clause-step
+returns-clause-step c = (_, (_, ap (spots_of c.args.menu.now) c.in-Some.ensures.some, c.in-Some-sign_at.ensures.some, c.put_below.ensures.below))
+
+pub returns-in_default-sign_at-clause-step : goal.returns-in_default-sign_at-clause-step
+returns-in_default-sign_at-clause-step c = (_, (_, ap (spots_of c.args.menu.now) c.in-Some.ensures.some, c.in_default-sign_at.ensures.none))
