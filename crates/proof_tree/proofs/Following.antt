@@ -1,8 +1,9 @@
 -- The walk along a text, step by step.
-use Rattle.std.proofs.Common.{◌≡◌, ◌≢◌, ◌<◌, ◌++◌, ℕ, Option, None, Some, List, [], ◌∷◌, length, refl, sym, ◌∙◌, ap, subst, inl, inr}
-use Rattle.std.specs.Prelude.{IfErr, IsErrAnd, OnOk}
+use Rattle.std.proofs.Common.{◌≡◌, ◌≢◌, ◌<◌, ◌++◌, ◌↔◌, ℕ, Option, None, Some, List, [], ◌∷◌, length, refl, sym, ◌∙◌, ap, subst, inl, inr}
+use Rattle.std.specs.Prelude.{IfErr, IsErrAnd, IsOk, OnOk}
 use Rattle.std.specs.declared.result.Result.{Result}
 use Rattle.std.specs.declared.result.Result.TheVariants.{Ok, Err}
+use Rattle.std.proofs.lemmas.Bool.{false≢true}
 use Rattle.bundle_bounds.specs.Offers.{Offer, places_of}
 use Rattle.proof_tree.specs.declared.signs.Sign.{Sign}
 use Rattle.proof_tree.specs.declared.walk.Step.TheVariants.{Signed, Unsigned, Ended}
@@ -25,6 +26,10 @@ on_ok (Err e) P Q is then_ = is
 pub if_err : {E : Type 0} (r : Result (Unit {0}) E) (P Q : E → Type 0) → IfErr r P → ((e : E) → P e → Q e) → IfErr r Q
 if_err (Ok u) P Q is then_ = is
 if_err (Err e) P Q is then_ = then_ e is
+
+pub ok_iff : {E : Type 0} (r : Result (Unit {0}) E) (P Q : Type 0) (D : E → Type 0) → OnOk r P → IfErr r D → (P → Q) → ((e : E) → D e → Q → ⊥) → IsOk r ↔ Q
+ok_iff (Ok u) P Q D is fails to not_both = ((λ ok. to is), (λ q. refl))
+ok_iff (Err e) P Q D is fails to not_both = ((λ ok. absurd (false≢true ok)), (λ q. absurd (not_both e fails q)))
 
 pub err_from : {A E : Type 0} (r : Result A E) (e : E) (P : E → Type 0) → IsErrAnd r (λ x. x ≡ e) → P e → IfErr r P
 err_from (Ok a) e P is p = absurd is

@@ -11,3 +11,4 @@ pub mod OneSymbol
 pub mod LowLeaves
 pub mod NoDefects
 pub mod Following
+pub mod Writing

@@ -11,7 +11,7 @@ use Rattle.proof_tree.specs.Trees.{sign_of, IsSign, HasNoSign}
 use Rattle.proof_tree.specs.Texts.{symbol, spelled, NoDigitFirst, Stands, IsTreeText}
 use Rattle.proof_tree.specs.Walks.{below, ComesTo, HasCome}
 use Rattle.proof_tree.specs.Defects.{IsLeaf, IsCanonical, Reads, Differs, IsDefect, IsStuck, FirstFailsAt}
-use Rattle.proof_tree.specs.Laws.{NoDefectInATree}
+use Rattle.proof_tree.specs.Laws.{NoDefectInATree, NoFailureInATree}
 use Rattle.proof_tree.proofs.Uniqueness.{sign_is, one_sign}
 use Rattle.proof_tree.proofs.LowLeaves.{short_sign}
 use Rattle.proof_tree.proofs.OneSymbol.{one_symbol, no_digit_after}
@@ -111,3 +111,15 @@ no_defect_in_a_tree offer champion text (WrongLeaf at) menu is defect = not_othe
 no_defect_in_a_tree offer champion text (WrongBranch at) menu is defect = not_other offer menu champion text is defect.0 defect.1.0 defect.1.1.0 defect.1.1.1.0 defect.1.1.1.1 _ defect.1.1.1.3
 no_defect_in_a_tree offer champion text (Rest at) menu is defect =
     defect.2 (walk_leaves offer None (places_of offer.menu champion) defect.1.0 ((0, []) ∷ []) text [] defect.0 defect.1.1 (text_spelled offer None champion text is))
+
+pub no_failure_in_a_tree : NoFailureInATree
+no_failure_in_a_tree offer required champion text at menu is fails = stuck fails.0 fails.1.0 fails.1.1 fails.1.3
+  where
+    stuck : (nodes : List (ℕ × List ℕ)) (rest : List ℕ) → HasCome offer required champion text nodes rest → IsStuck offer required (places_of offer.menu champion) nodes rest → ⊥
+    stuck [] rest come more = more (walk_leaves offer required (places_of offer.menu champion) come.0 ((0, []) ∷ []) text [] rest come.1 (text_spelled offer required champion text is))
+    stuck (node ∷ nodes) rest come none =
+        let left = walk_leaves offer required (places_of offer.menu champion) come.0 ((0, []) ∷ []) text (node ∷ nodes) rest come.1 (text_spelled offer required champion text is) in
+        let within = (walk_within offer menu required (places_of offer.menu champion) come.0 ((0, []) ∷ []) text (node ∷ nodes) rest come.1 ((let low : 0 ≤ length offer.menu.places = omega arith in low), tt)).0 in
+        let own = sign_is offer required (places_of offer.menu champion) node.0 node.1 left.0 left.1 in
+        let stands = stands_first offer menu required (places_of offer.menu champion) node nodes rest (sign_of left.0) within own left in
+        none (sign_of left.0) stands.0 own stands.1

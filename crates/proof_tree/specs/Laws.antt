@@ -10,7 +10,7 @@ use Rattle.proof_tree.specs.declared.signs.Sign.{Sign}
 use Rattle.proof_tree.specs.declared.defects.TreeDefect.{TreeDefect}
 use Rattle.proof_tree.specs.Trees.{Tree, IsSign, IsTree}
 use Rattle.proof_tree.specs.Texts.{IsTreeText}
-use Rattle.proof_tree.specs.Defects.{IsDefect}
+use Rattle.proof_tree.specs.Defects.{IsDefect, FirstFailsAt}
 
 -- the champion has a tree at the root
 abbrev pub HasTree : Offer → Option ℕ → List ℕ → Type 0
@@ -38,3 +38,7 @@ OneTree = (offer : Offer) (required : Option ℕ) (champion : List ℕ) (k : ℕ
 -- the text of the canonical tree has no defect
 abbrev pub NoDefectInATree : Type 0
 NoDefectInATree = (offer : Offer) (champion text : List ℕ) (defect : TreeDefect) → IsMenu offer.menu → IsTreeText offer None champion text → ¬ IsDefect offer champion text defect
+
+-- the walk of a tree with its text fails nowhere
+abbrev pub NoFailureInATree : Type 0
+NoFailureInATree = (offer : Offer) (required : Option ℕ) (champion text : List ℕ) (at : ℕ) → IsMenu offer.menu → IsTreeText offer required champion text → ¬ FirstFailsAt offer required champion text at

@@ -4,4 +4,5 @@ pub mod Walks
 pub mod Defects
 pub mod Steps
 pub mod Mismatches
+pub mod Spellings
 pub mod Laws

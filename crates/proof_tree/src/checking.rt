@@ -5,7 +5,8 @@ ghost use Rattle.std.specs.FinSet as set;
 ghost use Rattle.bundle_rules.specs.Sets.{has};
 ghost use Rattle.bundle_rules.specs.Bundles.{sections_of};
 ghost use Rattle.bundle_rules.specs.Demand.{HasPrices, IsBest, price_in};
-ghost use Rattle.bundle_rules.specs.Menus.{wishes_of};
+ghost use Rattle.bundle_rules.specs.Given.{IsBestWith};
+ghost use Rattle.bundle_rules.specs.Menus.{wishes_of, place_in};
 ghost use Rattle.bundle_bounds.specs.Offers.{offer_of};
 ghost use Rattle.bundle_bounds.specs.Laws.{IsTakable};
 ghost use Rattle.proof_tree.specs.Texts.{IsTreeText, Stands};
@@ -17,7 +18,7 @@ use crate::signs::Sign;
 use crate::symbols::read_symbol;
 use crate::walk::{Step, Walk};
 use bundle_rules::{Bundle, Menu};
-use market_units::{SectionSet, Tokens};
+use market_units::{SectionNo, SectionSet, Tokens};
 
 // The offset of the rest of a text, told as 4,294,967,295 where it is greater.
 fn offset_of(text: &[u8], rest: &[u8]) -> u32
@@ -148,5 +149,52 @@ fn follow(
             Step::Unsigned => return Err(without_sign(rest, at)),
             Step::Signed(sign) => rest = after_symbol(rest, sign, at)?,
         }
+    }
+}
+
+/// Whether the text is the canonical tree of a champion that is the best bundle: `Ok` exactly there, and else the first
+/// defect of the walk of its nodes with the text. It takes no memory. There is a price for each section of the menu,
+/// each at most 1,000,001; the champion is feasible, within the budget and of allowed sections.
+pub fn check_tree(
+    menu: &Menu,
+    prices: &[Tokens],
+    budget: Tokens,
+    allowed: &SectionSet,
+    champion: &Bundle,
+    text: &[u8],
+) -> Result<(), TreeDefect>
+    requires prices { HasPrices menu.now prices.now }
+    requires champion { IsTakable (offer_of menu.now prices.now budget.0 allowed.now) (sections_of champion.now) }
+    ensures ok { IsOk result ↔ (IsBest (wishes_of menu.now) (price_in prices.now) budget.0 (set.contains allowed.now) (sections_of champion.now) × IsTreeText (offer_of menu.now prices.now budget.0 allowed.now) None (sections_of champion.now) text.now) }
+    ensures defect { IfErr result (IsDefect (offer_of menu.now prices.now budget.0 allowed.now) (sections_of champion.now) text.now) }
+{
+    prove!(menu.len() <= 60);
+    follow(menu, prices, budget, allowed, None, champion, text)
+}
+
+/// Whether the text is the forced tree of a champion that is the best bundle with the section: `Ok` exactly there, and
+/// else the offset, in bytes, at which the walk of its nodes with the text first fails, told as 4,294,967,295 where it
+/// is greater. It takes no memory. There is a price for each section of the menu, each at most 1,000,001; the champion
+/// is feasible, within the budget, of allowed sections, and has the section.
+pub fn check_forced(
+    menu: &Menu,
+    prices: &[Tokens],
+    budget: Tokens,
+    allowed: &SectionSet,
+    section: SectionNo,
+    champion: &Bundle,
+    text: &[u8],
+) -> Result<(), u32>
+    requires prices { HasPrices menu.now prices.now }
+    requires champion { IsTakable (offer_of menu.now prices.now budget.0 allowed.now) (sections_of champion.now) }
+    requires section { has (sections_of champion.now) section.0 ≡ true }
+    ensures ok { IsOk result ↔ (IsBestWith (wishes_of menu.now) (price_in prices.now) budget.0 (set.contains allowed.now) section.0 (sections_of champion.now) × IsTreeText (offer_of menu.now prices.now budget.0 allowed.now) (Some (place_in menu.now.places section.0)) (sections_of champion.now) text.now) }
+    ensures at { IfErr result (FirstFailsAt (offer_of menu.now prices.now budget.0 allowed.now) (Some (place_in menu.now.places section.0)) (sections_of champion.now) text.now) }
+{
+    prove!(menu.len() <= 60);
+    let place = menu.place(section);
+    match follow(menu, prices, budget, allowed, Some(place), champion, text) {
+        Ok(()) => Ok(()),
+        Err(defect) => Err(defect.offset()),
     }
 }

@@ -18,3 +18,22 @@ pub enum TreeDefect {
     /// The tree is whole, and bytes are left.
     Rest(u32),
 }
+
+impl TreeDefect {
+    ghost use Rattle.std.specs.Prelude.{◌≡◌};
+    ghost use Rattle.proof_tree.specs.Mismatches.{offset_in};
+
+    /// The offset, in bytes, at which the defect is.
+    pub fn offset(&self) -> u32
+        ensures { result ≡ offset_in self.now }
+    {
+        match self {
+            TreeDefect::Syntax(at)
+            | TreeDefect::NotClosed(at)
+            | TreeDefect::Redundant(at)
+            | TreeDefect::WrongLeaf(at)
+            | TreeDefect::WrongBranch(at)
+            | TreeDefect::Rest(at) => *at,
+        }
+    }
+}

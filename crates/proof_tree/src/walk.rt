@@ -11,6 +11,9 @@ ghost use Rattle.bundle_bounds.specs.Opens.{is_open};
 ghost use Rattle.bundle_bounds.specs.Laws.{IsTakable, IsNode};
 ghost use Rattle.proof_tree.specs.Steps.{AreWaiting, MayWait, IsStep};
 ghost use Rattle.proof_tree.specs.Trees.{IsSign};
+ghost use Rattle.proof_tree.specs.Texts.{IsShort};
+ghost use Rattle.proof_tree.specs.declared.signs.Sign.{Sign};
+ghost use Rattle.proof_tree.specs.declared.walk.Step.TheVariants.{Signed};
 ghost use Rattle.proof_tree.specs.Walks.{below};
 
 use crate::signs::{Sign, sign_at};
@@ -69,6 +72,7 @@ impl Walk {
         requires champion { IsTakable (offer_of menu.now prices.now budget.0 allowed.now) (sections_of champion.now) }
         requires waiting { AreWaiting (offer_of menu.now prices.now budget.0 allowed.now) self.old }
         ensures waiting { AreWaiting (offer_of menu.now prices.now budget.0 allowed.now) self.new }
+        ensures short { (sign : Sign) → result ≡ Signed sign → IsShort sign }
         ensures step { IsStep (offer_of menu.now prices.now budget.0 allowed.now) required (places_of menu.now (sections_of champion.now)) (spots_of menu.now (waiting_of self.old)) result (spots_of menu.now (waiting_of self.new)) }
     {
         let Some(node) = self.take() else {
