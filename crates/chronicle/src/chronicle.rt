@@ -153,6 +153,7 @@ impl<O: Object> Chronicle<O> {
         ensures seats { All (λ step. Any (λ s. s.number ≡ step.seat) seats.items) result.1 }
         ensures own { All (λ s. calls_by s.number result.1 ≡ s.own) seats.items }
         ensures seen { All (λ s. BeginsWith result.1 s.seen) seats.items }
+        ensures others { All (λ s. (rest : _) → result.1 ≡ s.seen ++ rest → calls_by s.number rest ≡ []) seats.items }
         ensures base { O.base result.0 ≡ self.base }
         ensures last { O.state result.0 ≡ state_after O.after self.base self.opening result.1 }
     {
@@ -204,6 +205,7 @@ impl<O: Object> Chronicle<O> {
         ensures legal { IsLegal O.sound O.after O.reply self.now.base self.now.opening seat.new.seen }
         ensures own { seat.new.own ≡ seat.old.own ++ step_of seat.old.number request result ∷ [] }
         ensures all_own { calls_by seat.old.number seat.new.seen ≡ seat.new.own }
+        ensures others { (between : _) → seat.new.seen ≡ (seat.old.seen ++ between) ++ step_of seat.old.number request result ∷ [] → calls_by seat.old.number between ≡ [] }
         ensures left { seat.new.left + 1 ≡ seat.old.left }
         ensures same { (seat.new.chronicle ≡ seat.old.chronicle) × (seat.new.number ≡ seat.old.number) }
     {
