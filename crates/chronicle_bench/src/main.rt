@@ -2,15 +2,17 @@
 //! else nothing.
 #![tactic(auto)]
 
+mod calls;
 mod counter;
-mod timing;
+mod report;
+mod work;
 
 use std::env;
 use std::io;
 
 fn main(rt: HostRuntime) -> io::Result<()> {
     if env::args(&rt).is_ok_and(|words| words.count() > 1) {
-        timing::report(&rt, rt.alloc())?;
+        report::print_all(&rt, rt.alloc())?;
     }
     Ok(())
 }
