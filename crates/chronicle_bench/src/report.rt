@@ -22,7 +22,7 @@ const RUNS: u32 = 5;
 pub fn print_all<R: Threads + Wait + Sync + Clock + Print>(rt: &R, alloc: Global) -> io::Result<()> {
     let rounds = rounds_in(rt, WORK)?;
     print!(rt; "{CALLS} calls in all, {rounds} rounds of work before each; the least of {RUNS} runs\n")?;
-    for threads in [1u16, 2, 4, 16] {
+    for threads in [1u16, 2, 4, 16, 64] {
         print_line(rt, alloc, threads, rounds)?;
     }
     Ok(())

@@ -1,4 +1,7 @@
 // The arithmetic between two calls.
+ghost use Rattle.std.specs.Prelude.{◌≡◌, ◌-◌, ◌^◌, min};
+ghost use Rattle.std.specs.Duration.{as_nanos};
+
 use std::io;
 use std::time::{Clock, Duration, Instant};
 
@@ -34,8 +37,10 @@ pub fn rounds_in<R: Clock>(rt: &R, time: u64) -> io::Result<u64> {
     Ok(rounds.saturating_add(seed >> 63))
 }
 
-/// A time in nanoseconds, of which no run takes too many.
-pub fn nanoseconds(time: Duration) -> u64 {
+/// A time in nanoseconds, or the most of them that a `u64` counts.
+pub fn nanoseconds(time: Duration) -> u64
+    ensures { result ≡ min (as_nanos time) (2 ^ 64 - 1) }
+{
     time.as_secs()
         .saturating_mul(1_000_000_000)
         .saturating_add(u64::from(time.subsec_nanos()))
