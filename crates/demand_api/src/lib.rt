@@ -1,0 +1,13 @@
+//! What a crowd of students demands at given prices, and who can be asked for it.
+#![tactic(auto)]
+
+mod asking;
+mod counting;
+mod crowd;
+pub mod laws;
+mod plain;
+mod plain_demands;
+
+pub use asking::Demands;
+pub use crowd::Crowd;
+pub use plain_demands::PlainDemands;
