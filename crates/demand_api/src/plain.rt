@@ -5,7 +5,7 @@ ghost use Rattle.market_units.specs.declared.units.Tokens.{Tokens};
 ghost use Rattle.bundle_rules.specs.Demand.{price_in};
 ghost use Rattle.bundle_rules.specs.Bundles.{sections_of};
 ghost use Rattle.demand_api.specs.Crowds.{demand_of, count, counts};
-ghost use Rattle.demand_api.specs.Made.{MakeCrowd, crowd_of, greatest};
+ghost use Rattle.demand_api.specs.Made.{MakeCrowd, crowd_of};
 ghost use Rattle.demand_api.specs.Asking.{ArePricesFor};
 
 use crate::Crowd;
@@ -13,16 +13,6 @@ use crate::counting::count_bundle;
 use bundle_rules::{Bundle, best_plain};
 use market_units::{NoMemory, SectionNo, SectionSet, StudentNo, Tokens};
 use std::alloc::Global;
-
-// The greatest budget, 0 where there is none.
-pub(crate) fn greatest_budget(budgets: &[Tokens]) -> u32
-    ensures { result ≡ greatest budgets.now }
-{
-    match budgets {
-        [] => 0,
-        [budget, more @ ..] => budget.0.max(greatest_budget(more)),
-    }
-}
 
 // What the student at this place takes, with all sections allowed.
 fn demand(crowd: &Crowd, prices: &[Tokens], allowed: &SectionSet, place: usize) -> Bundle
