@@ -86,7 +86,7 @@ demand_within crowd price i s is = among crowd.students i is
     among (x ∷ xs) (suc k) is = among xs k is
 
 -- each section of a list is in it
-listed_in : (sections : List SectionNo) (k : ℕ) (d : SectionNo) → k < length sections → has (ordinals sections) (slice_index_or sections k d).0 ≡ true
+pub listed_in : (sections : List SectionNo) (k : ℕ) (d : SectionNo) → k < length sections → has (ordinals sections) (slice_index_or sections k d).0 ≡ true
 listed_in [] k d low = absurd (omega arith)
 listed_in (x ∷ xs) zero d low = has-here x.0 (ordinals xs)
 listed_in (x ∷ xs) (suc k) d low = has-there x.0 (ordinals xs) (slice_index_or xs k d).0 (listed_in xs k d (omega arith))
@@ -212,6 +212,12 @@ all_menus_priced menus budgets sections prices is are k d low k' d' low' =
 pub priced_at : (menus : List MenuData) (budgets : List Tokens) (sections : ℕ) (prices : List Tokens) (i : ℕ) (menu : MenuData) → MakeCrowd menus budgets sections → ArePricesFor (crowd_of menus budgets sections) prices → i < length menus → menu ≡ slice_index_or menus i menu → HasPrices menu prices
 priced_at menus budgets sections prices i menu make are low is = rw is (all_menus_priced menus budgets sections prices make are i menu low)
 
+-- an item, read in two ways
+pub index_same : (xs : List ℕ) (k d : ℕ) → k < length xs → slice_index_or xs k d ≡ slice_index xs k
+index_same [] k d low = absurd (omega arith)
+index_same (x ∷ xs) zero d low = refl
+index_same (x ∷ xs) (suc k) d low = index_same xs k d (omega arith)
+
 -- each section's count so far
 pub record AreCounts (sections : ℕ) (bundles : List (List ℕ)) (counts : List ℕ) : Type 0 where
   pub len : length counts ≡ sections
@@ -224,37 +230,32 @@ counts_done crowd price i found past are =
     ∙ ap (λ n. map (count crowd price) (places_from 0 n)) same
 
 -- a count has room for one bundle more
-pub counts_room : (crowd : CrowdData) (price : ℕ → ℕ) (i : ℕ) (found lent : List ℕ) (sections : List SectionNo) (bundle : List ℕ) → AreCounts crowd.sections (take i (demands crowd price)) found → lent ≡ found → i ≤ 2000
+pub counts_room : (n : ℕ) (bundles : List (List ℕ)) (i : ℕ) (found lent : List ℕ) (sections : List SectionNo) (bundle : List ℕ) → AreCounts n (take i bundles) found → lent ≡ found → i ≤ 2000
     → ordinals sections ≡ bundle → IsBundle bundle → All (λ n. n + length sections < 4294967296) lent
-counts_room crowd price i found lent sections bundle are same few listed is k d low =
-    let size : length found ≡ crowd.sections = are.len in
+counts_room n bundles i found lent sections bundle are same few listed is k d low =
+    let size : length found ≡ n = are.len in
     let short : length sections ≤ 8 = sections_few sections bundle listed is in
     let low_found : k < length found = rw same at low in
-    let at_most : holders k (take i (demands crowd price)) ≤ i = holders_so_far k i (demands crowd price) in
-    let here : slice_index found k ≡ holders k (take i (demands crowd price)) = are.each k (omega arith) in
+    let at_most : holders k (take i bundles) ≤ i = holders_so_far k i bundles in
+    let here : slice_index found k ≡ holders k (take i bundles) = are.each k (omega arith) in
     let read : slice_index_or lent k d ≡ slice_index found k = rw same (index_same found k d low_found) in
     omega arith
-  where
-    index_same : (xs : List ℕ) (k d : ℕ) → k < length xs → slice_index_or xs k d ≡ slice_index xs k
-    index_same [] k d low = absurd (omega arith)
-    index_same (x ∷ xs) zero d low = refl
-    index_same (x ∷ xs) (suc k) d low = index_same xs k d (omega arith)
 
 -- what was lent and written comes back
-pub lent_back : (len : ℕ) (new old : List ℕ) → len ≡ length new → take len (new ++ drop (length new) old) ≡ new
+pub lent_back : {A : Type 0} (len : ℕ) (new old : List A) → len ≡ length new → take len (new ++ drop (length new) old) ≡ new
 lent_back len new old whole = ap (λ n. take n (new ++ drop (length new) old)) whole ∙ take-append_seam new (drop (length new) old)
 
 -- the counts with one bundle more
-pub counts_more : (crowd : CrowdData) (price : ℕ → ℕ) (i len : ℕ) (found lent new : List ℕ) (sections : List SectionNo) (bundle : List ℕ) → AreCounts crowd.sections (take i (demands crowd price)) found → lent ≡ found → i < length (demands crowd price)
-    → ordinals sections ≡ bundle → bundle ≡ demand_of crowd price i → len ≡ length found → length new ≡ length lent → ((s : ℕ) → s < length lent → HasCounted lent new (ordinals sections) s)
-    → AreCounts crowd.sections (take (i + 1) (demands crowd price)) (take len (new ++ drop (length new) found))
-counts_more crowd price i len found lent new sections bundle are same low listed is whole back counted_so =
+pub counts_more : (n : ℕ) (bundles : List (List ℕ)) (i len : ℕ) (found lent new : List ℕ) (sections : List SectionNo) (bundle : List ℕ) → AreCounts n (take i bundles) found → lent ≡ found → i < length bundles
+    → ordinals sections ≡ bundle → bundle ≡ slice_index_or bundles i [] → len ≡ length found → length new ≡ length lent → ((s : ℕ) → s < length lent → HasCounted lent new (ordinals sections) s)
+    → AreCounts n (take (i + 1) bundles) (take len (new ++ drop (length new) found))
+counts_more n bundles i len found lent new sections bundle are same low listed is whole back counted_so =
     rw (lent_back len new found (whole ∙ ap length (sym same) ∙ sym back)) record {
       len = back ∙ ap length same ∙ are.len;
       each = λ s in_range.
-          let size : length found ≡ crowd.sections = are.len in
+          let size : length found ≡ n = are.len in
           let low_lent : s < length lent = rw same (omega arith) in
           let step : slice_index new s ≡ slice_index lent s + (if has (ordinals sections) s then 1 else 0) = counted_so s low_lent in
-          let before : slice_index lent s ≡ holders s (take i (demands crowd price)) = rw same (are.each s in_range) in
-          step ∙ sym (counted s (demands crowd price) i (ordinals sections) (has (ordinals sections) s) (slice_index lent s) low refl (listed ∙ is) before);
+          let before : slice_index lent s ≡ holders s (take i bundles) = rw same (are.each s in_range) in
+          step ∙ sym (counted s bundles i (ordinals sections) (has (ordinals sections) s) (slice_index lent s) low refl (listed ∙ is) before);
     }
