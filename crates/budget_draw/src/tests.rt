@@ -27,9 +27,12 @@ fn what_is_carried_over_is_in_the_budget(rt: HostRuntime) -> Result<(), Fail> {
         rt.alloc(),
         b"student,budget,credits,courses,carry\nu,100,10,1,0\nv,100,10,1,5\n",
     )?;
-    let drawn = draw(rt.alloc(), &roll, 0, 0)?;
-    assert_eq!(rt; drawn.as_slice(), [Tokens(100), Tokens(105)].as_slice());
-    let order = after_order(rt.alloc(), &drawn)?;
+    let budgets = [Tokens(100), Tokens(105)];
+    assert_eq!(rt;
+        draw(rt.alloc(), &roll, 0, 0)?.as_slice(),
+        budgets.as_slice()
+    );
+    let order = after_order(rt.alloc(), &budgets)?;
     assert_eq!(rt; order.as_slice(), [StudentNo(1), StudentNo(0)].as_slice());
     Ok(())
 }
