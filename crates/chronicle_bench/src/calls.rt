@@ -7,11 +7,10 @@ use crate::work::work;
 use chronicle::{Chronicle, Seat};
 use market_units::NoMemory;
 use std::alloc::{AllocError, Global};
-use std::io;
 use std::sync::Wait;
-use std::thread;
 use std::thread::Threads;
 use std::time::{Clock, Duration, Instant};
+use std::{io, thread};
 
 /// What each thread does: so many calls, and so many rounds of work before each.
 #[derive(Clone, Copy)]
@@ -56,9 +55,12 @@ pub fn time_work<R: Threads + Wait + Sync + Clock>(
         values.push(value)?;
     }
     let start = Instant::now(rt)?;
-    thread::for_each_mut(rt, values.as_mut_slice(), usize::from(threads), &|_, value| {
-        work_often(value, task)
-    });
+    thread::for_each_mut(
+        rt,
+        values.as_mut_slice(),
+        usize::from(threads),
+        &|_, value| { work_often(value, task) },
+    );
     start.elapsed(rt)
 }
 
@@ -94,17 +96,15 @@ fn call_all<R: Threads + Wait + Sync>(
     requires seats { All (λ s. (s.chronicle ≡ Some chronicle.now) × (s.left ≡ task.calls)) seats.old }
 {
     let threads = seats.len();
-    thread::for_each_mut(rt, seats, threads, &|_, seat| {
-        call_often(rt, chronicle, seat, task)
-    });
+    thread::for_each_mut(
+        rt,
+        seats,
+        threads,
+        &|_, seat| { call_often(rt, chronicle, seat, task) },
+    );
 }
 
-fn call_often<R: Wait>(
-    rt: &R,
-    chronicle: &Chronicle<Counter>,
-    seat: &mut Seat<Counter>,
-    task: Task,
-)
+fn call_often<R: Wait>(rt: &R, chronicle: &Chronicle<Counter>, seat: &mut Seat<Counter>, task: Task)
     requires chronicle { seat.old.chronicle ≡ Some chronicle.now }
     requires left { seat.old.left ≡ task.calls }
 {

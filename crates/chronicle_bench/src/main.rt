@@ -7,8 +7,7 @@ mod counter;
 mod report;
 mod work;
 
-use std::env;
-use std::io;
+use std::{env, io};
 
 fn main(rt: HostRuntime) -> io::Result<()> {
     if env::args(&rt).is_ok_and(|words| words.count() > 1) {

@@ -19,9 +19,14 @@ const WORK: u64 = 5_000;
 const RUNS: u32 = 5;
 
 /// Times each number of threads, and prints a line for it.
-pub fn print_all<R: Threads + Wait + Sync + Clock + Print>(rt: &R, alloc: Global) -> io::Result<()> {
+pub fn print_all<R: Threads + Wait + Sync + Clock + Print>(
+    rt: &R,
+    alloc: Global,
+) -> io::Result<()> {
     let rounds = rounds_in(rt, WORK)?;
-    print!(rt; "{CALLS} calls in all, {rounds} rounds of work before each; the least of {RUNS} runs\n")?;
+    print!(rt;
+        "{CALLS} calls in all, {rounds} rounds of work before each; the least of {RUNS} runs\n"
+    )?;
     for threads in [1u16, 2, 4, 16, 64] {
         print_line(rt, alloc, threads, rounds)?;
     }
@@ -49,7 +54,9 @@ fn print_line<R: Threads + Wait + Sync + Clock + Print>(
     let alone = each(alone);
     let idle = each(idle);
     let second = 1_000_000_000 / busy.max(1);
-    print!(rt; "{threads} threads: {second} calls a second, {busy} ns a call with its work, {alone} ns its work; {idle} ns a call with no work\n")
+    print!(rt;
+        "{threads} threads: {second} calls a second, {busy} ns a call with its work, {alone} ns its work; {idle} ns a call with no work\n"
+    )
 }
 
 // The nanoseconds of one of all calls.
