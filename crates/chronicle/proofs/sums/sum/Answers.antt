@@ -1,4 +1,4 @@
-use Rattle.std.proofs.Common.{arith, ◌≡◌, ◌+◌, ◌≤◌, ◌<◌, ◌^◌, ◌∙◌, ℕ, length, take, slice_index}
+use Rattle.std.proofs.Common.{arith, ◌≡◌, ◌+◌, ◌≤◌, ◌<◌, ◌^◌, ◌∙◌, ℕ, take, slice_index}
 use Rattle.chronicle.specs.Views.{sum_of}
 use Rattle.chronicle.proofs.Dealing.{sum_with_next, sum_of-take-le}
 use Rattle.chronicle.proofs.sums.sum.Goals as goal

@@ -1,5 +1,4 @@
-use Rattle.std.proofs.Common.{arith, rules, ◌≡◌, ◌≤◌, ◌+◌, ◌*◌, ◌∷◌, [], ◌∙◌, ℕ, ap, subst, sym, refl, length, length-append}
-use Rattle.std.specs.List.{All}
+use Rattle.std.proofs.Common.{arith, ◌≡◌, ◌≤◌, ◌+◌, ◌*◌, ◌∷◌, [], ◌∙◌, ℕ, ap, refl, length, length-append}
 use Rattle.std.proofs.lemmas.List.Elements.{All-push}
 use Rattle.market_lists.proofs.Sums.{total-append}
 use Rattle.chronicle.specs.Views.{sum_of}
