@@ -6,10 +6,12 @@ use Rattle.std.specs.Vec.{vec_capacity}
 use Rattle.std.proofs.lemmas.List.{drop_all}
 use Rattle.atomic_table.specs.Seated.{TableId}
 use Rattle.atomic_table.specs.Table.{opening, Splits}
+use Rattle.chronicle.specs.declared.journal.StepOf.{StepOf}
 use Rattle.chronicle.specs.declared.kept.Kept.{Kept}
 use Rattle.chronicle.specs.declared.origin.Origin.{Origin}
 use Rattle.chronicle.specs.declared.standing.Standing.{Standing}
 use Rattle.chronicle.specs.declared.view.View.{View}
+use Rattle.chronicle.specs.History.{calls_by}
 use Rattle.chronicle.specs.Rule.{Keeps}
 use Rattle.chronicle.specs.Seats.{origin, standing, standing_of, new_seats, IsAtRest, IsDealing}
 use Rattle.chronicle.specs.Turn.{Place}
@@ -110,6 +112,7 @@ module _ {T B S Q A : Type 0} where
     numbered = (d.made_is, low);
     idle = refl;
     alone = (refl, refl, refl);
+    all_own = refl;
   }
 
   pub dealt_tells : (o : Origin B S) (table : TableId) (number : ℕ) (me new : Place T B S Q A) → IsDealing o number me → table ≡ o.table → new ≡ (split_right me.0, [])
@@ -131,6 +134,7 @@ module _ {T B S Q A : Type 0} where
     numbered = (d.first, (let goal : 0 < 65535 = omega arith in goal));
     idle = d.idle;
     alone = (d.alone.0, d.alone.1, last_plan o number me d all);
+    all_own = ap (λ (l : List (StepOf Q A)). calls_by d.view.number l) d.nothing_seen.0 ∙ sym d.nothing_seen.1;
   }
 
   pub first_tells : (o : Origin B S) (table : TableId) (number : ℕ) (me : Place T B S Q A) → IsDealing o number me → length o.allotments ≤ number → table ≡ o.table

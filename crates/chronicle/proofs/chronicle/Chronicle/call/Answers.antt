@@ -29,40 +29,18 @@ invariant_of-seat g c =
     c.wait.new.place.me c.act-reply.new.place.me c.pass.new.place.me c.args.seat.now c.seat.invariant c.seat.view_is c.requires.chronicle c.requires.left c.requires.sound
     c.draw-ticket.ensures.draws c.wait.ensures.turn c.act-reply.ensures.steps c.pass.ensures.passes).at_rest
 
-pub returns-clause-seen : goal.returns-clause-seen
-returns-clause-seen g c =
-    (call_made g.O.Object.base g.O.Object.state g.O.Object.room g.O.Object.sound g.O.Object.after g.O.Object.reply _ c.args.self.now _ c.draw-ticket.result c.args.request c.act-reply.result c.seat.inside.place.me c.draw-ticket.new.place.me
-    c.wait.new.place.me c.act-reply.new.place.me c.pass.new.place.me c.args.seat.now c.seat.invariant c.seat.view_is c.requires.chronicle c.requires.left c.requires.sound
-    c.draw-ticket.ensures.draws c.wait.ensures.turn c.act-reply.ensures.steps c.pass.ensures.passes).seen
-
-pub returns-clause-legal : goal.returns-clause-legal
-returns-clause-legal g c =
-    (call_made g.O.Object.base g.O.Object.state g.O.Object.room g.O.Object.sound g.O.Object.after g.O.Object.reply _ c.args.self.now _ c.draw-ticket.result c.args.request c.act-reply.result c.seat.inside.place.me c.draw-ticket.new.place.me
-    c.wait.new.place.me c.act-reply.new.place.me c.pass.new.place.me c.args.seat.now c.seat.invariant c.seat.view_is c.requires.chronicle c.requires.left c.requires.sound
-    c.draw-ticket.ensures.draws c.wait.ensures.turn c.act-reply.ensures.steps c.pass.ensures.passes).legal
-
-pub returns-clause-own : goal.returns-clause-own
-returns-clause-own g c =
-    (call_made g.O.Object.base g.O.Object.state g.O.Object.room g.O.Object.sound g.O.Object.after g.O.Object.reply _ c.args.self.now _ c.draw-ticket.result c.args.request c.act-reply.result c.seat.inside.place.me c.draw-ticket.new.place.me
-    c.wait.new.place.me c.act-reply.new.place.me c.pass.new.place.me c.args.seat.now c.seat.invariant c.seat.view_is c.requires.chronicle c.requires.left c.requires.sound
-    c.draw-ticket.ensures.draws c.wait.ensures.turn c.act-reply.ensures.steps c.pass.ensures.passes).own
-
-pub returns-clause-all_own : goal.returns-clause-all_own
-returns-clause-all_own g c =
-    (call_made g.O.Object.base g.O.Object.state g.O.Object.room g.O.Object.sound g.O.Object.after g.O.Object.reply _ c.args.self.now _ c.draw-ticket.result c.args.request c.act-reply.result c.seat.inside.place.me c.draw-ticket.new.place.me
-    c.wait.new.place.me c.act-reply.new.place.me c.pass.new.place.me c.args.seat.now c.seat.invariant c.seat.view_is c.requires.chronicle c.requires.left c.requires.sound
-    c.draw-ticket.ensures.draws c.wait.ensures.turn c.act-reply.ensures.steps c.pass.ensures.passes).all_own
-
-pub returns-clause-left : goal.returns-clause-left
-returns-clause-left g c =
-    (call_made g.O.Object.base g.O.Object.state g.O.Object.room g.O.Object.sound g.O.Object.after g.O.Object.reply _ c.args.self.now _ c.draw-ticket.result c.args.request c.act-reply.result c.seat.inside.place.me c.draw-ticket.new.place.me
-    c.wait.new.place.me c.act-reply.new.place.me c.pass.new.place.me c.args.seat.now c.seat.invariant c.seat.view_is c.requires.chronicle c.requires.left c.requires.sound
-    c.draw-ticket.ensures.draws c.wait.ensures.turn c.act-reply.ensures.steps c.pass.ensures.passes).left
-
-pub returns-clause-same : goal.returns-clause-same
-returns-clause-same g c =
+pub returns : goal.returns
+returns g c =
     let table = c.pass.ensures.own.0 ∙ c.act-reply.ensures.own.0 ∙ c.wait.ensures.own.0 ∙ c.draw-ticket.ensures.own.0 in
     let made = call_made g.O.Object.base g.O.Object.state g.O.Object.room g.O.Object.sound g.O.Object.after g.O.Object.reply _ c.args.self.now _ c.draw-ticket.result c.args.request c.act-reply.result c.seat.inside.place.me c.draw-ticket.new.place.me
     c.wait.new.place.me c.act-reply.new.place.me c.pass.new.place.me c.args.seat.now c.seat.invariant c.seat.view_is c.requires.chronicle c.requires.left c.requires.sound
     c.draw-ticket.ensures.draws c.wait.ensures.turn c.act-reply.ensures.steps c.pass.ensures.passes in
-    (ap (λ t. origin_of t c.pass.new.place.me.0) table ∙ made.chronicle, ap (λ s. s.number) c.seat.view_is)
+    record {
+      seen = made.seen;
+      legal = made.legal;
+      own = made.own;
+      all_own = made.all_own;
+      others = made.others;
+      left = made.left;
+      same = (ap (λ t. origin_of t c.pass.new.place.me.0) table ∙ made.chronicle, ap (λ s. s.number) c.seat.view_is);
+    }
