@@ -1,0 +1,14 @@
+pub mod BoardStep
+pub mod Boards
+pub mod Cells
+pub mod Cursors
+pub mod Fates
+pub mod Kept
+pub mod Marks
+pub mod Openings
+pub mod Places
+pub mod Seats
+pub mod Settling
+pub mod Shared
+pub mod Tallies
+pub mod Terms
