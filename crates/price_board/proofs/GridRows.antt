@@ -1,10 +1,12 @@
 -- The rows of a grid after one more is taken, and after one is written.
-use Rattle.std.proofs.Common.{◌≡◌, ◌≢◌, ◌<◌, ◌+◌, ◌==◌, ◌||◌, ◌++◌, ◌∙◌, ℕ, zero, suc, Bool, true, false, List, [], ◌∷◌, length, Option, Some, None, refl, sym, ap, arith, get_or, slice_index_or, slice_set, inl, inr, replicate, nat_cmp}
+use Rattle.std.proofs.Common.{◌≡◌, ◌≢◌, ◌<◌, ◌+◌, ◌==◌, ◌||◌, ◌++◌, ◌∙◌, ℕ, zero, suc, Bool, true, false, List, [], ◌∷◌, length, Option, Some, None, refl, sym, ap, arith, get_or, slice_index_or, slice_set, inl, inr, replicate, nat_cmp, subst, length-set, ◌-◌}
 use Rattle.std.specs.Prelude.{IsSome, is_some}
 use Rattle.std.specs.FinMap as map
 use Rattle.std.proofs.lemmas.Bool.{cases_Bool, false≢true}
 use Rattle.std.proofs.lemmas.Bool.Decides.{nat_tests}
-use Rattle.row_region.specs.Rows.{Rows, IsLive, with_row}
+use Rattle.std.proofs.lemmas.List.{replicate_more}
+use Rattle.row_region.specs.Rows.{Rows, IsLive, with_row, spare_of, rewritten}
+use Rattle.row_region.proofs.Filling.{rewritten_same}
 use Rattle.row_region.proofs.Rows.{row_here, row_there, live_here, live_there, spare_apart}
 use Rattle.price_board.specs.Cells.{cells_of, rows_in, is_among, AreLive}
 
@@ -37,6 +39,9 @@ among_at (x ∷ ids) (suc v) below =
       | inl same ↦ rw same refl
       | inr other ↦ rw other rest
     ]
+
+first_spare : (rows : ℕ) → rows - 0 + 0 ≡ rows
+first_spare rows = omega arith
 
 module _ {T : Type 0} where
   -- a change to a row that is none of these
@@ -103,3 +108,43 @@ module _ {T : Type 0} where
       let here : cells_of (map.get (map.insert region.live id row) x) ≡ cells_of (map.get region.live x) = ap cells_of (row_there region.live id row x other) in
       let rest = rows_written region row ids v low live.2 in
       rw (here, rest) refl
+
+  -- the row that a region shows is the row at its place
+  pub shown_row : (region : Rows T) (ids : List ℕ) (rows : List (List T)) (v id : ℕ) (row : List T) → rows_in region.live ids ≡ rows → v < length rows → id ≡ get_or ids v 0 → map.get region.live id ≡ Some row → slice_index_or rows v [] ≡ row
+  shown_row region ids rows v id row are below here shows =
+      let many : length rows ≡ length ids = sym (ap length are) ∙ rows_length region.live ids in
+      let low : v < length ids = omega arith in
+      sym (ap (λ r. slice_index_or r v []) are) ∙ row_at region.live ids v low ∙ ap (λ n. cells_of (map.get region.live n)) (sym here) ∙ ap cells_of shows
+
+  pub is_live : (region : Rows T) (ids : List ℕ) (rows : List (List T)) (v id : ℕ) → rows_in region.live ids ≡ rows → v < length rows → id ≡ get_or ids v 0 → AreLive region ids → IsLive region id
+  is_live region ids rows v id are below here live =
+      let many : length rows ≡ length ids = sym (ap length are) ∙ rows_length region.live ids in
+      let low : v < length ids = omega arith in
+      subst (λ n. IsLive region n) (sym here) (live_at region ids v low live)
+
+  -- the rows after the row was written
+  pub set_rows : (region : Rows T) (ids : List ℕ) (rows : List (List T)) (v id : ℕ) (row cells : List T) (s : ℕ) (value : T) → rows_in region.live ids ≡ rows → v < length rows → id ≡ get_or ids v 0 → AreLive region ids
+      → map.get region.live id ≡ Some row → cells ≡ slice_set row s value → rows_in (map.insert region.live id (rewritten row cells)) ids ≡ slice_set rows v (slice_set (slice_index_or rows v []) s value)
+  set_rows region ids rows v id row cells s value are below here live shows written =
+      let many : length rows ≡ length ids = sym (ap length are) ∙ rows_length region.live ids in
+      let low : v < length ids = omega arith in
+      let whole : rewritten row cells ≡ slice_set row s value = ap (rewritten row) written ∙ rewritten_same row (slice_set row s value) (length-set row s value) in
+      ap (λ n. rows_in (map.insert region.live n (rewritten row cells)) ids) here
+      ∙ rows_written region (rewritten row cells) ids v low live
+      ∙ ap (λ r. slice_set (rows_in region.live ids) v r) (whole ∙ ap (λ r. slice_set r s value) (sym (shown_row region ids rows v id row are below here shows)))
+      ∙ ap (λ l. slice_set l v (slice_set (slice_index_or rows v []) s value)) are
+
+  -- at the beginning, and after one more row was taken
+  pub first_rows : (region : Rows T) (rows width : ℕ) (fill : T) → region ≡ record { width = width; fill = fill; reserved = rows; live = map.empty } → spare_of region + 0 ≡ rows
+  first_rows region rows width fill is = ap (λ r. spare_of r + 0) is ∙ ap (λ n. rows - n + 0) (map.len-empty nat_cmp (List T)) ∙ first_spare rows
+
+  pub more_rows : (old new : Rows T) (id n width : ℕ) (fill : T) (ids : List ℕ) → map.get old.live id ≡ None → new ≡ with_row old id (replicate old.width old.fill) → AreLive old ids
+      → rows_in old.live ids ≡ replicate n (replicate width fill) → old.width ≡ width → old.fill ≡ fill
+      → rows_in new.live (ids ++ id ∷ []) ≡ replicate (n + 1) (replicate width fill)
+  more_rows old new id n width fill ids spare is live are wide filled =
+      ap (λ (r : Rows T). rows_in r.live (ids ++ id ∷ [])) is
+      ∙ rows_more old id (replicate old.width old.fill) ids spare live
+      ∙ ap (λ l. l ++ replicate old.width old.fill ∷ []) are
+      ∙ ap (λ w. replicate n (replicate width fill) ++ replicate w old.fill ∷ []) wide
+      ∙ ap (λ f. replicate n (replicate width fill) ++ replicate width f ∷ []) filled
+      ∙ replicate_more n (replicate width fill)

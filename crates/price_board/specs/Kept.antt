@@ -7,6 +7,7 @@ use Rattle.price_board.specs.declared.place.Place.{Place}
 use Rattle.price_board.specs.declared.round.Round.{Round}
 use Rattle.price_board.specs.declared.shared.Terms.{Terms}
 use Rattle.price_board.specs.declared.state.BoardState.TheInside.{Inside}
+use Rattle.price_board.specs.declared.tally.Tally.{Tally}
 use Rattle.price_board.specs.Boards.{Board}
 use Rattle.price_board.specs.Cursors.{IsCursor}
 use Rattle.price_board.specs.Openings.{terms_of}
@@ -31,12 +32,16 @@ terms_in board = terms_of (arc_value board.crowd) board.round
 abbrev pub board_of : Inside → Board
 board_of board = record { terms = terms_in board; rows = board.places; room = board.calls }
 
+-- the rows with their tallies, the task that is drawn next, and what stands in them
+pub record KeepsTasks (terms : Terms) (places : List (List Place)) (tallies : List Tally) (version student : ℕ) : Type 0 where
+  pub rows : AreRows terms places
+  pub right : AreRight terms places
+  pub tallied : tallies ≡ tallies_of terms.asks 0 places
+  pub cursor : IsCursor terms.asks places version student
+
 pub record IsKept (board : Inside) : Type 0 where
   pub few_versions : version_count (terms_in board) ≤ 16
   pub few_students : student_count (terms_in board) ≤ 2000
-  pub asks : length board.round.asks.items ≡ version_count (terms_in board)
+  pub asked : length board.round.asks.items ≡ version_count (terms_in board)
   pub students : board.students ≡ student_count (terms_in board)
-  pub rows : AreRows (terms_in board) board.places
-  pub right : AreRight (terms_in board) board.places
-  pub tallied : board.tallies.items ≡ tallies_of board.round.asks.items 0 board.places
-  pub cursor : IsCursor board.round.asks.items board.places board.next.version board.next.student
+  pub tasks : KeepsTasks (terms_in board) board.places board.tallies.items board.next.version board.next.student

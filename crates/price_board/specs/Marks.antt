@@ -1,5 +1,5 @@
 -- Marks and bundles, joined to places.
-use Rattle.std.specs.Prelude.{ℕ, ◌≡◌, ⊤, Option, Some, None, List, [], ◌∷◌, length}
+use Rattle.std.specs.Prelude.{ℕ, ◌≡◌, ◌==◌, Bool, false, Option, Some, None, List, [], ◌∷◌, length}
 use Rattle.bundle_rules.specs.declared.bundle.Bundle.{Bundle}
 use Rattle.price_board.specs.declared.place.Place.{Place}
 use Rattle.price_board.specs.declared.place.Place.TheVariants.{Open, Held, Filled, Spent}
@@ -17,6 +17,20 @@ place_in NoMark bundle = Open
 place_in (HeldMark seat) bundle = Held seat
 place_in (FilledMark seat) bundle = filled_with seat bundle
 place_in (SpentMark seat) bundle = Spent seat
+
+-- the mark of a task that the seat holds
+abbrev pub is_mark_of : ℕ → Mark → Bool
+is_mark_of seat NoMark = false
+is_mark_of seat (HeldMark other) = other == seat
+is_mark_of seat (FilledMark other) = false
+is_mark_of seat (SpentMark other) = false
+
+-- the bundle that counts beside a mark
+abbrev pub bundle_by : Mark → Option Bundle → Option Bundle
+bundle_by NoMark bundle = None
+bundle_by (HeldMark seat) bundle = None
+bundle_by (FilledMark seat) bundle = bundle
+bundle_by (SpentMark seat) bundle = None
 
 abbrev pub row_in : List Mark → List (Option Bundle) → List Place
 row_in [] bundles = []

@@ -47,7 +47,7 @@ impl<T: Copy> Grid<T> {
         requires column { column < length (slice_index_or self.now row []) }
         ensures { result ≡ slice_index_or (slice_index_or self.now row []) column result }
     {
-        self.region.row(RowId(self.ids[row]))[column]
+        cell(self.region.row(RowId(self.ids[row])), column)
     }
 
     /// Writes a cell. All others stay.
@@ -56,7 +56,20 @@ impl<T: Copy> Grid<T> {
         requires column { column < length (slice_index_or self.old row []) }
         ensures { self.new ≡ slice_set self.old row (slice_set (slice_index_or self.old row []) column value) }
     {
-        let cells = self.region.row_mut(RowId(self.ids[row]));
-        cells[column] = value;
+        put(self.region.row_mut(RowId(self.ids[row])), column, value);
     }
+}
+
+fn cell<T: Copy>(cells: &[T], column: usize) -> T
+    requires { column < length cells.now }
+    ensures { result ≡ slice_index_or cells.now column result }
+{
+    cells[column]
+}
+
+fn put<T: Copy>(cells: &mut [T], column: usize, value: T)
+    requires { column < length cells.old }
+    ensures { cells.new ≡ slice_set cells.old column value }
+{
+    cells[column] = value;
 }

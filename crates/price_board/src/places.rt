@@ -1,5 +1,6 @@
 // Where all tasks of a round stand.
 ghost use Rattle.std.specs.Prelude.{◌≡◌, ◌<◌, IfOk, length, replicate};
+ghost use Rattle.price_board.specs.Marks.{is_mark_of, bundle_by};
 ghost use Rattle.price_board.specs.Places.{row_of, place_of, with_place, is_held_by, bundle_in};
 ghost use Rattle.price_board.specs.declared.place.Place.TheVariants as place;
 
@@ -47,10 +48,9 @@ impl RoundPlaces {
     pub fn reserve(alloc: Global, versions: u32, students: u32) -> Result<RoundPlaces, NoMemory>
         ensures { IfOk result (λ places. places ≡ replicate versions (replicate students place.Open)) }
     {
-        Ok(RoundPlaces {
-            marks: Grid::reserve(alloc, versions, students, Mark::Open)?,
-            bundles: Grid::reserve(alloc, versions, students, None)?,
-        })
+        let marks = Grid::reserve(alloc, versions, students, Mark::Open)?;
+        let bundles = Grid::reserve(alloc, versions, students, None)?;
+        Ok(RoundPlaces { marks, bundles })
     }
 
     /// Whether the seat holds the task.
@@ -59,7 +59,7 @@ impl RoundPlaces {
         requires student { student < length (row_of self.now version) }
         ensures { result ≡ is_held_by seat (place_of self.now version student) }
     {
-        self.marks.at(version, student) == Mark::Held(seat)
+        is_held(self.marks.at(version, student), seat)
     }
 
     /// The bundle that was posted for the task.
@@ -68,10 +68,9 @@ impl RoundPlaces {
         requires student { student < length (row_of self.now version) }
         ensures { result ≡ bundle_in (place_of self.now version student) }
     {
-        match self.marks.at(version, student) {
-            Mark::Filled(_) => self.bundles.at(version, student),
-            _ => None,
-        }
+        let mark = self.marks.at(version, student);
+        let bundle = self.bundles.at(version, student);
+        posted_bundle(mark, bundle)
     }
 
     /// The seat holds the task from now on.
@@ -100,5 +99,23 @@ impl RoundPlaces {
         ensures { self.new ≡ with_place self.old version student (place.Spent seat) }
     {
         self.marks.set(version, student, Mark::Spent(seat));
+    }
+}
+
+fn is_held(mark: Mark, seat: u16) -> bool
+    ensures { result ≡ is_mark_of seat mark }
+{
+    match mark {
+        Mark::Held(other) => other == seat,
+        Mark::Open | Mark::Filled(_) | Mark::Spent(_) => false,
+    }
+}
+
+fn posted_bundle(mark: Mark, bundle: Option<Bundle>) -> Option<Bundle>
+    ensures { result ≡ bundle_by mark bundle }
+{
+    match mark {
+        Mark::Filled(_) => bundle,
+        Mark::Open | Mark::Held(_) | Mark::Spent(_) => None,
     }
 }

@@ -1,9 +1,10 @@
 // A board without threads.
-ghost use Rattle.std.specs.Prelude.{◌≡◌, ◌≤◌, ◌<◌, ◌+◌, ◌*◌, ℕ, true, length, IfOk};
+ghost use Rattle.std.specs.Prelude.{◌≡◌, ◌≤◌, ◌<◌, ◌+◌, ◌*◌, ℕ, true, false, length, IfOk};
 ghost use Rattle.std.specs.Arc.{arc_value};
 ghost use Rattle.chronicle.specs.History.{state_after};
 ghost use Rattle.bundle_rules.specs.Bundles.{sections_of};
 ghost use Rattle.price_board.specs.BoardStep.{draw_answer, rows_drawn, post_answer, rows_posted};
+ghost use Rattle.price_board.specs.Cursors.{is_over, IsCursor};
 ghost use Rattle.price_board.specs.Openings.{terms_of, opening_of, IsMade, IsRound};
 ghost use Rattle.price_board.specs.Places.{row_of};
 ghost use Rattle.price_board.specs.Settling.{ask_of, is_settled};
@@ -115,11 +116,14 @@ impl BoardState {
         })
     }
 
-    // The first task that may be drawn, at the end of the versions where there is none.
-    fn next_task(&self) -> Cursor {
+    // The first task that may be drawn, past the versions where there is none.
+    fn next_task(&self) -> Cursor
+        ensures cursor { IsCursor self.now.terms.asks self.now.rows result.version result.student }
+        ensures stops { result.version < version_count self.now.terms → is_over (ask_of self.now.terms.asks result.version) (row_of self.now.rows result.version) ≡ false }
+    {
         let mut next = self.next;
-        while next.version < self.tallies.len() {
-            if next.student < self.students && !self.is_settled(next.version) {
+        'versions: while next.version < self.tallies.len() {
+            if !self.is_over(next) {
                 return next;
             }
             next = Cursor {
@@ -128,6 +132,18 @@ impl BoardState {
             };
         }
         next
+    }
+
+    // Whether no task of the cursor's version is drawn any more.
+    fn is_over(&self, next: Cursor) -> bool
+        requires version { next.version < version_count self.now.terms }
+        requires cursor { IsCursor self.now.terms.asks self.now.rows next.version next.student }
+        ensures { result ≡ is_over (ask_of self.now.terms.asks next.version) (row_of self.now.rows next.version) }
+    {
+        if next.student >= self.students {
+            return true;
+        }
+        self.is_settled(next.version)
     }
 
     // Whether what was posted decides what is asked of the version.
@@ -156,8 +172,31 @@ impl BoardState {
         ensures terms { self.new.terms ≡ self.old.terms }
         ensures room { self.new.room ≡ self.old.room }
     {
-        let version = usize::from(version);
-        let student = usize::from(student.0);
+        self.post_at(
+            worker,
+            usize::from(version),
+            usize::from(student.0),
+            bundle,
+        )
+    }
+
+    // A post by the place of its task.
+    fn post_at(
+        &mut self,
+        worker: u16,
+        version: usize,
+        student: usize,
+        bundle: Bundle,
+    ) -> Posted
+        requires version { version < version_count self.old.terms }
+        requires student { student < student_count self.old.terms }
+        requires bundle { sections_of bundle ≡ demand_of self.old.terms version student }
+        ensures answer { result ≡ post_answer self.old.terms.asks self.old.rows worker version student }
+        ensures rows { self.new.rows ≡ rows_posted self.old.terms.asks self.old.rows worker version student bundle }
+        ensures unchanged { result ≡ Posted.NotYours → self.new ≡ self.old }
+        ensures terms { self.new.terms ≡ self.old.terms }
+        ensures room { self.new.room ≡ self.old.room }
+    {
         if !self.places.is_held_by(version, student, worker) {
             return Posted::NotYours;
         }
