@@ -17,7 +17,8 @@ use Rattle.price_board.specs.declared.shared.Terms.{Terms}
 use Rattle.price_board.specs.declared.tally.Tally.{Tally}
 use Rattle.price_board.specs.BoardStep.{task_of, draw_of, with_holder, draw_answer, rows_drawn, first_task, post_answer, rows_posted}
 use Rattle.price_board.specs.Cursors.{is_over, IsCursor}
-use Rattle.price_board.specs.Kept.{AreRows, AreRight, KeepsTasks}
+use Rattle.price_board.specs.Kept.{KeepsTasks}
+use Rattle.price_board.specs.Rights.{AreRows, AreRight}
 use Rattle.price_board.specs.Places.{row_of, place_of, with_place, is_open, is_held_by, bundle_in}
 use Rattle.price_board.specs.Settling.{ask_of, is_settled, count_for, unfilled_in, one_for}
 use Rattle.price_board.specs.Tallies.{tally_of, tallies_of, settles}
@@ -30,7 +31,7 @@ module _ (terms : Terms) (rows : List (List Place)) where
   row_wide : (v : ℕ) → AreRows terms rows → v < version_count terms → length (row_of rows v) ≡ student_count terms
   row_wide v are low = are.students v [] (subst (λ n. v < n) (sym are.versions) low)
 
-  rows_kept : (v s : ℕ) (p : Place) → AreRows terms rows → s < length (row_of rows v) → AreRows terms (with_place rows v s p)
+  pub rows_kept : (v s : ℕ) (p : Place) → AreRows terms rows → s < length (row_of rows v) → AreRows terms (with_place rows v s p)
   rows_kept v s p are within =
       let low : v < length rows = row_below rows v s within in
       record {

@@ -32,24 +32,37 @@ first_open-at (q ∷ row) (suc s) within drawn next =
     let rest : f ≡ s = first_open-at row s (let b : suc s ≤ suc k = within in let goal : s ≤ k = omega arith in goal) (λ t low. drawn (suc t) (let goal : suc t < suc s = omega arith in goal)) (λ t low. next (suc t) (let goal : suc s ≤ suc t = omega arith in goal)) in
     rw (drawn zero (let goal : zero < suc s = omega arith in goal)) (let goal : f + 1 ≡ suc s = omega arith in goal)
 
--- a place that is not open changes to another such
-first_open-kept : (row : List Place) (s : ℕ) (p : Place) → is_open (slice_index_or row s Open) ≡ false → is_open p ≡ false → first_open (slice_set row s p) ≡ first_open row
-first_open-kept [] s p was is = refl
-first_open-kept (q ∷ row) zero p was is = rw (was, is) refl
-first_open-kept (q ∷ row) (suc s) p was is =
+-- where a place is no longer open, the first open one is none before
+first_open-grows : (row : List Place) (s : ℕ) (p : Place) → is_open p ≡ false → first_open row ≤ first_open (slice_set row s p)
+first_open-grows [] s p is = let goal : 0 ≤ 0 = omega arith in goal
+first_open-grows (q ∷ row) zero p is =
+    let f : ℕ = first_open row in
     elim (cases_Bool (is_open q)) [
-      | inl opened ↦ rw opened refl
-      | inr closed ↦ rw closed (ap (λ n. n + 1) (first_open-kept row s p was is))
+      | inl opened ↦ rw (opened, is) (let goal : 0 ≤ f + 1 = omega arith in goal)
+      | inr closed ↦ rw (closed, is) (let goal : f + 1 ≤ f + 1 = omega arith in goal)
+    ]
+first_open-grows (q ∷ row) (suc s) p is =
+    let f : ℕ = first_open row in
+    let g : ℕ = first_open (slice_set row s p) in
+    let rest : f ≤ g = first_open-grows row s p is in
+    elim (cases_Bool (is_open q)) [
+      | inl opened ↦ rw opened (let goal : 0 ≤ 0 = omega arith in goal)
+      | inr closed ↦ rw closed (let goal : f + 1 ≤ g + 1 = omega arith in goal)
     ]
 
 -- a version that is over stays so
-pub over_kept : (ask : Ask) (row : List Place) (s : ℕ) (p : Place) → is_open (slice_index_or row s Open) ≡ false → bundle_in (slice_index_or row s Open) ≡ None → is_open p ≡ false → is_over ask row ≡ true → is_over ask (slice_set row s p) ≡ true
-over_kept ask row s p was empty is over =
+pub over_kept : (ask : Ask) (row : List Place) (s : ℕ) (p : Place) → s < length row → bundle_in (slice_index_or row s Open) ≡ None → is_open p ≡ false → is_over ask row ≡ true → is_over ask (slice_set row s p) ≡ true
+over_kept ask row s p within empty is over =
     elim (cases_Bool (is_settled ask row)) [
-      | inl settled ↦ rw (stays_settled ask row s p (closed_below row s was) empty settled) refl
+      | inl settled ↦ rw (stays_settled ask row s p within empty settled) refl
       | inr more ↦
           let full : nat_le (length row) (first_open row) ≡ true = rw more at over in
-          let same : nat_le (length (slice_set row s p)) (first_open (slice_set row s p)) ≡ true = ap (λ n. nat_le n (first_open (slice_set row s p))) (length-set row s p) ∙ ap (nat_le (length row)) (first_open-kept row s p was is) ∙ full in
+          let k : ℕ = length row in
+          let f : ℕ = first_open row in
+          let g : ℕ = first_open (slice_set row s p) in
+          let grows : f ≤ g = first_open-grows row s p is in
+          let still : nat_le k g ≡ true = grind (arith, nat_tests) in
+          let same : nat_le (length (slice_set row s p)) (first_open (slice_set row s p)) ≡ true = ap (λ n. nat_le n (first_open (slice_set row s p))) (length-set row s p) ∙ still in
           rw same (or_true (is_settled ask (slice_set row s p)))
     ]
 
@@ -194,7 +207,7 @@ module _ (asks : List Ask) (rows : List (List Place)) where
           ] in
       record {
         over = λ u below. elim (cases_eq u w) [
-          | inl same ↦ subst (λ x. is_over (ask_of asks x) (row_of (with_place rows w t p) x) ≡ true) (sym same) (subst (λ row. is_over (ask_of asks w) row ≡ true) (sym (row-same rows w t p)) (over_kept (ask_of asks w) (row_of rows w) t p was empty is (subst (λ x. is_over (ask_of asks x) (row_of rows x) ≡ true) same (cursor.over u below))))
+          | inl same ↦ subst (λ x. is_over (ask_of asks x) (row_of (with_place rows w t p) x) ≡ true) (sym same) (subst (λ row. is_over (ask_of asks w) row ≡ true) (sym (row-same rows w t p)) (over_kept (ask_of asks w) (row_of rows w) t p here empty is (subst (λ x. is_over (ask_of asks x) (row_of rows x) ≡ true) same (cursor.over u below))))
           | inr apart ↦ subst (λ row. is_over (ask_of asks u) row ≡ true) (sym (row-other rows w u t p apart)) (cursor.over u below)
         ];
         drawn = λ x below. elim (cases_Bool ((w == v) && (t == x))) [

@@ -2,6 +2,11 @@ pub mod BoardKeeping
 pub mod CursorMoves
 pub mod GridRows
 pub mod Histories
+pub mod Holdings
 pub mod MarkRows
+pub mod Overs
 pub mod PlaceChanges
+pub mod Shapes
+pub mod SoundCalls
 pub mod Tallying
+pub mod Turns

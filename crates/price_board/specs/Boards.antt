@@ -4,7 +4,7 @@ use Rattle.price_board.specs.declared.place.Place.{Place}
 use Rattle.price_board.specs.declared.shared.Terms.{Terms}
 
 -- what no step changes, where each task stands, and how many calls the board has room for
-pub record Board : Type 0 where
+pub record BoardData : Type 0 where
   pub terms : Terms
   pub rows : List (List Place)
   pub room : ℕ

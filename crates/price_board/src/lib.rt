@@ -1,6 +1,8 @@
 //! The price board: the tasks of a round of price vectors, which workers draw and post.
 #![tactic(auto)]
 
+mod answers;
+mod board;
 mod calls;
 mod grid;
 mod place;
@@ -10,6 +12,8 @@ mod shared;
 mod state;
 mod tally;
 
+pub use answers::Answers;
+pub use board::{Board, BoardSeat};
 pub use calls::{BoardCall, BoardReply, Draw, Posted, Task};
 pub use place::Place;
 pub use round::{Ask, Round};

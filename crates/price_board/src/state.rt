@@ -1,21 +1,25 @@
 // A board without threads.
-ghost use Rattle.std.specs.Prelude.{◌≡◌, ◌≤◌, ◌<◌, ◌+◌, ◌*◌, ℕ, true, false, length, IfOk};
+ghost use Rattle.std.specs.Prelude.{◌≡◌, ◌≤◌, ◌<◌, ◌+◌, ◌*◌, ℕ, true, false, length, IfOk, IfSome};
 ghost use Rattle.std.specs.Arc.{arc_value};
 ghost use Rattle.chronicle.specs.History.{state_after};
 ghost use Rattle.bundle_rules.specs.Bundles.{sections_of};
 ghost use Rattle.price_board.specs.BoardStep.{draw_answer, rows_drawn, post_answer, rows_posted};
 ghost use Rattle.price_board.specs.Cursors.{is_over, IsCursor};
 ghost use Rattle.price_board.specs.Openings.{terms_of, opening_of, IsMade, IsRound};
-ghost use Rattle.price_board.specs.Places.{row_of};
+ghost use Rattle.price_board.specs.Closings.{AreSettled, exceeds_in};
+ghost use Rattle.price_board.specs.Places.{row_of, place_of, bundle_in};
+ghost use Rattle.price_board.specs.Rights.{AreRows, AreRight};
 ghost use Rattle.price_board.specs.Settling.{ask_of, is_settled};
 ghost use Rattle.price_board.specs.Shared.{progress_after};
 ghost use Rattle.price_board.specs.Terms.{version_count, student_count, task_count, demand_of};
 
+use crate::answers::Answers;
 use crate::calls::{Draw, Posted, Task};
 use crate::places::RoundPlaces;
 use crate::round::{Ask, Round};
 use crate::tally::{Tally, settles, with_bundle};
 use bundle_rules::Bundle;
+use chronicle::Journal;
 use demand_api::Crowd;
 use market_units::{NoMemory, StudentNo};
 use std::alloc::Global;
@@ -43,11 +47,11 @@ pub struct BoardState {
 
 impl Model for BoardState {
     ghost use Rattle.std.specs.Coded.{codes};
-    ghost use Rattle.price_board.specs.Boards.{Board};
+    ghost use Rattle.price_board.specs.Boards.{BoardData};
     ghost use Rattle.price_board.specs.contracts.place.Place as place;
     ghost use Rattle.price_board.specs.contracts.shared.Terms as terms;
 
-    ghost Value = { Board };
+    ghost Value = { BoardData };
 
     ghost coded = { Prim.hlevel (codes, place.the_row.coded, terms.the_row.coded) };
 
@@ -209,6 +213,46 @@ impl BoardState {
         self.places.fill(version, student, worker, bundle);
         self.tallies[version] = with_bundle(ask, tally, &bundle);
         Posted::Taken
+    }
+
+    /// The answers of a round that has come to its end, with the history that led there: all versions are settled.
+    pub fn answers(self, journal: Journal<BoardState>) -> Answers
+        requires settled { AreSettled self.terms self.rows }
+        requires last { state_after progress_after self.terms (opening_of self.terms) journal ≡ record { rows = self.rows } }
+        ensures { result ≡ record { terms = self.terms; rows = self.rows; history = journal } }
+    {
+        Answers {
+            state: self,
+            journal,
+        }
+    }
+
+    // The bundle that was posted for a task.
+    pub(crate) fn bundle(&self, version: usize, student: usize) -> Option<Bundle>
+        ensures posted { result ≡ bundle_in (place_of self.now.rows version student) }
+        ensures right { IfSome result (λ bundle. sections_of bundle ≡ demand_of self.now.terms version student) }
+        ensures rows { AreRows self.now.terms self.now.rows }
+    {
+        if version >= self.tallies.len() || student >= self.students {
+            return None;
+        }
+        self.places.bundle(version, student)
+    }
+
+    // Of an `Exceeds` version, whether more of its posted bundles than the limit have the section.
+    pub(crate) fn exceeds(&self, version: usize) -> Option<bool>
+        ensures value { result ≡ exceeds_in (ask_of self.now.terms.asks version) (row_of self.now.rows version) }
+        ensures right { AreRight self.now.terms self.now.rows }
+        ensures rows { AreRows self.now.terms self.now.rows }
+        ensures asks { length self.now.terms.asks ≡ version_count self.now.terms }
+    {
+        if version >= self.tallies.len() {
+            return None;
+        }
+        match self.round.asks[version] {
+            Ask::Counts => None,
+            Ask::Exceeds { section: _, limit } => Some(self.tallies[version].count > limit),
+        }
     }
 
     // One call of those that the board has room for.
