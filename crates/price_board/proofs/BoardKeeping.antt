@@ -1,6 +1,7 @@
 -- What a board keeps through draws and posts.
-use Rattle.std.proofs.Common.{◌≡◌, ◌≢◌, ◌<◌, ◌≤◌, ◌+◌, ◌-◌, ◌==◌, ◌&&◌, ◌∙◌, ℕ, zero, suc, Bool, true, false, List, [], ◌∷◌, length, Option, Some, None, refl, sym, ap, subst, arith, slice_index_or, slice_set, replicate, inl, inr, nat_lt, nat_le, if◌then◌else◌}
+use Rattle.std.proofs.Common.{◌≡◌, ◌≢◌, ◌<◌, ◌≤◌, ◌+◌, ◌-◌, ◌*◌, ◌==◌, ◌&&◌, ◌∙◌, ℕ, zero, suc, Bool, true, false, List, [], ◌∷◌, length, Option, Some, None, refl, sym, ap, subst, arith, slice_index_or, slice_set, replicate, inl, inr, nat_lt, nat_le, if◌then◌else◌}
 use Rattle.std.specs.List.{All}
+use Rattle.std.proofs.Math.Nat.{mul-le-mul_right}
 use Rattle.std.proofs.lemmas.Bool.{cases_Bool, cases_eq, false≢true, true≢false}
 use Rattle.std.proofs.lemmas.Bool.Decides.{nat_tests}
 use Rattle.std.proofs.lemmas.List.{length-set, length-replicate}
@@ -152,6 +153,12 @@ module _ (terms : Terms) (rows : List (List Place)) where
     place_left w t seat tally held is =
         let there : place_of rows w t ≡ Held seat = held_is seat (place_of rows w t) held in
         subst (λ (x : Tally). 1 ≤ x.unfilled) (sym is) (none_left (row_of rows w) t (closed_below (row_of rows w) t (ap is_open there)) (ap bundle_in there))
+
+-- at most 16 versions of 2,000 students
+pub few_tasks : (n m : ℕ) → n ≤ 16 → m ≤ 2000 → n * m ≤ 32000
+few_tasks n m few small =
+    let a : n * m ≤ 16 * m = mul-le-mul_right m few in
+    let goal : n * m ≤ 32000 = omega arith in goal
 
 -- the answers, and the rows after them
 

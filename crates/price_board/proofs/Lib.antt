@@ -1,5 +1,8 @@
+pub mod Beginnings
 pub mod BoardKeeping
 pub mod CursorMoves
+pub mod Deciding
+pub mod Endings
 pub mod GridRows
 pub mod Histories
 pub mod Holdings

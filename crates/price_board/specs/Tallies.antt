@@ -1,5 +1,5 @@
 -- What each version's posted bundles add up to.
-use Rattle.std.specs.Prelude.{ℕ, ◌+◌, ◌==◌, ◌||◌, Bool, List, [], ◌∷◌, nat_lt, nat_le}
+use Rattle.std.specs.Prelude.{ℕ, ◌+◌, ◌==◌, ◌||◌, Bool, Option, Some, None, List, [], ◌∷◌, nat_lt, nat_le}
 use Rattle.price_board.specs.declared.place.Place.{Place}
 use Rattle.price_board.specs.declared.round.Ask.{Ask}
 use Rattle.price_board.specs.declared.round.Ask.TheVariants.{Counts, Exceeds}
@@ -18,3 +18,8 @@ tallies_of asks version (row ∷ rows) = tally_of (ask_of asks version) row ∷ 
 abbrev pub settles : Ask → Tally → Bool
 settles Counts tally = tally.unfilled == 0
 settles (Exceeds section limit) tally = nat_lt limit tally.count || nat_le (tally.count + tally.unfilled) limit
+
+-- whether a version with this tally has more bundles with the section than the limit, where that is asked
+abbrev pub exceeds_by : Ask → Tally → Option Bool
+exceeds_by Counts tally = None
+exceeds_by (Exceeds section limit) tally = Some (nat_lt limit tally.count)

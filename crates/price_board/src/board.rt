@@ -70,9 +70,9 @@ impl Board {
         ensures numbers { IfOk result (λ r. (n : ℕ) (d : _) → n < workers → (slice_index_or r.1.items n d).number ≡ n) }
         ensures free { IfOk result (λ r. All (λ s. IsFree r.0 s) r.1.items) }
     {
-        let tasks = round.versions.len() as u64 * crowd.menus.len() as u64;
         let state = BoardState::make(alloc, crowd, round, workers)?;
-        let allotments = vec![in alloc; 2 * tasks + 1; workers as usize]?;
+        let share = 2 * state.task_count() + 1;
+        let allotments = vec![in alloc; share; workers as usize]?;
         let (chronicle, seats) = Chronicle::start(alloc, state, allotments)?;
         Ok((Board { chronicle }, seats))
     }

@@ -16,8 +16,8 @@ ghost use Rattle.price_board.specs.Terms.{version_count, student_count, task_cou
 use crate::answers::Answers;
 use crate::calls::{Draw, Posted, Task};
 use crate::places::RoundPlaces;
-use crate::round::{Ask, Round};
-use crate::tally::{Tally, settles, with_bundle};
+use crate::round::Round;
+use crate::tally::{Tally, exceeds_by, settles, with_bundle};
 use bundle_rules::Bundle;
 use chronicle::Journal;
 use demand_api::Crowd;
@@ -98,6 +98,14 @@ impl BoardState {
             },
             calls: u64::from(workers) * (2 * tasks + 1),
         })
+    }
+
+    // How many tasks the round has: at most 16 versions of 2,000 students.
+    pub(crate) fn task_count(&self) -> u64
+        ensures value { result ≡ task_count self.now.terms }
+        ensures few { result ≤ 32000 }
+    {
+        self.tallies.len() as u64 * self.students as u64
     }
 
     /// Gives the worker the first task by version, then student, that is neither drawn nor of a settled version.
@@ -233,7 +241,10 @@ impl BoardState {
         ensures right { IfSome result (λ bundle. sections_of bundle ≡ demand_of self.now.terms version student) }
         ensures rows { AreRows self.now.terms self.now.rows }
     {
-        if version >= self.tallies.len() || student >= self.students {
+        if version >= self.tallies.len() {
+            return None;
+        }
+        if student >= self.students {
             return None;
         }
         self.places.bundle(version, student)
@@ -249,10 +260,7 @@ impl BoardState {
         if version >= self.tallies.len() {
             return None;
         }
-        match self.round.asks[version] {
-            Ask::Counts => None,
-            Ask::Exceeds { section: _, limit } => Some(self.tallies[version].count > limit),
-        }
+        exceeds_by(self.round.asks[version], self.tallies[version])
     }
 
     // One call of those that the board has room for.

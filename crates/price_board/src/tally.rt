@@ -3,7 +3,7 @@ ghost use Rattle.std.specs.Prelude.{◌≡◌, ◌≤◌, ◌+◌, ◌-◌};
 ghost use Rattle.bundle_rules.specs.declared.bundle.Bundle.{Bundle};
 ghost use Rattle.std.specs.Prelude.{Some};
 ghost use Rattle.price_board.specs.Settling.{one_for};
-ghost use Rattle.price_board.specs.Tallies.{settles};
+ghost use Rattle.price_board.specs.Tallies.{settles, exceeds_by};
 
 use crate::round::Ask;
 use bundle_rules::Bundle;
@@ -40,5 +40,15 @@ pub(crate) fn with_bundle(ask: Ask, tally: Tally, bundle: &Bundle) -> Tally
     Tally {
         unfilled: tally.unfilled - 1,
         count: if has_it { tally.count + 1 } else { tally.count },
+    }
+}
+
+// Whether more of the posted bundles than the limit have the section, where that is asked.
+pub(crate) fn exceeds_by(ask: Ask, tally: Tally) -> Option<bool>
+    ensures { result ≡ exceeds_by ask tally }
+{
+    match ask {
+        Ask::Counts => None,
+        Ask::Exceeds { section: _, limit } => Some(tally.count > limit),
     }
 }
