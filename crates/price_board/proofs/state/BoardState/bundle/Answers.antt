@@ -37,3 +37,11 @@ returns-clause-right c =
 
 pub returns-clause-rows : goal.returns-clause-rows
 returns-clause-rows c = subst (λ (b : BoardData). AreRows b.terms b.rows) c.self.view_is c.self.invariant.tasks.rows
+
+pub bundle-requires-clause-version : goal.bundle-requires-clause-version
+bundle-requires-clause-version c = omega (arith, count_tallies (terms_in c.self.inside) c.self.inside.places c.self.inside.tallies.items c.self.inside.next.version c.self.inside.next.student c.self.invariant.tasks, c.self.inside.tallies.ok.0, c.if-version-len.false, c.self.invariant.tasks.rows.versions)
+
+pub bundle-requires-clause-student : goal.bundle-requires-clause-student
+bundle-requires-clause-student c =
+    let low : c.args.version < version_count (terms_in c.self.inside) = omega (arith, count_tallies (terms_in c.self.inside) c.self.inside.places c.self.inside.tallies.items c.self.inside.next.version c.self.inside.next.student c.self.invariant.tasks, c.self.inside.tallies.ok.0, c.if-version-len.false) in
+    omega (arith, wide_at (terms_in c.self.inside) c.self.inside.places c.self.inside.tallies.items c.self.inside.next.version c.self.inside.next.student c.self.invariant.tasks c.args.version low, c.self.invariant.students, c.if-student-self.false)

@@ -43,3 +43,6 @@ returns-clause-rows c = subst (λ (b : BoardData). AreRows b.terms b.rows) c.sel
 
 pub returns-clause-asks : goal.returns-clause-asks
 returns-clause-asks c = subst (λ (b : BoardData). length b.terms.asks ≡ version_count b.terms) c.self.view_is c.self.invariant.asked
+
+pub index-requires : goal.index-requires
+index-requires c = omega (arith, count_tallies (terms_in c.self.inside) c.self.inside.places c.self.inside.tallies.items c.self.inside.next.version c.self.inside.next.student c.self.invariant.tasks, c.self.inside.tallies.ok.0, c.self.inside.round.asks.ok.0, c.if-version-len.false, c.self.invariant.asked)
