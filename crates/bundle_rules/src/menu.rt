@@ -190,7 +190,8 @@ impl Menu {
     }
 }
 
-fn place_among(places: &[Rated], section: SectionNo) -> usize
+/// The place of a section among these, or their number where it has none.
+pub fn place_among(places: &[Rated], section: SectionNo) -> usize
     ensures value { result ≡ place_in places.now section.0 }
     ensures within { result ≤ length places.now }
 {

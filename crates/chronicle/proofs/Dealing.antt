@@ -31,8 +31,12 @@ sum_of-take-suc (suc i) (x ∷ xs) below =
     let goal : x + a ≡ x + b + d = omega arith in goal
 
 -- the sum of one number more
-pub sum_of-take : (i : ℕ) (xs : List ℕ) → i < length xs → sum_of (take (i + 1) xs) ≡ sum_of (take i xs) + slice_index xs i
+sum_of-take : (i : ℕ) (xs : List ℕ) → i < length xs → sum_of (take (i + 1) xs) ≡ sum_of (take i xs) + slice_index xs i
 sum_of-take i xs below = ap (λ (n : ℕ). sum_of (take n xs)) (let next : i + 1 ≡ suc i = omega arith in next) ∙ sum_of-take-suc i xs below
+
+-- what the numbers so far sum up to, with the next one
+pub sum_with_next : (i calls : ℕ) (xs : List ℕ) → i < length xs → calls ≡ sum_of (take i xs) → calls + slice_index xs i ≡ sum_of (take (i + 1) xs)
+sum_with_next i calls xs below so_far = ap (λ (n : ℕ). n + slice_index xs i) so_far ∙ sym (sum_of-take i xs below)
 
 -- a beginning sums up to no more
 pub sum_of-take-le : (i : ℕ) (xs : List ℕ) → sum_of (take i xs) ≤ sum_of xs

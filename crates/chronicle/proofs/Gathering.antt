@@ -147,9 +147,9 @@ module _ {T B S Q A : Type 0} (base_of : T → B) (state_of : T → S) (room : T
       let v : View B S Q A = h.view in
       let at : get_elem? s.views id ≡ some (Some v) = there ∙ ap (λ (m : Place T B S Q A). some m.0) h.is in
       let mine = r.fits id v at in
-      let base_is : r.base ≡ o.base = sym mine.same_base ∙ h.same_base in
-      let opening_is : r.opening ≡ o.opening = sym mine.same_opening ∙ h.same_opening in
-      let allotments_are : r.allotments ≡ o.allotments = sym mine.same_allotments ∙ h.same_allotments in
+      let base_is : r.base ≡ o.base = sym mine.same.0 ∙ h.same_base in
+      let opening_is : r.opening ≡ o.opening = sym mine.same.1 ∙ h.same_opening in
+      let allotments_are : r.allotments ≡ o.allotments = sym mine.same.2 ∙ h.same_allotments in
       let seats_are : length r.allotments ≡ length o.allotments = ap length allotments_are in
       let known : All (Knows v) seats = All-from_recursion (Knows v) seats h.knows in
       let all_numbers : (n : ℕ) → n < length r.allotments → IsIn n (numbers v) = λ n below. (
@@ -162,12 +162,12 @@ module _ {T B S Q A : Type 0} (base_of : T → B) (state_of : T → S) (room : T
       let few : r.made ≤ length r.allotments = r.made_few in
       let named : (step : StepOf Q A) → step.seat < r.made → Any (λ (x : Standing B S Q A). x.number ≡ step.seat) seats = λ step low. everyone step.seat (let goal : step.seat < length o.allotments = omega arith in goal) in
       let calls_are : (seat : Standing B S Q A) → Knows v seat → calls_by seat.number r.history ≡ seat.own = λ seat k. ⊎_elim
-      (λ (e : (v.number ≡ seat.number) × (v.own ≡ seat.own)). ap (λ (n : ℕ). calls_by n r.history) (sym e.0) ∙ mine.own ∙ e.1)
-      (λ (i : IsIn (seat.number, seat.own) v.joined). each_in (λ (x : ℕ × List (StepOf Q A)). calls_by x.0 r.history ≡ x.1) v.joined (seat.number, seat.own) mine.joined i) k.own in
+      (λ (e : (v.number ≡ seat.number) × (v.own ≡ seat.own)). ap (λ (n : ℕ). calls_by n r.history) (sym e.0) ∙ mine.calls.0 ∙ e.1)
+      (λ (i : IsIn (seat.number, seat.own) v.joined). each_in (λ (x : ℕ × List (StepOf Q A)). calls_by x.0 r.history ≡ x.1) v.joined (seat.number, seat.own) mine.calls.1 i) k.own in
       let calls_in_journal : (seat : Standing B S Q A) → Knows v seat → calls_by seat.number kept.journal.items ≡ seat.own = λ seat k. ap (λ (l : List (StepOf Q A)). calls_by seat.number l) journal ∙ calls_are seat k in
       let begins : (seat : Standing B S Q A) → Knows v seat → BeginsWith r.history seat.seen = λ seat k. ⊎_elim
-      (λ (e : v.seen ≡ seat.seen). subst (λ (l : List (StepOf Q A)). BeginsWith r.history l) e mine.begins)
-      (λ (i : IsIn seat.seen v.noted). each_in (BeginsWith r.history) v.noted seat.seen mine.noted i) k.seen in (
+      (λ (e : v.seen ≡ seat.seen). subst (λ (l : List (StepOf Q A)). BeginsWith r.history l) e mine.begins.0)
+      (λ (i : IsIn seat.seen v.noted). each_in (BeginsWith r.history) v.noted seat.seen mine.begins.1 i) k.seen in (
         kept,
         home.1,
         record {

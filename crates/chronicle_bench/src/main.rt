@@ -2,15 +2,19 @@
 //! else nothing.
 #![tactic(auto)]
 
+mod calls;
 mod counter;
-mod timing;
+mod report;
+mod work;
 
-use std::env;
-use std::io;
+use std::{env, io};
 
 fn main(rt: HostRuntime) -> io::Result<()> {
     if env::args(&rt).is_ok_and(|words| words.count() > 1) {
-        timing::report(&rt, rt.alloc())?;
+        report::print_all(&rt, rt.alloc())?;
     }
     Ok(())
 }
+
+#[cfg(test)]
+mod tests;

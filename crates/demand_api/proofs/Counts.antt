@@ -1,14 +1,17 @@
 -- How many students take a section.
-use Rattle.std.proofs.Common.{ℕ, suc, Bool, ◌≡◌, ◌<◌, ◌≤◌, min, true, if◌then◌else◌, List, [], ◌∷◌, All, length, arith, refl, ◌∙◌, ap, inl, inr}
+use Rattle.std.proofs.Common.{ℕ, zero, suc, Bool, ◌≡◌, ◌<◌, ◌≤◌, min, true, if◌then◌else◌, List, [], ◌∷◌, All, length, arith, refl, ◌∙◌, ap, inl, inr}
 use Rattle.std.specs.Prelude.{nat_lt, map, max}
 use Rattle.std.proofs.lemmas.Bool.{cases_Bool, false≢true}
 use Rattle.std.proofs.lemmas.List.Elements.{All-cons}
+use Rattle.market_units.specs.declared.units.Tokens.{Tokens}
+use Rattle.clearing_error.specs.Errors.{error}
+use Rattle.clearing_error.proofs.Sections.{error_by_top}
 use Rattle.market_lists.specs.Totals.{total}
 use Rattle.market_lists.proofs.Sums.{total-le}
 use Rattle.bundle_rules.specs.Sets.{has}
 use Rattle.bundle_rules.specs.Menus.{wishes_of}
 use Rattle.bundle_rules.specs.Places.{places_from}
-use Rattle.bundle_rules.specs.Demand.{IsBest}
+use Rattle.bundle_rules.specs.Demand.{price_in, IsBest}
 use Rattle.bundle_rules.specs.Existence.Members.{has-cases}
 use Rattle.bundle_rules.proofs.BestValue.{best-is, best-only}
 use Rattle.demand_api.specs.Crowds.{Student, CrowdData, top, greatest_budget, demand, demands, holders, count, counts}
@@ -112,3 +115,21 @@ demands_by_top crowd one other same = same_demands (top crowd) crowd.sections on
 
 pub counts_by_top : (crowd : CrowdData) (one other : ℕ → ℕ) → ((t : ℕ) → min (one t) (top crowd) ≡ min (other t) (top crowd)) → counts crowd one ≡ counts crowd other
 counts_by_top crowd one other same = ap (λ bundles. map (λ s. holders s bundles) (places_from 0 crowd.sections)) (demands_by_top crowd one other same)
+
+-- lists of prices that are the same up to a price say so of each section
+pub same_up_to : (most : ℕ) (one other : List Tokens) → map (λ price. min price.0 most) one ≡ map (λ price. min price.0 most) other → (s : ℕ) → min (price_in one s) most ≡ min (price_in other s) most
+same_up_to most [] [] same s = refl
+same_up_to most [] (q ∷ qs) same s = absurd cc
+same_up_to most (p ∷ ps) [] same s = absurd cc
+same_up_to most (p ∷ ps) (q ∷ qs) same zero = let head : min p.0 most ≡ min q.0 most = cc in head
+same_up_to most (p ∷ ps) (q ∷ qs) same (suc s) = let tail : map (λ price. min price.0 most) ps ≡ map (λ price. min price.0 most) qs = cc in same_up_to most ps qs tail s
+
+pub top_some : (crowd : CrowdData) → 1 ≤ top crowd
+unfolding top
+top_some crowd = omega arith
+
+pub errors_by_top : (crowd : CrowdData) (seats : List ℕ) (one other : List Tokens) → map (λ price. min price.0 (top crowd)) one ≡ map (λ price. min price.0 (top crowd)) other
+    → error (counts crowd (price_in one)) seats one ≡ error (counts crowd (price_in other)) seats other
+errors_by_top crowd seats one other same =
+    ap (λ found. error found seats one) (counts_by_top crowd (price_in one) (price_in other) (same_up_to (top crowd) one other same))
+    ∙ error_by_top (counts crowd (price_in other)) seats one other (top crowd) (top_some crowd) same

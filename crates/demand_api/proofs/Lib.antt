@@ -4,3 +4,5 @@ pub mod Counts
 pub mod Halving
 pub mod Choosing
 pub mod Bundles
+pub mod Takers
+pub mod Pairs

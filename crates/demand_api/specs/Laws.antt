@@ -1,8 +1,10 @@
 -- The laws of demand.
-use Rattle.std.specs.Prelude.{ℕ, ◌<◌, ◌≤◌, ◌≡◌, ◌↔◌, Bool, List, min}
+use Rattle.std.specs.Prelude.{ℕ, ◌<◌, ◌≤◌, ◌≡◌, ◌↔◌, Bool, List, map, min}
+use Rattle.market_units.specs.declared.units.Tokens.{Tokens}
 use Rattle.market_lists.specs.Totals.{total}
 use Rattle.bundle_rules.specs.Wishes.{Wishes}
-use Rattle.bundle_rules.specs.Demand.{IsBest}
+use Rattle.bundle_rules.specs.Demand.{price_in, IsBest}
+use Rattle.clearing_error.specs.Errors.{error}
 use Rattle.demand_api.specs.Crowds.{CrowdData, top, demands, counts}
 
 -- a best bundle stays the best at prices at which no rated section is cheaper and the bundle is affordable
@@ -22,3 +24,8 @@ DemandsByTop = (crowd : CrowdData) (one other : ℕ → ℕ) → ((s : ℕ) → 
 -- and the counts are the same
 abbrev pub CountsByTop : Type 0
 CountsByTop = (crowd : CrowdData) (one other : ℕ → ℕ) → ((s : ℕ) → min (one s) (top crowd) ≡ min (other s) (top crowd)) → counts crowd one ≡ counts crowd other
+
+-- and the error is the same
+abbrev pub ErrorsByTop : Type 0
+ErrorsByTop = (crowd : CrowdData) (seats : List ℕ) (one other : List Tokens) → map (λ price. min price.0 (top crowd)) one ≡ map (λ price. min price.0 (top crowd)) other
+    → error (counts crowd (price_in one)) seats one ≡ error (counts crowd (price_in other)) seats other

@@ -1,13 +1,14 @@
 // Counts of all sections at once.
-ghost use Rattle.std.specs.Prelude.{◌≡◌, ◌<◌, ◌≤◌, ◌+◌, ◌^◌, ℕ, IfOk, All, length, slice_index, if◌then◌else◌};
-ghost use Rattle.bundle_rules.specs.Sets.{has, IsAscending};
+ghost use Rattle.std.specs.Prelude.{◌≡◌, ◌<◌, ◌+◌, ◌^◌, ℕ, All, length};
+ghost use Rattle.bundle_rules.specs.Sets.{IsAscending};
 ghost use Rattle.bundle_rules.specs.Ordinals.{ordinals};
 ghost use Rattle.demand_api.specs.Counting.{HasCounted};
 
 use market_units::SectionNo;
 
-// Adds one at each section of a bundle.
-pub(crate) fn count_bundle(counts: &mut [u32], sections: &[SectionNo])
+/// Adds one to the count of each section of a bundle. The sections are ascending and have a count, and no count is
+/// so great that it could pass its type.
+pub fn count_bundle(counts: &mut [u32], sections: &[SectionNo])
     requires range { All (λ section. section.0 < length counts.old) sections.now }
     requires set { IsAscending (ordinals sections.now) }
     requires room { All (λ n. n + length sections.now < 2 ^ 32) counts.old }

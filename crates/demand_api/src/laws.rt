@@ -1,5 +1,5 @@
 //! What holds of demand: each call here does nothing, and its contract is a law.
-ghost use Rattle.demand_api.specs.Laws.{BestStays, TopIsEnough, DemandsByTop, CountsByTop};
+ghost use Rattle.demand_api.specs.Laws.{BestStays, TopIsEnough, DemandsByTop, CountsByTop, ErrorsByTop};
 
 /// A best bundle that is still affordable stays the best where no rated section is cheaper: what is forgone was
 /// worse before, and nothing new became affordable.
@@ -20,4 +20,9 @@ pub fn demands_by_top()
 /// Prices above the top act as the top: each section has the same count.
 pub fn counts_by_top()
     ensures { CountsByTop }
+{}
+
+/// Prices above the top act as the top: the clearing error is the same.
+pub fn errors_by_top()
+    ensures { ErrorsByTop }
 {}

@@ -1,10 +1,11 @@
 // What a crowd takes, by trying every choice of each student.
-ghost use Rattle.std.specs.Prelude.{◌≡◌, ◌<◌, IfOk, All, length, map};
+ghost use Rattle.std.specs.Prelude.{◌≡◌, ◌<◌, ℕ, IfOk, All, length, map, nat_lt};
+ghost use Rattle.std.specs.FinSet as set;
 ghost use Rattle.market_units.specs.declared.units.Tokens.{Tokens};
 ghost use Rattle.bundle_rules.specs.Demand.{price_in};
 ghost use Rattle.bundle_rules.specs.Bundles.{sections_of};
 ghost use Rattle.demand_api.specs.Crowds.{demand_of, count, counts};
-ghost use Rattle.demand_api.specs.Made.{MakeCrowd, crowd_of, greatest};
+ghost use Rattle.demand_api.specs.Made.{MakeCrowd, crowd_of};
 ghost use Rattle.demand_api.specs.Asking.{ArePricesFor};
 
 use crate::Crowd;
@@ -13,30 +14,15 @@ use bundle_rules::{Bundle, best_plain};
 use market_units::{NoMemory, SectionNo, SectionSet, StudentNo, Tokens};
 use std::alloc::Global;
 
-// The greatest budget, 0 where there is none.
-pub(crate) fn greatest_budget(budgets: &[Tokens]) -> u32
-    ensures { result ≡ greatest budgets.now }
-{
-    match budgets {
-        [] => 0,
-        [budget, more @ ..] => budget.0.max(greatest_budget(more)),
-    }
-}
-
-// What the student at this place takes.
-fn demand(crowd: &Crowd, prices: &[Tokens], place: usize) -> Bundle
+// What the student at this place takes, with all sections allowed.
+fn demand(crowd: &Crowd, prices: &[Tokens], allowed: &SectionSet, place: usize) -> Bundle
     requires crowd { MakeCrowd crowd.now.menus.items crowd.now.budgets.items crowd.now.sections }
     requires prices { ArePricesFor (crowd_of crowd.now.menus.items crowd.now.budgets.items crowd.now.sections) prices.now }
+    requires allowed { (s : ℕ) → set.contains allowed.now s ≡ nat_lt s crowd.now.sections }
     requires range { place < length crowd.now.menus.items }
     ensures { sections_of result ≡ demand_of (crowd_of crowd.now.menus.items crowd.now.budgets.items crowd.now.sections) (price_in prices.now) place }
 {
-    let allowed = SectionSet::full(crowd.sections);
-    best_plain(
-        &crowd.menus[place],
-        prices,
-        crowd.budgets[place],
-        &allowed,
-    )
+    best_plain(&crowd.menus[place], prices, crowd.budgets[place], allowed)
 }
 
 // What the listed students take.
@@ -51,9 +37,11 @@ pub(crate) fn bundles(
     requires range { All (λ student. student.0 < length crowd.now.menus.items) students.now }
     ensures { IfOk result (λ bundles. map sections_of bundles.items ≡ map (λ student. demand_of (crowd_of crowd.now.menus.items crowd.now.budgets.items crowd.now.sections) (price_in prices.now) student.0) students.now) }
 {
+    let allowed = SectionSet::full(crowd.sections);
     let mut bundles = Vec::new(alloc);
     for student in students {
-        bundles.push(demand(crowd, prices, usize::from(student.0)))?;
+        let bundle = demand(crowd, prices, &allowed, usize::from(student.0));
+        bundles.push(bundle)?;
     }
     Ok(bundles)
 }
@@ -68,9 +56,10 @@ pub(crate) fn counts_at(
     requires prices { ArePricesFor (crowd_of crowd.now.menus.items crowd.now.budgets.items crowd.now.sections) prices.now }
     ensures { IfOk result (λ found. found.items ≡ counts (crowd_of crowd.now.menus.items crowd.now.budgets.items crowd.now.sections) (price_in prices.now)) }
 {
+    let allowed = SectionSet::full(crowd.sections);
     let mut counts = vec![in alloc; 0u32; usize::from(crowd.sections)]?;
     for place in 0..crowd.menus.len() {
-        let bundle = demand(crowd, prices, place);
+        let bundle = demand(crowd, prices, &allowed, place);
         count_bundle(&mut counts, bundle.sections());
     }
     Ok(counts)
@@ -82,9 +71,10 @@ pub(crate) fn count_of(crowd: &Crowd, prices: &[Tokens], section: SectionNo) -> 
     requires prices { ArePricesFor (crowd_of crowd.now.menus.items crowd.now.budgets.items crowd.now.sections) prices.now }
     ensures { result ≡ count (crowd_of crowd.now.menus.items crowd.now.budgets.items crowd.now.sections) (price_in prices.now) section.0 }
 {
+    let allowed = SectionSet::full(crowd.sections);
     let mut count = 0;
     for place in 0..crowd.menus.len() {
-        if demand(crowd, prices, place).has(section) {
+        if demand(crowd, prices, &allowed, place).has(section) {
             count += 1;
         }
     }

@@ -3,7 +3,7 @@ ghost use Rattle.std.specs.Prelude.{◌≡◌};
 ghost use Rattle.std.specs.Arc.{arc_value};
 ghost use Rattle.demand_api.specs.Made.{MakeCrowd, crowd_of};
 
-use crate::plain::{bundles, count_of, counts_at, greatest_budget};
+use crate::plain::{bundles, count_of, counts_at};
 use crate::{Crowd, Demands};
 use bundle_rules::Bundle;
 use market_units::{NoMemory, SectionNo, StudentNo, Tokens};
@@ -36,8 +36,7 @@ impl Demands for PlainDemands {
     ghost asked = { λ demands. demands.asked };
 
     fn top(&self) -> Tokens {
-        let crowd: &Crowd = &self.crowd;
-        Tokens(greatest_budget(&crowd.budgets) + 1)
+        self.crowd.top()
     }
 
     fn students(&self) -> u16 {
