@@ -84,8 +84,8 @@ found asks k (row ∷ rows) (suc v) s low over unsettled first within =
     let here : is_over (ask_of asks k) row ≡ true = subst (λ n. is_over (ask_of asks n) row ≡ true) (let goal : k + 0 ≡ k = omega arith in goal) (over zero (let goal : zero < suc v = omega arith in goal)) in
     let e : k + suc v ≡ k + 1 + v = omega arith in
     let rest : first_task asks (k + 1) rows ≡ Some (k + 1 + v, s) = found asks (k + 1) rows v s (low_of v (length rows) low)
-        (λ u below. subst (λ n. is_over (ask_of asks n) (row_of rows u) ≡ true) (let goal : k + suc u ≡ k + 1 + u = omega arith in goal) (over (suc u) (let goal : suc u < suc v = omega arith in goal)))
-        (subst (λ n. is_settled (ask_of asks n) (row_of rows v) ≡ false) e unsettled) first within in
+    (λ u below. subst (λ n. is_over (ask_of asks n) (row_of rows u) ≡ true) (let goal : k + suc u ≡ k + 1 + u = omega arith in goal) (over (suc u) (let goal : suc u < suc v = omega arith in goal)))
+    (subst (λ n. is_settled (ask_of asks n) (row_of rows v) ≡ false) e unsettled) first within in
     let goal : first_task asks (k + 1) rows ≡ Some (k + suc v, s) = rest ∙ ap (λ a. Some (a, s)) (sym e) in
     elim (cases_Bool (is_settled (ask_of asks k) row)) [
       | inl settled ↦ rw settled goal
@@ -100,7 +100,7 @@ none_found asks k [] over = refl
 none_found asks k (row ∷ rows) over =
     let here : is_over (ask_of asks k) row ≡ true = subst (λ n. is_over (ask_of asks n) row ≡ true) (let goal : k + 0 ≡ k = omega arith in goal) (over zero (let c : ℕ = length rows in let goal : zero < suc c = omega arith in goal)) in
     let rest : first_task asks (k + 1) rows ≡ None = none_found asks (k + 1) rows
-        (λ u below. subst (λ n. is_over (ask_of asks n) (row_of rows u) ≡ true) (let goal : k + suc u ≡ k + 1 + u = omega arith in goal) (over (suc u) (let c : ℕ = length rows in let b : u < c = below in let goal : suc u < suc c = omega arith in goal))) in
+    (λ u below. subst (λ n. is_over (ask_of asks n) (row_of rows u) ≡ true) (let goal : k + suc u ≡ k + 1 + u = omega arith in goal) (over (suc u) (let c : ℕ = length rows in let b : u < c = below in let goal : suc u < suc c = omega arith in goal))) in
     elim (cases_Bool (is_settled (ask_of asks k) row)) [
       | inl settled ↦ rw settled rest
       | inr more ↦
@@ -114,10 +114,10 @@ and_false true = refl
 and_false false = refl
 
 other_student : (v s t : ℕ) → t ≢ s → ((v == v) && (s == t)) ≡ false
-other_student v s t apart = let off : (s == t) ≡ false = elim (cases_Bool (s == t)) [ | inl same ↦ let e : t ≡ s = grind (arith, nat_tests) in absurd (apart e) | inr other ↦ other ] in rw off (and_false (v == v))
+other_student v s t apart = let off : (s == t) ≡ false = elim (cases_Bool (s == t)) [ inl same ↦ let e : t ≡ s = grind (arith, nat_tests) in absurd (apart e) | inr other ↦ other ] in rw off (and_false (v == v))
 
 other_version : (v u s t : ℕ) → u ≢ v → ((v == u) && (s == t)) ≡ false
-other_version v u s t apart = let off : (v == u) ≡ false = elim (cases_Bool (v == u)) [ | inl same ↦ let e : u ≡ v = grind (arith, nat_tests) in absurd (apart e) | inr other ↦ other ] in rw off refl
+other_version v u s t apart = let off : (v == u) ≡ false = elim (cases_Bool (v == u)) [ inl same ↦ let e : u ≡ v = grind (arith, nat_tests) in absurd (apart e) | inr other ↦ other ] in rw off refl
 
 module _ (asks : List Ask) (rows : List (List Place)) where
   -- the cursor's version is not over where a task of it may be drawn
@@ -199,12 +199,12 @@ module _ (asks : List Ask) (rows : List (List Place)) where
   posts_on v s w t p cursor was empty is =
       let here : t < length (row_of rows w) = closed_below (row_of rows w) t was in
       let stays_open : (u x : ℕ) → is_open (place_of rows u x) ≡ true → is_open (place_of (with_place rows w t p) u x) ≡ true = λ u x opened.
-          elim (cases_Bool ((w == u) && (t == x))) [
-            | inl same ↦
-                let e = same_place w u t x same in
-                absurd (true≢false (sym opened ∙ subst (λ y. is_open (place_of rows y x) ≡ false) e.0 (subst (λ y. is_open (place_of rows w y) ≡ false) e.1 was)))
-            | inr apart ↦ ap is_open (place-other rows w u t x p apart) ∙ opened
-          ] in
+      elim (cases_Bool ((w == u) && (t == x))) [
+        | inl same ↦
+            let e = same_place w u t x same in
+            absurd (true≢false (sym opened ∙ subst (λ y. is_open (place_of rows y x) ≡ false) e.0 (subst (λ y. is_open (place_of rows w y) ≡ false) e.1 was)))
+        | inr apart ↦ ap is_open (place-other rows w u t x p apart) ∙ opened
+      ] in
       record {
         over = λ u below. elim (cases_eq u w) [
           | inl same ↦ subst (λ x. is_over (ask_of asks x) (row_of (with_place rows w t p) x) ≡ true) (sym same) (subst (λ row. is_over (ask_of asks w) row ≡ true) (sym (row-same rows w t p)) (over_kept (ask_of asks w) (row_of rows w) t p here empty is (subst (λ x. is_over (ask_of asks x) (row_of rows x) ≡ true) same (cursor.over u below))))

@@ -104,7 +104,7 @@ module _ (board : Origin Terms Progress) (history : List (StepOf BoardCall Board
   nobody_holds v s seat held =
       let calls : calls_on v s history ≡ drew seat v s ∷ [] = subst (λ p. AreCallsTo v s p (calls_on v s history)) held (calls_tell board.base board.opening history opening legal v s) in
       let each = subst (λ l. Each (λ (step : StepOf BoardCall BoardReply). Any (λ (s : Standing Terms Progress BoardCall BoardReply). s.number ≡ step.seat) seats) l) calls
-          (each_of (λ (step : StepOf BoardCall BoardReply). Any (λ (s : Standing Terms Progress BoardCall BoardReply). s.number ≡ step.seat) seats) (λ (step : StepOf BoardCall BoardReply). is_on_call v s step.request step.reply) history known) in
+      (each_of (λ (step : StepOf BoardCall BoardReply). Any (λ (s : Standing Terms Progress BoardCall BoardReply). s.number ≡ step.seat) seats) (λ (step : StepOf BoardCall BoardReply). is_on_call v s step.request step.reply) history known) in
       let its : Any (λ (s : Standing Terms Progress BoardCall BoardReply). s.number ≡ seat) seats = each.0 in
       let who = its.1 in
       let end : IsFinished board who = seat_finished its.0 who its.2 its.3 in

@@ -129,7 +129,7 @@ module _ (asks : List Ask) where
             let shown : place_of (with_place rows v n (Held seat)) w u ≡ Held seat = subst (λ x. place_of (with_place rows v n (Held seat)) x u ≡ Held seat) e.0 (subst (λ x. place_of (with_place rows v n (Held seat)) v x ≡ Held seat) e.1 (place-same rows v n (Held seat) found.below)) in
             let before : place_of rows w u ≡ Open = subst (λ x. place_of rows x u ≡ Open) e.0 (subst (λ x. place_of rows v x ≡ Open) e.1 found.opened) in
             let one : calls_on w u (drew seat v n ∷ []) ≡ drew seat w u ∷ [] =
-                (let goal : calls_on w u (drew seat v n ∷ []) ≡ drew seat v n ∷ [] = rw here refl in goal) ∙ ap (λ x. drew seat x n ∷ []) e.0 ∙ ap (λ x. drew seat w x ∷ []) e.1 in
+            (let goal : calls_on w u (drew seat v n ∷ []) ≡ drew seat v n ∷ [] = rw here refl in goal) ∙ ap (λ x. drew seat x n ∷ []) e.0 ∙ ap (λ x. drew seat w x ∷ []) e.1 in
             subst (λ p. AreCallsTo w u p (past ++ calls_on w u (drew seat v n ∷ []))) (sym shown)
             (subst (λ l. AreCallsTo w u (Held seat) (past ++ l)) (sym one) (into_held w u seat (place_of rows w u) past before are))
         | inr other ↦ still w u (place_of rows w u) _ past _ (place-other rows v w n u (Held seat) other) (let goal : calls_on w u (drew seat v n ∷ []) ≡ [] = rw other refl in goal) are
@@ -147,7 +147,7 @@ module _ (asks : List Ask) where
         | inl here ↦
             let e = same_place v w n u here in
             let whole : AreCallsTo v n (place_of rows v n) past → AreCallsTo v n (place_of (with_place rows v n p) v n) (past ++ calls_on v n (posted seat v n bundle answer ∷ [])) =
-                (λ mine. subst (λ q. AreCallsTo v n q (past ++ calls_on v n (posted seat v n bundle answer ∷ []))) (sym (place-same rows v n p below)) (subst (λ l. AreCallsTo v n p (past ++ l)) (sym on) (into mine))) in
+            (λ mine. subst (λ q. AreCallsTo v n q (past ++ calls_on v n (posted seat v n bundle answer ∷ []))) (sym (place-same rows v n p below)) (subst (λ l. AreCallsTo v n p (past ++ l)) (sym on) (into mine))) in
             subst (λ x. AreCallsTo x u (place_of rows x u) past → AreCallsTo x u (place_of (with_place rows v n p) x u) (past ++ calls_on x u (posted seat v n bundle answer ∷ []))) e.0
             (subst (λ x. AreCallsTo v x (place_of rows v x) past → AreCallsTo v x (place_of (with_place rows v n p) v x) (past ++ calls_on v x (posted seat v n bundle answer ∷ []))) e.1 whole) are
         | inr other ↦ still w u (place_of rows w u) _ past _ (place-other rows v w n u p other) (off other) are

@@ -11,7 +11,6 @@ use Rattle.price_board.specs.Places.{row_of, place_of, with_place, is_held_by, b
 low_of : (v k : ℕ) → suc v < suc k → v < k
 low_of v k below = omega arith
 
-
 -- one row
 
 pub row_length : (marks : List Mark) (bundles : List (Option Bundle)) → length marks ≡ length bundles → length (row_in marks bundles) ≡ length marks

@@ -55,13 +55,13 @@ no_task asks k (row ∷ rows) none zero below =
 no_task asks k (row ∷ rows) none (suc d) below =
     let e : k + 1 + d ≡ k + suc d = omega arith in
     let later : first_task asks (k + 1) rows ≡ None =
-        (elim (cases_Bool (is_settled (ask_of asks k) row)) [
-          | inl over ↦ rw over at none
-          | inr more ↦ elim (cases_Bool (nat_lt (first_open row) (length row))) [
-            | inl some ↦ let h : Some (k, first_open row) ≡ None = rw (more, some) at none in cc
-            | inr full ↦ rw (more, full) at none
-          ]
-        ]) in
+    (elim (cases_Bool (is_settled (ask_of asks k) row)) [
+      | inl over ↦ rw over at none
+      | inr more ↦ elim (cases_Bool (nat_lt (first_open row) (length row))) [
+        | inl some ↦ let h : Some (k, first_open row) ≡ None = rw (more, some) at none in cc
+        | inr full ↦ rw (more, full) at none
+      ]
+    ]) in
     subst (λ v. is_over (ask_of asks v) (row_of rows d) ≡ true) e (no_task asks (k + 1) rows later d (low_of d (length rows) below))
 
 none_drawn : (task : Option (ℕ × ℕ)) → is_done (Drew (draw_of task)) ≡ true → task ≡ None

@@ -367,7 +367,7 @@ module _ (board : Origin Terms Progress) (old new : Standing Terms Progress Boar
                 absurd (other (sym shown ∙ (posted_by (with_place rows_then version student.0 p) is w t).0 holds))
             | inr apart ↦ ((held_posted w t).1 (sym (place-other rows_then version w student.0 t p apart) ∙ (posted_by (with_place rows_then version student.0 p) is w t).0 holds), apart_of version w student.0 t apart)
           ]),
-          (λ held. (posted_by (with_place rows_then version student.0 p) is w t).1 (place-other rows_then version w student.0 t p (test_of version w student.0 t held.1) ∙ (held_posted w t).0 held.0))
+          (λ held. (posted_by (with_place rows_then version student.0 p) is w t).1 (place-other rows_then version w student.0 t p (test_of version w student.0 t held.1) ∙ (held_posted w t).0 held.0)),
         );
       }
 
@@ -388,15 +388,15 @@ module _ (board : Origin Terms Progress) (old new : Standing Terms Progress Boar
             let refused : answer ≡ NotYours = rw stray at answer_is in
             let same : rows_posted board.base.asks rows_then old.number version student.0 bundle ≡ rows_then = rw stray refl in
             let none : ¬ Holds board old version student.0 = λ holds.
-                (let mine : (old.number == old.number) ≡ true = grind (arith, nat_tests) in
-                false≢true (sym stray ∙ ap (is_held_by old.number) ((held_posted version student.0).0 holds) ∙ mine)) in
+            (let mine : (old.number == old.number) ≡ true = grind (arith, nat_tests) in
+            false≢true (sym stray ∙ ap (is_held_by old.number) ((held_posted version student.0).0 holds) ∙ mine)) in
             record {
               not_yours = ((λ _. none), (λ _. refused));
               holds = λ w t. (
                 (λ holds.
-                  let was : Holds board old w t = (held_posted w t).1 ((posted_by rows_then same w t).0 holds) in
-                  (was, (λ e. none (subst (λ x. Holds board old x student.0) e.0 (subst (λ x. Holds board old w x) e.1 was))))),
-                (λ held. (posted_by rows_then same w t).1 ((held_posted w t).0 held.0))
+                    let was : Holds board old w t = (held_posted w t).1 ((posted_by rows_then same w t).0 holds) in
+                    (was, (λ e. none (subst (λ x. Holds board old x student.0) e.0 (subst (λ x. Holds board old w x) e.1 was))))),
+                (λ held. (posted_by rows_then same w t).1 ((held_posted w t).0 held.0)),
               );
             }
       ]

@@ -38,7 +38,6 @@ impl Model for Board {
     ghost use Rattle.chronicle.specs.declared.origin.Origin.{Origin};
     ghost use Rattle.price_board.specs.declared.shared.Terms.{Terms};
     ghost use Rattle.price_board.specs.declared.shared.Progress.{Progress};
-
     ghost use Rattle.chronicle.specs.contracts.origin.Origin as origin;
     ghost use Rattle.price_board.specs.contracts.shared.Progress as progress;
     ghost use Rattle.price_board.specs.contracts.shared.Terms as terms;

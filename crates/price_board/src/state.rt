@@ -168,13 +168,7 @@ impl BoardState {
 
     /// Takes what the student takes at the prices of the version from the worker that holds the task. `NotYours` comes exactly
     /// where the worker does not hold it, and changes nothing; `Late` exactly where it does and the version is settled.
-    pub fn post(
-        &mut self,
-        worker: u16,
-        version: u8,
-        student: StudentNo,
-        bundle: Bundle,
-    ) -> Posted
+    pub fn post(&mut self, worker: u16, version: u8, student: StudentNo, bundle: Bundle) -> Posted
         requires version { version < version_count self.old.terms }
         requires student { student.0 < student_count self.old.terms }
         requires bundle { sections_of bundle ≡ demand_of self.old.terms version student.0 }
@@ -184,22 +178,11 @@ impl BoardState {
         ensures terms { self.new.terms ≡ self.old.terms }
         ensures room { self.new.room ≡ self.old.room }
     {
-        self.post_at(
-            worker,
-            usize::from(version),
-            usize::from(student.0),
-            bundle,
-        )
+        self.post_at(worker, usize::from(version), usize::from(student.0), bundle)
     }
 
     // A post by the place of its task.
-    fn post_at(
-        &mut self,
-        worker: u16,
-        version: usize,
-        student: usize,
-        bundle: Bundle,
-    ) -> Posted
+    fn post_at(&mut self, worker: u16, version: usize, student: usize, bundle: Bundle) -> Posted
         requires version { version < version_count self.old.terms }
         requires student { student < student_count self.old.terms }
         requires bundle { sections_of bundle ≡ demand_of self.old.terms version student }

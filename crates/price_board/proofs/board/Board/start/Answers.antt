@@ -22,7 +22,7 @@ returns-clause-free c = λ k d below.
     let low : k < c.args.workers = subst (λ n. k < n) count below in
     let items = c.in_ok-allotments.ensures.items_if_clones_equal (λ y is. is) in
     let opening : c.in_ok-chronicle.chronicle.opening ≡ opening_of c.in_ok-chronicle.chronicle.base =
-        c.in_ok-chronicle.ensures.chronicle.1 ∙ (λ i. record { rows = c.in_ok-state.ensures.opening i }) ∙ ap opening_of (sym (c.in_ok-chronicle.ensures.chronicle.0 ∙ c.in_ok-state.ensures.terms)) in
+    c.in_ok-chronicle.ensures.chronicle.1 ∙ (λ i. record { rows = c.in_ok-state.ensures.opening i }) ∙ ap opening_of (sym (c.in_ok-chronicle.ensures.chronicle.0 ∙ c.in_ok-state.ensures.terms)) in
     new_free c.in_ok-chronicle.chronicle k (slice_index c.in_ok-allotments.allotments.items k) _
     (c.in_ok-chronicle.ensures.seats k d (omega (arith, c.in_ok-allotments.ensures.len))) opening
     (ap (λ l. slice_index l k) items ∙ get_or-replicate c.args.workers k (2 * c.task_count.result + 1) 0 low ∙ ap (λ n. 2 * n + 1) (c.task_count.ensures.value ∙ ap task_count (sym c.in_ok-chronicle.ensures.chronicle.0)))
