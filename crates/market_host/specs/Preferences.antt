@@ -1,5 +1,5 @@
 -- What `prefer` prints.
-use Rattle.std.specs.Prelude.{ℕ, ◌≡◌, List, Ok}
+use Rattle.std.specs.Prelude.{ℕ, ◌≡◌, List, ◌∷◌, Ok}
 use Rattle.std.specs.List.{AllZip}
 use Rattle.course_catalog.specs.Reading.{catalog_of}
 use Rattle.course_catalog.specs.Sections.{Section}
@@ -30,3 +30,8 @@ abbrev pub IsPreferencesOf : List ℕ → List ℕ → List (List ℕ) → List 
 IsPreferencesOf catalog roll sessions text =
     (sections : List Section) × (students : List Student) × (journal : List Entry)
     × IsHeld catalog roll sessions sections students journal × (text ≡ preferences_text sections students journal)
+
+-- what is printed for the texts of a catalogue, a roll and sessions
+abbrev pub PrintsPreferences : List (List ℕ) → List ℕ → Type 0
+PrintsPreferences (catalog ∷ roll ∷ sessions) text = IsPreferencesOf catalog roll sessions text
+PrintsPreferences texts text = ⊥

@@ -53,3 +53,8 @@ IsQuoteOf name credits courses catalog session text =
     (sections : List Section) × (catalog_of catalog ≡ Ok sections)
     × (commands : List Command) × AreCommands (session_text session) commands
     × IsQuote sections (single_student name credits courses) commands text
+
+-- what is printed for the texts of a catalogue and a session
+abbrev pub PrintsQuote : List ℕ → ℕ → ℕ → List (List ℕ) → List ℕ → Type 0
+PrintsQuote name credits courses (catalog ∷ session ∷ []) text = IsQuoteOf name credits courses catalog session text
+PrintsQuote name credits courses texts text = ⊥

@@ -14,6 +14,7 @@ mod session;
 mod sessions;
 mod status;
 mod text;
+mod trouble;
 
 pub use cause::Cause;
 pub use host::course_match;
