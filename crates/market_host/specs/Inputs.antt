@@ -9,13 +9,13 @@ use Rattle.market_edge.specs.Holdings.{Holding, IsTextOf, told_text}
 use Rattle.market_lists.specs.Totals.{total}
 use Rattle.market_words.specs.declared.words.Form.{Form}
 use Rattle.market_host.specs.declared.cause.Cause.{Cause}
-use Rattle.market_host.specs.Kinds.{Kind, Catalogue, Roll, Session, front_of, kind_of, limit_of, streams_of}
+use Rattle.market_host.specs.Kinds.{Kind, Catalog, Roll, Session, front_of, kind_of, limit_of, streams_of}
 use Rattle.market_host.specs.Refusals.{IsNoCatalog, IsNoRoll}
 use Rattle.market_host.specs.Sessions.{command_count}
 
 -- how many commands a text of this kind has, where it is a stream of them
 abbrev pub commands_in : Kind → List ℕ → ℕ
-commands_in Catalogue text = 0
+commands_in Catalog text = 0
 commands_in Roll text = 0
 commands_in Session text = command_count text
 
@@ -25,13 +25,13 @@ commands_among form texts = total (commands_in (streams_of form)) (drop (length 
 
 -- a text of this kind, behind these others, is of its grammar; a session always is
 abbrev pub IsOfGrammar : Kind → List (List ℕ) → List ℕ → Type 0
-IsOfGrammar Catalogue earlier text = (sections : List Section) × (catalog_of text ≡ Ok sections)
+IsOfGrammar Catalog earlier text = (sections : List Section) × (catalog_of text ≡ Ok sections)
 IsOfGrammar Roll earlier text = (students : List Student) × (roll_of text ≡ Ok students)
 IsOfGrammar Session earlier text = ⊤
 
 -- a text of this kind, behind these others, is not of its grammar, and its first fault has this row and this cause; a session has none
 abbrev pub HasFault : Kind → List (List ℕ) → ℕ → Cause → List ℕ → Type 0
-HasFault Catalogue earlier row cause text = IsNoCatalog text row cause
+HasFault Catalog earlier row cause text = IsNoCatalog text row cause
 HasFault Roll earlier row cause text = IsNoRoll text row cause
 HasFault Session earlier row cause text = ⊥
 

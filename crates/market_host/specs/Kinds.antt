@@ -4,14 +4,14 @@ use Rattle.market_words.specs.declared.words.Form.{Form}
 use Rattle.market_words.specs.declared.words.Form.TheVariants.{Prefer, Quote}
 
 pub data Kind : Type 0 where
-  Catalogue : Kind
+  Catalog : Kind
   Roll : Kind
   Session : Kind
 
 -- the kinds of a form's inputs in front of its streams of commands
 abbrev pub front_of : Form → List Kind
-front_of (Quote name credits courses) = Catalogue ∷ []
-front_of Prefer = Catalogue ∷ Roll ∷ []
+front_of (Quote name credits courses) = Catalog ∷ []
+front_of Prefer = Catalog ∷ Roll ∷ []
 
 -- the kind of a form's streams of commands
 abbrev pub streams_of : Form → Kind
@@ -30,6 +30,6 @@ kind_of form count = kind_behind (front_of form) (streams_of form) count
 
 -- the most bytes that an input of this kind may have
 abbrev pub limit_of : Kind → ℕ
-limit_of Catalogue = 16777216
+limit_of Catalog = 16777216
 limit_of Roll = 16777216
 limit_of Session = 16777216

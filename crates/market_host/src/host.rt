@@ -9,6 +9,7 @@ ghost use Rattle.market_host.specs.Ends.{IsReadOutAt};
 ghost use Rattle.market_host.specs.Lines.{line_of};
 ghost use Rattle.market_host.specs.Outcomes.{IsDone, IsOutcome, IsStopped};
 ghost use Rattle.market_host.specs.Sights.{sight};
+ghost use Rattle.market_host.specs.declared.trouble.Trouble.TheVariants as trouble;
 
 use crate::Status;
 use crate::line::{line_for, usage};
@@ -59,6 +60,16 @@ pub fn course_match<R: Threads + Wait + Sync, H: Shelf, K: Sink, G: Gate + Sync>
         Ok(text) => finish(sink, &text, Status::Done),
         Err(trouble) => finish(sink, line_for(trouble).as_bytes(), trouble.status()),
     }
+}
+
+/// What is answered where there is no memory for the words themselves: that memory is wanted, unless the sink fails.
+pub fn no_memory_for_words<K: Sink>(sink: &mut K) -> Status
+    ensures written { result ≢ Status.SinkFault → (result ≡ Status.OutOfMemory) × Takes (K.taken sink.old) (K.taken sink.new) (line_of trouble.OutOfMemory) }
+    ensures sink_fault { result ≡ Status.SinkFault → Rose (K.faults sink.old) (K.faults sink.new) }
+    ensures replaced { result ≡ Status.SinkFault → TakesFront (K.taken sink.old) (K.taken sink.new) (line_of trouble.OutOfMemory) }
+    ensures sink_later { K.faults sink.old ≤ K.faults sink.new }
+{
+    finish(sink, line_for(Trouble::OutOfMemory).as_bytes(), Status::OutOfMemory)
 }
 
 // Writes the text of a status, and answers the status where the sink takes it whole.

@@ -11,7 +11,7 @@ ghost use Rattle.preference_desk.specs.MarketNames.{market_names};
 ghost use Rattle.preference_text.specs.Texts as texts;
 ghost use Rattle.session_hall.specs.Streams.{command_count, command_lists};
 
-use crate::catalogue::take_catalogue;
+use crate::catalog::take_catalog;
 use crate::roll::take_roll;
 use crate::sessions::take_sessions;
 use crate::trouble::Trouble;
@@ -42,7 +42,7 @@ pub fn prefer<R: Threads + Wait + Sync, H: Shelf, G: Gate + Sync>(
     ensures holds { H.holds shelf.new ≡ H.holds shelf.old }
     ensures later { (other : List ℕ) → H.faults shelf.old other ≤ H.faults shelf.new other }
 {
-    let catalog = take_catalogue(alloc, shelf, words[1].as_str(), 1)?;
+    let catalog = take_catalog(alloc, shelf, words[1].as_str(), 1)?;
     let roll = take_roll(alloc, shelf, words[2].as_str(), 2)?;
     let streams = take_sessions(alloc, shelf, &words[3..], 3)?;
     Ok(text_of(rt, alloc, &catalog, &roll, &streams, gate)?)

@@ -14,7 +14,7 @@ ghost use Rattle.preference_desk.specs.DeskView.{names_of, state_of};
 ghost use Rattle.preference_desk.specs.MarketNames.{market_names};
 ghost use Rattle.student_roll.specs.Students.{single_student};
 
-use crate::catalogue::take_catalogue;
+use crate::catalog::take_catalog;
 use crate::session::take_session;
 use crate::text::text_of;
 use crate::trouble::Trouble;
@@ -45,7 +45,7 @@ pub fn quote<H: Shelf>(
     ensures holds { H.holds shelf.new ≡ H.holds shelf.old }
     ensures later { (other : List ℕ) → H.faults shelf.old other ≤ H.faults shelf.new other }
 {
-    let catalog = take_catalogue(alloc, shelf, words[1].as_str(), 1)?;
+    let catalog = take_catalog(alloc, shelf, words[1].as_str(), 1)?;
     let commands = take_session(alloc, shelf, words[2].as_str(), 2, MAX_COMMANDS)?;
     Ok(best_text(alloc, &catalog, &commands, name, credits, courses)?)
 }

@@ -2,7 +2,7 @@
 ghost use Rattle.std.specs.Prelude.{◌≡◌, ◌<◌, ◌≤◌, ◌-◌, ◌^◌, List, ℕ, length, Ok, IfOk, IfErr};
 ghost use Rattle.course_catalog.specs.Reading.{catalog_of};
 ghost use Rattle.course_catalog.specs.Refusal.{TellsRefusal};
-ghost use Rattle.market_host.specs.Kinds.{Catalogue};
+ghost use Rattle.market_host.specs.Kinds as kind;
 ghost use Rattle.market_host.specs.Reading.{IsRead, IsRefusal, IsTroubleOf};
 ghost use Rattle.market_host.specs.Refusals.{IsNoCatalog};
 ghost use Rattle.market_host.specs.Sights.{sight};
@@ -21,14 +21,14 @@ const HEADER_ROW: u32 = 1;
 const SURPLUS_ROW: u32 = 402;
 
 /// The catalogue that the input of this name and number is, or why there is none.
-pub fn take_catalogue<H: Shelf>(
+pub fn take_catalog<H: Shelf>(
     alloc: Global,
     shelf: &mut H,
     name: &str,
     input: u16,
 ) -> Result<Catalog, Trouble>
-    ensures read { IfOk result (λ catalog. IsRead Catalogue (H.holds shelf.old) name.now (λ text. catalog_of text ≡ Ok catalog)) }
-    ensures trouble { IfErr result (IsTroubleOf (sight H.Shelf shelf.old shelf.new) Catalogue name.now input) }
+    ensures read { IfOk result (λ catalog. IsRead kind.Catalog (H.holds shelf.old) name.now (λ text. catalog_of text ≡ Ok catalog)) }
+    ensures trouble { IfErr result (IsTroubleOf (sight H.Shelf shelf.old shelf.new) kind.Catalog name.now input) }
     ensures holds { H.holds shelf.new ≡ H.holds shelf.old }
     ensures later { (other : List ℕ) → H.faults shelf.old other ≤ H.faults shelf.new other }
 {

@@ -29,14 +29,6 @@ const DESK: [Case; 8] = [
         "entry 1 done rate ann A 4\nentry 1 done rate bob A 3\nentry 1 done pair ann A B 9\nentry 1 done clear ann\nentry 1 done rate ann C 1\nentry 1 no-student clear zoe\nrate ann C 1\nrate bob A 3\n",
     ),
     (
-        "empty roll",
-        THREE,
-        STUDENTS,
-        b"rate ann A 1\nclose\n",
-        0,
-        "entry 1 no-student rate ann A 1\nentry 1 done close\n",
-    ),
-    (
         "nothing counts after close",
         ONE,
         ANN,
@@ -61,18 +53,6 @@ const DESK: [Case; 8] = [
         "entry 1 no-student rate zoe Q 101\nentry 1 no-section rate ann Q 101\nentry 1 no-section pair ann Q Q 999\nentry 1 no-student pair zoe A A 1\nentry 1 same-pair pair ann A A 999\nentry 1 out-of-range rate ann A -1\nentry 1 unreadable unreadable\nentry 1 out-of-range pair ann A B -201\nentry 1 done pair ann A B 0\nentry 1 done rate ann A 0\n",
     ),
     (
-        "ratings and pairs of two students, one pair of a section that is not rated",
-        THREE,
-        ANN_AND_BOB,
-        b"rate bob B 3\npair bob A B 4\nrate ann C 2\nrate ann A 1\npair ann C A -5\npair bob C B 6\nrate bob A 7\n",
-        0,
-        "entry 1 done rate bob B 3\nentry 1 done pair bob A B 4\nentry 1 done rate ann C 2\nentry 1 done rate ann A 1\nentry 1 done pair ann C A -5\nentry 1 done pair bob C B 6\nentry 1 done rate bob A 7\nrate ann A 1\nrate ann C 2\npair ann A C -5\nrate bob A 7\nrate bob B 3\npair bob A B 4\npair bob B C 6\n",
-    ),
-    ("empty session", THREE, ANN_AND_BOB, b"", 0, ""),
-];
-
-const LINES: [Case; 4] = [
-    (
         "bytes that are no text",
         THREE,
         ANN_AND_BOB,
@@ -89,14 +69,6 @@ const LINES: [Case; 4] = [
         "entry 1 done rate ann A 1\nentry 1 done rate ann B 2\nentry 1 unreadable unreadable\nentry 1 unreadable unreadable\nentry 1 unreadable unreadable\nentry 1 unreadable unreadable\nentry 1 unreadable unreadable\nentry 1 unreadable unreadable\nentry 1 out-of-range rate ann A 999999\nentry 1 unreadable unreadable\nentry 1 unreadable unreadable\nentry 1 unreadable unreadable\nentry 1 unreadable unreadable\nentry 1 unreadable unreadable\nentry 1 unreadable unreadable\nentry 1 unreadable unreadable\nentry 1 unreadable unreadable\nentry 1 unreadable unreadable\nentry 1 done rate ann C 9\nrate ann A 1\nrate ann B 2\nrate ann C 9\n",
     ),
     (
-        "session with byte order mark and line ends of a spreadsheet",
-        THREE,
-        ANN_AND_BOB,
-        b"\xef\xbb\xbfrate ann A 1\r\nclose\r\n",
-        0,
-        "entry 1 done rate ann A 1\nentry 1 done close\nrate ann A 1\n",
-    ),
-    (
         "session with two byte order marks",
         THREE,
         ANN_AND_BOB,
@@ -106,23 +78,7 @@ const LINES: [Case; 4] = [
     ),
 ];
 
-const REFUSED_ROLLS: [Case; 8] = [
-    (
-        "refused budget above its limit",
-        TWO,
-        b"student,budget,credits,courses\nann,900001,10,1\n",
-        b"",
-        3,
-        "input 2 row 2: number in column 2\n",
-    ),
-    (
-        "refused credit cap above its limit",
-        TWO,
-        b"student,budget,credits,courses\nann,900000,801,1\n",
-        b"",
-        3,
-        "input 2 row 2: number in column 3\n",
-    ),
+const REFUSED_ROLLS: [Case; 5] = [
     (
         "refused nine courses",
         TWO,
@@ -146,14 +102,6 @@ const REFUSED_ROLLS: [Case; 8] = [
         b"",
         3,
         "input 2 row 1: header\n",
-    ),
-    (
-        "refused student name with a space",
-        TWO,
-        b"student,budget,credits,courses\nann lee,1,1,1\n",
-        b"",
-        3,
-        "input 2 row 2: name in column 1\n",
     ),
     (
         "refused roll with a field more",
@@ -219,17 +167,8 @@ fn try_each<R: Threads + Wait + Sync + Abort>(
 }
 
 #[test]
-fn the_desk_replies_and_closes(rt: HostRuntime) -> Result<(), Fail> {
-    try_each(&rt, rt.alloc(), &DESK)
-}
-
-#[test]
-fn lines_of_a_session(rt: HostRuntime) -> Result<(), Fail> {
-    try_each(&rt, rt.alloc(), &LINES)
-}
-
-#[test]
-fn refused_rolls(rt: HostRuntime) -> Result<(), Fail> {
+fn preferences(rt: HostRuntime) -> Result<(), Fail> {
+    try_each(&rt, rt.alloc(), &DESK)?;
     try_each(&rt, rt.alloc(), &REFUSED_ROLLS)
 }
 
@@ -242,23 +181,6 @@ fn two_sessions_in_any_order(rt: HostRuntime) -> Result<(), Fail> {
         let (status, written) = run(&rt, alloc, "prefer CAT STU S1 S2", &files)?;
         assert_eq!(rt; status, Status::Done, "{shows}");
         assert!(rt; lawful.contains(&written.as_str()), "{shows}: {written}");
-    }
-    Ok(())
-}
-
-#[test]
-fn missing_inputs(rt: HostRuntime) -> Result<(), Fail> {
-    let alloc = rt.alloc();
-    let files = [("CAT", ONE), ("STU", ANN), ("S1", TIE)];
-    for (line, text) in [
-        ("prefer NONE NONE NONE", "input 1 can not be read\n"),
-        ("prefer CAT NONE NONE", "input 2 can not be read\n"),
-        ("prefer CAT STU NONE", "input 3 can not be read\n"),
-        ("prefer CAT STU S1 NONE", "input 4 can not be read\n"),
-        ("prefer CAT CAT NONE", "input 2 row 1: header\n"),
-    ] {
-        let (_, written) = run(&rt, alloc, line, &files)?;
-        assert_eq!(rt; written.as_str(), text, "{line}");
     }
     Ok(())
 }
@@ -287,82 +209,5 @@ fn sixty_four_sessions(rt: HostRuntime) -> Result<(), Fail> {
     line.push_str(" LAST")?;
     let (status, _) = run(&rt, alloc, line.as_str(), &files)?;
     assert_eq!(rt; status, Status::Usage);
-    Ok(())
-}
-
-// A student rates at most sixty sections.
-#[test]
-fn at_most_sixty_rated_sections(rt: HostRuntime) -> Result<(), Fail> {
-    let alloc = rt.alloc();
-    let mut catalogue = HEADER.to_vec(alloc)?;
-    put_rows(&mut catalogue, alloc, (1, 62), "X", &[",K", ",1,1,\n"])?;
-    let mut session = Vec::new(alloc);
-    put_rows(&mut session, alloc, (1, 62), "rate ann X", &[" 1\n"])?;
-    session.extend_from_slice(
-        b"rate ann X1 2\nrate ann X1 0\nrate ann X61 3\nrate ann X2 05\nrate zoe X2 1\nrate ann Q 1\npair ann X2 X2 5\nrate ann X2 101\npair ann X2 X3 201\n",
-    )?;
-    let mut expected = Vec::new(alloc);
-    put_rows(
-        &mut expected,
-        alloc,
-        (1, 61),
-        "entry 1 done rate ann X",
-        &[" 1\n"],
-    )?;
-    expected.extend_from_slice(
-        b"entry 1 too-many rate ann X61 1\nentry 1 done rate ann X1 2\nentry 1 done rate ann X1 0\nentry 1 done rate ann X61 3\nentry 1 unreadable unreadable\nentry 1 no-student rate zoe X2 1\nentry 1 no-section rate ann Q 1\nentry 1 same-pair pair ann X2 X2 5\nentry 1 out-of-range rate ann X2 101\nentry 1 out-of-range pair ann X2 X3 201\n",
-    )?;
-    put_rows(&mut expected, alloc, (2, 61), "rate ann X", &[" 1\n"])?;
-    expected.extend_from_slice(b"rate ann X61 3\n")?;
-    let files = [
-        ("CAT", catalogue.as_slice()),
-        ("STU", ANN),
-        ("S1", session.as_slice()),
-    ];
-    let (status, text) = run(&rt, alloc, "prefer CAT STU S1", &files)?;
-    assert_eq!(rt; status, Status::Done);
-    assert_eq!(rt; text.as_bytes(), expected.as_slice());
-    Ok(())
-}
-
-// A student has at most two hundred adjustments.
-#[test]
-fn at_most_two_hundred_adjustments(rt: HostRuntime) -> Result<(), Fail> {
-    let alloc = rt.alloc();
-    let mut catalogue = HEADER.to_vec(alloc)?;
-    put_rows(&mut catalogue, alloc, (1, 22), "X", &[",K", ",1,1,\n"])?;
-    let mut session = Vec::new(alloc);
-    let mut entries = Vec::new(alloc);
-    let mut pairs = Vec::new(alloc);
-    let mut value = 0u32;
-    for first in 1..17u32 {
-        for second in first + 1..22 {
-            value = value.wrapping_add(1);
-            let line = format!(in alloc; "pair ann X{first} X{second} {value}\n")?;
-            session.extend_from_slice(line.as_bytes())?;
-            entries.extend_from_slice(b"entry 1 done ")?;
-            entries.extend_from_slice(line.as_bytes())?;
-            if second > 2 {
-                pairs.extend_from_slice(line.as_bytes())?;
-            }
-        }
-    }
-    assert_eq!(rt; value, 200);
-    session.extend_from_slice(
-        b"pair ann X17 X18 1\npair ann X2 X1 -200\npair ann X1 X2 0\npair ann X17 X18 1\npair ann X21 X20 0\n",
-    )?;
-    entries.extend_from_slice(
-        b"entry 1 too-many pair ann X17 X18 1\nentry 1 done pair ann X2 X1 -200\nentry 1 done pair ann X1 X2 0\nentry 1 done pair ann X17 X18 1\nentry 1 done pair ann X21 X20 0\n",
-    )?;
-    pairs.extend_from_slice(b"pair ann X17 X18 1\n")?;
-    entries.extend_from_slice(&pairs)?;
-    let files = [
-        ("CAT", catalogue.as_slice()),
-        ("STU", ANN),
-        ("S1", session.as_slice()),
-    ];
-    let (status, text) = run(&rt, alloc, "prefer CAT STU S1", &files)?;
-    assert_eq!(rt; status, Status::Done);
-    assert_eq!(rt; text.as_bytes(), entries.as_slice());
     Ok(())
 }

@@ -60,37 +60,6 @@ fn two_thousand_students(rt: HostRuntime) -> Result<(), Fail> {
     )
 }
 
-#[test]
-fn two_hundred_thousand_commands(rt: HostRuntime) -> Result<(), Fail> {
-    let alloc = rt.alloc();
-    let mut session = Vec::new(alloc);
-    for _ in 0..200_000u32 {
-        session.extend_from_slice(b"x\n")?;
-    }
-    run_long(
-        &rt,
-        alloc,
-        "quote CAT S1 ann 10 8",
-        &[("CAT", TWO), ("S1", session.as_slice())],
-        "bundle ann []\nutility 0\n",
-    )?;
-    session.extend_from_slice(b"x\n")?;
-    run_long(
-        &rt,
-        alloc,
-        "quote CAT S1 ann 10 8",
-        &[("CAT", TWO), ("S1", session.as_slice())],
-        "input 2 is too long\n",
-    )?;
-    run_long(
-        &rt,
-        alloc,
-        "prefer CAT STU S1",
-        &[("CAT", TWO), ("STU", ANN), ("S1", session.as_slice())],
-        "input 3 is too long\n",
-    )
-}
-
 // The commands of all sessions together are counted, and the session that brings too many is told.
 #[test]
 fn two_hundred_thousand_commands_of_two_sessions(rt: HostRuntime) -> Result<(), Fail> {
@@ -130,19 +99,6 @@ fn two_hundred_thousand_commands_of_two_sessions(rt: HostRuntime) -> Result<(), 
     )
 }
 
-#[test]
-fn a_session_at_its_limit_is_read(rt: HostRuntime) -> Result<(), Fail> {
-    let alloc = rt.alloc();
-    let bytes = vec![in alloc; b'\n'; 16_777_216]?;
-    run_long(
-        &rt,
-        alloc,
-        "quote CAT S1 ann 10 1",
-        &[("CAT", TWO), ("S1", bytes.as_slice())],
-        "bundle ann []\nutility 0\n",
-    )
-}
-
 // Each input has a limit of its own, and one byte more is too long, whatever the byte.
 #[test]
 fn an_input_is_too_long(rt: HostRuntime) -> Result<(), Fail> {
@@ -152,10 +108,11 @@ fn an_input_is_too_long(rt: HostRuntime) -> Result<(), Fail> {
     for (line, text) in [
         ("quote LONG S1 ann 10 1", "input 1 is too long\n"),
         ("quote CAT LONG ann 10 1", "input 2 is too long\n"),
+        ("quote CAT FULL ann 10 1", "bundle ann []\nutility 0\n"),
         ("prefer CAT LONG S1", "input 2 is too long\n"),
         ("prefer CAT STU S1 LONG", "input 4 is too long\n"),
     ] {
-        let files = [("CAT", TWO), ("STU", ANN), ("S1", TIE), ("LONG", long)];
+        let files = [("CAT", TWO), ("STU", ANN), ("S1", TIE), ("LONG", long), ("FULL", &long[1..])];
         run_long(&rt, alloc, line, &files, text)?;
     }
     Ok(())

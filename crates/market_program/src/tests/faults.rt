@@ -117,15 +117,11 @@ fn try_each<R: Threads + Wait + Sync + Abort>(
     Ok(())
 }
 
-#[test]
-fn each_fault_of_quote_has_its_answer(rt: HostRuntime) -> Result<(), Fail> {
-    let files = [("CAT", TWO), ("S1", TIE)];
-    try_each(&rt, rt.alloc(), "quote CAT S1 ann 10 1", &files, &QUOTED)
-}
-
 // Each input is read to its end, also the comment line of the first session.
 #[test]
-fn each_fault_of_prefer_has_its_answer(rt: HostRuntime) -> Result<(), Fail> {
+fn each_fault_has_its_answer(rt: HostRuntime) -> Result<(), Fail> {
+    let files = [("CAT", TWO), ("S1", TIE)];
+    try_each(&rt, rt.alloc(), "quote CAT S1 ann 10 1", &files, &QUOTED)?;
     let files: [File; 4] = [
         ("CAT", TWO),
         ("STU", ANN),

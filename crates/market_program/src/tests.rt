@@ -1,9 +1,10 @@
 // The program over texts in memory. The cases named for what they show are worked examples that were computed apart
 // from this program.
-use crate::{Status, course_match};
+use super::exit_code;
 use market_edge::{Gate, MemoryShelf, MemorySink, OpenGate};
+use market_host::{Cause, Status, course_match, no_memory_for_words};
 use std::alloc::Global;
-use std::process::Abort;
+use std::process::{Abort, ExitCode};
 use std::sync::Wait;
 use std::test::Fail;
 use std::thread::Threads;
@@ -92,5 +93,50 @@ fn put_rows(
             text.extend_from_slice(piece.as_bytes())?;
         }
     }
+    Ok(())
+}
+
+// The process ends with each status's number.
+#[test]
+fn each_status_has_its_number(rt: HostRuntime) {
+    let refused = Status::Refused {
+        input: 2,
+        row: 3,
+        cause: Cause::Header,
+    };
+    let cases: [(Status, u8); 7] = [
+        (Status::Done, 0),
+        (Status::Usage, 1),
+        (Status::ShelfFault { input: 1 }, 2),
+        (refused, 3),
+        (Status::TooLong { input: 4 }, 4),
+        (Status::SinkFault, 6),
+        (Status::OutOfMemory, 7),
+    ];
+    for (status, number) in cases {
+        assert_eq!(rt; exit_code(status), ExitCode::from(number), "{status:?}");
+    }
+}
+
+// Words that are no form, and words for which there is no memory.
+#[test]
+fn no_form(rt: HostRuntime) -> Result<(), Fail> {
+    let alloc = rt.alloc();
+    let usage = "usage: run, check, prefer, demand, quote, make\n";
+    for line in [
+        "quote CAT S1 ann 010 1",
+        "quote CAT S1 ann 10 9",
+        "quote CAT S1",
+        "prefer CAT STU",
+    ] {
+        let files = [("CAT", TWO), ("STU", ANN), ("S1", TIE)];
+        let (found, written) = run(&rt, alloc, line, &files)?;
+        assert_eq!(rt; found, Status::Usage);
+        assert_eq!(rt; written.as_str(), usage);
+    }
+    let mut sink = MemorySink::make(alloc, 14, Vec::new(alloc)).expect(&rt, "room");
+    assert_eq!(rt; no_memory_for_words(&mut sink), Status::OutOfMemory);
+    assert_eq!(rt; sink.taken(), b"out of memory\n".as_slice());
+    assert_eq!(rt; no_memory_for_words(&mut sink), Status::SinkFault);
     Ok(())
 }
