@@ -92,8 +92,8 @@ module _ (form : Form) (seen : Sight) (earlier texts later : List (List ℕ)) (n
   pub trouble_of_refusal : (kind : Kind) (IsSo : ℕ → Cause → Type 0) (text : List ℕ) (trouble : Trouble) → kind_of form (length earlier) ≡ kind → IsAtEnd seen name → IsTextOf seen.held name text
       → length text ≤ limit_of kind → ((row : ℕ) (cause : Cause) → IsSo row cause → HasFault kind texts row cause text) → IsRefusal IsSo number trouble → HasTrouble form seen (earlier ++ name ∷ later) trouble
   trouble_of_refusal kind IsSo text (Refused n row cause) of ended whole within fault refusal =
-      at_input n (IsFaulty form seen row cause) refusal.0
-      (ended, text, whole, subst (λ k. (length text ≤ limit_of k) × HasFault k texts row cause text) (sym (kind_at form seen.held earlier texts kind read of)) (within, fault row cause refusal.1))
+      let faulty = subst (λ k. (length text ≤ limit_of k) × HasFault k texts row cause text) (sym (kind_at form seen.held earlier texts kind read of)) (within, fault row cause refusal.1) in
+      at_input n (IsFaulty form seen row cause) refusal.0 (ended, text, whole, faulty.0, faulty.1)
   trouble_of_refusal kind IsSo text OutOfMemory of ended whole within fault refusal = tt
   trouble_of_refusal kind IsSo text (ShelfFault n) of ended whole within fault refusal = absurd refusal
   trouble_of_refusal kind IsSo text (TooLong n) of ended whole within fault refusal = absurd refusal
