@@ -6,7 +6,7 @@ use Rattle.std.proofs.Math.Seq.{take-suc}
 use Rattle.std.proofs.lemmas.List.{get_or-map, length-map}
 use Rattle.std.proofs.lemmas.List.FromFn.{get_or-enumerate_from, length-enumerate_from, length-map-range_with_len}
 use Rattle.std.proofs.lemmas.Option.{slice_get-get_or}
-use Rattle.drawn_words.specs.Streams.{stream_word, stream_words}
+use Rattle.seed_words.specs.Streams.{stream_word, stream_words}
 use Rattle.student_roll.specs.Students.{Student}
 use Rattle.budget_draw.specs.Budgets.{budgets_of}
 use Rattle.budget_draw.specs.Ranks.{rank_among}

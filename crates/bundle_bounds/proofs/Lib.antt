@@ -11,3 +11,7 @@ pub mod FirstDifference
 pub mod BelowLimit
 pub mod LeafBounds
 pub mod NodeFacts
+pub mod ClosesSoundly
+pub mod FirstClosing
+pub mod Openings
+pub mod Lines

@@ -6,3 +6,6 @@ pub mod Laws
 pub mod Modest
 pub mod Limits
 pub mod Ahead
+pub mod Closings
+pub mod ClosingLaws
+pub mod Lines

@@ -6,9 +6,11 @@ mod closing;
 pub mod laws;
 mod nodes;
 mod opens;
+mod places;
 mod prospects;
 
 pub use nodes::{Leaf, Node, bound, bound_closes, is_open};
+pub use places::{adjustments_with, is_apart, price_of_place};
 
 #[cfg(test)]
 mod tests;

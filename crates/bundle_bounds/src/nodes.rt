@@ -8,7 +8,7 @@ ghost use Rattle.bundle_rules.specs.Bundles.{sections_of};
 ghost use Rattle.bundle_bounds.specs.Offers.{offer_of, places_of};
 ghost use Rattle.bundle_bounds.specs.Opens.{is_open};
 ghost use Rattle.bundle_bounds.specs.Bounds.{bounds, HasBound, IsFirstClosing, NoneCloses};
-ghost use Rattle.bundle_bounds.specs.Ahead.{is_ahead, limit_of};
+ghost use Rattle.bundle_bounds.specs.Ahead.{is_ahead, limit_of, first_closing};
 ghost use Rattle.bundle_bounds.specs.Laws.{IsNode};
 
 use crate::ahead::is_ahead;
@@ -99,6 +99,7 @@ pub fn bound_closes(
     requires champion { IsFeasible (wishes_of menu.now) (sections_of champion.now) }
     ensures first { IfSome result (IsFirstClosing (offer_of menu.now prices.now budget.0 allowed.now) node.now.place (places_of menu.now (sections_of node.now.chosen)) (places_of menu.now (sections_of champion.now))
         (bounds (offer_of menu.now prices.now budget.0 allowed.now) node.now.place (places_of menu.now (sections_of node.now.chosen)))) }
+    ensures value { result ≡ first_closing (offer_of menu.now prices.now budget.0 allowed.now) node.now.place (places_of menu.now (sections_of node.now.chosen)) (places_of menu.now (sections_of champion.now)) }
     ensures none { IfNone result (NoneCloses (offer_of menu.now prices.now budget.0 allowed.now) node.now.place (places_of menu.now (sections_of node.now.chosen)) (places_of menu.now (sections_of champion.now))
         (bounds (offer_of menu.now prices.now budget.0 allowed.now) node.now.place (places_of menu.now (sections_of node.now.chosen)))) }
 {

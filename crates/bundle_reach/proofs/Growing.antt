@@ -19,7 +19,7 @@ use Rattle.bundle_bounds.proofs.ByPlace.{place_in-section_at, section_at-rises}
 use Rattle.bundle_rules.specs.Existence.Places.{section_at-place_in}
 use Rattle.bundle_reach.specs.declared.branch.Branch.{Branch}
 use Rattle.bundle_reach.specs.Branches.{chosen_of, with_next_of, AreSmallSums, IsBranch}
-use Rattle.bundle_reach.proofs.Openings.{has-last, ascending-last}
+use Rattle.bundle_bounds.proofs.Openings.{has-last, ascending-last}
 
 signed_total-map : (f : ℕ → ℤ) (g : ℕ → ℕ) (xs : List ℕ) → signed_total f (map g xs) ≡ signed_total (λ x. f (g x)) xs
 signed_total-map f g [] = refl

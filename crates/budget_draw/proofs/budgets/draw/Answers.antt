@@ -2,7 +2,7 @@ use Rattle.std.proofs.Common.{ℕ, List, refl, rules, arith, ◌≡◌, ◌∙�
 use Rattle.std.proofs.lemmas.List.{map-append, take_all}
 use Rattle.std.proofs.lemmas.List.Elements.{All-push}
 use Rattle.std.proofs.lemmas.List.FromFn.{length-map-range_with_len}
-use Rattle.drawn_words.specs.Streams.{stream_word, stream_words}
+use Rattle.seed_words.specs.Streams.{stream_word, stream_words}
 use Rattle.market_units.specs.declared.units.Tokens.{Tokens}
 use Rattle.budget_draw.specs.Budgets.{amounts, budgets_of}
 use Rattle.budget_draw.specs.Ranks.{rank_among}
