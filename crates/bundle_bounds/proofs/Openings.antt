@@ -11,11 +11,12 @@ use Rattle.bundle_rules.specs.Menus.{IsMenu, wishes_of, by_place, clash_in, cred
 use Rattle.bundle_rules.specs.Existence.Members.{has-here, has-there, has-cases, AllAbove-more}
 use Rattle.bundle_rules.specs.Existence.Places.{section_at-place_in, on_menu_rated}
 use Rattle.bundle_rules.proofs.Feasibility.{credits_by_place}
+use Rattle.bundle_rules.proofs.PlacesFirst.{section_at-rises}
 use Rattle.bundle_bounds.specs.Offers.{Offer, price_at, allowed_at, places_of}
 use Rattle.bundle_bounds.specs.Opens.{budget_left, credits_left, courses_left, is_apart, is_open}
 use Rattle.bundle_bounds.specs.Laws.{IsTakable, IsNode}
 use Rattle.bundle_bounds.proofs.Openness.{MayBeTaken, is_open-more}
-use Rattle.bundle_bounds.proofs.ByPlace.{place_in-section_at, section_at-rises, places-has, has-places, on_menu, taken_places, prices_by_place}
+use Rattle.bundle_bounds.proofs.ByPlace.{place_in-section_at, places-has, has-places, on_menu, taken_places, prices_by_place}
 use Rattle.bundle_bounds.specs.ClosingLaws.{OpensWhereTakable}
 
 -- a member of a list with one more at its end
