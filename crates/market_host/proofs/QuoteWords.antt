@@ -4,7 +4,7 @@ use Rattle.std.specs.Prelude.{Option, Ok, String}
 use Rattle.std.specs.String.{string_bytes}
 use Rattle.std.proofs.lemmas.List.{get_or-map, length-map}
 use Rattle.course_catalog.specs.Reading.{catalog_of}
-use Rattle.course_catalog.specs.Sections.{Section}
+use Rattle.course_catalog.specs.Catalog.{CatalogData}
 use Rattle.market_units.specs.declared.names.Name.{Name}
 use Rattle.market_units.specs.Name.{name_bytes}
 use Rattle.market_edge.specs.Holdings.{Holding}
@@ -47,14 +47,14 @@ inputs-quote (w ∷ x ∷ []) name credits courses a b six p q = absurd (omega a
 inputs-quote (w ∷ x ∷ y ∷ more) name credits courses a b six p q = cc
 
 -- a quote was printed of what was read
-pub quote_done : (words : List (List ℕ)) (before : List ℕ → ℕ) (seen : Sight) (held : Option Holding) (a b : List ℕ) (name : Name) (credits courses : ℕ) (sections : List Section) (commands : List Command)
-    (text : List ℕ) → HasForm words (Quote name credits courses) → inputs_of (Quote name credits courses) words ≡ a ∷ b ∷ [] → IsRead Catalog held a (λ bytes. catalog_of bytes ≡ Ok sections)
+pub quote_done : (words : List (List ℕ)) (before : List ℕ → ℕ) (seen : Sight) (held : Option Holding) (a b : List ℕ) (name : Name) (credits courses : ℕ) (offered : CatalogData) (commands : List Command)
+    (text : List ℕ) → HasForm words (Quote name credits courses) → inputs_of (Quote name credits courses) words ≡ a ∷ b ∷ [] → IsRead Catalog held a (λ bytes. catalog_of bytes ≡ Ok offered)
     → seen.held ≡ held → IsRead Session seen.held b (λ bytes. AreCommands (session_text bytes) commands × (command_count bytes ≤ 200000)) → IsAtEnd seen b
-    → IsQuote sections (single_student (name_bytes name) credits courses) commands text → IsDone words (seen_from held before seen) text
-quote_done words before seen held a b name credits courses sections commands text has inputs first same other ended quoted =
+    → IsQuote offered.sections (single_student (name_bytes name) credits courses) commands text → IsDone words (seen_from held before seen) text
+quote_done words before seen held a b name credits courses offered commands text has inputs first same other ended quoted =
     let form = Quote name credits courses in
     let second = subst (λ h. IsRead Session h b (λ bytes. AreCommands (session_text bytes) commands × (command_count bytes ≤ 200000))) same other in
-    let front : AreRead (Quote name credits courses) held (a ∷ []) (first.0 ∷ []) = catalog_first (Quote name credits courses) held a sections refl (omega arith) first in
+    let front : AreRead (Quote name credits courses) held (a ∷ []) (first.0 ∷ []) = catalog_first (Quote name credits courses) held a offered refl (omega arith) first in
     let all : AreRead (Quote name credits courses) held (a ∷ b ∷ []) (first.0 ∷ second.0 ∷ []) =
     sessions_read (Quote name credits courses) held (a ∷ []) (first.0 ∷ []) (b ∷ []) (second.0 ∷ []) front refl (omega arith) ((second.1, second.2), tt) (omega (arith, second.3.1)) in
     let read : AreRead (Quote name credits courses) held (inputs_of (Quote name credits courses) words) (first.0 ∷ second.0 ∷ []) =
@@ -65,5 +65,5 @@ quote_done words before seen held a b name credits courses sections commands tex
       first.0 ∷ second.0 ∷ [],
       read,
       added_at_end (seen_from held before seen) (inputs_of (Quote name credits courses) words) (a ∷ []) b inputs (end_from held before seen b same ended),
-      (sections, first.3, commands, second.3.0, quoted),
+      (offered, first.3, commands, second.3.0, quoted),
     )

@@ -1,10 +1,10 @@
 -- What the inputs of a call may say. A text is judged behind the texts of the inputs before it.
 use Rattle.std.specs.Prelude.{ℕ, ◌≡◌, ◌≤◌, List, [], ◌∷◌, ◌++◌, length, drop, Option, Some, Ok, ⊤}
 use Rattle.std.specs.List.{AllZip}
+use Rattle.course_catalog.specs.Catalog.{CatalogData}
 use Rattle.course_catalog.specs.Reading.{catalog_of}
-use Rattle.course_catalog.specs.Sections.{Section}
 use Rattle.student_roll.specs.Rolls.{roll_of}
-use Rattle.student_roll.specs.Students.{Student}
+use Rattle.student_roll.specs.Students.{RollData}
 use Rattle.market_edge.specs.Holdings.{Holding, IsTextOf, told_text}
 use Rattle.market_lists.specs.Totals.{total}
 use Rattle.market_words.specs.declared.words.Form.{Form}
@@ -25,8 +25,8 @@ commands_among form texts = total (commands_in (streams_of form)) (drop (length 
 
 -- a text of this kind, behind these others, is of its grammar; a session always is
 abbrev pub IsOfGrammar : Kind → List (List ℕ) → List ℕ → Type 0
-IsOfGrammar Catalog earlier text = (sections : List Section) × (catalog_of text ≡ Ok sections)
-IsOfGrammar Roll earlier text = (students : List Student) × (roll_of text ≡ Ok students)
+IsOfGrammar Catalog earlier text = (catalog : CatalogData) × (catalog_of text ≡ Ok catalog)
+IsOfGrammar Roll earlier text = (roll : RollData) × (roll_of text ≡ Ok roll)
 IsOfGrammar Session earlier text = ⊤
 
 -- a text of this kind, behind these others, is not of its grammar, and its first fault has this row and this cause; a session has none

@@ -3,7 +3,7 @@ use Rattle.std.specs.Prelude.{ℕ, List, ◌++◌, codes}
 use Rattle.std.specs.Fmt.{decimal}
 use Rattle.market_settings.specs.Keys.{key_name}
 use Rattle.market_host.specs.declared.cause.Cause.{Cause}
-use Rattle.market_host.specs.declared.cause.Cause.TheVariants.{Header, Fields, Name, Repeated, Number, Meetings, TooMany, NotJson, NotObject, Missing, Unknown, Range}
+use Rattle.market_host.specs.declared.cause.Cause.TheVariants.{Header, Fields, Name, Repeated, Number, Meetings, Parts, TooMany, NotJson, NotObject, Missing, Unknown, Range}
 use Rattle.market_host.specs.declared.trouble.Trouble.{Trouble}
 use Rattle.market_host.specs.declared.trouble.Trouble.TheVariants.{ShelfFault, Refused, TooLong, OutOfMemory}
 
@@ -15,6 +15,7 @@ cause_words (Name column) = codes "name in column " ++ decimal column
 cause_words (Repeated earlier) = codes "repeats row " ++ decimal earlier
 cause_words (Number column) = codes "number in column " ++ decimal column
 cause_words Meetings = codes "meetings"
+cause_words Parts = codes "parts"
 cause_words TooMany = codes "too many rows"
 cause_words NotJson = codes "not json"
 cause_words NotObject = codes "not an object"

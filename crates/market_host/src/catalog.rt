@@ -60,6 +60,7 @@ fn trouble_of(_bytes: &[u8], input: u16, refusal: CatalogRefusal) -> Trouble
         CatalogRefusal::Repeated { row, earlier } => (row, Cause::Repeated { earlier }),
         CatalogRefusal::Number { row, column } => (row, Cause::Number { column }),
         CatalogRefusal::Meetings { row } => (row, Cause::Meetings),
+        CatalogRefusal::Parts { row } => (row, Cause::Parts),
         CatalogRefusal::TooMany => (SURPLUS_ROW, Cause::TooMany),
         CatalogRefusal::NoMemory => return Trouble::OutOfMemory,
     };

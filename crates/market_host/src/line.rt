@@ -117,6 +117,7 @@ fn with_cause(line: Line, cause: Cause) -> Line
             .with(b"number in column ")
             .with_number(u64::from(column)),
         Cause::Meetings => line.with(b"meetings"),
+        Cause::Parts => line.with(b"parts"),
         Cause::TooMany => line.with(b"too many rows"),
         Cause::NotJson => line.with(b"not json"),
         Cause::NotObject => line.with(b"not an object"),

@@ -60,8 +60,8 @@ fn text_of<R: Threads + Wait + Sync, G: Gate + Sync>(
     requires sessions { (1 ≤ length streams.now) × (length streams.now ≤ 64) }
     requires commands { command_count streams.now ≤ 200000 }
     requires told { (sessions : List (List ℕ)) × AreStreams sessions (command_lists streams.now) }
-    ensures { IfOk result (λ text. (journal : List Entry) × IsLegalJournal (market_names catalog.now roll.now) journal
-        × MergesStreams (command_lists streams.now) journal × (text.items ≡ texts.preferences_text catalog.now roll.now journal)) }
+    ensures { IfOk result (λ text. (journal : List Entry) × IsLegalJournal (market_names catalog.now.sections roll.now.students) journal
+        × MergesStreams (command_lists streams.now) journal × (text.items ≡ texts.preferences_text catalog.now.sections roll.now.students journal)) }
 {
     let closed = hold(rt, alloc, catalog, roll, streams, gate)?;
     preferences_text(alloc, catalog, roll, &closed.desk)

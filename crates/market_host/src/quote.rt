@@ -62,7 +62,7 @@ fn best_text(
     requires few { length commands.now ≤ 200000 }
     requires credits { credits ≤ 800 }
     requires courses { courses ≤ 8 }
-    ensures { IfOk result (λ text. IsQuote catalog.now (single_student (name_bytes name) credits courses) commands.now text.items) }
+    ensures { IfOk result (λ text. IsQuote catalog.now.sections (single_student (name_bytes name) credits courses) commands.now text.items) }
 {
     let roll = Roll::single(alloc, name, credits, courses)?;
     let desk = desk_after(alloc, catalog, &roll, commands)?;
@@ -92,8 +92,8 @@ fn desk_after(
     commands: &[Command],
 ) -> Result<Desk, NoMemory>
     requires { length commands.now ≤ 200000 }
-    ensures names { IfOk result (λ desk. names_of desk ≡ market_names catalog.now roll.now) }
-    ensures state { IfOk result (λ desk. state_of desk ≡ state_of_new_desk catalog.now roll.now commands.now) }
+    ensures names { IfOk result (λ desk. names_of desk ≡ market_names catalog.now.sections roll.now.students) }
+    ensures state { IfOk result (λ desk. state_of desk ≡ state_of_new_desk catalog.now.sections roll.now.students commands.now) }
 {
     let mut desk = Desk::prepare(alloc, catalog, roll, commands.len() as u32)?;
     'commands: for command in commands {
