@@ -78,7 +78,7 @@ const DESK: [Case; 8] = [
     ),
 ];
 
-const REFUSED_ROLLS: [Case; 5] = [
+const ROLLS: [Case; 8] = [
     (
         "refused nine courses",
         TWO,
@@ -118,6 +118,30 @@ const REFUSED_ROLLS: [Case; 5] = [
         b"",
         3,
         "input 1 row 2: number in column 3\n",
+    ),
+    (
+        "carried tokens header and four fields",
+        TWO,
+        b"student,budget,credits,courses,carry\nann,1,1,1\n",
+        b"",
+        3,
+        "input 2 row 2: fields\n",
+    ),
+    (
+        "carry that passes the limit only together with the base",
+        TWO,
+        b"student,budget,credits,courses,carry\nann,100,1,1,899900\nbob,100,1,1,899901\n",
+        b"",
+        3,
+        "input 2 row 3: number in column 5\n",
+    ),
+    (
+        "carried tokens are no preference",
+        TWO,
+        b"student,budget,credits,courses,carry\nann,100,1,1,899900\n",
+        b"rate ann A 9\n",
+        0,
+        "entry 1 done rate ann A 9\nrate ann A 9\n",
     ),
 ];
 
@@ -169,7 +193,7 @@ fn try_each<R: Threads + Wait + Sync + Abort>(
 #[test]
 fn preferences(rt: HostRuntime) -> Result<(), Fail> {
     try_each(&rt, rt.alloc(), &DESK)?;
-    try_each(&rt, rt.alloc(), &REFUSED_ROLLS)
+    try_each(&rt, rt.alloc(), &ROLLS)
 }
 
 // Each text is one of those that some order of the sessions gives.

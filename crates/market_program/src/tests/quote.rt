@@ -145,6 +145,41 @@ const REFUSED: [Case; 7] = [
     ),
 ];
 
+const PARTS: [Case; 4] = [
+    (
+        "part terms apart do not clash",
+        "quote CAT S1 ann 10 8",
+        b"section,course,seats,credits,meetings,parts\nA,AA,1,1,M0900-1020,1\nB,BB,1,1,M0900-1020,2\n",
+        b"rate ann A 10\nrate ann B 10\n",
+        0,
+        "bundle ann [A,B]\nutility 20\n",
+    ),
+    (
+        "part terms shared do clash",
+        "quote CAT S1 ann 10 8",
+        b"section,course,seats,credits,meetings,parts\nA,AA,1,1,M0900-1020,1\nB,BB,1,1,M0900-1020,12\n",
+        b"rate ann A 10\nrate ann B 10\n",
+        0,
+        "bundle ann [A]\nutility 10\n",
+    ),
+    (
+        "part terms spelt backwards",
+        "quote CAT S1 ann 10 8",
+        b"section,course,seats,credits,meetings,parts\nA,AA,1,1,M0900-1020,1\nB,BB,1,1,M0900-1020,21\n",
+        b"rate ann A 10\nrate ann B 10\n",
+        3,
+        "input 1 row 3: parts\n",
+    ),
+    (
+        "part terms without their header",
+        "quote CAT S1 ann 10 8",
+        b"section,course,seats,credits,meetings\nA,AA,1,1,,1\n",
+        b"rate ann A 50\n",
+        3,
+        "input 1 row 2: fields\n",
+    ),
+];
+
 // Each case has its answer.
 fn try_each<R: Threads + Wait + Sync + Abort>(
     rt: &R,
@@ -163,5 +198,6 @@ fn try_each<R: Threads + Wait + Sync + Abort>(
 #[test]
 fn quotes(rt: HostRuntime) -> Result<(), Fail> {
     try_each(&rt, rt.alloc(), &QUOTED)?;
-    try_each(&rt, rt.alloc(), &REFUSED)
+    try_each(&rt, rt.alloc(), &REFUSED)?;
+    try_each(&rt, rt.alloc(), &PARTS)
 }
