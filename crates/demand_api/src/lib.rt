@@ -1,5 +1,6 @@
 //! What a crowd of students demands at given prices, and who can be asked for it.
 #![tactic(auto)]
+
 ghost use Rattle.std.specs.Prelude.{◌≤◌, IsTrue, All, length};
 ghost use Rattle.demand_api.specs.Made.{MakeCrowd, crowd_of};
 ghost use Rattle.demand_api.specs.Asking.{ArePricesFor};
@@ -54,7 +55,9 @@ mod tests {
         let mut budgets = Vec::new(alloc);
         for budget in 100..104 {
             let places = [rated(0, 0, 50)];
-            menus.push(menu(rt, alloc, &places, &[], &[0])).expect(rt, "memory");
+            menus
+                .push(menu(rt, alloc, &places, &[], &[0]))
+                .expect(rt, "memory");
             budgets.push(Tokens(budget)).expect(rt, "memory");
         }
         Crowd {
@@ -129,7 +132,9 @@ mod tests {
         assert_eq!(rt; demands.students(), 4);
         // The last student, the first, and the third twice.
         let asked = [StudentNo(3), StudentNo(0), StudentNo(2), StudentNo(2)];
-        let found = demands.bundles(&rt, alloc, &prices, &asked).expect(&rt, "memory");
+        let found = demands
+            .bundles(&rt, alloc, &prices, &asked)
+            .expect(&rt, "memory");
         let wanted = [true, false, true, true];
         assert_eq!(rt; found.len(), 4);
         for place in 0..4 {
@@ -155,7 +160,9 @@ mod tests {
         let section = SectionNo(0);
         // From the present price up: no price below 50, though four students take the section there too.
         let pairs = [(section, 2), (section, 4), (section, 0), (section, 1)];
-        let found = demands.least_prices(&rt, alloc, &prices, &pairs).expect(&rt, "memory");
+        let found = demands
+            .least_prices(&rt, alloc, &prices, &pairs)
+            .expect(&rt, "memory");
         let wanted = [102, 50, 104, 103];
         assert_eq!(rt; found.len(), 4);
         for place in 0..4 {
@@ -183,11 +190,17 @@ mod tests {
     fn ordinary_term<R: Abort>(rt: &R, alloc: Global) -> Crowd {
         let mut menus = Vec::new(alloc);
         let ann = [rated(0, 0, 60), rated(1, 1, 30)];
-        menus.push(menu(rt, alloc, &ann, &[], &[0, 0])).expect(rt, "memory");
+        menus
+            .push(menu(rt, alloc, &ann, &[], &[0, 0]))
+            .expect(rt, "memory");
         let bob = [rated(0, 0, 50), rated(2, 2, 40)];
-        menus.push(menu(rt, alloc, &bob, &[(0, 1, 10)], &[0, 0])).expect(rt, "memory");
+        menus
+            .push(menu(rt, alloc, &bob, &[(0, 1, 10)], &[0, 0]))
+            .expect(rt, "memory");
         let cat = [rated(0, 0, 20), rated(3, 0, 45)];
-        menus.push(menu(rt, alloc, &cat, &[], &[2, 1])).expect(rt, "memory");
+        menus
+            .push(menu(rt, alloc, &cat, &[], &[2, 1]))
+            .expect(rt, "memory");
         let budgets = vec![in alloc; Tokens(104), Tokens(103), Tokens(102)].expect(rt, "memory");
         Crowd {
             menus,
@@ -207,7 +220,9 @@ mod tests {
         let mut demands = PlainDemands::make(crowd);
         assert_eq!(rt; demands.students(), 3);
         let students = [StudentNo(0), StudentNo(1), StudentNo(2)];
-        let found = demands.bundles(&rt, alloc, &prices, &students).expect(&rt, "memory");
+        let found = demands
+            .bundles(&rt, alloc, &prices, &students)
+            .expect(&rt, "memory");
         let wanted = [
             Bundle::of(&[SectionNo(0), SectionNo(1)]),
             Bundle::of(&[SectionNo(2)]),

@@ -22,12 +22,7 @@ fn demand(crowd: &Crowd, prices: &[Tokens], allowed: &SectionSet, place: usize) 
     requires range { place < length crowd.now.menus.items }
     ensures { sections_of result ≡ demand_of (crowd_of crowd.now.menus.items crowd.now.budgets.items crowd.now.sections) (price_in prices.now) place }
 {
-    best_plain(
-        &crowd.menus[place],
-        prices,
-        crowd.budgets[place],
-        allowed,
-    )
+    best_plain(&crowd.menus[place], prices, crowd.budgets[place], allowed)
 }
 
 // What the listed students take.
