@@ -12,8 +12,9 @@ use Rattle.bundle_bounds.specs.Offers.{Offer}
 use Rattle.bundle_bounds.specs.Opens.{budget_left, credits_left, courses_left, open_places, prospects}
 use Rattle.bundle_bounds.specs.Bounds.{base_of, all_bounds, bounds, Closes, NoneCloses, IsFirstClosing}
 use Rattle.bundle_bounds.specs.Limits.{NoneBelow, IsFirstBelow}
-use Rattle.bundle_bounds.specs.Ahead.{is_ahead, limit_of}
-use Rattle.bundle_bounds.proofs.FirstDifference.{ahead_to, ahead_from}
+use Rattle.bundle_rules.specs.Ahead.{is_ahead}
+use Rattle.bundle_rules.proofs.FirstDifference.{ahead_to, ahead_from}
+use Rattle.bundle_bounds.specs.Ahead.{limit_of}
 use Rattle.bundle_bounds.proofs.Outlook.{rest_whole}
 
 pub rest_of_room : (room : List Prospect) (s : ℕ) → length room ≡ 60 → take (60 - s) (drop s room) ≡ drop s room

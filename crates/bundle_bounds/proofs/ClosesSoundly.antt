@@ -8,12 +8,14 @@ use Rattle.bundle_rules.specs.Wishes.{utility}
 use Rattle.bundle_rules.specs.Menus.{IsMenu, wishes_of, by_place, section_at, place_in}
 use Rattle.bundle_rules.specs.Existence.Places.{section_at-place_in}
 use Rattle.bundle_rules.specs.Existence.Orders.{int_order}
+use Rattle.bundle_rules.specs.Ahead.{IsAhead}
 use Rattle.bundle_rules.proofs.Feasibility.{utility_by_place}
+use Rattle.bundle_rules.proofs.PlacesFirst.{place_in-rises}
 use Rattle.bundle_bounds.specs.declared.nodes.Leaf.{Leaf}
 use Rattle.bundle_bounds.specs.Offers.{Offer, places_of}
-use Rattle.bundle_bounds.specs.Bounds.{bounds, IsAhead, Closes, IsFirstClosing}
+use Rattle.bundle_bounds.specs.Bounds.{bounds, Closes, IsFirstClosing}
 use Rattle.bundle_bounds.specs.Laws.{IsTakable, IsNode, Completes, EachAtLeast}
-use Rattle.bundle_bounds.proofs.ByPlace.{place_in-section_at, place_in-rises, on_menu, taken_places, has_by_place}
+use Rattle.bundle_bounds.proofs.ByPlace.{place_in-section_at, on_menu, taken_places, has_by_place}
 use Rattle.bundle_bounds.proofs.Soundness.{bound_soundness}
 use Rattle.bundle_bounds.specs.Closings.{IsAsGood}
 use Rattle.bundle_bounds.specs.ClosingLaws.{BoundsCloseSoundly}
@@ -31,7 +33,7 @@ first_closes offer k chosen champion least leaf (b ∷ bs) (inr later) each = fi
 
 module _ (offer : Offer) (menu : IsMenu offer.menu) (k : ℕ) (chosen champion : List ℕ) (node : IsNode offer k chosen) (takable : IsTakable offer champion) where
   -- where the champion has the first decided difference, it has the first difference from all that completes the node
-  differs_first : (bundle : List ℕ) → IsTakable offer bundle → Completes offer k chosen bundle → IsAhead k (places_of offer.menu champion) (places_of offer.menu chosen) → DiffersFirstIn champion bundle
+  pub differs_first : (bundle : List ℕ) → IsTakable offer bundle → Completes offer k chosen bundle → IsAhead k (places_of offer.menu champion) (places_of offer.menu chosen) → DiffersFirstIn champion bundle
   differs_first bundle may completes ahead = (
     s,
     by_champion d on ∙ ahead.2,

@@ -11,11 +11,12 @@ use Rattle.bundle_rules.specs.Menus.{IsMenu, wishes_of, by_place, clash_in, cred
 use Rattle.bundle_rules.specs.Existence.Members.{has-here, has-there, has-cases, AllAbove-more}
 use Rattle.bundle_rules.specs.Existence.Places.{section_at-place_in, on_menu_rated}
 use Rattle.bundle_rules.proofs.Feasibility.{credits_by_place}
+use Rattle.bundle_rules.proofs.PlacesFirst.{section_at-rises}
 use Rattle.bundle_bounds.specs.Offers.{Offer, price_at, allowed_at, places_of}
 use Rattle.bundle_bounds.specs.Opens.{budget_left, credits_left, courses_left, is_apart, is_open}
 use Rattle.bundle_bounds.specs.Laws.{IsTakable, IsNode}
 use Rattle.bundle_bounds.proofs.Openness.{MayBeTaken, is_open-more}
-use Rattle.bundle_bounds.proofs.ByPlace.{place_in-section_at, section_at-rises, places-has, has-places, on_menu, taken_places, prices_by_place}
+use Rattle.bundle_bounds.proofs.ByPlace.{place_in-section_at, places-has, has-places, on_menu, taken_places, prices_by_place}
 use Rattle.bundle_bounds.specs.ClosingLaws.{OpensWhereTakable}
 
 -- a member of a list with one more at its end
@@ -155,7 +156,7 @@ pub node_same : (offer : Offer) (k j : ℕ) (chosen others : List ℕ) → k ≡
 node_same offer k j chosen others same equal node = subst (λ n. IsNode offer n others) same (subst (IsNode offer k) equal node)
 
 -- a node is one also where more places count as decided
-node_later : (offer : Offer) (k place : ℕ) (chosen : List ℕ) → k ≤ place → IsNode offer k chosen → IsNode offer place chosen
+pub node_later : (offer : Offer) (k place : ℕ) (chosen : List ℕ) → k ≤ place → IsNode offer k chosen → IsNode offer place chosen
 node_later offer k place chosen later node = record { takable = node.takable; decided = λ s is. (let below : place_in offer.menu.places s < k = node.decided s is in omega arith) }
 
 le_to : (a b : ℕ) → a ≤ b → nat_le a b ≡ true

@@ -1,7 +1,6 @@
 //! What can at most still be reached from a node of the search for a best bundle.
 #![tactic(auto)]
 
-mod ahead;
 mod closing;
 pub mod laws;
 mod nodes;

@@ -13,38 +13,8 @@ ghost use Rattle.bundle_bounds.specs.Modest.{IsModest};
 
 use crate::places::{adjustments_with, is_apart, price_of_place};
 use crate::prospects::Prospect;
-use bundle_rules::{Bundle, Menu, Rated};
+use bundle_rules::{Menu, Rated};
 use market_units::{SectionSet, Tokens};
-
-/// The places of a bundle's sections.
-#[derive(Clone, Copy)]
-pub(crate) struct Places {
-    places: [u8; 8],
-    len: usize,
-    ghost short: { len ≤ 8 },
-}
-
-impl Places {
-    pub(crate) fn of(menu: &Menu, bundle: &Bundle) -> Places
-        ensures { take result.len result.places ≡ places_of menu.now (sections_of bundle.now) }
-    {
-        let mut places = [0; 8];
-        for (i, section) in bundle.sections().iter().enumerate() {
-            places[i] = menu.place(*section);
-        }
-        Places {
-            places,
-            len: bundle.sections().len(),
-        }
-    }
-
-    pub(crate) fn as_slice(&self) -> &[u8]
-        ensures value { result.now ≡ take self.now.len self.now.places }
-        ensures few { length result.now ≤ 8 }
-    {
-        &self.places[..self.len]
-    }
-}
 
 /// What the chosen places leave of each resource.
 #[derive(Clone, Copy)]

@@ -43,7 +43,7 @@ lists_same (x ∷ xs) (y ∷ ys) same each =
 pub exchanged_wanted : (wanted : List (List ℕ)) (bundles : List Bundle) (students : List StudentNo) (others : List Bundle) → length (map sections_of bundles) ≡ length wanted
     → map sections_of others ≡ map (λ student. slice_index_or wanted student.0 []) students
     → ((i : ℕ) → i < length wanted → (slice_index_or (map sections_of bundles) i [] ≡ slice_index_or wanted i []) ⊎ IsListed i students) → map sections_of (exchanged bundles students others) ≡ wanted
-exchanged_wanted wanted bundles [] others long told each = lists_same (map sections_of bundles) wanted long (λ i low. elim (each i low) [ | inl same ↦ same | inr none ↦ absurd none ])
+exchanged_wanted wanted bundles [] others long told each = lists_same (map sections_of bundles) wanted long (λ i low. elim (each i low) [ inl same ↦ same | inr none ↦ absurd none ])
 exchanged_wanted wanted bundles (x ∷ xs) [] long told each = absurd cc
 exchanged_wanted wanted bundles (x ∷ xs) (y ∷ ys) long told each =
     let first : sections_of y ≡ slice_index_or wanted x.0 [] = cc in

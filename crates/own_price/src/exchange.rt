@@ -13,7 +13,11 @@ use market_units::{NoMemory, SectionNo, StudentNo};
 use std::alloc::Global;
 
 // How many of the bundles have each section.
-pub(crate) fn tally(alloc: Global, sections: usize, bundles: &[Bundle]) -> Result<Vec<u32>, NoMemory>
+pub(crate) fn tally(
+    alloc: Global,
+    sections: usize,
+    bundles: &[Bundle],
+) -> Result<Vec<u32>, NoMemory>
     requires few { length bundles.now ≤ 2000 }
     requires within { AreWithin sections (map sections_of bundles.now) }
     ensures { IfOk result (λ counts. IsTally sections bundles.now counts.items) }

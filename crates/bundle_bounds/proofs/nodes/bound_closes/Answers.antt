@@ -8,7 +8,8 @@ use Rattle.bundle_rules.specs.Menus.{by_place}
 use Rattle.bundle_rules.proofs.Feasibility.{places_of_rated, place_of_rated, utility_by_place}
 use Rattle.bundle_bounds.specs.Offers.{offer_of, places_of}
 use Rattle.bundle_bounds.specs.Opens.{budget_left, credits_left, courses_left, opens_from, open_places, prospects}
-use Rattle.bundle_bounds.specs.Ahead.{is_ahead, limit_of}
+use Rattle.bundle_rules.specs.Ahead.{is_ahead}
+use Rattle.bundle_bounds.specs.Ahead.{limit_of}
 use Rattle.bundle_bounds.specs.Modest.{IsModest}
 use Rattle.bundle_bounds.proofs.BelowLimit.{rest_of_room, some_closes, none_closes}
 use Rattle.bundle_bounds.proofs.FirstClosing.{first_closing_is_the_first, found_closing}
