@@ -58,8 +58,7 @@ quote_done words before seen held a b name credits courses offered commands text
     let all : AreRead (Quote name credits courses) held (a ∷ b ∷ []) (first.0 ∷ second.0 ∷ []) =
     sessions_read (Quote name credits courses) held (a ∷ []) (first.0 ∷ []) (b ∷ []) (second.0 ∷ []) front refl (omega arith) ((second.1, second.2), tt) (omega (arith, second.3.1)) in
     let read : AreRead (Quote name credits courses) held (inputs_of (Quote name credits courses) words) (first.0 ∷ second.0 ∷ []) =
-    subst (λ names. AreRead (Quote name credits courses) held names (first.0 ∷ second.0 ∷ [])) (sym inputs) all in
-    (
+    subst (λ names. AreRead (Quote name credits courses) held names (first.0 ∷ second.0 ∷ [])) (sym inputs) all in (
       form,
       has,
       first.0 ∷ second.0 ∷ [],

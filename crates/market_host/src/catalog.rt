@@ -7,8 +7,8 @@ ghost use Rattle.market_host.specs.Reading.{IsRead, IsRefusal, IsTroubleOf};
 ghost use Rattle.market_host.specs.Refusals.{IsNoCatalog};
 ghost use Rattle.market_host.specs.Sights.{sight};
 
-use crate::inputs::read_input;
 use crate::Cause;
+use crate::inputs::read_input;
 use crate::trouble::Trouble;
 use course_catalog::{Catalog, CatalogRefusal, read_catalog};
 use market_edge::Shelf;

@@ -69,7 +69,11 @@ pub fn no_memory_for_words<K: Sink>(sink: &mut K) -> Status
     ensures replaced { result ≡ Status.SinkFault → TakesFront (K.taken sink.old) (K.taken sink.new) (line_of trouble.OutOfMemory) }
     ensures sink_later { K.faults sink.old ≤ K.faults sink.new }
 {
-    finish(sink, line_for(Trouble::OutOfMemory).as_bytes(), Status::OutOfMemory)
+    finish(
+        sink,
+        line_for(Trouble::OutOfMemory).as_bytes(),
+        Status::OutOfMemory,
+    )
 }
 
 // Writes the text of a status, and answers the status where the sink takes it whole.

@@ -6,8 +6,8 @@ ghost use Rattle.market_host.specs.Reading.{IsRead, IsRefusal, IsTroubleOf};
 ghost use Rattle.market_host.specs.Refusals.{IsNoRoll};
 ghost use Rattle.market_host.specs.Sights.{sight};
 
-use crate::inputs::read_input;
 use crate::Cause;
+use crate::inputs::read_input;
 use crate::trouble::Trouble;
 use market_edge::Shelf;
 use market_units::MAX_INPUT_BYTES;

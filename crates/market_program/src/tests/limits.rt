@@ -112,7 +112,13 @@ fn an_input_is_too_long(rt: HostRuntime) -> Result<(), Fail> {
         ("prefer CAT LONG S1", "input 2 is too long\n"),
         ("prefer CAT STU S1 LONG", "input 4 is too long\n"),
     ] {
-        let files = [("CAT", TWO), ("STU", ANN), ("S1", TIE), ("LONG", long), ("FULL", &long[1..])];
+        let files = [
+            ("CAT", TWO),
+            ("STU", ANN),
+            ("S1", TIE),
+            ("LONG", long),
+            ("FULL", &long[1..]),
+        ];
         run_long(&rt, alloc, line, &files, text)?;
     }
     Ok(())
