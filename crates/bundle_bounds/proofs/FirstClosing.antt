@@ -87,9 +87,9 @@ first_closing_is_the_first offer k chosen champion menu node feasible =
     let places = offer.menu.places in
     let rises = menu.places.ascending in
     first_or_none offer k (places_of offer.menu chosen) (places_of offer.menu champion)
-        (ascending_places places champion rises (place_of_rated offer.menu champion feasible.rated) feasible.set)
-        (ascending_places places chosen rises (place_of_rated offer.menu chosen node.takable.feasible.rated) node.takable.feasible.set)
-        (λ p is. (let at = has-places places chosen p is in rw (← at.2) (node.decided at.0 at.1)))
+    (ascending_places places champion rises (place_of_rated offer.menu champion feasible.rated) feasible.set)
+    (ascending_places places chosen rises (place_of_rated offer.menu chosen node.takable.feasible.rated) node.takable.feasible.set)
+    (λ p is. (let at = has-places places chosen p is in rw (← at.2) (node.decided at.0 at.1)))
 
 -- what the code finds with the node's own numbers is the first closing bound
 pub found_closing : (offer : Offer) (k : ℕ) (chosen champion : List ℕ) (r : Option Leaf) → IsFirstOrNone offer k (places_of offer.menu chosen) (places_of offer.menu champion)

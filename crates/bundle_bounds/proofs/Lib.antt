@@ -14,3 +14,4 @@ pub mod ClosesSoundly
 pub mod FirstClosing
 pub mod Openings
 pub mod Lines
+pub mod LeafPlaces

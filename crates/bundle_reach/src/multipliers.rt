@@ -81,13 +81,28 @@ pub(crate) fn multipliers_at(
     let items = &items[..len];
     let courses = u32::from(menu.courses().min(MAX_COURSES));
     let count = fitting(courses, u32::from(menu.credits()), lightest) as usize;
-    let free = Multipliers { money: 0, credits: 0 };
+    let free = Multipliers {
+        money: 0,
+        credits: 0,
+    };
     let paid = meeting_multiplier(items, count, Scarce::Money, free, budget.0);
-    meeting_multiplier(items, count, Scarce::Credits, paid, u32::from(menu.credits()))
+    meeting_multiplier(
+        items,
+        count,
+        Scarce::Credits,
+        paid,
+        u32::from(menu.credits()),
+    )
 }
 
 // These multipliers with one of the resource at which its rest is just taken, or 0 where all of the greatest values fit.
-fn meeting_multiplier(items: &[Item], count: usize, scarce: Scarce, multipliers: Multipliers, rest: u32) -> Multipliers
+fn meeting_multiplier(
+    items: &[Item],
+    count: usize,
+    scarce: Scarce,
+    multipliers: Multipliers,
+    rest: u32,
+) -> Multipliers
     requires { count ≤ 8 }
 {
     let mut low = line_at(items, count, scarce, multipliers);
@@ -140,7 +155,8 @@ fn line_at(items: &[Item], count: usize, scarce: Scarce, multipliers: Multiplier
 }
 
 fn pick_of(item: &Item, scarce: Scarce, multipliers: Multipliers) -> Pick {
-    let paid = multipliers.money * u64::from(item.price) + multipliers.credits * u64::from(item.credits);
+    let paid = multipliers.money * u64::from(item.price)
+        + multipliers.credits * u64::from(item.credits);
     Pick {
         value: (MILLION * u64::from(item.most_added)).saturating_sub(paid),
         taken: match scarce {

@@ -12,8 +12,8 @@ ghost use Rattle.bundle_bounds.specs.Closings.{MayClose};
 ghost use Rattle.bundle_reach.specs.Covers.{IsAdded};
 
 use crate::branch::Branch;
-use crate::places::{fitting, hopes_of};
 use crate::multipliers::{Multipliers, multipliers_at};
+use crate::places::{fitting, hopes_of};
 use crate::tables::{COUNTS, MILLION, PLACES, ROWS, lightest, put_hopes, put_most};
 use bundle_rules::Menu;
 use market_units::{SectionSet, Tokens};
@@ -37,7 +37,10 @@ impl Reach {
     /// A table that was measured for no demand yet: `closes` promises nothing before `measure`.
     pub fn empty() -> Reach {
         Reach {
-            multipliers: Multipliers { money: 0, credits: 0 },
+            multipliers: Multipliers {
+                money: 0,
+                credits: 0,
+            },
             lightest: 0,
             hopes: [[0; PLACES]; ROWS],
             most: [[0; COUNTS]; ROWS],
@@ -52,7 +55,14 @@ impl Reach {
     {
         self.lightest = lightest(menu, allowed);
         put_hopes(menu, allowed, &mut self.hopes);
-        self.multipliers = multipliers_at(menu, prices, budget, allowed, &self.hopes, self.lightest);
+        self.multipliers = multipliers_at(
+            menu,
+            prices,
+            budget,
+            allowed,
+            &self.hopes,
+            self.lightest,
+        );
         put_most(
             menu,
             prices,

@@ -1,0 +1,11 @@
+//! What a section's own price does: the least price at which few enough take it, and what is taken while it rises.
+#![tactic(auto)]
+
+mod exchange;
+mod held;
+mod holders;
+pub mod laws;
+mod least;
+
+pub use held::Held;
+pub use least::least_price;
