@@ -1,11 +1,11 @@
 -- One more pair of a section and a limit.
-use Rattle.std.proofs.Common.{ℕ, ◌≡◌, ◌<◌, ◌≤◌, ◌+◌, ◌*◌, ◌-◌, ◌^◌, List, [], ◌∷◌, ◌++◌, length, take, arith, subst}
+use Rattle.std.proofs.Common.{ℕ, ◌≡◌, ◌<◌, ◌≤◌, ◌+◌, ◌*◌, ◌-◌, ◌^◌, List, [], ◌∷◌, ◌++◌, length, take, arith}
 use Rattle.std.specs.Prelude.{slice_index_or}
 use Rattle.std.proofs.lemmas.List.{take_more}
 use Rattle.std.proofs.lemmas.Slice.Zip.{all_zipped_more}
 use Rattle.market_units.specs.declared.units.SectionNo.{SectionNo}
 use Rattle.market_units.specs.declared.units.Tokens.{Tokens}
-use Rattle.demand_api.specs.Crowds.{CrowdData, top}
+use Rattle.demand_api.specs.Crowds.{CrowdData}
 use Rattle.demand_api.specs.Prices.{IsLeastFrom, AreLeastPrices}
 use Rattle.demand_api.specs.Asking.{RoseByDigits}
 
