@@ -1,18 +1,15 @@
 -- The first closing bound as a value.
-use Rattle.std.proofs.Common.{◌≡◌, ◌<◌, ℕ, true, false, List, [], ◌∷◌, Option, None, Some, refl, sym, ◌∙◌, ap, subst, inl, inr, arith}
-use Rattle.std.specs.Prelude.{ℤ, ◌<ℤ◌, int_lt, IfSome, IfNone, if◌then◌else◌}
+use Rattle.std.proofs.Common.{◌≡◌, ◌<◌, ℕ, true, false, List, [], ◌∷◌, Option, None, Some, refl, sym, ap, inl, inr, arith}
+use Rattle.std.specs.Prelude.{ℤ, ◌<ℤ◌, int_lt, IfSome, IfNone}
 use Rattle.std.proofs.lemmas.Int.{ints}
 use Rattle.std.proofs.lemmas.Bool.{cases_Bool}
 use Rattle.bundle_rules.specs.Sets.{has, IsAscending}
-use Rattle.bundle_rules.specs.Wishes.{IsFeasible}
-use Rattle.bundle_rules.specs.Menus.{IsMenu, wishes_of}
 use Rattle.bundle_rules.proofs.Feasibility.{place_of_rated}
 use Rattle.bundle_bounds.specs.declared.nodes.Leaf.{Leaf}
 use Rattle.bundle_bounds.specs.Offers.{Offer, places_of}
-use Rattle.bundle_bounds.specs.Bounds.{bounds, Closes, IsFirstClosing, NoneCloses}
+use Rattle.bundle_bounds.specs.Bounds.{bounds, IsFirstClosing, NoneCloses}
 use Rattle.bundle_bounds.specs.Limits.{NoneBelow, IsFirstBelow, first_below}
 use Rattle.bundle_bounds.specs.Ahead.{first_closing}
-use Rattle.bundle_bounds.specs.Laws.{IsNode}
 use Rattle.bundle_bounds.specs.ClosingLaws.{IsFirstOrNone, FirstClosingIsTheFirst}
 use Rattle.bundle_bounds.proofs.ByPlace.{ascending_places, has-places}
 use Rattle.bundle_bounds.proofs.BelowLimit.{limit, below_closes, closes_below, first_to, none_to}
@@ -87,9 +84,9 @@ first_closing_is_the_first offer k chosen champion menu node feasible =
     let places = offer.menu.places in
     let rises = menu.places.ascending in
     first_or_none offer k (places_of offer.menu chosen) (places_of offer.menu champion)
-        (ascending_places places champion rises (place_of_rated offer.menu champion feasible.rated) feasible.set)
-        (ascending_places places chosen rises (place_of_rated offer.menu chosen node.takable.feasible.rated) node.takable.feasible.set)
-        (λ p is. (let at = has-places places chosen p is in rw (← at.2) (node.decided at.0 at.1)))
+    (ascending_places places champion rises (place_of_rated offer.menu champion feasible.rated) feasible.set)
+    (ascending_places places chosen rises (place_of_rated offer.menu chosen node.takable.feasible.rated) node.takable.feasible.set)
+    (λ p is. (let at = has-places places chosen p is in rw (← at.2) (node.decided at.0 at.1)))
 
 -- what the code finds with the node's own numbers is the first closing bound
 pub found_closing : (offer : Offer) (k : ℕ) (chosen champion : List ℕ) (r : Option Leaf) → IsFirstOrNone offer k (places_of offer.menu chosen) (places_of offer.menu champion)

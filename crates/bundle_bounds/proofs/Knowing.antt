@@ -1,46 +1,81 @@
--- What two probes tell.
-use Rattle.std.proofs.Common.{◌≡◌, ◌≢◌, ℕ, ◌+◌, ◌≤◌, ◌<◌, max, min, Some, List, refl, sym, ap, subst, ◌∙◌, arith, inl, inr}
+-- What a price and the next one tell.
+use Rattle.std.proofs.Common.{◌≡◌, ℕ, ◌+◌, ◌-◌, ◌*◌, ◌≤◌, ◌<◌, max, min, List, subst, arith, inl, inr}
 use Rattle.std.specs.Prelude.{ℤ, pos, ◌+ℤ◌, ◌≤ℤ◌}
 use Rattle.std.proofs.lemmas.Int.{ints}
 use Rattle.std.proofs.lemmas.Bool.{cases_lt}
 use Rattle.bundle_bounds.specs.declared.prospects.Prospect.{Prospect}
 use Rattle.bundle_bounds.specs.declared.prospects.Resource.{Resource}
 use Rattle.bundle_bounds.specs.declared.known.Known.{Known}
-use Rattle.bundle_bounds.specs.declared.known.Probe.{Probe}
 use Rattle.bundle_bounds.specs.Bounds.{at_price}
-use Rattle.bundle_bounds.specs.Known.{NotBelow, IsProbe, IsKnown}
-use Rattle.bundle_bounds.proofs.Lines.{no_less_before, no_less_after}
+use Rattle.bundle_bounds.specs.Known.{IsKnown}
+use Rattle.bundle_bounds.proofs.Lines.{no_less_before, no_less_after, falls_before, falls_after}
 
-over : (base limit : ℤ) (g h : ℕ) → limit ≤ℤ (base +ℤ pos g) → g ≤ h → limit ≤ℤ (base +ℤ pos h)
-over base limit g h high more = omega (arith, ints)
+over : (base limit : ℤ) (margin g h : ℕ) → (limit +ℤ pos margin) ≤ℤ (base +ℤ pos g) → g ≤ h + margin → limit ≤ℤ (base +ℤ pos h)
+over base limit margin g h high more = omega (arith, ints)
 
-module _ (base limit : ℤ) (rest : ℕ) (resource : Resource) (all : List Prospect) (known : Known) (left right : Probe)
-    (is : IsKnown base limit rest resource all known) (is_left : IsProbe base limit rest resource all left) (is_right : IsProbe base limit rest resource all right) (ordered : left.price < right.price) where
-  pub known_before : (low : ℕ) → low ≡ max known.low (left.price + 1) → right.sum ≤ left.sum → IsKnown base limit rest resource all record { low = low; high = known.high; probe = Some right }
-  known_before low low_is no_rise =
-      let fall : at_price resource rest right.price all ≤ at_price resource rest left.price all = subst (λ n. n ≤ at_price resource rest left.price all) is_right.sum (subst (λ n. right.sum ≤ n) is_left.sum no_rise) in
-      record {
-        low = λ price below. elim (cases_lt price known.low) [
-          | inl before ↦ is.low price before
-          | inr after ↦
-              let on : price ≤ left.price = omega arith in
-              over base limit (at_price resource rest left.price all) (at_price resource rest price all) is_left.not_below (no_less_before resource rest left.price right.price all ordered fall price on)
-        ];
-        high = is.high;
-        probe = is_right;
-      }
+times_less : (a b s : ℕ) → a ≤ b → a * s ≤ b * s
+times_less a b s up = let e : b ≡ a + (b - a) = omega arith in of_sum a (b - a) s b e
+  where
+    of_sum : (a d s b : ℕ) → b ≡ a + d → a * s ≤ b * s
+    of_sum a d s b e = rw e (omega arith)
 
-  pub known_after : (high : ℕ) → high ≡ min known.high right.price → left.sum < right.sum → IsKnown base limit rest resource all record { low = known.low; high = high; probe = Some left }
-  known_after high high_is rise =
-      let rise' : left.sum ≤ right.sum = omega arith in
-      let up : at_price resource rest left.price all ≤ at_price resource rest right.price all = subst (λ n. n ≤ at_price resource rest right.price all) is_left.sum (subst (λ n. left.sum ≤ n) is_right.sum rise') in
-      record {
-        low = is.low;
-        high = λ price above within. elim (cases_lt price known.high) [
-          | inl before ↦
-              let on : right.price ≤ price = omega arith in
-              over base limit (at_price resource rest right.price all) (at_price resource rest price all) is_right.not_below (no_less_after resource rest left.price right.price all ordered up price on)
-          | inr after ↦ is.high price after within
-        ];
-        probe = is_left;
-      }
+module _ (base limit : ℤ) (rest : ℕ) (resource : Resource) (all : List Prospect) (known : Known) (is : IsKnown base limit rest resource all known) (price sum next margin : ℕ)
+    (sum_is : sum ≡ at_price resource rest price all) (next_is : next ≡ at_price resource rest (price + 1) all) (high : (limit +ℤ pos margin) ≤ℤ (base +ℤ pos sum)) where
+  pub known_rising : (steps from highest : ℕ) → sum ≤ next → steps * (next - sum) ≤ margin → from ≡ price - steps → highest ≡ min known.high from → IsKnown base limit rest resource all record { low = known.low; high = highest }
+  known_rising steps from highest rise few from_is highest_is = record {
+    low = is.low;
+    high = λ other above within. elim (cases_lt other known.high) [
+      | inl before ↦
+          let g : ℕ = at_price resource rest price all in
+          let n : ℕ = at_price resource rest (price + 1) all in
+          let o : ℕ = at_price resource rest other all in
+          let sum_is' : sum ≡ g = sum_is in
+          let next_is' : next ≡ n = next_is in
+          let rise' : g ≤ n = omega arith in
+          elim (cases_lt other price) [
+            | inl left ↦
+                let near : price - other ≤ steps = omega arith in
+                let line : g ≤ o + (price - other) * (n - g) = falls_before resource rest price all other (omega arith) rise' in
+                let few' : (price - other) * (next - sum) ≤ steps * (next - sum) = times_less (price - other) steps (next - sum) near in
+                let same : next - sum ≡ n - g = λ i. next_is i - sum_is i in
+                let few'' : (price - other) * (n - g) ≤ steps * (next - sum) = subst (λ d. (price - other) * d ≤ steps * (next - sum)) same few' in
+                over base limit margin sum (at_price resource rest other all) high (let goal : sum ≤ o + margin = omega arith in goal)
+            | inr right ↦ elim (cases_lt price other) [
+              | inl later ↦
+                  let up : n ≤ o = no_less_after resource rest price (price + 1) all (omega arith) rise' other (omega arith) in
+                  over base limit margin sum (at_price resource rest other all) high (let goal : sum ≤ o + margin = omega arith in goal)
+              | inr here ↦
+                  let at : other ≡ price = omega arith in
+                  rw at (over base limit margin sum (at_price resource rest price all) high (let goal : sum ≤ g + margin = omega arith in goal))
+            ]
+          ]
+      | inr after ↦ is.high other after within
+    ];
+  }
+
+  pub known_falling : (steps lowest : ℕ) → next < sum → steps * (sum - next) ≤ margin → lowest ≡ max known.low ((price + steps) + 1) → IsKnown base limit rest resource all record { low = lowest; high = known.high }
+  known_falling steps lowest fall few lowest_is = record {
+    low = λ other below. elim (cases_lt other known.low) [
+      | inl before ↦ is.low other before
+      | inr after ↦
+          let g : ℕ = at_price resource rest price all in
+          let n : ℕ = at_price resource rest (price + 1) all in
+          let o : ℕ = at_price resource rest other all in
+          let sum_is' : sum ≡ g = sum_is in
+          let next_is' : next ≡ n = next_is in
+          let fall' : n ≤ g = omega arith in
+          elim (cases_lt price other) [
+            | inl right ↦
+                let near : other - price ≤ steps = omega arith in
+                let line : g ≤ o + (other - price) * (g - n) = falls_after resource rest price all other (omega arith) fall' in
+                let few' : (other - price) * (sum - next) ≤ steps * (sum - next) = times_less (other - price) steps (sum - next) near in
+                let same : sum - next ≡ g - n = λ i. sum_is i - next_is i in
+                let few'' : (other - price) * (g - n) ≤ steps * (sum - next) = subst (λ d. (other - price) * d ≤ steps * (sum - next)) same few' in
+                over base limit margin sum (at_price resource rest other all) high (let goal : sum ≤ o + margin = omega arith in goal)
+            | inr left ↦
+                let up : g ≤ o = no_less_before resource rest price (price + 1) all (omega arith) fall' other (omega arith) in
+                over base limit margin sum (at_price resource rest other all) high (let goal : sum ≤ o + margin = omega arith in goal)
+          ]
+    ];
+    high = is.high;
+  }

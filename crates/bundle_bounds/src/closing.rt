@@ -22,6 +22,19 @@ fn leaf_of(resource: Resource, place: u8) -> Leaf
     }
 }
 
+// By how much a bound of so much above the base is above the limit at least.
+fn margin(base: i64, limit: i64, sum: u64) -> u64
+    requires low { neg_ℤ (pos 3000000000000) ≤ℤ base }
+    requires above { limit ≤ℤ (base +ℤ pos sum) }
+    requires high { sum ≤ 1000000000000000000 }
+    ensures { (limit +ℤ pos result) ≤ℤ (base +ℤ pos sum) }
+{
+    if limit < base {
+        return sum;
+    }
+    sum - (limit - base) as u64
+}
+
 // Whether a prospect has a bound, and that is below the limit. What is known of the bounds grows where it is not.
 fn is_below(
     base: i64,
@@ -55,7 +68,10 @@ fn is_below(
     if bound < limit {
         return true;
     }
-    known.learn(price, sum);
+    if price < 20_000_000 {
+        let next = at_price(all, resource, rest, price + 1);
+        known.learn(price, sum, next, margin(base, limit, sum));
+    }
     false
 }
 

@@ -54,7 +54,7 @@ module _ (offer : Offer) (required : Option ℕ) (champion text : List ℕ) wher
     come_more sign others later step stands =
         let here = subst (λ ns. HasCome offer required champion text ns rest) step.1.1 come in
         subst (λ ns. HasCome offer required champion text ns later) (sym step.1.3)
-            (here.0 ++ sign ∷ [], comes_more offer required (places_of offer.menu champion) here.0 ((0, []) ∷ []) text step.0 step.1.0 rest sign later here.1 step.1.2 stands)
+        (here.0 ++ sign ∷ [], comes_more offer required (places_of offer.menu champion) here.0 ((0, []) ∷ []) text step.0 step.1.0 rest sign later here.1 step.1.2 stands)
 
     -- it ends with the tree's text
     pub text_where_ended : nodes ≡ [] → rest ≡ [] → IsTreeText offer required champion text

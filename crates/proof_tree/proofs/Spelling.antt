@@ -82,7 +82,7 @@ module _ (offer : Offer) (required : Option ℕ) (champion : List ℕ) where
       → ComesTo offer required champion (signs ++ sign ∷ []) nodes text (below sign node.0 node.1 ++ later) after
   comes_more [] nodes text node later rest sign after come is stands =
       subst (λ ns. ComesTo offer required champion (sign ∷ []) ns text (below sign node.0 node.1 ++ later) after) (sym come.0)
-          (subst (λ t. ComesTo offer required champion (sign ∷ []) (node ∷ later) t (below sign node.0 node.1 ++ later) after) (sym come.1) (is, (after, stands, (refl, refl))))
+      (subst (λ t. ComesTo offer required champion (sign ∷ []) (node ∷ later) t (below sign node.0 node.1 ++ later) after) (sym come.1) (is, (after, stands, (refl, refl))))
   comes_more (s ∷ signs) [] text node later rest sign after come is stands = absurd come
   comes_more (s ∷ signs) (n ∷ nodes) text node later rest sign after come is stands =
       (come.0, (come.1.0, come.1.1, comes_more signs (below s n.0 n.1 ++ nodes) come.1.0 node later rest sign after come.1.2 is stands))
@@ -93,7 +93,7 @@ module _ (offer : Offer) (required : Option ℕ) (champion : List ℕ) where
   walk_spells (sign ∷ signs) [] text come = absurd come
   walk_spells (sign ∷ signs) (node ∷ nodes) text come =
       subst (AreSpelled offer required champion (node ∷ nodes)) (sym come.1.1.spelled)
-          (join_node offer required champion node.0 node.1 nodes sign come.1.0 come.0 (walk_spells signs (below sign node.0 node.1 ++ nodes) come.1.0 come.1.2))
+      (join_node offer required champion node.0 node.1 nodes sign come.1.0 come.0 (walk_spells signs (below sign node.0 node.1 ++ nodes) come.1.0 come.1.2))
 
   -- and where the text is that of the trees, what is left is that of the trees of the nodes that are left
   pub walk_leaves : (signs : List Sign) (nodes : List (ℕ × List ℕ)) (text : List ℕ) (others : List (ℕ × List ℕ)) (rest : List ℕ) → ComesTo offer required champion signs nodes text others rest → AreSpelled offer required champion nodes text → AreSpelled offer required champion others rest

@@ -98,26 +98,63 @@ fn sixty_courses(rt: HostRuntime) -> Result<(), Fail> {
         places[usize::from(place)] = (u16::from(place), 100 - place, 0);
     }
     let menu = menu_of(&rt, rt.alloc(), &places, &[], &[0; 60], (0, 8));
-    let text = b"++++++++----------------------------------------------------*m8m7m6m6m6m5m5m5".as_slice();
-    has_tree(&rt, rt.alloc(), &menu, &[Tokens(0); 60], 0, &[0, 1, 2, 3, 4, 5, 6, 7], text);
+    let text =
+        b"++++++++----------------------------------------------------*m8m7m6m6m6m5m5m5".as_slice();
+    has_tree(
+        &rt,
+        rt.alloc(),
+        &menu,
+        &[Tokens(0); 60],
+        0,
+        &[0, 1, 2, 3, 4, 5, 6, 7],
+        text,
+    );
     Ok(())
 }
 
 #[test]
 fn an_ordinary_term(rt: HostRuntime) -> Result<(), Fail> {
     let prices = [Tokens(104), Tokens(0), Tokens(0), Tokens(0)];
-    let ann = menu_of(&rt, rt.alloc(), &[(0, 60, 1), (1, 30, 1)], &[], &[0, 0], (10, 2));
+    let ann = menu_of(
+        &rt,
+        rt.alloc(),
+        &[(0, 60, 1), (1, 30, 1)],
+        &[],
+        &[0, 0],
+        (10, 2),
+    );
     has_tree(&rt, rt.alloc(), &ann, &prices, 104, &[0, 1], b"++*nn");
-    let bob = menu_of(&rt, rt.alloc(), &[(0, 50, 1), (2, 40, 1)], &[(0, 1, 10)], &[0, 0], (10, 2));
+    let bob = menu_of(
+        &rt,
+        rt.alloc(),
+        &[(0, 50, 1), (2, 40, 1)],
+        &[(0, 1, 10)],
+        &[0, 0],
+        (10, 2),
+    );
     has_tree(&rt, rt.alloc(), &bob, &prices, 103, &[2], b"-+*n");
-    let cat = menu_of(&rt, rt.alloc(), &[(0, 20, 1), (3, 45, 1)], &[], &[2, 1], (10, 2));
+    let cat = menu_of(
+        &rt,
+        rt.alloc(),
+        &[(0, 20, 1), (3, 45, 1)],
+        &[],
+        &[2, 1],
+        (10, 2),
+    );
     has_tree(&rt, rt.alloc(), &cat, &prices, 102, &[3], b"-+*n");
     Ok(())
 }
 
 #[test]
 fn each_defect_at_its_place(rt: HostRuntime) -> Result<(), Fail> {
-    let menu = menu_of(&rt, rt.alloc(), &[(0, 50, 1), (2, 40, 1)], &[(0, 1, 10)], &[0, 0], (10, 2));
+    let menu = menu_of(
+        &rt,
+        rt.alloc(),
+        &[(0, 50, 1), (2, 40, 1)],
+        &[(0, 1, 10)],
+        &[0, 0],
+        (10, 2),
+    );
     let prices = [Tokens(104), Tokens(0), Tokens(0)];
     assert!(rt; has_prices(&menu, &prices));
     let allowed = SectionSet::full(400);
@@ -165,7 +202,9 @@ fn has_forced_tree<R: Abort>(
     assert!(rt; champion.has(section));
     let checked = check_forced(menu, prices, budget, &allowed, section, &champion, text);
     assert!(rt; checked.is_ok());
-    let built = build_forced(alloc, menu, prices, budget, &allowed, section, &champion).expect(rt, "memory");
+    let built = build_forced(alloc, menu, prices, budget, &allowed, section, &champion).expect(
+        rt, "memory",
+    );
     assert!(rt; built.as_slice() == text);
     let cut = &text[..text.len().saturating_sub(1)];
     match check_forced(menu, prices, budget, &allowed, section, &champion, cut) {
@@ -177,16 +216,51 @@ fn has_forced_tree<R: Abort>(
 #[test]
 fn forced_trees(rt: HostRuntime) -> Result<(), Fail> {
     let free = [Tokens(0); 4];
-    let less = menu_of(&rt, rt.alloc(), &[(0, 50, 1), (1, 50, 1)], &[(0, 1, -200)], &[0, 0], (10, 2));
+    let less = menu_of(
+        &rt,
+        rt.alloc(),
+        &[(0, 50, 1), (1, 50, 1)],
+        &[(0, 1, -200)],
+        &[0, 0],
+        (10, 2),
+    );
     has_forced_tree(&rt, rt.alloc(), &less, &free, 0, 1, b"+!n!*");
-    let one_course = menu_of(&rt, rt.alloc(), &[(0, 50, 1), (1, 50, 1)], &[], &[0, 0], (10, 1));
+    let one_course = menu_of(
+        &rt,
+        rt.alloc(),
+        &[(0, 50, 1), (1, 50, 1)],
+        &[],
+        &[0, 0],
+        (10, 1),
+    );
     has_forced_tree(&rt, rt.alloc(), &one_course, &free, 0, 1, b"+x!*");
-    let credits = menu_of(&rt, rt.alloc(), &[(0, 50, 3), (1, 40, 2), (2, 99, 5)], &[], &[0, 0, 0], (4, 2));
+    let credits = menu_of(
+        &rt,
+        rt.alloc(),
+        &[(0, 50, 3), (1, 40, 2), (2, 99, 5)],
+        &[],
+        &[0, 0, 0],
+        (4, 2),
+    );
     has_forced_tree(&rt, rt.alloc(), &credits, &free, 0, 1, b"+x!-*");
     let dear = [Tokens(101), Tokens(101)];
-    let price = menu_of(&rt, rt.alloc(), &[(0, 60, 1), (1, 59, 1)], &[], &[0, 0], (10, 2));
+    let price = menu_of(
+        &rt,
+        rt.alloc(),
+        &[(0, 60, 1), (1, 59, 1)],
+        &[],
+        &[0, 0],
+        (10, 2),
+    );
     has_forced_tree(&rt, rt.alloc(), &price, &dear, 150, 1, b"+x!*");
-    let clash = menu_of(&rt, rt.alloc(), &[(0, 20, 1), (3, 45, 1)], &[], &[2, 1], (10, 2));
+    let clash = menu_of(
+        &rt,
+        rt.alloc(),
+        &[(0, 20, 1), (3, 45, 1)],
+        &[],
+        &[2, 1],
+        (10, 2),
+    );
     has_forced_tree(&rt, rt.alloc(), &clash, &free, 102, 0, b"!-*");
     Ok(())
 }
