@@ -28,6 +28,7 @@ pub record KeepsTasks (terms : Terms) (places : List (List Place)) (tallies : Li
   pub tallied : tallies ≡ tallies_of terms.asks 0 places
   pub cursor : IsCursor terms.asks places version student
 
+-- what a board keeps
 pub record IsKept (board : Inside) : Type 0 where
   pub few_versions : version_count (terms_in board) ≤ 16
   pub few_students : student_count (terms_in board) ≤ 2000
