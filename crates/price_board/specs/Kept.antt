@@ -1,8 +1,7 @@
 -- What a board keeps.
-use Rattle.std.specs.Prelude.{ℕ, ◌≡◌, ◌<◌, ◌≤◌, List, Some, length, map, All}
+use Rattle.std.specs.Prelude.{ℕ, ◌≡◌, ◌≤◌, List, length}
 use Rattle.std.specs.Arc.{arc_value}
 use Rattle.price_board.specs.declared.place.Place.{Place}
-use Rattle.price_board.specs.declared.round.Round.{Round}
 use Rattle.price_board.specs.declared.shared.Terms.{Terms}
 use Rattle.price_board.specs.declared.state.BoardState.TheInside.{Inside}
 use Rattle.price_board.specs.declared.tally.Tally.{Tally}
@@ -11,7 +10,7 @@ use Rattle.price_board.specs.Cursors.{IsCursor}
 use Rattle.price_board.specs.Openings.{terms_of}
 use Rattle.price_board.specs.Rights.{AreRows, AreRight}
 use Rattle.price_board.specs.Tallies.{tallies_of}
-use Rattle.price_board.specs.Terms.{version_count, student_count, demand_of}
+use Rattle.price_board.specs.Terms.{version_count, student_count}
 
 -- the terms of a board by its fields
 abbrev pub terms_in : Inside → Terms

@@ -1,11 +1,11 @@
-use Rattle.std.proofs.Common.{◌≡◌, ◌≤◌, ◌<◌, ◌+◌, ◌*◌, ◌∙◌, ℕ, ap, sym, subst, arith, length, replicate, slice_index}
+use Rattle.std.proofs.Common.{◌≡◌, ◌≤◌, ◌<◌, ◌+◌, ◌*◌, ◌∙◌, ℕ, ap, sym, subst, arith, length, slice_index}
 use Rattle.std.proofs.lemmas.List.{get_or-replicate}
 use Rattle.chronicle.specs.declared.standing.Standing.{Standing}
 use Rattle.chronicle.specs.Views.{sum_of}
 use Rattle.price_board.specs.declared.calls.BoardCall.{BoardCall}
 use Rattle.price_board.specs.declared.calls.BoardReply.{BoardReply}
 use Rattle.price_board.specs.declared.shared.Terms.{Terms}
-use Rattle.price_board.specs.Openings.{terms_of, opening_of}
+use Rattle.price_board.specs.Openings.{opening_of}
 use Rattle.price_board.specs.Terms.{task_count}
 use Rattle.price_board.specs.declared.shared.Progress.{Progress}
 use Rattle.price_board.proofs.Beginnings.{new_free, sum_of-replicate}
