@@ -120,7 +120,9 @@ pub fn demand_with(
 }
 
 // The best bundle, of those with the section of a place where one is given, which may be taken alone: the root is looked
-// at first, and while branches are left, the next one.
+// at first, and while branches are left, the next one. Each of the two demands has its own copy of the machine code of
+// this and of what it calls, so that the plain one asks nothing about a given place.
+#[inline(always)]
 fn search(
     frames: &mut Frames,
     menu: &Menu,
@@ -158,6 +160,7 @@ fn search(
 
 // The champion that a search begins with: the section of the given place alone, and where none is given a branch that
 // begins well.
+#[inline(always)]
 fn first_champion(
     reach: &Reach,
     menu: &Menu,
@@ -180,6 +183,7 @@ fn first_champion(
 // Looks at a branch, and tells the branch to look at after it, or `None` where none is left. The chosen sections are
 // compared with the champion, or the branch is closed, or it is tried with its next section, where that may be taken,
 // while it waits without it. Without the given section nothing is looked at.
+#[inline(always)]
 fn step(
     frames: &mut Frames,
     menu: &Menu,
@@ -238,6 +242,7 @@ fn is_whole(menu: &Menu, branch: &Branch) -> bool
 }
 
 // Whether the given place is undecided, and its section may no more be taken with the chosen ones.
+#[inline(always)]
 fn is_lost(
     menu: &Menu,
     prices: &[Tokens],
@@ -264,6 +269,7 @@ fn is_lost(
 }
 
 // Whether the place is the given one.
+#[inline(always)]
 fn is_given(given: Option<u8>, place: u8) -> bool
     ensures { IsTrue result ↔ (given ≡ Some place) }
 {
@@ -274,6 +280,7 @@ fn is_given(given: Option<u8>, place: u8) -> bool
 }
 
 // Whether the bundle has the section of the given place, where one is given.
+#[inline(always)]
 fn is_wanted(menu: &Menu, given: Option<u8>, bundle: &Bundle) -> bool
     requires { IfSome given (λ place. place < length menu.now.places) }
     ensures { result ≡ wanted_by menu.now given (sections_of bundle.now) }
