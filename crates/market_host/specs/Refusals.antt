@@ -17,6 +17,7 @@ IsTold (of_catalog.Name at column) row told = (row ≡ at) × (told ≡ cause.Na
 IsTold (of_catalog.Repeated at earlier) row told = (row ≡ at) × (told ≡ cause.Repeated earlier)
 IsTold (of_catalog.Number at column) row told = (row ≡ at) × (told ≡ cause.Number column)
 IsTold (of_catalog.Meetings at) row told = (row ≡ at) × (told ≡ cause.Meetings)
+IsTold (of_catalog.Parts at) row told = (row ≡ at) × (told ≡ cause.Parts)
 IsTold of_catalog.TooMany row told = (row ≡ 402) × (told ≡ cause.TooMany)
 IsTold of_catalog.NoMemory row told = ⊥
 

@@ -1,0 +1,9 @@
+//! The elimination of oversubscription: prices are raised, one after another, until no section has more students than
+//! seats (Course Match: Budish, Cachon, Kessler, Othman 2017).
+#![tactic(auto)]
+
+pub mod laws;
+mod round;
+mod settling;
+
+pub use settling::{Settled, settle};
