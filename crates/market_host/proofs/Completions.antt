@@ -1,12 +1,12 @@
 -- Where every input is held and in order, the work is ended, or memory is wanted.
-use Rattle.std.proofs.Common.{ℕ, ◌≡◌, ◌≢◌, ◌<◌, ◌≤◌, ◌+◌, List, [], ◌∷◌, ◌++◌, length, arith, ap, sym, subst, ◌∙◌, refl, append_assoc, inl, inr}
+use Rattle.std.proofs.Common.{ℕ, ◌≡◌, ◌≢◌, ◌≤◌, ◌+◌, List, [], ◌∷◌, ◌++◌, length, arith, ap, sym, subst, ◌∙◌, refl, append_assoc, inl, inr}
 use Rattle.std.specs.Prelude.{◌⊎◌, All, Option, Some, None, MatchResult, slice_index_or, ⊤}
 use Rattle.std.specs.List.{AllZip}
 use Rattle.std.proofs.lemmas.List.{append-nil, length-append}
 use Rattle.market_edge.specs.Faults.{Rose}
 use Rattle.market_edge.specs.Holdings.{Holding, IsLeftOf, IsTextOf, TakesExactly, text_of, told_text}
 use Rattle.market_words.specs.declared.words.Form.{Form}
-use Rattle.market_words.specs.Forms.{HasForm, inputs_of}
+use Rattle.market_words.specs.Forms.{inputs_of}
 use Rattle.market_words.proofs.OneForm.{one_form}
 use Rattle.market_host.specs.declared.cause.Cause.{Cause}
 use Rattle.market_host.specs.declared.status.Status.{Status}

@@ -1,7 +1,6 @@
 -- Inputs that were read, and inputs that stopped the reading.
-use Rattle.std.proofs.Common.{ℕ, ◌≡◌, ◌<◌, ◌≤◌, ◌+◌, List, [], ◌∷◌, ◌++◌, length, drop, arith, ap, sym, subst, ◌∙◌, refl, append_assoc, inl, inr}
-use Rattle.std.specs.Prelude.{◌⊎◌, Option, Some, None, Ok, ⊤}
-use Rattle.std.specs.List.{AllZip}
+use Rattle.std.proofs.Common.{ℕ, ◌≡◌, ◌<◌, ◌≤◌, ◌+◌, List, [], ◌∷◌, ◌++◌, length, drop, arith, ap, sym, subst, ◌∙◌, refl, append_assoc, inl}
+use Rattle.std.specs.Prelude.{◌⊎◌, Option, Ok}
 use Rattle.std.proofs.lemmas.List.{append-nil, length-append}
 use Rattle.std.proofs.Math.ListN.{drop_of_length-le}
 use Rattle.market_lists.specs.Totals.{total}

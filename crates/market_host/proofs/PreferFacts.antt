@@ -1,5 +1,5 @@
 -- The inputs of `prefer`, and what it prints.
-use Rattle.std.proofs.Common.{ℕ, ◌≡◌, ◌≤◌, ◌+◌, ◌-◌, List, [], ◌∷◌, ◌++◌, length, take, drop, get_or, map, arith, ap, sym, subst, ◌∙◌, refl, Global}
+use Rattle.std.proofs.Common.{ℕ, ◌≡◌, ◌≤◌, ◌+◌, ◌-◌, List, [], ◌∷◌, length, take, drop, get_or, map, arith, ap, sym, subst, ◌∙◌, refl, Global}
 use Rattle.std.specs.Prelude.{Option, Ok, String, Vec}
 use Rattle.std.specs.String.{string_bytes}
 use Rattle.std.proofs.lemmas.List.{length-drop, length-map, length-take-le, take_all}
@@ -8,7 +8,6 @@ use Rattle.course_catalog.specs.Catalog.{CatalogData}
 use Rattle.student_roll.specs.Rolls.{roll_of}
 use Rattle.student_roll.specs.Students.{RollData}
 use Rattle.market_edge.specs.Holdings.{Holding}
-use Rattle.market_words.specs.declared.words.Form.{Form}
 use Rattle.market_words.specs.declared.words.Form.TheVariants.{Prefer}
 use Rattle.market_words.specs.Forms.{HasForm, inputs_of}
 use Rattle.preference_desk.specs.declared.entry.Entry.{Entry}
@@ -23,7 +22,7 @@ use Rattle.market_host.specs.Outcomes.{IsDone, IsLastAtEnd}
 use Rattle.market_host.specs.Preferences.{IsHeld}
 use Rattle.market_host.specs.Reading.{AreReadSessions, IsRead}
 use Rattle.market_host.specs.Sights.{Sight}
-use Rattle.market_host.proofs.InputTroubles.{catalog_first, roll_second}
+use Rattle.market_host.proofs.InputTroubles.{roll_second}
 use Rattle.market_host.proofs.ReadOut.{behind_at_end}
 use Rattle.market_host.proofs.SessionsRead.{sessions_read}
 use Rattle.market_host.proofs.Shelves.{seen_from}

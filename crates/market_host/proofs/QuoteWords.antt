@@ -1,14 +1,13 @@
 -- The inputs of `quote`, and what it prints.
-use Rattle.std.proofs.Common.{ℕ, ◌≡◌, ◌<◌, ◌≤◌, ◌+◌, List, [], ◌∷◌, length, take, drop, get_or, map, arith, ap, sym, subst, ◌∙◌, refl, Global}
+use Rattle.std.proofs.Common.{ℕ, ◌≡◌, ◌≤◌, List, [], ◌∷◌, length, take, drop, get_or, map, arith, ap, sym, subst, ◌∙◌, refl, Global}
 use Rattle.std.specs.Prelude.{Option, Ok, String}
 use Rattle.std.specs.String.{string_bytes}
-use Rattle.std.proofs.lemmas.List.{get_or-map, length-map}
+use Rattle.std.proofs.lemmas.List.{length-map}
 use Rattle.course_catalog.specs.Reading.{catalog_of}
 use Rattle.course_catalog.specs.Catalog.{CatalogData}
 use Rattle.market_units.specs.declared.names.Name.{Name}
 use Rattle.market_units.specs.Name.{name_bytes}
 use Rattle.market_edge.specs.Holdings.{Holding}
-use Rattle.market_words.specs.declared.words.Form.{Form}
 use Rattle.market_words.specs.declared.words.Form.TheVariants.{Quote}
 use Rattle.market_words.specs.Forms.{HasForm, inputs_of}
 use Rattle.student_roll.specs.Students.{single_student}

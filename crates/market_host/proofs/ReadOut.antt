@@ -2,8 +2,7 @@
 use Rattle.std.proofs.Common.{ℕ, ◌≡◌, ◌≢◌, ◌≤◌, ◌+◌, List, [], ◌∷◌, ◌++◌, length, arith, ap, sym, subst, ◌∙◌, refl, inl, inr}
 use Rattle.std.specs.Prelude.{◌⊎◌, ⊤}
 use Rattle.std.proofs.lemmas.List.{length-append}
-use Rattle.market_words.specs.declared.words.Form.{Form}
-use Rattle.market_words.specs.Forms.{HasForm, inputs_of}
+use Rattle.market_words.specs.Forms.{inputs_of}
 use Rattle.market_words.proofs.OneForm.{one_form}
 use Rattle.market_host.specs.declared.status.Status.{Status}
 use Rattle.market_host.specs.declared.status.Status.TheVariants.{Done, Usage, ShelfFault, Refused, TooLong, SinkFault, OutOfMemory}

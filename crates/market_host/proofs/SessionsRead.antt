@@ -1,6 +1,6 @@
 -- Sessions that were read, one by one and all together.
 use Rattle.std.proofs.Common.{ℕ, zero, suc, ◌≡◌, ◌<◌, ◌≤◌, ◌+◌, List, [], ◌∷◌, ◌++◌, length, take, drop, get_or, map, arith, ap, sym, subst, ◌∙◌, refl, append_assoc, inr, Global}
-use Rattle.std.specs.Prelude.{◌⊎◌, Option, String, Vec, ⊤}
+use Rattle.std.specs.Prelude.{◌⊎◌, Option, String, Vec}
 use Rattle.std.specs.List.{AllZip}
 use Rattle.std.specs.String.{string_bytes}
 use Rattle.std.proofs.Math.ListN.{drop_of_length-le}

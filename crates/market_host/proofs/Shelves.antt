@@ -1,5 +1,5 @@
 -- What is seen of a shelf, from an earlier call on.
-use Rattle.std.proofs.Common.{ℕ, ◌≡◌, ◌≤◌, List, subst}
+use Rattle.std.proofs.Common.{ℕ, ◌≡◌, List, subst}
 use Rattle.std.specs.Prelude.{Option}
 use Rattle.market_edge.specs.Holdings.{Holding}
 use Rattle.market_host.specs.Sights.{Sight}

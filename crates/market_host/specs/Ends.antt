@@ -1,5 +1,5 @@
 -- Which input was read to its end, by the status alone.
-use Rattle.std.specs.Prelude.{ℕ, ◌≡◌, ◌+◌, List, [], ◌∷◌, ◌++◌, length, ⊤}
+use Rattle.std.specs.Prelude.{ℕ, ◌≡◌, ◌+◌, List, ◌∷◌, ◌++◌, length, ⊤}
 use Rattle.market_words.specs.declared.words.Form.{Form}
 use Rattle.market_words.specs.Forms.{HasForm, inputs_of}
 use Rattle.market_host.specs.declared.status.Status.{Status}

@@ -1,5 +1,5 @@
 -- The row and the cause that are told of a refused catalogue or roll.
-use Rattle.std.specs.Prelude.{ℕ, ◌≡◌, List, Err, ⊤}
+use Rattle.std.specs.Prelude.{ℕ, ◌≡◌, List, Err}
 use Rattle.course_catalog.specs.declared.refusal.CatalogRefusal.{CatalogRefusal}
 use Rattle.course_catalog.specs.declared.refusal.CatalogRefusal.TheVariants as of_catalog
 use Rattle.course_catalog.specs.Reading.{catalog_of}

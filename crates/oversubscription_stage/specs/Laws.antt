@@ -6,11 +6,12 @@ use Rattle.demand_api.specs.Crowds.{CrowdData, top, count}
 use Rattle.demand_api.specs.Asking.{ArePricesFor}
 use Rattle.oversubscription_stage.specs.Rounds.{AreWithinSeats, IsRoundAt, IsElimination, IsSettled}
 
--- a round raises one price by at least 1, and no price passes the top
+-- the price of the section is higher, and no price passes the top
 pub record RaisesWithinTop (crowd : CrowdData) (before after : List Tokens) (s : ℕ) : Type 0 where
   pub raised : price_in before s < price_in after s
   pub prices : ArePricesFor crowd after
 
+-- a round raises one price by at least 1, and no price passes the top
 abbrev pub RoundsRaise : Type 0
 RoundsRaise = (crowd : CrowdData) (seats : List ℕ) (before after : List Tokens) (s : ℕ) (price : Tokens) → ArePricesFor crowd before → IsRoundAt crowd seats before after s price → RaisesWithinTop crowd before after s
 

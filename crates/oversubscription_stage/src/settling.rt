@@ -15,15 +15,19 @@ use std::thread::Threads;
 /// The last prices of the elimination, what each student takes at them in file order, and the number of rounds.
 #[derive(Drop)]
 pub struct Settled {
+    /// The price of each section.
     pub prices: Vec<Tokens>,
+    /// What each student takes, in file order.
     pub bundles: Vec<Bundle>,
+    /// How often a price was raised.
     pub rounds: u32,
 }
 
 /// Raises prices until no section has more students than seats. While some count exceeds its seats, the section of
 /// greatest excess, the lowest ordinal among equals, gets the least price at which at most its seats and half of those
 /// who are too many take it, rounded down. There are one seat number and one price for each section, each price at
-/// most the top. There is no limit of rounds: each raises a price, and none passes the top.
+/// most the top. There is no limit of rounds: each raises a price, and none passes the top. The one error is the want
+/// of memory.
 pub fn settle<R: Threads + Wait + Sync, D: Demands>(
     rt: &R,
     alloc: Global,

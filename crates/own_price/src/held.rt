@@ -41,7 +41,8 @@ impl Model for Held {
 }
 
 impl Held {
-    /// What each student takes at these prices: one for each section, each at most the top.
+    /// What each student takes at these prices: one for each section, each at most the top. The one error is the want
+    /// of memory.
     pub fn take<R: Threads + Wait + Sync, D: Demands>(
         rt: &R,
         alloc: Global,

@@ -1,4 +1,4 @@
-use Rattle.std.proofs.Common.{◌≡◌, ◌<◌, ◌≤◌, ◌+◌, ℕ, List, map, take}
+use Rattle.std.proofs.Common.{◌≡◌, ◌≤◌, ◌+◌, ℕ, List, map, take}
 use Rattle.std.specs.String.{string_bytes}
 use Rattle.market_host.specs.Outcomes.{IsLastAtEnd}
 use Rattle.market_host.specs.Reading.{AreReadSessions}
