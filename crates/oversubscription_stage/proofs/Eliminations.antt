@@ -127,6 +127,7 @@ under_way_more crowd seats start held next number is round holds = record {
       let so_far : number + left crowd held.prices ≤ 400000400 = is.left in
       omega arith;
 }
+
 -- all counts are within their seats: the elimination is done
 pub settled : (crowd : CrowdData) (seats : List ℕ) (start : List Tokens) (held : HeldData) (number : ℕ) → IsUnderWay crowd seats start held number → AreWithinSeats crowd.sections (count crowd (price_in held.prices)) seats → IsSettled crowd seats start held.prices number
 settled crowd seats start held number is within =

@@ -40,19 +40,25 @@ most_more count seats n greatest over (Some other) section at so_far is more = s
     (omega (arith, is, more), over_here count seats n over is (omega arith) (λ t before. let less = so_far.1.greatest t before in let most = so_far.0 in omega (arith, ints, less, most, more)))
 
 pub most_same : (count : ℕ → ℕ) (seats : List ℕ) (n greatest over : ℕ) (most : Option SectionNo) → MostSoFar count seats n greatest most → over ≡ count n - slice_index seats n → over ≤ greatest → MostSoFar count seats (n + 1) greatest most
-most_same count seats n greatest over None so_far is few = (so_far.0, λ t low. elim (last_or_before n t low) [
-  | inl same ↦ let none = so_far.0 in subst (λ k. count k ≤ slice_index seats k) (sym same) (omega (arith, is, few, none))
-  | inr before ↦ so_far.1 t before
-])
-most_same count seats n greatest over (Some other) so_far is few = (so_far.0, record {
-  in_range = let low : other.0 < n = so_far.1.in_range in omega arith;
-  over = so_far.1.over;
-  greatest = λ t low. elim (last_or_before n t low) [
-    | inl same ↦ let most = so_far.0 in subst (λ k. excess (count k) (slice_index seats k) ≤ℤ excess (count other.0) (slice_index seats other.0)) (sym same) (omega (arith, ints, is, few, most))
-    | inr before ↦ so_far.1.greatest t before
-  ];
-  lowest = so_far.1.lowest;
-})
+most_same count seats n greatest over None so_far is few = (
+  so_far.0,
+  λ t low. elim (last_or_before n t low) [
+    | inl same ↦ let none = so_far.0 in subst (λ k. count k ≤ slice_index seats k) (sym same) (omega (arith, is, few, none))
+    | inr before ↦ so_far.1 t before
+  ],
+)
+most_same count seats n greatest over (Some other) so_far is few = (
+  so_far.0,
+  record {
+    in_range = let low : other.0 < n = so_far.1.in_range in omega arith;
+    over = so_far.1.over;
+    greatest = λ t low. elim (last_or_before n t low) [
+      | inl same ↦ let most = so_far.0 in subst (λ k. excess (count k) (slice_index seats k) ≤ℤ excess (count other.0) (slice_index seats other.0)) (sym same) (omega (arith, ints, is, few, most))
+      | inr before ↦ so_far.1.greatest t before
+    ];
+    lowest = so_far.1.lowest;
+  },
+)
 
 -- the first sections have one of greatest excess, or all are within their seats
 pub find_most : (count : ℕ → ℕ) (seats : List ℕ) (n : ℕ) → ((s : ℕ) × IsMostOver n count seats s) ⊎ AreWithinSeats n count seats

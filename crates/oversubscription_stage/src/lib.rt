@@ -64,7 +64,9 @@ mod tests {
         let mut budgets = Vec::new(alloc);
         for budget in 100..104 {
             let places = [rated(0, 0, 50)];
-            menus.push(menu(&rt, alloc, &places, &[], &[0])).expect(&rt, "memory");
+            menus
+                .push(menu(&rt, alloc, &places, &[], &[0]))
+                .expect(&rt, "memory");
             budgets.push(Tokens(budget)).expect(&rt, "memory");
         }
         let crowd = Crowd {
@@ -89,11 +91,17 @@ mod tests {
         let alloc = rt.alloc();
         let mut menus = Vec::new(alloc);
         let ann = [rated(0, 0, 60), rated(1, 1, 30)];
-        menus.push(menu(&rt, alloc, &ann, &[], &[0, 0])).expect(&rt, "memory");
+        menus
+            .push(menu(&rt, alloc, &ann, &[], &[0, 0]))
+            .expect(&rt, "memory");
         let bob = [rated(0, 0, 50), rated(2, 2, 40)];
-        menus.push(menu(&rt, alloc, &bob, &[(0, 1, 10)], &[0, 0])).expect(&rt, "memory");
+        menus
+            .push(menu(&rt, alloc, &bob, &[(0, 1, 10)], &[0, 0]))
+            .expect(&rt, "memory");
         let cat = [rated(0, 0, 20), rated(3, 0, 45)];
-        menus.push(menu(&rt, alloc, &cat, &[], &[2, 1])).expect(&rt, "memory");
+        menus
+            .push(menu(&rt, alloc, &cat, &[], &[2, 1]))
+            .expect(&rt, "memory");
         let budgets = vec![in alloc; Tokens(104), Tokens(103), Tokens(102)].expect(&rt, "memory");
         let crowd = Crowd {
             menus,

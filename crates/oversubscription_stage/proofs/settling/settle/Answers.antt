@@ -8,7 +8,7 @@ pub loop-section-init : goal.loop-section-init
 loop-section-init g c = (
   refl,
   subst (λ crowd. IsUnderWay crowd c.args.seats.now c.args.prices.now c.in_ok-held.held 0) (sym c.take.ensures.crowd)
-  (under_way_begins (g.D.Demands.crowd c.args.demands.now) c.args.seats.now c.args.prices.now c.in_ok-held.held c.in_ok-held.ensures.known c.in_ok-held.ensures.prices c.in_ok-held.ensures.bundles),
+      (under_way_begins (g.D.Demands.crowd c.args.demands.now) c.args.seats.now c.args.prices.now c.in_ok-held.held c.in_ok-held.ensures.known c.in_ok-held.ensures.prices c.in_ok-held.ensures.bundles),
 )
 
 pub loop-section-smaller : goal.loop-section-smaller
