@@ -1,0 +1,28 @@
+-- What a published text takes of the catalogue and of the roll.
+use Rattle.std.specs.Prelude.{ℕ, ◌<◌, ◌≤◌, ◌^◌, List, [], All, length, slice_index_or}
+use Rattle.std.specs.List.{IsDistinct}
+use Rattle.std.specs.Str.{bytes_eq}
+use Rattle.market_units.specs.Names.{IsName}
+
+-- the greater of the two versions, and the names of the students and of the sections in file order
+pub record Tables : Type 0 where
+  pub version : ℕ
+  pub students : List (List ℕ)
+  pub sections : List (List ℕ)
+
+-- different names
+pub record AreNames (names : List (List ℕ)) : Type 0 where
+  pub each : All IsName names
+  pub distinct : IsDistinct bytes_eq names
+
+-- tables as a catalogue and a roll have them
+pub record AreTables (tables : Tables) : Type 0 where
+  pub version : tables.version < 2 ^ 64
+  pub students : AreNames tables.students
+  pub few_students : length tables.students ≤ 2000
+  pub sections : AreNames tables.sections
+  pub few_sections : length tables.sections ≤ 400
+
+-- the name of an ordinal
+abbrev pub name_at : List (List ℕ) → ℕ → List ℕ
+name_at names n = slice_index_or names n []

@@ -1,0 +1,70 @@
+-- The text of a publication.
+use Rattle.std.specs.Prelude.{ℕ, ◌≡◌, List, [], ◌∷◌, ◌++◌, codes, map, zip}
+use Rattle.std.specs.List.{join_with_byte}
+use Rattle.std.specs.Fmt.{decimal}
+use Rattle.market_certificate.specs.Lines.{joined, spaced}
+use Rattle.market_certificate.specs.Tables.{Tables, name_at}
+use Rattle.market_certificate.specs.Publications.{Publication, Proved, ProvedTurn, IsPublication}
+
+-- a bundle as it is written: the names of its sections with one comma between each two, in brackets
+abbrev pub bundle_text : Tables → List ℕ → List ℕ
+bundle_text tables bundle = 91 ∷ (join_with_byte 44 (map (name_at tables.sections) bundle) ++ 93 ∷ [])
+
+abbrev pub head_line : Tables → List ℕ
+head_line tables = spaced (codes "course-match" ∷ decimal tables.version ∷ [])
+
+abbrev pub order_line : List ℕ → List ℕ
+order_line order = spaced (codes "order" ∷ map decimal order)
+
+-- a budget or a price, behind its word and the name whose it is
+abbrev pub amount_line : List ℕ → List ℕ → ℕ → List ℕ
+amount_line word name amount = spaced (word ∷ name ∷ decimal amount ∷ [])
+
+abbrev pub error_line : ℕ → List ℕ
+error_line error = spaced (codes "error" ∷ decimal error ∷ [])
+
+abbrev pub bundle_line : Tables → List ℕ → Proved → List ℕ
+bundle_line tables name proved = spaced (codes "bundle" ∷ name ∷ bundle_text tables proved.bundle ∷ proved.tree ∷ [])
+
+abbrev pub turn_line : Tables → ProvedTurn → List ℕ
+turn_line tables turn = spaced (codes "turn" ∷ decimal turn.pass ∷ name_at tables.students turn.student ∷ bundle_text tables turn.bundle ∷ turn.tree ∷ [])
+
+abbrev pub final_line : Tables → List ℕ → List ℕ → List ℕ
+final_line tables name bundle = spaced (codes "final" ∷ name ∷ bundle_text tables bundle ∷ [])
+
+abbrev pub used_line : List ℕ → ℕ × ℕ → List ℕ
+used_line name seats = spaced (codes "used" ∷ name ∷ decimal seats.0 ∷ decimal seats.1 ∷ [])
+
+abbrev pub end_line : List ℕ
+end_line = codes "end"
+
+-- one line for each name and its value
+abbrev pub each_line : {V : Type 0} → (List ℕ → V → List ℕ) → List (List ℕ) → List V → List (List ℕ)
+each_line line names values = map (λ named. line named.0 named.1) (zip names values)
+
+-- the lines of a publication
+abbrev pub lines_of : Tables → Publication → List (List ℕ)
+lines_of tables p =
+    head_line tables
+    ∷ order_line p.order
+    ∷ (each_line (amount_line (codes "budget")) tables.students p.budgets
+    ++ (each_line (amount_line (codes "start")) tables.sections p.start
+    ++ (error_line p.error
+    ∷ (each_line (amount_line (codes "price")) tables.sections p.prices
+    ++ (each_line (bundle_line tables) tables.students p.bundles
+    ++ (map (turn_line tables) p.turns
+    ++ (each_line (final_line tables) tables.students p.allocation
+    ++ (each_line used_line tables.sections p.used
+    ++ end_line ∷ []))))))))
+
+-- the text of a publication
+abbrev pub text_of : Tables → Publication → List ℕ
+text_of tables p = joined (lines_of tables p)
+
+-- lines that are a publication's
+abbrev pub ArePublished : Tables → List (List ℕ) → Type 0
+ArePublished tables lines = (p : Publication) × IsPublication tables p × (lines ≡ lines_of tables p)
+
+-- a text that is a publication's
+abbrev pub IsPublished : Tables → List ℕ → Type 0
+IsPublished tables text = (p : Publication) × IsPublication tables p × (text ≡ text_of tables p)
