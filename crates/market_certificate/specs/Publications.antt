@@ -35,10 +35,10 @@ pub record IsSession (session : ℕ) : Type 0 where
   pub least : 1 ≤ session
   pub most : session ≤ 64
 
--- at most 8 sections of the catalogue, strictly ascending
-pub record IsBundleOf (tables : Tables) (bundle : List ℕ) : Type 0 where
-  pub bundle : IsBundle bundle
-  pub sections : All (λ section. section < length tables.sections) bundle
+-- at most 8 sections of a catalogue with these names, strictly ascending
+pub record IsBundleOf (sections : List (List ℕ)) (bundle : List ℕ) : Type 0 where
+  pub is_bundle : IsBundle bundle
+  pub of_catalog : All (λ section. section < length sections) bundle
 
 -- `*`, `n`, `b`, `c`, `m`, `+`, `-`, or a digit
 abbrev pub is_tree_byte : ℕ → Bool
@@ -49,15 +49,15 @@ pub record IsTree (tree : List ℕ) : Type 0 where
   pub some : 0 < length tree
   pub each : All (λ byte. IsTrue (is_tree_byte byte)) tree
 
-pub record IsProved (tables : Tables) (proved : Proved) : Type 0 where
-  pub bundle : IsBundleOf tables proved.bundle
+pub record IsProved (sections : List (List ℕ)) (proved : Proved) : Type 0 where
+  pub bundle : IsBundleOf sections proved.bundle
   pub tree : IsTree proved.tree
 
-pub record IsTurn (tables : Tables) (turn : ProvedTurn) : Type 0 where
+pub record IsTurn (students sections : List (List ℕ)) (turn : ProvedTurn) : Type 0 where
   pub least : 1 ≤ turn.pass
   pub most : turn.pass < 2 ^ 64
-  pub student : turn.student < length tables.students
-  pub bundle : IsBundleOf tables turn.bundle
+  pub student : turn.student < length students
+  pub bundle : IsBundleOf sections turn.bundle
   pub tree : IsTree turn.tree
 
 -- seats that are used, and seats
@@ -77,7 +77,7 @@ pub record IsPublication (tables : Tables) (p : Publication) : Type 0 where
   pub start : AreFor tables.sections (λ price. price ≤ 1000001) p.start
   pub error : p.error < 2 ^ 64
   pub prices : AreFor tables.sections (λ price. price ≤ 1000001) p.prices
-  pub bundles : AreFor tables.students (IsProved tables) p.bundles
-  pub turns : All (IsTurn tables) p.turns
-  pub allocation : AreFor tables.students (IsBundleOf tables) p.allocation
+  pub bundles : AreFor tables.students (IsProved tables.sections) p.bundles
+  pub turns : All (IsTurn tables.students tables.sections) p.turns
+  pub allocation : AreFor tables.students (IsBundleOf tables.sections) p.allocation
   pub used : AreFor tables.sections IsUsed p.used

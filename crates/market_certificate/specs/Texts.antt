@@ -2,13 +2,19 @@
 use Rattle.std.specs.Prelude.{ℕ, ◌≡◌, List, [], ◌∷◌, ◌++◌, codes, map, zip}
 use Rattle.std.specs.List.{join_with_byte}
 use Rattle.std.specs.Fmt.{decimal}
+use Rattle.market_certificate.specs.declared.amounts.Amount.{Amount}
+use Rattle.market_certificate.specs.declared.amounts.Amount.TheVariants as amount
 use Rattle.market_certificate.specs.Lines.{joined, spaced}
 use Rattle.market_certificate.specs.Tables.{Tables, name_at}
 use Rattle.market_certificate.specs.Publications.{Publication, Proved, ProvedTurn, IsPublication}
 
 -- a bundle as it is written: the names of its sections with one comma between each two, in brackets
-abbrev pub bundle_text : Tables → List ℕ → List ℕ
-bundle_text tables bundle = 91 ∷ (join_with_byte 44 (map (name_at tables.sections) bundle) ++ 93 ∷ [])
+abbrev pub bundle_text : List (List ℕ) → List ℕ → List ℕ
+bundle_text sections bundle = 91 ∷ (join_with_byte 44 (map (name_at sections) bundle) ++ 93 ∷ [])
+
+-- a bundle and its tree
+abbrev pub proved_text : List (List ℕ) → Proved → List ℕ
+proved_text sections proved = spaced (bundle_text sections proved.bundle ∷ proved.tree ∷ [])
 
 abbrev pub head_line : Tables → List ℕ
 head_line tables = spaced (codes "course-match" ∷ decimal tables.version ∷ [])
@@ -16,21 +22,32 @@ head_line tables = spaced (codes "course-match" ∷ decimal tables.version ∷ [
 abbrev pub order_line : List ℕ → List ℕ
 order_line order = spaced (codes "order" ∷ map decimal order)
 
--- a budget or a price, behind its word and the name whose it is
-abbrev pub amount_line : List ℕ → List ℕ → ℕ → List ℕ
-amount_line word name amount = spaced (word ∷ name ∷ decimal amount ∷ [])
+-- the word in front of an amount, and the greatest amount
+abbrev pub word_of : Amount → List ℕ
+word_of amount.Budget = codes "budget"
+word_of amount.Start = codes "start"
+word_of amount.Price = codes "price"
+
+abbrev pub most_of : Amount → ℕ
+most_of amount.Budget = 1000000
+most_of amount.Start = 1000001
+most_of amount.Price = 1000001
+
+-- an amount behind its word and the name whose it is
+abbrev pub amount_line : Amount → List ℕ → ℕ → List ℕ
+amount_line kind name tokens = spaced (word_of kind ∷ name ∷ decimal tokens ∷ [])
 
 abbrev pub error_line : ℕ → List ℕ
 error_line error = spaced (codes "error" ∷ decimal error ∷ [])
 
-abbrev pub bundle_line : Tables → List ℕ → Proved → List ℕ
-bundle_line tables name proved = spaced (codes "bundle" ∷ name ∷ bundle_text tables proved.bundle ∷ proved.tree ∷ [])
+abbrev pub bundle_line : List (List ℕ) → List ℕ → Proved → List ℕ
+bundle_line sections name proved = spaced (codes "bundle" ∷ name ∷ bundle_text sections proved.bundle ∷ proved.tree ∷ [])
 
-abbrev pub turn_line : Tables → ProvedTurn → List ℕ
-turn_line tables turn = spaced (codes "turn" ∷ decimal turn.pass ∷ name_at tables.students turn.student ∷ bundle_text tables turn.bundle ∷ turn.tree ∷ [])
+abbrev pub turn_line : List (List ℕ) → List (List ℕ) → ProvedTurn → List ℕ
+turn_line students sections turn = spaced (codes "turn" ∷ decimal turn.pass ∷ name_at students turn.student ∷ bundle_text sections turn.bundle ∷ turn.tree ∷ [])
 
-abbrev pub final_line : Tables → List ℕ → List ℕ → List ℕ
-final_line tables name bundle = spaced (codes "final" ∷ name ∷ bundle_text tables bundle ∷ [])
+abbrev pub final_line : List (List ℕ) → List ℕ → List ℕ → List ℕ
+final_line sections name bundle = spaced (codes "final" ∷ name ∷ bundle_text sections bundle ∷ [])
 
 abbrev pub used_line : List ℕ → ℕ × ℕ → List ℕ
 used_line name seats = spaced (codes "used" ∷ name ∷ decimal seats.0 ∷ decimal seats.1 ∷ [])
@@ -47,13 +64,13 @@ abbrev pub lines_of : Tables → Publication → List (List ℕ)
 lines_of tables p =
     head_line tables
     ∷ order_line p.order
-    ∷ (each_line (amount_line (codes "budget")) tables.students p.budgets
-    ++ (each_line (amount_line (codes "start")) tables.sections p.start
+    ∷ (each_line (amount_line amount.Budget) tables.students p.budgets
+    ++ (each_line (amount_line amount.Start) tables.sections p.start
     ++ (error_line p.error
-    ∷ (each_line (amount_line (codes "price")) tables.sections p.prices
-    ++ (each_line (bundle_line tables) tables.students p.bundles
-    ++ (map (turn_line tables) p.turns
-    ++ (each_line (final_line tables) tables.students p.allocation
+    ∷ (each_line (amount_line amount.Price) tables.sections p.prices
+    ++ (each_line (bundle_line tables.sections) tables.students p.bundles
+    ++ (map (turn_line tables.students tables.sections) p.turns
+    ++ (each_line (final_line tables.sections) tables.students p.allocation
     ++ (each_line used_line tables.sections p.used
     ++ end_line ∷ []))))))))
 

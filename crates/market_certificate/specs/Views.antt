@@ -1,9 +1,12 @@
--- What a publication is seen as.
+-- What publications and tables are seen as.
 use Rattle.std.specs.Prelude.{◌≡◌, map}
 use Rattle.bundle_rules.specs.Bundles.{sections_of}
 use Rattle.market_certificate.specs.declared.publication.Proved as proved
 use Rattle.market_certificate.specs.declared.publication.ProvedTurn as turn
 use Rattle.market_certificate.specs.declared.publication.Publication as publication
+use Rattle.market_certificate.specs.declared.tables.TableNames as tables
+use Rattle.market_units.specs.Name.{name_bytes}
+use Rattle.market_certificate.specs.Tables.{Tables}
 use Rattle.market_certificate.specs.Publications.{Proved, ProvedTurn, Publication}
 
 abbrev pub proved_of : proved.Proved → Proved
@@ -25,3 +28,6 @@ publication_of p = record {
   allocation = map sections_of p.allocation.items;
   used = p.used.items;
 }
+
+abbrev pub seen : tables.TableNames → Tables
+seen t = record { version = t.version; students = map name_bytes t.students.items; sections = map name_bytes t.sections.items }

@@ -42,3 +42,11 @@ impl From<AllocError> for TextRefusal {
         TextRefusal::NoMemory
     }
 }
+
+impl From<market_units::NoMemory> for TextRefusal {
+    ghost from_gives = { λ _ refusal. refusal ≡ NoMemory };
+
+    fn from(_: market_units::NoMemory) -> Self {
+        TextRefusal::NoMemory
+    }
+}

@@ -1,0 +1,96 @@
+-- Lines and fields in a row, one more of them.
+use Rattle.std.proofs.Common.{ℕ, zero, suc, ◌≡◌, ◌==◌, ◌+◌, ◌<◌, ◌≤◌, List, [], ◌∷◌, ◌++◌, cond, length, length-append, map, take, get_or, ap, sym, refl, subst, arith, ◌∙◌, append_assoc}
+use Rattle.std.specs.Prelude.{All, codes}
+use Rattle.std.specs.List.{flat_map, join_with_byte}
+use Rattle.std.specs.Fmt.{decimal}
+use Rattle.std.proofs.lemmas.Bool.{ne_eqb}
+use Rattle.std.proofs.lemmas.List.{append-nil, get_or-map, get_or_default, length-map, length-take-le, take_more}
+use Rattle.market_units.specs.declared.names.Name.{Name}
+use Rattle.market_units.specs.declared.units.SectionNo.{SectionNo}
+use Rattle.market_units.specs.Name.{name_bytes}
+use Rattle.market_certificate.specs.Lines.{joined}
+use Rattle.market_certificate.specs.Tables.{name_at}
+use Rattle.market_certificate.specs.Texts.{each_line}
+
+pub joined_append : (xs ys : List (List ℕ)) → joined (xs ++ ys) ≡ joined xs ++ joined ys
+joined_append [] ys = refl
+joined_append (x ∷ xs) ys = ap (λ text. x ++ 10 ∷ text) (joined_append xs ys) ∙ sym (append_assoc x (10 ∷ joined xs) (joined ys))
+
+join_last : (x : List ℕ) (parts : List (List ℕ)) (p : List ℕ) → join_with_byte 44 (x ∷ (parts ++ p ∷ [])) ≡ join_with_byte 44 (x ∷ parts) ++ 44 ∷ p
+join_last x [] p = refl
+join_last x (y ∷ parts) p = ap (λ w. x ++ 44 ∷ w) (join_last y parts p) ∙ sym (append_assoc x (44 ∷ join_with_byte 44 (y ∷ parts)) (44 ∷ p))
+
+-- one part more, behind a comma where there are parts
+join_more : (parts : List (List ℕ)) (p : List ℕ) (k : ℕ) → length parts ≡ k → join_with_byte 44 (parts ++ p ∷ []) ≡ join_with_byte 44 parts ++ (cond (k == 0) [] (44 ∷ []) ++ p)
+join_more [] p k e = subst (λ (n : ℕ). p ≡ cond (n == 0) [] (44 ∷ []) ++ p) e refl
+join_more (x ∷ parts) p k e =
+    join_last x parts p ∙ ap (λ b. join_with_byte 44 (x ∷ parts) ++ (cond b [] (44 ∷ []) ++ p)) (sym (ne_eqb k 0 (λ (z : k ≡ 0). omega (arith, e, z))))
+
+-- numbers behind a word
+pub spaced_numbers : (word : List ℕ) (ns : List ℕ) → join_with_byte 32 (word ∷ map decimal ns) ≡ word ++ flat_map (λ n. 32 ∷ decimal n) ns
+spaced_numbers word [] = sym (append-nil word)
+spaced_numbers word (n ∷ ns) = ap (λ w. word ++ 32 ∷ w) (spaced_numbers (decimal n) ns)
+
+pub each_last : {V : Type 0} (line : List ℕ → V → List ℕ) (names : List (List ℕ)) (values : List V) (name : List ℕ) (value : V) → length names ≡ length values
+    → each_line line (names ++ name ∷ []) (values ++ value ∷ []) ≡ each_line line names values ++ line name value ∷ []
+each_last line [] [] name value e = refl
+each_last line [] (v ∷ values) name value e = absurd (omega arith)
+each_last line (n ∷ names) [] name value e = absurd (omega arith)
+each_last line (n ∷ names) (v ∷ values) name value e = ap (λ ls. line n v ∷ ls) (each_last line names values name value (omega arith))
+
+-- one line more
+pub each_more : {V : Type 0} (line : List ℕ → V → List ℕ) (names : List (List ℕ)) (values : List V) (k : ℕ) (name : List ℕ) (value : V) → k < length names → k < length values → name ≡ get_or names k [] → value ≡ get_or values k value
+    → each_line line (take (k + 1) names) (take (k + 1) values) ≡ each_line line (take k names) (take k values) ++ line name value ∷ []
+each_more line names values k name value inside inside' e e' =
+    let long : length (take k names) ≡ length (take k values) = length-take-le k names (omega arith) ∙ sym (length-take-le k values (omega arith)) in
+    ap (λ ns. each_line line ns (take (k + 1) values)) (take_more names k [] inside)
+    ∙ ap (λ vs. each_line line (take k names ++ get_or names k [] ∷ []) vs) (take_more values k value inside')
+    ∙ each_last line (take k names) (take k values) (get_or names k []) (get_or values k value) long
+    ∙ ap (λ n. each_line line (take k names) (take k values) ++ line n (get_or values k value) ∷ []) (sym e)
+    ∙ ap (λ v. each_line line (take k names) (take k values) ++ line name v ∷ []) (sym e')
+
+-- a text with one line more
+pub text_more : (begun text new line : List ℕ) (lines more : List (List ℕ)) → more ≡ lines ++ line ∷ [] → text ≡ begun ++ joined lines → new ≡ text ++ (line ++ 10 ∷ []) → new ≡ begun ++ joined more
+text_more begun text new line lines more e so is =
+    is
+    ∙ ap (λ t. t ++ (line ++ 10 ∷ [])) so
+    ∙ append_assoc begun (joined lines) (line ++ 10 ∷ [])
+    ∙ ap (λ t. begun ++ t) (sym (ap joined e ∙ joined_append lines (line ∷ [])))
+
+-- a text with the line of one name more
+pub names_more : {V : Type 0} (line : List ℕ → V → List ℕ) (names : List Name) (values : List V) (k next : ℕ) (name : Name) (value : V) (begun text new : List ℕ)
+    → next ≡ k + 1 → k < length names → k < length values → ((d : Name) → name ≡ get_or names k d) → value ≡ get_or values k value
+    → text ≡ begun ++ joined (each_line line (take k (map name_bytes names)) (take k values)) → new ≡ text ++ (line (name_bytes name) value ++ 10 ∷ [])
+    → new ≡ begun ++ joined (each_line line (take next (map name_bytes names)) (take next values))
+names_more line names values k next name value begun text new e inside inside' named valued so is =
+    let here : name_bytes name ≡ get_or (map name_bytes names) k [] = ap name_bytes (named name) ∙ sym (get_or-map name_bytes names k name [] inside) in
+    subst (λ (n : ℕ). new ≡ begun ++ joined (each_line line (take n (map name_bytes names)) (take n values))) (sym e) (
+      text_more begun text new (line (name_bytes name) value) (each_line line (take k (map name_bytes names)) (take k values)) _
+      (each_more line (map name_bytes names) values k (name_bytes name) value (omega (arith, length-map names name_bytes)) inside' here valued)
+      so is
+    )
+
+-- the element of a list that was mapped
+pub value_at : {W V : Type 0} (f : W → V) (ws : List W) (k : ℕ) (w : W) → k < length ws → ((d : W) → w ≡ get_or ws k d) → f w ≡ get_or (map f ws) k (f w)
+value_at f ws k w inside is = ap f (is w) ∙ sym (get_or-map f ws k w (f w) inside)
+
+map_last : {A B : Type 0} (f : A → B) (xs : List A) (x : A) → map f (xs ++ x ∷ []) ≡ map f xs ++ f x ∷ []
+map_last f [] x = refl
+map_last f (y ∷ xs) x = ap (λ l. f y ∷ l) (map_last f xs x)
+
+-- one name more in a bundle
+pub bundle_more : (names : List (List ℕ)) (sections : List SectionNo) (bundle : List ℕ) (k : ℕ) (section : SectionNo) (begun text comma new : List ℕ) → map (λ (s : SectionNo). s.0) sections ≡ bundle → k < length sections → section ≡ get_or sections k section
+    → text ≡ begun ++ join_with_byte 44 (map (name_at names) (take k bundle)) → comma ≡ text ++ cond (k == 0) [] (44 ∷ []) → new ≡ comma ++ name_at names section.0
+    → new ≡ begun ++ join_with_byte 44 (map (name_at names) (take (k + 1) bundle))
+bundle_more names sections bundle k section begun text comma new e inside is so parted named =
+    let within : k < length bundle = omega (arith, ap length e, length-map sections (λ (s : SectionNo). s.0)) in
+    let here : get_or bundle k 0 ≡ section.0 = ap (λ b. get_or b k 0) (sym e) ∙ get_or-map (λ (s : SectionNo). s.0) sections k section 0 inside ∙ ap (λ (s : SectionNo). s.0) (sym is) in
+    let front = map (name_at names) (take k bundle) in
+    let long : length front ≡ k = length-map (take k bundle) (name_at names) ∙ length-take-le k bundle (omega arith) in
+    let last : map (name_at names) (take (k + 1) bundle) ≡ front ++ name_at names section.0 ∷ [] =
+    ap (map (name_at names)) (take_more bundle k 0 within) ∙ ap (λ n. map (name_at names) (take k bundle ++ n ∷ [])) here ∙ map_last (name_at names) (take k bundle) section.0 in
+    named
+    ∙ ap (λ t. t ++ name_at names section.0) (parted ∙ ap (λ t. t ++ cond (k == 0) [] (44 ∷ [])) so)
+    ∙ ap (λ t. t ++ name_at names section.0) (append_assoc begun (join_with_byte 44 front) (cond (k == 0) [] (44 ∷ [])))
+    ∙ append_assoc begun (join_with_byte 44 front ++ cond (k == 0) [] (44 ∷ [])) (name_at names section.0)
+    ∙ ap (λ t. begun ++ t) (append_assoc (join_with_byte 44 front) (cond (k == 0) [] (44 ∷ [])) (name_at names section.0) ∙ sym (join_more front (name_at names section.0) k long) ∙ ap (join_with_byte 44) (sym last))
