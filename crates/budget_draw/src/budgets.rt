@@ -3,26 +3,27 @@ ghost use Rattle.std.specs.Prelude.{◌≡◌, ◌+◌, ◌*◌, ◌<◌, ◌≤
 ghost use Rattle.budget_draw.specs.Budgets.{amounts, budgets_of, raised_by};
 
 use crate::ranks::rank_among;
-use drawn_words::words;
+use seed_words::words;
 use market_units::{NoMemory, StudentNo, Tokens};
 use std::alloc::Global;
 use student_roll::Roll;
 
-// The budget of a base and a rank.
-fn budget_at(base: u32, spread: u8, rank: usize) -> Tokens
-    requires base { base ≤ 900000 }
+// The budget of a base, what is carried over, and a rank.
+fn budget_at(base: u32, carry: u32, spread: u8, rank: usize) -> Tokens
+    requires tokens { base + carry ≤ 900000 }
     requires spread { spread ≤ 49 }
     requires rank { rank < 2000 }
-    ensures budget { result.0 ≡ base + spread * rank }
+    ensures budget { result.0 ≡ base + carry + spread * rank }
     ensures range { result.0 ≤ 997951 }
 {
-    Tokens(base + u32::from(spread) * rank as u32)
+    Tokens(base + carry + u32::from(spread) * rank as u32)
 }
 
-/// The budget of each student in file order: the base, and the spread times the rank that the seed draws.
+/// The budget of each student in file order: the base, the tokens that are carried over, and the spread times the rank
+/// that the seed draws.
 pub fn draw(alloc: Global, roll: &Roll, seed: u64, spread: u8) -> Result<Vec<Tokens>, NoMemory>
     requires { spread ≤ 49 }
-    ensures budgets { IfOk result (λ drawn. amounts drawn.items ≡ budgets_of roll.now seed spread) }
+    ensures budgets { IfOk result (λ drawn. amounts drawn.items ≡ budgets_of roll.now.students seed spread) }
     ensures range { IfOk result (λ drawn. All (λ budget. budget.0 ≤ 997951) drawn.items) }
 {
     let students = roll.len();
@@ -31,7 +32,8 @@ pub fn draw(alloc: Global, roll: &Roll, seed: u64, spread: u8) -> Result<Vec<Tok
     for student in 0..students {
         let rank = rank_among(&words, usize::from(student));
         let base = roll.base(StudentNo(student));
-        drawn.push(budget_at(base, spread, rank))?;
+        let carry = roll.carry(StudentNo(student));
+        drawn.push(budget_at(base, carry, spread, rank))?;
     }
     Ok(drawn)
 }

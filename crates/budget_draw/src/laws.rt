@@ -1,5 +1,5 @@
 //! What holds of ranks and orders: each call here does nothing, and its contract is a law.
-ghost use Rattle.budget_draw.specs.Laws.{AfterOrderIsOne, RanksAreInOrder, RanksArePlaces};
+ghost use Rattle.budget_draw.specs.Laws.{AfterOrderIsOne, OneAfterOrder, RanksAreInOrder, RanksArePlaces};
 
 /// A rank is a place among the students.
 pub fn ranks_are_places()
@@ -14,4 +14,9 @@ pub fn ranks_are_in_order()
 /// The aftermarket's order has every student once, and none before one that goes before it.
 pub fn after_order_is_one()
     ensures { AfterOrderIsOne }
+{}
+
+/// No two lists are orders of the aftermarket for the same budgets.
+pub fn one_after_order()
+    ensures { OneAfterOrder }
 {}

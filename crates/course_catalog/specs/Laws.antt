@@ -1,5 +1,5 @@
 -- What holds of the definitions.
-use Rattle.std.specs.Prelude.{ℕ, ◌≡◌, ◌<◌, ◌↔◌, IsTrue, List, length}
+use Rattle.std.specs.Prelude.{ℕ, ◌≡◌, ◌<◌, ◌↔◌, IsTrue, false, List, length}
 use Rattle.course_catalog.specs.Sections.{Section, SectionsClash, section_at, sections_clash}
 use Rattle.course_catalog.specs.Courses.{course_number}
 
@@ -11,3 +11,11 @@ ClashTestIsRelation = (sections : List Section) (a b : ℕ) → IsTrue (sections
 abbrev pub CourseNumbersTellCourses : Type 0
 CourseNumbersTellCourses = (sections : List Section) (a b : ℕ) → a < length sections → b < length sections
     → (course_number sections (section_at sections a).course ≡ course_number sections (section_at sections b).course) ↔ ((section_at sections a).course ≡ (section_at sections b).course)
+
+-- two sections clash whichever is named first, and no section clashes with itself
+pub record AreMutual (sections : List Section) (a b : ℕ) : Type 0 where
+  pub other_way : sections_clash sections a b ≡ sections_clash sections b a
+  pub not_itself : sections_clash sections a a ≡ false
+
+abbrev pub ClashesAreMutual : Type 0
+ClashesAreMutual = (sections : List Section) (a b : ℕ) → AreMutual sections a b

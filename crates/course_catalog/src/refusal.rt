@@ -5,10 +5,10 @@ use thiserror::Error;
 /// columns are counted from 1; the header is row 1.
 #[derive(Clone, Copy, PartialEq, Eq, Debug, Error)]
 pub enum CatalogRefusal {
-    /// The first record is not the header, or there is none.
+    /// The first record is no header of a catalogue, or there is none.
     #[error("header")]
     Header,
-    /// The record has not five fields.
+    /// The record has another number of fields than the header.
     #[error("row {row}: fields")]
     Fields { row: u32 },
     /// The column is no name.
@@ -20,9 +20,12 @@ pub enum CatalogRefusal {
     /// The column is no number in its range.
     #[error("row {row}: number in column {column}")]
     Number { row: u32, column: u8 },
-    /// The last column spells no meetings.
+    /// The fifth column spells no meetings.
     #[error("row {row}: meetings")]
     Meetings { row: u32 },
+    /// The sixth column spells no parts of the term.
+    #[error("row {row}: parts")]
+    Parts { row: u32 },
     /// There are more than 400 sections.
     #[error("too many rows")]
     TooMany,

@@ -6,7 +6,7 @@ ghost use Rattle.course_catalog.specs.Sections.{Section};
 
 use market_units::Name;
 use std::marker::Model;
-use timetable_rules::Meetings;
+use timetable_rules::{Meetings, Parts};
 
 /// A section as it is kept. Contracts see it as what its record means.
 #[derive(Drop)]
@@ -16,6 +16,7 @@ pub(crate) struct Row {
     pub seats: u16,
     pub credits: u16,
     pub meetings: Meetings,
+    pub parts: Parts,
 }
 
 impl Model for Row {
@@ -31,5 +32,6 @@ impl Model for Row {
       seats = row.seats;
       credits = row.credits;
       meetings = meetings_of row.meetings;
+      parts = row.parts;
     } };
 }

@@ -26,16 +26,16 @@ refusal_of (fault.Fields row) = refusal.Fields row
 refusal_of (fault.Name row) = refusal.Name row 1
 refusal_of (fault.Repeated row earlier) = refusal.Repeated row earlier
 
--- the price of this row: column 2 is a number up to 1,000,001
-abbrev pub priced_of : ℕ → List (List ℕ) → Result Priced PriceRefusal
-priced_of row fields = do
+-- the price of this row, in the one version of a sheet: column 2 is a number up to 1,000,001
+abbrev pub priced_of : ℕ → ℕ → List (List ℕ) → Result Priced PriceRefusal
+priced_of version row fields = do
   price ← number_or (refusal.Number row 2) 1000001 (field_in 2 fields)
   Ok (record { section = first_field fields; price = price })
 
 -- the rules of a price sheet, where the catalogue has these names: any number of rows, each of a section of the catalogue
 abbrev pub price_rules : List (List ℕ) → Rules Priced PriceRefusal
 price_rules names = record {
-  header = codes "section" ∷ codes "price" ∷ [];
+  headers = (codes "section" ∷ codes "price" ∷ []) ∷ [];
   most = None;
   knows = λ name. is_some (position (bytes_eq name) names);
   refusal = refusal_of;
@@ -50,5 +50,5 @@ price_in (row ∷ more) name = if bytes_eq name row.section then row.price else 
 -- the prices of a catalogue's sections in their order that the bytes of a sheet stand for, or the first refusal
 abbrev pub prices_of : List Section → List ℕ → Result (List ℕ) PriceRefusal
 prices_of sections bytes = do
-  rows ← reading (price_rules (names_of sections)) (records_of bytes)
-  Ok (map (price_in rows) (names_of sections))
+  read ← reading (price_rules (names_of sections)) (records_of bytes)
+  Ok (map (price_in read.rows) (names_of sections))

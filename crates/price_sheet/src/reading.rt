@@ -29,7 +29,7 @@ fn price_of(sheet: &Rows<Entry>, name: &Name) -> Tokens
 fn in_order(alloc: Global, catalog: &Catalog, sheet: &Rows<Entry>) -> Result<Vec<Tokens>, NoMemory>
     requires names { bytes_of sheet.now.names.keys ≡ map (λ row. row.section) sheet.now.rows.items }
     requires each { All (λ row. row.price ≤ 1000001) sheet.now.rows.items }
-    ensures prices { IfOk result (λ prices. map (λ price. price.0) prices.items ≡ map (price_in sheet.now.rows.items) (names_of catalog.now)) }
+    ensures prices { IfOk result (λ prices. map (λ price. price.0) prices.items ≡ map (price_in sheet.now.rows.items) (names_of catalog.now.sections)) }
     ensures range { IfOk result (λ prices. All (λ price. price.0 ≤ 1000001) prices.items) }
 {
     let mut prices = Vec::with_capacity(alloc, usize::from(catalog.len()))?;
@@ -48,9 +48,9 @@ pub fn read_prices(
     bytes: &[u8],
 ) -> Result<Vec<Tokens>, PriceRefusal>
     requires { length bytes.now < 2 ^ 32 - 1 }
-    ensures prices { IfOk result (λ prices. prices_of catalog.now bytes.now ≡ Ok (map (λ price. price.0) prices.items)) }
+    ensures prices { IfOk result (λ prices. prices_of catalog.now.sections bytes.now ≡ Ok (map (λ price. price.0) prices.items)) }
     ensures range { IfOk result (λ prices. All (λ price. price.0 ≤ 1000001) prices.items) }
-    ensures refused { IfErr result (λ refusal. refusal ≢ PriceRefusal.NoMemory → prices_of catalog.now bytes.now ≡ Err refusal) }
+    ensures refused { IfErr result (λ refusal. refusal ≢ PriceRefusal.NoMemory → prices_of catalog.now.sections bytes.now ≡ Err refusal) }
 {
     let sheet = match read_rows(alloc, &PriceRules { catalog }, bytes) {
         Ok(sheet) => sheet,

@@ -20,14 +20,14 @@ impl Table for PriceRules<'_> {
 
     type Refusal = PriceRefusal;
 
-    ghost rules = { λ table. price_rules (names_of table.catalog.now) };
+    ghost rules = { λ table. price_rules (names_of table.catalog.now.sections) };
 
     ghost name_of = { λ row. row.section };
 
-    ghost is_row = { λ row. row.price ≤ 1000001 };
+    ghost is_row = { λ _ row. row.price ≤ 1000001 };
 
-    fn header(&self) -> &[&[u8]] {
-        &[b"section", b"price"]
+    fn headers(&self) -> &[&[&[u8]]] {
+        &[&[b"section", b"price"]]
     }
 
     fn most(&self) -> Option<(usize, PriceRefusal)> {
@@ -47,7 +47,13 @@ impl Table for PriceRules<'_> {
         }
     }
 
-    fn read_row(&self, row: u32, name: Name, fields: &ByteRecord) -> Result<Entry, PriceRefusal> {
+    fn read_row(
+        &self,
+        _version: usize,
+        row: u32,
+        name: Name,
+        fields: &ByteRecord,
+    ) -> Result<Entry, PriceRefusal> {
         let price = number_in(fields, 2, u64::from(MAX_PRICE)).ok_or(PriceRefusal::Number {
             row,
             column: 2,

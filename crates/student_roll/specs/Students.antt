@@ -1,33 +1,50 @@
--- The students of a roll.
-use Rattle.std.specs.Prelude.{ℕ, ◌≤◌, List, All, length, map}
+-- The students of a roll, and the roll.
+use Rattle.std.specs.Prelude.{ℕ, ◌≡◌, ◌+◌, ◌≤◌, List, [], All, length, map}
 use Rattle.std.specs.List.{IsDistinct}
 use Rattle.std.specs.Str.{bytes_eq}
 use Rattle.market_units.specs.Names.{IsName}
 
--- a student: the name, the base of the budget in tokens, and the caps on credits and courses
+-- a student: the name, the base of the budget and what is carried over, both in tokens, and the caps on credits and courses
 pub record Student : Type 0 where
   pub name : List ℕ
   pub base : ℕ
   pub credits : ℕ
   pub courses : ℕ
+  pub carry : ℕ
 
 -- the ranges of a student
 pub record IsStudent (student : Student) : Type 0 where
   pub name : IsName student.name
-  pub base : student.base ≤ 900000
+  pub tokens : student.base + student.carry ≤ 900000
   pub credits : student.credits ≤ 800
   pub courses : student.courses ≤ 8
+
+-- a student that a table of this version may list: in version 1 nothing is carried over
+pub record IsListed (version : ℕ) (student : Student) : Type 0 where
+  pub is_student : IsStudent student
+  pub fresh : version ≡ 1 → student.carry ≡ 0
+
+-- the student that a number beyond the last one stands for: of no name, with neither tokens nor caps
+abbrev pub no_student : Student
+no_student = record { name = []; base = 0; credits = 0; courses = 0; carry = 0 }
 
 -- the names of students, in order
 abbrev pub names_of : List Student → List (List ℕ)
 names_of students = map (λ student. student.name) students
 
--- the student of this name and these caps, with base 0
+-- the student of this name and these caps, with base 0 and nothing carried over
 abbrev pub single_student : List ℕ → ℕ → ℕ → Student
-single_student name credits courses = record { name = name; base = 0; credits = credits; courses = courses }
+single_student name credits courses = record { name = name; base = 0; credits = credits; courses = courses; carry = 0 }
 
--- at most 2,000 students, each in its ranges, no two of one name
-pub record IsRoll (students : List Student) : Type 0 where
-  pub few : length students ≤ 2000
-  pub each : All IsStudent students
-  pub distinct : IsDistinct bytes_eq (names_of students)
+-- a roll: the version of its table, and its students in the order of the table
+pub record RollData : Type 0 where
+  pub version : ℕ
+  pub students : List Student
+
+-- of version 1 or 2; at most 2,000 students, each in its ranges, no two of one name; in version 1 nothing is carried over
+pub record IsRoll (roll : RollData) : Type 0 where
+  pub some_version : 1 ≤ roll.version
+  pub known_version : roll.version ≤ 2
+  pub few : length roll.students ≤ 2000
+  pub each : All (IsListed roll.version) roll.students
+  pub distinct : IsDistinct bytes_eq (names_of roll.students)

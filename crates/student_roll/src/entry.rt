@@ -6,13 +6,14 @@ ghost use Rattle.student_roll.specs.Students.{IsStudent};
 use market_units::Name;
 use std::marker::Model;
 
-/// A student, seen as the name, the base and the caps.
+/// A student, seen as the name, the base, the caps and what is carried over.
 #[derive(Drop)]
 pub(crate) struct Entry {
     name: Name,
     base: u32,
     credits: u16,
     courses: u8,
+    carry: u32,
 }
 
 impl Model for Entry {
@@ -22,18 +23,19 @@ impl Model for Entry {
 
     ghost Value = { Student };
 
-    ghost view = { λ entry. record { name = name_bytes entry.name; base = entry.base; credits = entry.credits; courses = entry.courses } };
+    ghost view = { λ entry. record { name = name_bytes entry.name; base = entry.base; credits = entry.credits; courses = entry.courses; carry = entry.carry } };
 }
 
 impl Entry {
-    pub fn new(name: Name, base: u32, credits: u16, courses: u8) -> Entry
-        ensures { result ≡ record { name = name_bytes name; base = base; credits = credits; courses = courses } }
+    pub fn new(name: Name, base: u32, credits: u16, courses: u8, carry: u32) -> Entry
+        ensures { result ≡ record { name = name_bytes name; base = base; credits = credits; courses = courses; carry = carry } }
     {
         Entry {
             name,
             base,
             credits,
             courses,
+            carry,
         }
     }
 
@@ -59,5 +61,11 @@ impl Entry {
         ensures { result ≡ self.now.courses }
     {
         self.courses
+    }
+
+    pub fn carry(&self) -> u32
+        ensures { result ≡ self.now.carry }
+    {
+        self.carry
     }
 }

@@ -6,7 +6,7 @@ use thiserror::Error;
 /// record, the header's being 1.
 #[derive(Clone, Copy, Debug, PartialEq, Eq, Error)]
 pub enum RollRefusal {
-    /// The first record is not the header, or there is none.
+    /// The first record is no header of a roll, or there is none.
     #[error("row 1: header")]
     Header,
     /// The record of this row has another number of fields than the header.

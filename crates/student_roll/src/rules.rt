@@ -1,10 +1,10 @@
 // The columns of a roll.
-ghost use Rattle.std.specs.Prelude.{◌≡◌, ◌≤◌};
+ghost use Rattle.std.specs.Prelude.{◌≡◌, ◌+◌, ◌≤◌, IfOk};
 ghost use Rattle.csv.specs.Records.{fields_of};
 ghost use Rattle.table_records.specs.Columns.{number_or};
 ghost use Rattle.table_records.specs.Records.{field_in};
-ghost use Rattle.student_roll.specs.Rolls.{roll_rules};
-ghost use Rattle.student_roll.specs.Students.{IsStudent};
+ghost use Rattle.student_roll.specs.Rolls.{carry_in, roll_rules};
+ghost use Rattle.student_roll.specs.Students.{IsListed};
 
 use crate::RollRefusal;
 use crate::entry::Entry;
@@ -24,10 +24,13 @@ impl Table for RollRules {
 
     ghost name_of = { λ student. student.name };
 
-    ghost is_row = { IsStudent };
+    ghost is_row = { IsListed };
 
-    fn header(&self) -> &[&[u8]] {
-        &[b"student", b"budget", b"credits", b"courses"]
+    fn headers(&self) -> &[&[&[u8]]] {
+        &[
+            &[b"student", b"budget", b"credits", b"courses"],
+            &[b"student", b"budget", b"credits", b"courses", b"carry"],
+        ]
     }
 
     fn most(&self) -> Option<(usize, RollRefusal)> {
@@ -47,11 +50,24 @@ impl Table for RollRules {
         }
     }
 
-    fn read_row(&self, row: u32, name: Name, fields: &ByteRecord) -> Result<Entry, RollRefusal> {
+    fn read_row(
+        &self,
+        version: usize,
+        row: u32,
+        name: Name,
+        fields: &ByteRecord,
+    ) -> Result<Entry, RollRefusal> {
         let base = number(fields, row, 2, u64::from(MAX_BASE))?;
         let credits = number(fields, row, 3, u64::from(MAX_CREDITS))?;
         let courses = number(fields, row, 4, u64::from(MAX_COURSES))?;
-        Ok(Entry::new(name, base as u32, credits as u16, courses as u8))
+        let carry = carry_in(version, row, base as u32, fields)?;
+        Ok(Entry::new(
+            name,
+            base as u32,
+            credits as u16,
+            courses as u8,
+            carry,
+        ))
     }
 }
 
@@ -61,4 +77,18 @@ fn number(fields: &ByteRecord, row: u32, column: u8, max: u64) -> Result<u64, Ro
     ensures { result ≡ number_or (RollRefusal.Number row column) max (field_in column (fields_of fields.now)) }
 {
     number_in(fields, usize::from(column), max).ok_or(RollRefusal::Number { row, column })
+}
+
+// The tokens that a row's student carries over, in a table of this version: with the base at most `MAX_BASE`.
+fn carry_in(version: usize, row: u32, base: u32, fields: &ByteRecord) -> Result<u32, RollRefusal>
+    requires { base ≤ 900000 }
+    ensures value { result ≡ carry_in version row base (fields_of fields.now) }
+    ensures fresh { IfOk result (λ carry. version ≡ 1 → carry ≡ 0) }
+    ensures tokens { IfOk result (λ carry. base + carry ≤ 900000) }
+{
+    if version == 1 {
+        return Ok(0);
+    }
+    let carry = number(fields, row, 5, u64::from(MAX_BASE - base))?;
+    Ok(carry as u32)
 }

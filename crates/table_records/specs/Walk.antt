@@ -19,13 +19,14 @@ pub record AddsName (old new : List Name) (name : List ℕ) (place : Option ℕ)
   pub distinct : IsDistinct bytes_eq (bytes_of new)
 
 -- a record is a row after those of old, and new has it last
-pub record TakesRow {R E : Type 0} (rules : Rules R E) (name_of : R → List ℕ) (is_row : R → Type 0) (fields : List (List ℕ)) (old new : Rows R) : Type 0 where
+pub record TakesRow {R E : Type 0} (rules : Rules R E) (name_of : R → List ℕ) (is_row : ℕ → R → Type 0) (fields : List (List ℕ)) (old new : Rows R) : Type 0 where
   pub row : R
-  pub answer : answer_to rules (bytes_of old.names.keys) fields ≡ Ok row
+  pub answer : answer_to rules old.version (bytes_of old.names.keys) fields ≡ Ok row
+  pub version : new.version ≡ old.version
   pub rows : new.rows.items ≡ old.rows.items ++ row ∷ []
   pub names : bytes_of new.names.keys ≡ bytes_of old.names.keys ++ first_field fields ∷ []
   pub named : name_of row ≡ first_field fields
-  pub kept : is_row row
+  pub kept : is_row old.version row
   pub distinct : IsDistinct bytes_eq (bytes_of new.names.keys)
 
 -- an iterator over the records of a text has given these, in their order

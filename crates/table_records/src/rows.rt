@@ -3,7 +3,7 @@ ghost use Rattle.std.specs.Prelude.{◌≡◌, ◌+◌, ◌<◌, ◌^◌, length
 ghost use Rattle.std.specs.Str.{bytes_eq};
 ghost use Rattle.csv.specs.Records.{fields_of};
 ghost use Rattle.market_units.specs.Name.{name_bytes};
-ghost use Rattle.table_records.specs.Reading.{Tells, answer_to, bytes_of, refusal_if_full};
+ghost use Rattle.table_records.specs.Reading.{IsVersion, Tells, answer_to, bytes_of, header_of, refusal_if_full};
 ghost use Rattle.table_records.specs.Walk.{AddsName, TakesRow};
 
 use crate::columns::name_in;
@@ -13,9 +13,10 @@ use indexmap::IndexSet;
 use market_units::{Name, NoMemory};
 use std::alloc::Global;
 
-/// The rows of a table, in the order of their records, and their names in the same order.
+/// The version of a table, its rows in the order of their records, and their names in the same order.
 #[derive(Drop)]
 pub struct Rows<R> {
+    pub version: usize,
     pub names: IndexSet<Name>,
     pub rows: Vec<R>,
 }
@@ -39,6 +40,14 @@ fn refusal_if_full<T: Table>(table: &T, rows: usize) -> Option<T::Refusal>
     }
 }
 
+// The number of fields of the header of a version.
+fn width_of<T: Table>(table: &T, version: usize) -> usize
+    requires { IsVersion (T.rules table.now).headers version }
+    ensures { result ≡ length (header_of (T.rules table.now).headers version) }
+{
+    table.headers()[version - 1].len()
+}
+
 // Adds a name, unless it is there: then its place.
 fn add_name(names: &mut IndexSet<Name>, name: Name) -> Result<Option<usize>, NoMemory>
     ensures { IfOk result (AddsName names.old.keys names.new.keys (name_bytes name)) }
@@ -56,15 +65,16 @@ pub(crate) fn take_record<T: Table>(
     fields: &ByteRecord,
     rows: &mut Rows<T::Row>,
 ) -> Result<(), End<T::Refusal>>
-    requires { length rows.old.names.keys + 2 < 2 ^ 32 }
+    requires version { IsVersion (T.rules table.now).headers rows.old.version }
+    requires count { length rows.old.names.keys + 2 < 2 ^ 32 }
     ensures taken { OnOk result (TakesRow (T.rules table.now) T.name_of T.is_row (fields_of fields.now) rows.old rows.new) }
-    ensures refused { IfErr result (Tells (answer_to (T.rules table.now) (bytes_of rows.old.names.keys) (fields_of fields.now))) }
+    ensures refused { IfErr result (Tells (answer_to (T.rules table.now) rows.old.version (bytes_of rows.old.names.keys) (fields_of fields.now))) }
 {
     if let Some(refusal) = refusal_if_full(table, rows.names.len()) {
         return Err(End::Refused(refusal));
     }
     let row = rows.names.len() as u32 + 2;
-    if fields.len() != table.header().len() {
+    if fields.len() != width_of(table, rows.version) {
         return Err(End::Refused(table.refuse(Fault::Fields { row })));
     }
     let Some(name) = name_in(fields, 1) else {
@@ -81,7 +91,7 @@ pub(crate) fn take_record<T: Table>(
         }
         Err(NoMemory) => return Err(End::NoMemory),
     }
-    let read = match table.read_row(row, name, fields) {
+    let read = match table.read_row(rows.version, row, name, fields) {
         Ok(read) => read,
         Err(refusal) => return Err(End::Refused(refusal)),
     };

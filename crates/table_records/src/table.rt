@@ -2,14 +2,14 @@
 ghost use Rattle.std.specs.Prelude.{◌≡◌, ℕ, List, map, IfOk};
 ghost use Rattle.csv.specs.Records.{fields_of};
 ghost use Rattle.market_units.specs.Name.{name_bytes};
-ghost use Rattle.table_records.specs.Reading.{Rules};
+ghost use Rattle.table_records.specs.Reading.{IsVersion, Rules};
 ghost use Rattle.table_records.specs.Records.{first_field};
 
 use crate::Fault;
 use csv::ByteRecord;
 use market_units::Name;
 
-/// A kind of table: what its records may be, and what they mean.
+/// A kind of table: what the records of its versions may be, and what they mean.
 pub trait Table {
     /// A row. Contracts see it as what its record means.
     type Row: Drop;
@@ -23,12 +23,12 @@ pub trait Table {
     /// The name of a row.
     ghost name_of: { Self.Row → List ℕ };
 
-    /// What holds of every row that is read.
-    ghost is_row: { Self.Row → Type 0 };
+    /// What holds of every row that is read from a table of this version.
+    ghost is_row: { ℕ → Self.Row → Type 0 };
 
-    /// The fields of the first record.
-    fn header(&self) -> &[&[u8]]
-        ensures { map (λ f. f.now) result.now ≡ (rules self.now).header };
+    /// The headers of the table's versions, from version 1 on: the fields that the first record may be.
+    fn headers(&self) -> &[&[&[u8]]]
+        ensures { map (λ header. map (λ f. f.now) header.now) result.now ≡ (rules self.now).headers };
 
     /// The greatest number of rows, with the refusal of one more; `None` where there is no such number.
     fn most(&self) -> Option<(usize, Self::Refusal)>
@@ -42,15 +42,18 @@ pub trait Table {
     fn refuse(&self, fault: Fault) -> Self::Refusal
         ensures { result ≡ (rules self.now).refusal fault };
 
-    /// The row of this number and name that the record is, or the refusal of its first bad column after the first.
+    /// The row of this number and name that the record is in a table of this version, or the refusal of its first bad
+    /// column after the first.
     fn read_row(
         &self,
+        version: usize,
         row: u32,
         name: Name,
         fields: &ByteRecord,
     ) -> Result<Self::Row, Self::Refusal>
-        requires { name_bytes name ≡ first_field (fields_of fields.now) }
-        ensures row { result ≡ (rules self.now).row row (fields_of fields.now) }
+        requires version { IsVersion (rules self.now).headers version }
+        requires name { name_bytes name ≡ first_field (fields_of fields.now) }
+        ensures row { result ≡ (rules self.now).row version row (fields_of fields.now) }
         ensures name { IfOk result (λ read. name_of read ≡ name_bytes name) }
-        ensures kept { IfOk result is_row };
+        ensures kept { IfOk result (is_row version) };
 }

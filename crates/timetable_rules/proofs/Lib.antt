@@ -1,4 +1,5 @@
 pub mod Guesses
+pub mod PartsText
 pub mod Pieces
 pub mod Relations
 pub mod SectionRows

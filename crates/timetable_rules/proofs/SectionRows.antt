@@ -4,6 +4,7 @@ use Rattle.std.specs.Ordering.{nat_cmp}
 use Rattle.std.specs.Cmp.{nat_cmp_total, unsigned_tied}
 use Rattle.std.specs.FinSet as set
 use Rattle.timetable_rules.specs.declared.meeting.Meeting.{Meeting}
+use Rattle.timetable_rules.specs.declared.parts.Parts.{Parts}
 use Rattle.timetable_rules.specs.Clash.{IsClashTable, clashes, tells}
 use Rattle.timetable_rules.proofs.Relations.{clashes-relation}
 use Rattle.std.specs.FinSet.{contains-empty, contains-insert}
@@ -35,14 +36,14 @@ without_next row test n s fails so = elim (cases_order s n) [
 ]
 
 -- rows that tell the clashes of each section are the table of clashes
-pub clash_table : (rows : List (set.FinSet nat_cmp)) (meetings : List (List Meeting)) (courses : List ℕ) (n : ℕ) → length rows ≡ n → length courses ≤ n → n ≤ length courses
-    → ((a b : ℕ) → a < n → tells rows a b ≡ (nat_lt b (length courses) && clashes meetings courses a b))
-    → IsClashTable meetings courses rows
-clash_table rows meetings courses n whole up down told =
-    let test : (a b : ℕ) → a < length courses → b < length courses → tells rows a b ≡ clashes meetings courses a b =
-    λ a b first second. told a b (omega arith) ∙ ap (λ (within : Bool). within && clashes meetings courses a b) (lt-ltb b (length courses) second) in
+pub clash_table : (rows : List (set.FinSet nat_cmp)) (meetings : List (List Meeting)) (courses : List ℕ) (parts : List Parts) (n : ℕ) → length rows ≡ n → length courses ≤ n → n ≤ length courses
+    → ((a b : ℕ) → a < n → tells rows a b ≡ (nat_lt b (length courses) && clashes meetings courses parts a b))
+    → IsClashTable meetings courses parts rows
+clash_table rows meetings courses parts n whole up down told =
+    let test : (a b : ℕ) → a < length courses → b < length courses → tells rows a b ≡ clashes meetings courses parts a b =
+    λ a b first second. told a b (omega arith) ∙ ap (λ (within : Bool). within && clashes meetings courses parts a b) (lt-ltb b (length courses) second) in
     record {
       sections = omega arith;
-      relation = λ a b first second. rw (test a b first second) (clashes-relation meetings courses a b);
+      relation = λ a b first second. rw (test a b first second) (clashes-relation meetings courses parts a b);
       test = test;
     }

@@ -3,8 +3,8 @@ ghost use Rattle.std.specs.Prelude.{◌≡◌, ◌≤◌, ◌<◌, IfOk, length,
 ghost use Rattle.timetable_rules.specs.Clash.{IsClashTable, tells};
 ghost use Rattle.timetable_rules.specs.Meetings.{meetings_of};
 
-use crate::Meetings;
 use crate::rows::clashing;
+use crate::{Meetings, Parts};
 use market_units::{NoMemory, SectionNo, SectionSet};
 use std::alloc::Global;
 use std::marker::Model;
@@ -32,19 +32,21 @@ impl Model for ClashTable {
 }
 
 impl ClashTable {
-    /// The table of the sections with these meetings and course numbers, by ordinal.
+    /// The table of the sections with these meetings, course numbers and parts of the term, by ordinal.
     pub fn build(
         alloc: Global,
         meetings: &[Meetings],
         courses: &[u16],
+        parts: &[Parts],
     ) -> Result<ClashTable, NoMemory>
-        requires same_length { length meetings.now ≡ length courses.now }
+        requires meetings { length meetings.now ≡ length courses.now }
+        requires parts { length parts.now ≡ length courses.now }
         requires few { length courses.now ≤ 400 }
-        ensures { IfOk result (IsClashTable (map meetings_of meetings.now) courses.now) }
+        ensures { IfOk result (IsClashTable (map meetings_of meetings.now) courses.now parts.now) }
     {
         let mut rows = Vec::with_capacity(alloc, courses.len())?;
         for section in 0..courses.len() {
-            rows.push(clashing(meetings, courses, section))?;
+            rows.push(clashing(meetings, courses, parts, section))?;
         }
         Ok(ClashTable { rows })
     }

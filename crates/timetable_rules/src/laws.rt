@@ -1,5 +1,5 @@
 // What holds of the definitions.
-ghost use Rattle.timetable_rules.specs.Laws.{ClashTestIsRelation, ClashesAreMutual, OneReading, OverlapTestIsRelation, SpelledIsSpelling};
+ghost use Rattle.timetable_rules.specs.Laws.{ClashTestIsRelation, ClashesAreMutual, OneReading, OverlapTestIsRelation, PartsSpelledIsSpelling, SharedPartTestIsRelation, SpelledIsSpelling};
 
 /// A text spells one list of meetings at most.
 pub fn one_reading()
@@ -9,6 +9,16 @@ pub fn one_reading()
 /// What a text spells, as a function, is what the relation says.
 pub fn spelled_is_spelling()
     ensures { SpelledIsSpelling }
+{}
+
+/// What a text spells of parts of the term, as a function, is what the relation says.
+pub fn parts_spelled_is_spelling()
+    ensures { PartsSpelledIsSpelling }
+{}
+
+/// The test of a shared part of the term, with which definitions compute, is the relation.
+pub fn shared_part_test_is_relation()
+    ensures { SharedPartTestIsRelation }
 {}
 
 /// The test of overlapping meetings, with which definitions compute, is the relation.

@@ -1,4 +1,4 @@
-//! When sections meet, how their meetings are written, and which sections clash.
+//! When sections meet and in which parts of the term, how both are written, and which sections clash.
 #![tactic(auto)]
 
 mod clashes;
@@ -6,6 +6,8 @@ pub mod laws;
 mod meeting;
 mod meetings;
 mod overlaps;
+mod parts;
+mod parts_text;
 mod reading;
 mod rows;
 
@@ -13,6 +15,8 @@ pub use clashes::ClashTable;
 pub use meeting::Meeting;
 pub use meetings::Meetings;
 pub use overlaps::overlap;
+pub use parts::Parts;
+pub use parts_text::read_parts;
 pub use reading::read_meetings;
 
 #[cfg(test)]

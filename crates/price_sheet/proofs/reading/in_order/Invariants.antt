@@ -5,6 +5,6 @@ use Rattle.price_sheet.proofs.reading.in_order.Given as goal
 -- the prices of the sections so far
 abbrev pub invariant-loop-section : goal.invariant-loop-section
 invariant-loop-section l = record {
-  prices : map (λ price. price.0) l.prices.items ≡ map (price_in l.sheet.rows.items) (take l.section (names_of l.catalog));
+  prices : map (λ price. price.0) l.prices.items ≡ map (price_in l.sheet.rows.items) (take l.section (names_of l.catalog.sections));
   range : All (λ price. price.0 ≤ 1000001) l.prices.items;
 }

@@ -2,7 +2,7 @@
 #![tactic(auto)]
 
 ghost use Rattle.std.specs.Prelude.{◌≡◌, ◌+◌, ◌<◌, ◌^◌, IfOk};
-ghost use Rattle.drawn_words.specs.Streams.{at_word, key_bytes, stream_word, stream_words};
+ghost use Rattle.seed_words.specs.Streams.{at_word, key_bytes, stream_word, stream_words};
 
 use market_units::NoMemory;
 use rand_chacha::ChaCha20Rng;

@@ -1,6 +1,6 @@
 use Rattle.std.proofs.Common.{◌≡◌}
-use Rattle.drawn_words.specs.Streams.{at_word, stream_words}
-use Rattle.drawn_words.proofs.words.Given as goal
+use Rattle.seed_words.specs.Streams.{at_word, stream_words}
+use Rattle.seed_words.proofs.words.Given as goal
 
 -- as many words as the place says were drawn, and the generator comes to the next
 abbrev pub invariant-loop-place : goal.invariant-loop-place

@@ -1,7 +1,7 @@
 use Rattle.std.proofs.Common.{rules, arith, ◌≡◌, ◌∙◌, ◌++◌, ◌∷◌, [], sym}
 use Rattle.std.proofs.lemmas.List.FromFn.{map-range_with_len_more}
-use Rattle.drawn_words.specs.Streams.{stream_word, stream_words}
-use Rattle.drawn_words.proofs.words.Goals as goal
+use Rattle.seed_words.specs.Streams.{stream_word, stream_words}
+use Rattle.seed_words.proofs.words.Goals as goal
 
 pub loop-place-preserved : goal.loop-place-preserved
 loop-place-preserved c =
