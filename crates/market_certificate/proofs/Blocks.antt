@@ -51,7 +51,7 @@ all_read line P names values k number text next rest e = subst (λ ns. AreRead l
 due_split : (form : List ℕ → Form) (names : List (List ℕ)) (k : ℕ) (name : List ℕ) (more : List Due) → k < length names → name ≡ get_or names k []
     → each_due form names ++ more ≡ each_due form (take k names) ++ (One (form name) ∷ (each_due form (drop (k + 1) names) ++ more))
 due_split form names k name more inside named =
-    let split : names ≡ take k names ++ name ∷ drop (k + 1) names = sym (take-append-drop k names) ∙ ap (λ tail. take k names ++ tail) (drop_more k names [] inside ∙ ap (λ n. n ∷ drop (k + 1) names) (sym named)) in
+    let split : names ≡ take k names ++ name ∷ drop (k + 1) names = sym (take-append-drop k names) ∙ ap (λ tail. take k names ++ tail) (drop_more names k [] inside ∙ ap (λ n. n ∷ drop (k + 1) names) (sym named)) in
     ap (λ ns. each_due form ns ++ more) split
     ∙ ap (λ due. due ++ more) (map-append (λ n. One (form n)) (take k names) (name ∷ drop (k + 1) names))
     ∙ append_assoc (each_due form (take k names)) (One (form name) ∷ each_due form (drop (k + 1) names)) more

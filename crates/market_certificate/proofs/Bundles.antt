@@ -52,7 +52,7 @@ same_sections names (x ∷ a) (y ∷ b) are below below' e =
     let one = different names x y are.distinct (All-head P x a below) (All-head P y b below') heads in
     ap (λ s. s ∷ a) one ∙ ap (λ ss. y ∷ ss) (same_sections names a b are (All-tail P x a below) (All-tail P y b below') tails)
 
-named : (names : List (List ℕ)) (s : ℕ) → AreNames names → s < length names → IsName (name_at names s)
+pub named : (names : List (List ℕ)) (s : ℕ) → AreNames names → s < length names → IsName (name_at names s)
 named names s are inside = are.each s [] inside
 
 pub names_lack : (stop : ℕ) (names : List (List ℕ)) (bundle : List ℕ) → is_name_byte stop ≡ false → AreNames names → All (λ s. s < length names) bundle → AllByRecursion (Lacks stop) (map (name_at names) bundle)

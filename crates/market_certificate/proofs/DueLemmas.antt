@@ -6,10 +6,10 @@ use Rattle.market_certificate.specs.declared.amounts.Amount.TheVariants as kinds
 use Rattle.market_certificate.specs.Tables.{Tables}
 use Rattle.market_certificate.specs.Publications.{Publication, ProvedTurn, AreFor, IsBundleOf, IsProved, IsPublication, IsTurn, IsUsed}
 use Rattle.market_certificate.specs.Texts.{ArePublished, amount_line, bundle_line, each_line, end_line, error_line, final_line, head_line, lines_of, most_of, order_line, turn_line, used_line}
-use Rattle.market_certificate.specs.Due.{AmountForm, AreDue, BundleForm, Due, EndForm, FinalForm, Form, HasForm, IsTurnLine, One, Then, Turns, TurnsThen, UsedForm, due_of, each_due, outcome_due, outcome_lines, prices_due, prices_lines}
+use Rattle.market_certificate.specs.Due.{AmountForm, AreDue, BundleForm, Due, EndForm, ErrorForm, FinalForm, Form, HasForm, HeadForm, OrderForm, IsTurnLine, One, Then, Turns, TurnsThen, UsedForm, due_of, each_due, outcome_due, outcome_lines, prices_due, prices_lines}
 use Rattle.market_certificate.proofs.Forms.{no_form_is_turn}
 use Rattle.market_certificate.proofs.Steps.{IsBehind, behind_each, behind_turns, into_turns}
-use Rattle.market_certificate.proofs.Parts.{at_turns}
+
 
 -- values at the front, and what stands behind their lines
 record EachThen {V : Type 0} (tables : Tables) (line : List ℕ → V → List ℕ) (P : V → Type 0) (names : List (List ℕ)) (more : List Due) (lines : List (List ℕ)) : Type 0 where
@@ -67,17 +67,17 @@ one_from tables form more (line ∷ lines) due = record { line = line; tail = li
 
 pub published_from : (tables : Tables) (lines : List (List ℕ)) → AreDue tables (due_of tables) lines → ArePublished tables lines
 published_from tables lines due =
-    let head = one_from tables _ _ lines due in
-    let order = one_from tables _ _ head.tail head.then in
-    let budgets = each_from tables (AmountForm kinds.Budget) (amount_line kinds.Budget) (λ tokens. tokens ≤ most_of kinds.Budget) (λ name l has. has) tables.students _ order.tail order.then in
-    let start = each_from tables (AmountForm kinds.Start) (amount_line kinds.Start) (λ tokens. tokens ≤ most_of kinds.Start) (λ name l has. has) tables.sections _ budgets.tail budgets.then in
-    let error = one_from tables _ _ start.tail start.then in
-    let prices = each_from tables (AmountForm kinds.Price) (amount_line kinds.Price) (λ tokens. tokens ≤ most_of kinds.Price) (λ name l has. has) tables.sections _ error.tail error.then in
-    let bundles = each_from tables BundleForm (bundle_line tables.sections) (IsProved tables.sections) (λ name l has. has) tables.students _ prices.tail prices.then in
-    let turns = turns_from tables _ bundles.tail bundles.then in
-    let finals = each_from tables FinalForm (final_line tables.sections) (IsBundleOf tables.sections) (λ name l has. has) tables.students _ turns.tail turns.then in
-    let used = each_from tables UsedForm used_line IsUsed (λ name l has. has) tables.sections _ finals.tail finals.then in
-    let last = one_from tables _ _ used.tail used.then in (
+    let head = one_from tables HeadForm (One OrderForm ∷ prices_due tables (outcome_due tables)) lines due in
+    let order = one_from tables OrderForm (prices_due tables (outcome_due tables)) head.tail head.then in
+    let budgets = each_from tables (AmountForm kinds.Budget) (amount_line kinds.Budget) (λ tokens. tokens ≤ most_of kinds.Budget) (λ name l has. has) tables.students (each_due (AmountForm kinds.Start) tables.sections ++ (One ErrorForm ∷ (each_due (AmountForm kinds.Price) tables.sections ++ outcome_due tables))) order.tail order.then in
+    let start = each_from tables (AmountForm kinds.Start) (amount_line kinds.Start) (λ tokens. tokens ≤ most_of kinds.Start) (λ name l has. has) tables.sections (One ErrorForm ∷ (each_due (AmountForm kinds.Price) tables.sections ++ outcome_due tables)) budgets.tail budgets.then in
+    let error = one_from tables ErrorForm (each_due (AmountForm kinds.Price) tables.sections ++ outcome_due tables) start.tail start.then in
+    let prices = each_from tables (AmountForm kinds.Price) (amount_line kinds.Price) (λ tokens. tokens ≤ most_of kinds.Price) (λ name l has. has) tables.sections (outcome_due tables) error.tail error.then in
+    let bundles = each_from tables BundleForm (bundle_line tables.sections) (IsProved tables.sections) (λ name l has. has) tables.students (Turns ∷ (each_due FinalForm tables.students ++ (each_due UsedForm tables.sections ++ One EndForm ∷ []))) prices.tail prices.then in
+    let turns = turns_from tables (each_due FinalForm tables.students ++ (each_due UsedForm tables.sections ++ One EndForm ∷ [])) bundles.tail bundles.then in
+    let finals = each_from tables FinalForm (final_line tables.sections) (IsBundleOf tables.sections) (λ name l has. has) tables.students (each_due UsedForm tables.sections ++ One EndForm ∷ []) turns.tail turns.then in
+    let used = each_from tables UsedForm used_line IsUsed (λ name l has. has) tables.sections (One EndForm ∷ []) finals.tail finals.then in
+    let last = one_from tables EndForm [] used.tail used.then in (
       record {
         order = order.has.0;
         budgets = budgets.values;
@@ -133,7 +133,7 @@ published_from tables lines due =
       ),
     )
 
-each_to : {V : Type 0} (tables : Tables) (form : List ℕ → Form) (line : List ℕ → V → List ℕ) (P : V → Type 0) → ((name : List ℕ) (value : V) → P value → HasForm tables (form name) (line name value))
+pub each_to : {V : Type 0} (tables : Tables) (form : List ℕ → Form) (line : List ℕ → V → List ℕ) (P : V → Type 0) → ((name : List ℕ) (value : V) → P value → HasForm tables (form name) (line name value))
     → (names : List (List ℕ)) (values : List V) (more : List Due) (tail : List (List ℕ)) → AreFor names P values → AreDue tables more tail → AreDue tables (each_due form names ++ more) (each_line line names values ++ tail)
 each_to tables form line P has names values more tail range due = let behind = behind_each tables form line P has names values more range in behind.to tail due
 

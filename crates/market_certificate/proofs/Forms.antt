@@ -18,9 +18,9 @@ least_proved = record { bundle = []; tree = 42 ∷ [] }
 
 least_is_proved : (sections : List (List ℕ)) → IsProved sections least_proved
 unfolding least_proved
-least_is_proved sections = record { bundle = no_sections sections; tree = record { some = omega arith; each = All-cons (λ byte. IsTrue (is_tree_byte byte)) 42 [] tt (All-nil (λ byte. IsTrue (is_tree_byte byte))) } }
+least_is_proved sections = record { bundle = no_sections sections; tree = record { some = omega arith; each = All-cons (λ byte. IsTrue (is_tree_byte byte)) 42 [] refl (All-nil (λ byte. IsTrue (is_tree_byte byte))) } }
 
-none_is_small : (kind : kinds.Amount) → 0 ≤ most_of kind
+none_is_small : (kind : Amount) → 0 ≤ most_of kind
 none_is_small kinds.Budget = omega arith
 none_is_small kinds.Start = omega arith
 none_is_small kinds.Price = omega arith
@@ -50,7 +50,7 @@ unfolding first
 order_begins [] e = absurd (omega (arith, e))
 order_begins (n ∷ order) e = absurd (omega (arith, e))
 
-amount_begins : (kind : kinds.Amount) (name : List ℕ) (tokens : ℕ) → first (amount_line kind name tokens) ≢ 116
+amount_begins : (kind : Amount) (name : List ℕ) (tokens : ℕ) → first (amount_line kind name tokens) ≢ 116
 unfolding first
 amount_begins kinds.Budget name tokens e = absurd (omega (arith, e))
 amount_begins kinds.Start name tokens e = absurd (omega (arith, e))

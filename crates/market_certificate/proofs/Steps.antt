@@ -63,11 +63,11 @@ stop_behind Is Behind lines front tail faults.Form is stop =
     )
 stop_behind Is Behind lines front tail faults.Rest is stop = (is.to front stop.0, stop.1)
 
-joined_both : (xs ys : List (List ℕ)) (rest : List ℕ) → joined xs ++ (joined ys ++ rest) ≡ joined (xs ++ ys) ++ rest
+pub joined_both : (xs ys : List (List ℕ)) (rest : List ℕ) → joined xs ++ (joined ys ++ rest) ≡ joined (xs ++ ys) ++ rest
 joined_both [] ys rest = refl
 joined_both (x ∷ xs) ys rest = append_assoc x (10 ∷ joined xs) (joined ys ++ rest) ∙ ap (λ t. x ++ 10 ∷ t) (joined_both xs ys rest) ∙ sym (append_assoc x (10 ∷ joined (xs ++ ys)) rest)
 
-length_both : {A : Type 0} (xs ys : List A) → length (xs ++ ys) ≡ length xs + length ys
+pub length_both : {A : Type 0} (xs ys : List A) → length (xs ++ ys) ≡ length xs + length ys
 length_both [] ys = omega arith
 length_both (x ∷ xs) ys = let h = length_both xs ys in omega (arith, h)
 
@@ -127,16 +127,16 @@ bad_turn tables form more number text line rest next whole begun other =
       );
     }
 
-into_turns : (tables : Tables) (form : Form) (more : List Due) (lines : List (List ℕ)) → AreDue tables (One form ∷ more) lines → AreDue tables (Turns ∷ One form ∷ more) lines
+pub into_turns : (tables : Tables) (form : Form) (more : List Due) (lines : List (List ℕ)) → AreDue tables (One form ∷ more) lines → AreDue tables (Turns ∷ One form ∷ more) lines
 into_turns tables form more [] are = absurd are
 into_turns tables form more (line ∷ lines) are = inr (no_form_is_turn tables form line are.0, are)
 
 no_turn_stop : (tables : Tables) (form : Form) (more : List Due) (front : List (List ℕ)) (tail text : List ℕ) (fault : LineFault) → NoTurnNext text → text ≡ joined front ++ tail
     → Stops (AreDue tables (One form ∷ more)) front tail fault → Stops (AreDue tables (Turns ∷ One form ∷ more)) front tail fault
-no_turn_stop tables form more front tail text faults.Missing none ahead stop = ((stop.0.0, stop.0.1, into_turns tables form more _ stop.0.2), stop.1)
+no_turn_stop tables form more front tail text faults.Missing none ahead stop = ((stop.0.0, stop.0.1, into_turns tables form more (front ++ stop.0.0 ∷ stop.0.1) stop.0.2), stop.1)
 no_turn_stop tables form more [] tail text faults.Form none ahead stop =
     let out = stop.1 in (
-      (stop.0.0, stop.0.1, into_turns tables form more _ stop.0.2),
+      (stop.0.0, stop.0.1, into_turns tables form more (stop.0.0 ∷ stop.0.1) stop.0.2),
       record {
         line = out.line;
         rest = out.rest;
@@ -147,7 +147,7 @@ no_turn_stop tables form more [] tail text faults.Form none ahead stop =
     )
 no_turn_stop tables form more (y ∷ front) tail text faults.Form none ahead stop =
     let out = stop.1 in (
-      (stop.0.0, stop.0.1, into_turns tables form more _ stop.0.2),
+      (stop.0.0, stop.0.1, into_turns tables form more ((y ∷ front) ++ stop.0.0 ∷ stop.0.1) stop.0.2),
       record {
         line = out.line;
         rest = out.rest;
@@ -156,7 +156,7 @@ no_turn_stop tables form more (y ∷ front) tail text faults.Form none ahead sto
         form = λ goes. elim goes.1 [ inl both ↦ no_form_is_turn tables form y stop.0.2.0 (starts tables y both.0) | inr both ↦ out.form (goes.0, both.1) ];
       },
     )
-no_turn_stop tables form more front tail text faults.Rest none ahead stop = (into_turns tables form more _ stop.0, stop.1)
+no_turn_stop tables form more front tail text faults.Rest none ahead stop = (into_turns tables form more front stop.0, stop.1)
 
 -- where no turn is next, the first defect is that of the lines behind the turns
 pub finds_behind_turns : (tables : Tables) (form : Form) (more : List Due) (number : ℕ) (text : List ℕ) (at : ℕ) (fault : LineFault) → NoTurnNext text

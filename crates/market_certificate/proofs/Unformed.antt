@@ -24,9 +24,9 @@ behind_two word name line rest last other e e' e'' = behind_same name rest last 
 
 -- a bundle's text lacks what is in no name, and is no bracket or comma
 pub bundle_lacks : (stop : ℕ) (names : List (List ℕ)) (bundle : List ℕ) → is_name_byte stop ≡ false → (91 == stop) ≡ false → (44 == stop) ≡ false → (93 == stop) ≡ false → AreNames names → IsBundleOf names bundle → Lacks stop (bundle_text names bundle)
-bundle_lacks stop names bundle other open comma close are is =
+bundle_lacks stop names bundle other begin comma close are is =
     let P : ℕ → Type 0 = λ byte. (byte == stop) ≡ false in
-    All-cons P 91 (join_with_byte 44 (map (name_at names) bundle) ++ 93 ∷ []) open (
+    All-cons P 91 (join_with_byte 44 (map (name_at names) bundle) ++ 93 ∷ []) begin (
       lacks_more stop (join_with_byte 44 (map (name_at names) bundle)) [] 93 close (joined_lack 44 stop (map (name_at names) bundle) comma (names_lack stop names bundle other are is.of_catalog)) (All-nil P)
     )
 

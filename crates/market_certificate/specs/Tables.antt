@@ -1,10 +1,11 @@
 -- What a published text takes of the catalogue and of the roll.
-use Rattle.std.specs.Prelude.{ℕ, ◌<◌, ◌≤◌, ◌^◌, List, [], All, length, map, slice_index_or}
+use Rattle.std.specs.Prelude.{ℕ, ◌<◌, ◌≤◌, ◌^◌, List, [], All, length, map, max, slice_index_or}
 use Rattle.std.specs.List.{IsDistinct}
 use Rattle.std.specs.Str.{bytes_eq}
 use Rattle.market_units.specs.Names.{IsName}
+use Rattle.course_catalog.specs.Catalog.{CatalogData}
 use Rattle.course_catalog.specs.Sections.{Section}
-use Rattle.student_roll.specs.Students.{Student, names_of}
+use Rattle.student_roll.specs.Students.{RollData, names_of}
 
 -- the greater of the two versions, and the names of the students and of the sections in file order
 pub record Tables : Type 0 where
@@ -17,8 +18,8 @@ abbrev pub section_names : List Section → List (List ℕ)
 section_names sections = map (λ section. section.name) sections
 
 -- of this catalogue and this roll
-abbrev pub tables_of : List Section → List Student → Tables
-tables_of catalog roll = record { version = 1; students = names_of roll; sections = section_names catalog }
+abbrev pub tables_of : CatalogData → RollData → Tables
+tables_of catalog roll = record { version = max catalog.version roll.version; students = names_of roll.students; sections = section_names catalog.sections }
 
 -- different names
 pub record AreNames (names : List (List ℕ)) : Type 0 where

@@ -2,13 +2,12 @@
 #![tactic(auto)]
 
 mod amounts;
+pub mod laws;
 mod publication;
-mod reading;
 mod refusals;
 mod tables;
 mod writing;
 
 pub use publication::{Proved, ProvedTurn, Publication};
-pub use reading::read_publication;
 pub use refusals::{LineFault, TextRefusal};
 pub use writing::put_publication;

@@ -2,7 +2,8 @@
 ghost use Rattle.std.specs.Prelude.{◌≡◌, ◌≢◌, ◌<◌, ℕ, IfOk, IfSome, IfNone, length, map};
 ghost use Rattle.std.proofs.Props.{props};
 ghost use Rattle.market_units.specs.Name.{name_bytes};
-ghost use Rattle.student_roll.specs.Students.{names_of};
+ghost use Rattle.course_catalog.specs.Catalog.{IsCatalog};
+ghost use Rattle.student_roll.specs.Students.{IsRoll, names_of};
 ghost use Rattle.market_certificate.specs.Tables.{AreTables, name_at, section_names, tables_of};
 
 use course_catalog::Catalog;
@@ -18,8 +19,8 @@ pub(crate) struct TableNames<'a> {
     pub version: u64,
     pub students: Vec<Name>,
     pub sections: Vec<Name>,
-    ghost of_roll: { map name_bytes students.items ≡ names_of roll.now },
-    ghost of_catalog: { map name_bytes sections.items ≡ section_names catalog.now },
+    ghost of_roll: { map name_bytes students.items ≡ names_of roll.now.students },
+    ghost of_catalog: { map name_bytes sections.items ≡ section_names catalog.now.sections },
     ghost are: { AreTables (record { version = version; students = map name_bytes students.items; sections = map name_bytes sections.items }) } by { Prim.hlevel props },
 }
 
@@ -39,35 +40,36 @@ impl<'a> TableNames<'a> {
         Ok(TableNames {
             catalog,
             roll,
-            version: 1,
+            version: u64::from(catalog.version().max(roll.version())),
             students,
             sections,
         })
     }
 
     /// The student of these bytes' name.
-    pub fn student(&self, name: &[u8]) -> Option<StudentNo>
+    pub fn student(&self, bytes: &[u8]) -> Option<StudentNo>
         ensures within { IfSome result (λ student. student.0 < length (seen self.now).students) }
-        ensures name { IfSome result (λ student. name_at (seen self.now).students student.0 ≡ name.now) }
-        ensures none { IfNone result ((n : ℕ) → n < length (seen self.now).students → name_at (seen self.now).students n ≢ name.now) }
+        ensures name { IfSome result (λ student. name_at (seen self.now).students student.0 ≡ bytes.now) }
+        ensures none { IfNone result ((n : ℕ) → n < length (seen self.now).students → name_at (seen self.now).students n ≢ bytes.now) }
     {
-        let name = read_name(name)?;
+        let name = read_name(bytes)?;
         self.roll.find(&name)
     }
 
     /// The section of these bytes' name.
-    pub fn section(&self, name: &[u8]) -> Option<SectionNo>
+    pub fn section(&self, bytes: &[u8]) -> Option<SectionNo>
         ensures within { IfSome result (λ section. section.0 < length (seen self.now).sections) }
-        ensures name { IfSome result (λ section. name_at (seen self.now).sections section.0 ≡ name.now) }
-        ensures none { IfNone result ((n : ℕ) → n < length (seen self.now).sections → name_at (seen self.now).sections n ≢ name.now) }
+        ensures name { IfSome result (λ section. name_at (seen self.now).sections section.0 ≡ bytes.now) }
+        ensures none { IfNone result ((n : ℕ) → n < length (seen self.now).sections → name_at (seen self.now).sections n ≢ bytes.now) }
     {
-        let name = read_name(name)?;
+        let name = read_name(bytes)?;
         self.catalog.find(&name)
     }
 }
 
 fn student_names(alloc: Global, roll: &Roll) -> Result<Vec<Name>, NoMemory>
-    ensures { IfOk result (λ names. map name_bytes names.items ≡ names_of roll.now) }
+    ensures names { IfOk result (λ names. map name_bytes names.items ≡ names_of roll.now.students) }
+    ensures roll { IfOk result (λ names. IsRoll roll.now) }
 {
     let mut names = Vec::with_capacity(alloc, usize::from(roll.len()))?;
     for student in 0..roll.len() {
@@ -77,7 +79,8 @@ fn student_names(alloc: Global, roll: &Roll) -> Result<Vec<Name>, NoMemory>
 }
 
 fn section_names(alloc: Global, catalog: &Catalog) -> Result<Vec<Name>, NoMemory>
-    ensures { IfOk result (λ names. map name_bytes names.items ≡ section_names catalog.now) }
+    ensures names { IfOk result (λ names. map name_bytes names.items ≡ section_names catalog.now.sections) }
+    ensures catalog { IfOk result (λ names. IsCatalog catalog.now) }
 {
     let mut names = Vec::with_capacity(alloc, usize::from(catalog.len()))?;
     for section in 0..catalog.len() {

@@ -5,4 +5,4 @@ use Rattle.market_certificate.specs.Tables.{section_names}
 use Rattle.market_certificate.proofs.tables.section_names.Given as goal
 
 abbrev pub invariant-loop-section : goal.invariant-loop-section
-invariant-loop-section l = map name_bytes l.names.items ≡ section_names (take l.section l.catalog)
+invariant-loop-section l = map name_bytes l.names.items ≡ section_names (take l.section l.catalog.sections)

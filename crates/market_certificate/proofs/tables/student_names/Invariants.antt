@@ -5,4 +5,4 @@ use Rattle.market_certificate.specs.Tables.{section_names}
 use Rattle.market_certificate.proofs.tables.student_names.Given as goal
 
 abbrev pub invariant-loop-student : goal.invariant-loop-student
-invariant-loop-student l = map name_bytes l.names.items ≡ names_of (take l.student l.roll)
+invariant-loop-student l = map name_bytes l.names.items ≡ names_of (take l.student l.roll.students)

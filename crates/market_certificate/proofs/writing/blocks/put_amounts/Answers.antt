@@ -1,4 +1,16 @@
+use Rattle.std.proofs.Common.{ℕ, length, map, arith, rules}
+use Rattle.std.specs.Prelude.{All}
+use Rattle.std.proofs.lemmas.List.{length-map}
+use Rattle.bundle_rules.specs.Bundles.{sections_of}
+use Rattle.market_units.specs.Name.{name_bytes}
+use Rattle.market_certificate.specs.Publications.{IsBundleOf, IsProved}
+use Rattle.market_certificate.specs.Texts.{amount_line, bundle_line, final_line, used_line}
+use Rattle.market_certificate.specs.Views.{proved_of}
+use Rattle.market_certificate.proofs.Joins.{below_names, names_more, one_longer, pair_of_turn, value_at, value_each}
 use Rattle.market_certificate.proofs.writing.blocks.put_amounts.Goals as goal
 
 pub names-preserved : goal.names-preserved
-names-preserved c = ?
+names-preserved c =
+    let at = pair_of_turn c.args.names.now c.args.amounts.now c.names.yielded c.into_iter-name-iterator.result c.names.name-iterator c.next.new.self c.next.result c.names.yielded_by (c.in-Some.name, c.in-Some.tokens) c.in-Some.is c.next.ensures.steps (search rules) (search rules) in
+    names_more (amount_line c.args.kind) c.args.names.now (map (λ tokens. tokens.0) c.args.amounts.now) (length c.names.yielded) _ c.in-Some.name.now c.in-Some.tokens.now.0 c.args.text.now.items c.names.text.items c.put_amount.new.text.items
+    (one_longer c.names.yielded (c.in-Some.name, c.in-Some.tokens)) at.0 (omega (arith, at.1, length-map c.args.amounts.now (λ tokens. tokens.0))) at.2 (value_at (λ tokens. tokens.0) c.args.amounts.now (length c.names.yielded) c.in-Some.tokens.now at.1 at.3) c.names.invariant c.in_ok-put_amount.ensures
