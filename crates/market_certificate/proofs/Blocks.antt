@@ -5,6 +5,7 @@ use Rattle.std.proofs.lemmas.List.{drop_more, length-append, length-map, length-
 use Rattle.std.proofs.lemmas.List.Elements.{All-push}
 use Rattle.std.proofs.Math.Seq.{take-length}
 use Rattle.market_units.specs.declared.names.Name.{Name}
+use Rattle.market_units.specs.Name.{name_bytes}
 use Rattle.market_certificate.specs.declared.refusals.TextRefusal.{TextRefusal}
 use Rattle.market_certificate.specs.declared.refusals.LineFault.{LineFault}
 use Rattle.market_certificate.specs.declared.refusals.LineFault.TheVariants as faults
@@ -101,3 +102,15 @@ pub turns_defect : (tables : Tables) (turns : List ProvedTurn) (number : ℕ) (t
 turns_defect tables turns number text next rest line after behind read takes whole begun other form more =
     finds_behind (AreDue tables (Turns ∷ One form ∷ more)) (AreDue tables (Turns ∷ One form ∷ more)) (map (turn_line tables.students tables.sections) turns) number text next rest next faults.Form
     (behind_turns tables turns (One form ∷ more) read.range) read.takes (bad_turn tables form more next rest line behind (takes.ahead ∙ append_assoc line (10 ∷ []) behind) whole begun other)
+
+-- the values of names, by another name of the list
+pub of_names : {V : Type 0} (line : List ℕ → V → List ℕ) (P : V → Type 0) (items names : List Name) (values : List V) (number : ℕ) (text : List ℕ) (next : ℕ) (rest : List ℕ) → items ≡ names → AreFor (map name_bytes items) P values
+    → Takes (each_line line (map name_bytes items) values) number text next rest → AreFor (map name_bytes names) P values × Takes (each_line line (map name_bytes names) values) number text next rest
+of_names line P items names values number text next rest e range takes = (
+  subst (λ (ns : List Name). AreFor (map name_bytes ns) P values) e range,
+  subst (λ (ns : List Name). Takes (each_line line (map name_bytes ns) values) number text next rest) e takes,
+)
+
+-- what stands behind a line is shorter
+pub shorter : (line : List ℕ) (number : ℕ) (text : List ℕ) (next : ℕ) (rest : List ℕ) → Takes (line ∷ []) number text next rest → length rest < length text
+shorter line number text next rest takes = omega (arith, ap length takes.ahead, length-append (line ++ 10 ∷ []) rest, length-append line (10 ∷ []))

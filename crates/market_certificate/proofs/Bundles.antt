@@ -148,3 +148,19 @@ part_of_turn xs t y r u x is step e = YieldsList-turn e xs t y r u x is step
 
 pub all_parts : {S A B : Type 0} {steps : S → Option A → S → Type 0} {v : A → B} {s : S} {all : List B} (xs : List A) (t : S) (y : Yields steps s xs t) → (r : Option A) (u : S) → r ≡ None → steps t r u → YieldsList steps v s all → map v xs ≡ all
 all_parts xs t y r u is step e = (YieldsList-end e xs t y r u is step).0
+
+-- the same of the items of a loop
+pub goes_on_with : {A : Type 0} (now : A → List ℕ) (names : List (List ℕ)) (text : List ℕ) (items : List A) (so_far : List ℕ) (next : List ℕ) (bundle : List ℕ) → AreNames names → text ≢ [] → All (λ s. s < length names) so_far
+    → map now items ≡ map (name_at names) so_far → map now items ≡ take (length items) (slice_split (λ b. b == 44) text) → length items < length (slice_split (λ b. b == 44) text)
+    → next ≡ get_or (slice_split (λ b. b == 44) text) (length items) next → IsBundleOf names bundle → text ≡ join_with_byte 44 (map (name_at names) bundle) → GoesOnWith names so_far next bundle
+goes_on_with now names text items so_far next bundle are some below read front inside here =
+    let parts = slice_split (λ b. b == 44) text in
+    let long = length-map items now in
+    goes_on names text (map now items) so_far next bundle are some below read (front ∙ ap (λ n. take n parts) (sym long)) (omega (arith, inside, long)) (here ∙ ap (λ n. get_or parts n next) (sym long))
+
+-- a section of the next part's name can be put behind the sections so far
+pub goes_on_fits : (names : List (List ℕ)) (so_far : List ℕ) (next : List ℕ) (bundle : List ℕ) (section : ℕ) → AreNames names → GoesOnWith names so_far next bundle → IsBundleOf names bundle → section < length names → name_at names section ≡ next
+    → IsBundle (so_far ++ section ∷ [])
+goes_on_fits names so_far next bundle section are goes is inside e =
+    let same = different names goes.section section are.distinct goes.inside inside (goes.is_named ∙ sym e) in
+    subst (λ s. IsBundle (so_far ++ s ∷ [])) same (subst IsBundle goes.front (bundle_front (length so_far + 1) bundle is.is_bundle))

@@ -158,3 +158,11 @@ each_at P f ws k d w each inside is = value_each P f ws k w each inside (λ e. i
 
 pub mapped_at : {W V : Type 0} (f : W → V) (ws : List W) (k : ℕ) (d w : W) → k < length ws → w ≡ get_or ws k d → f w ≡ get_or (map f ws) k (f w)
 mapped_at f ws k d w inside is = value_at f ws k w inside (λ e. is ∙ get_or_default ws k d e inside)
+
+-- a name is that of its place, by another name of the list
+pub name_here : (items names : List Name) (k : ℕ) (d name : Name) → items ≡ names → k < length items → name ≡ get_or items k d → name_bytes name ≡ get_or (map name_bytes names) k []
+name_here items names k d name e inside is =
+    subst (λ (ns : List Name). name_bytes name ≡ get_or (map name_bytes ns) k []) e (ap name_bytes is ∙ sym (get_or-map name_bytes items k d [] inside))
+
+pub mapped_push : {W V : Type 0} (f : W → V) (ws new : List W) (w : W) → new ≡ ws ++ w ∷ [] → map f new ≡ map f ws ++ f w ∷ []
+mapped_push f ws new w e = ap (map f) e ∙ map_last f ws w

@@ -11,4 +11,5 @@ pub mod Parts
 pub mod Places
 pub mod Steps
 pub mod Unformed
+pub mod Wholes
 pub mod Written

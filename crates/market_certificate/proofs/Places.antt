@@ -50,3 +50,12 @@ no_space s word rest e none more e' = none more (append_cancel_left word rest (3
 pub first_rest : {A : Type 0} → (xs : List A) (d : A) → 1 ≤ length xs → xs ≡ get_or xs 0 d ∷ take (length xs - 1) (drop 1 xs)
 first_rest [] d some = absurd (omega arith)
 first_rest (x ∷ xs) d some = ap (λ l. x ∷ l) (sym (take-length xs) ∙ ap (λ n. take n xs) (let h : length xs ≡ suc (length xs) - 1 = omega arith in h))
+
+-- what stands between two bytes
+pub in_two : (bytes rest : List ℕ) (r : Option (Bor (List ℕ))) → bytes ≡ 91 ∷ rest → MatchOption r ((front : List ℕ) → rest ≢ front ++ 93 ∷ []) (λ x. rest ≡ x.now ++ 93 ∷ []) → IfSome r (λ inner. bytes ≡ 91 ∷ (inner.now ++ 93 ∷ []))
+in_two bytes rest None e m = tt
+in_two bytes rest (Some x) e m = e ∙ ap (λ l. 91 ∷ l) m
+
+pub no_items : (xs : List ℕ) → length xs ≡ 0 → xs ≡ []
+no_items [] e = refl
+no_items (x ∷ xs) e = absurd (omega (arith, e))

@@ -192,3 +192,21 @@ on_defect refusals.NoMemory P Q each is = tt
 pub record AreRead {V : Type 0} (line : List ℕ → V → List ℕ) (P : V → Type 0) (names : List (List ℕ)) (values : List V) (number : ℕ) (text : List ℕ) (next : ℕ) (rest : List ℕ) : Type 0 where
   pub range : AreFor names P values
   pub takes : Takes (each_line line names values) number text next rest
+
+-- a line was cut off the front
+pub takes_line : (line : List ℕ) (number : ℕ) (text : List ℕ) (next : ℕ) (rest : List ℕ) → text ≡ line ++ 10 ∷ rest → next ≡ number + 1 → Takes (line ∷ []) number text next rest
+takes_line line number text next rest e count = record { ahead = e ∙ sym (append_assoc line (10 ∷ []) rest); count = count }
+
+-- the line that was cut off is of no such form
+pub defect_form : (P : List ℕ → Type 0) (line : List ℕ) (number : ℕ) (text : List ℕ) (next : ℕ) (rest : List ℕ) (refusal : TextRefusal) → refusal ≡ refusals.Defect number faults.Form → Takes (line ∷ []) number text next rest → Lacks 10 line → ¬ P line
+    → OnDefect refusal (StopsAt P number text)
+defect_form P line number text next rest refusal e takes whole form =
+    subst (λ (r : TextRefusal). OnDefect r (StopsAt P number text)) (sym e) (refl, other_line P text line rest (takes.ahead ∙ append_assoc line (10 ∷ []) rest) whole form)
+
+-- the line that was cut off is this one
+pub takes_same : (line other : List ℕ) (number : ℕ) (text : List ℕ) (next : ℕ) (rest : List ℕ) → line ≡ other → Takes (line ∷ []) number text next rest → Takes (other ∷ []) number text next rest
+takes_same line other number text next rest e takes = subst (λ (l : List ℕ). Takes (l ∷ []) number text next rest) e takes
+
+-- want of memory is no defect
+pub no_memory : (P : ℕ → LineFault → Type 0) (refusal : TextRefusal) → refusal ≡ refusals.NoMemory → OnDefect refusal P
+no_memory P refusal e = subst (λ (r : TextRefusal). OnDefect r P) (sym e) tt

@@ -1,6 +1,6 @@
 -- Parts of a line of a form.
 use Rattle.std.proofs.Common.{ℕ, zero, suc, ◌≡◌, ◌≢◌, ◌==◌, ◌<◌, ◌≤◌, ◌+◌, ◌^◌, false, List, [], ◌∷◌, ◌++◌, length, map, get_or, ap, sym, refl, subst, arith, ◌∙◌}
-use Rattle.std.specs.Prelude.{All, codes}
+use Rattle.std.specs.Prelude.{All, IfNone, None, Option, Some, codes}
 use Rattle.std.specs.List.{AllByRecursion, join_with_byte, slice_split}
 use Rattle.std.specs.Fmt.{decimal}
 use Rattle.std.proofs.lemmas.Fmt.{decimal_injective}
@@ -114,3 +114,12 @@ no_sessions tables line numbers other e none has = no_sessions_of line numbers h
 pub order_with : (line numbers order : List ℕ) → order ≢ [] → line ≡ codes "order" ++ 32 ∷ numbers → numbers ≡ join_with_byte 32 (map decimal order) → line ≡ order_line order
 order_with line numbers [] some e e' = absurd (some refl)
 order_with line numbers (n ∷ order) some e e' = e ∙ ap (λ rest. codes "order" ++ 32 ∷ rest) e'
+
+-- what follows from the want of a value
+pub if_none : {A : Type 0} {P Q : Type 0} (r : Option A) → (P → Q) → IfNone r P → IfNone r Q
+if_none None each is = each is
+if_none (Some a) each is = tt
+
+pub when_none : {A : Type 0} {P : Type 0} (r : Option A) → r ≡ None → IfNone r P → P
+when_none None e is = is
+when_none (Some a) e is = absurd (cc e)

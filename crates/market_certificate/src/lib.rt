@@ -4,10 +4,15 @@
 mod amounts;
 pub mod laws;
 mod publication;
+mod reading;
 mod refusals;
 mod tables;
 mod writing;
 
 pub use publication::{Proved, ProvedTurn, Publication};
+pub use reading::read_publication;
 pub use refusals::{LineFault, TextRefusal};
 pub use writing::put_publication;
+
+#[cfg(test)]
+mod tests;

@@ -1,0 +1,11 @@
+use Rattle.std.proofs.Common.{◌≤◌, map, take}
+use Rattle.bundle_rules.specs.Bundles.{sections_of}
+use Rattle.market_units.specs.Name.{name_bytes}
+use Rattle.market_certificate.specs.Publications.{IsBundleOf, IsProved, IsUsed}
+use Rattle.market_certificate.specs.Texts.{amount_line, bundle_line, final_line, most_of, used_line}
+use Rattle.market_certificate.specs.Views.{proved_of, seen}
+use Rattle.market_certificate.proofs.Steps.{AreRead}
+use Rattle.market_certificate.proofs.reading.blocks.read_bundles.Given as goal
+
+abbrev pub invariant-names : goal.invariant-names
+invariant-names l = AreRead (bundle_line (seen l.tables).sections) (IsProved (seen l.tables).sections) (take l.name-index ((seen l.tables).students)) (map proved_of l.bundles.items) l.fn.lines.number l.fn.lines.rest.now l.left.number l.left.rest.now
