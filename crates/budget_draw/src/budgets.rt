@@ -3,8 +3,8 @@ ghost use Rattle.std.specs.Prelude.{◌≡◌, ◌+◌, ◌*◌, ◌<◌, ◌≤
 ghost use Rattle.budget_draw.specs.Budgets.{amounts, budgets_of, raised_by};
 
 use crate::ranks::rank_among;
-use seed_words::words;
 use market_units::{NoMemory, StudentNo, Tokens};
+use seed_words::words;
 use std::alloc::Global;
 use student_roll::Roll;
 

@@ -22,6 +22,22 @@ fn seed_0_ranks_four_students_2_1_0_3(rt: HostRuntime) -> Result<(), Fail> {
 }
 
 #[test]
+fn what_is_carried_over_is_in_the_budget(rt: HostRuntime) -> Result<(), Fail> {
+    let roll = read_roll(
+        rt.alloc(),
+        b"student,budget,credits,courses,carry\nu,100,10,1,0\nv,100,10,1,5\n",
+    )?;
+    let budgets = [Tokens(100), Tokens(105)];
+    assert_eq!(rt;
+        draw(rt.alloc(), &roll, 0, 0)?.as_slice(),
+        budgets.as_slice()
+    );
+    let order = after_order(rt.alloc(), &budgets)?;
+    assert_eq!(rt; order.as_slice(), [StudentNo(1), StudentNo(0)].as_slice());
+    Ok(())
+}
+
+#[test]
 fn the_aftermarket_goes_from_the_greatest_budget_on(rt: HostRuntime) -> Result<(), Fail> {
     let budgets = [
         Tokens(103),

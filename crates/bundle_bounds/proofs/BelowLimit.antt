@@ -12,8 +12,9 @@ use Rattle.bundle_bounds.specs.Offers.{Offer}
 use Rattle.bundle_bounds.specs.Opens.{budget_left, credits_left, courses_left, open_places, prospects}
 use Rattle.bundle_bounds.specs.Bounds.{base_of, all_bounds, bounds, Closes, NoneCloses, IsFirstClosing}
 use Rattle.bundle_bounds.specs.Limits.{NoneBelow, IsFirstBelow}
-use Rattle.bundle_bounds.specs.Ahead.{is_ahead, limit_of}
-use Rattle.bundle_bounds.proofs.FirstDifference.{ahead_to, ahead_from}
+use Rattle.bundle_rules.specs.Ahead.{is_ahead}
+use Rattle.bundle_rules.proofs.FirstDifference.{ahead_to, ahead_from}
+use Rattle.bundle_bounds.specs.Ahead.{limit_of}
 use Rattle.bundle_bounds.proofs.Outlook.{rest_whole}
 
 pub rest_of_room : (room : List Prospect) (s : ℕ) → length room ≡ 60 → take (60 - s) (drop s room) ≡ drop s room
@@ -28,14 +29,14 @@ module _ (offer : Offer) (k : ℕ) (cs ch : List ℕ) (up : IsAscending ch) (up'
   abbrev pub limit : ℤ
   limit = limit_of (utility (by_place offer.menu) ch) (is_ahead k ch cs)
 
-  below_closes : (b : ℤ) → b <ℤ limit → Closes offer k cs ch b
+  pub below_closes : (b : ℤ) → b <ℤ limit → Closes offer k cs ch b
   below_closes b below =
       elim (cases_Bool (is_ahead k ch cs)) [
         | inl ahead ↦ inr (rw ahead at below, ahead_to k ch cs up up' low ahead)
         | inr behind ↦ inl (rw behind at below)
       ]
 
-  closes_below : (b : ℤ) → Closes offer k cs ch b → b <ℤ limit
+  pub closes_below : (b : ℤ) → Closes offer k cs ch b → b <ℤ limit
   closes_below b (inl low_) =
       let u : ℤ = utility (by_place offer.menu) ch in
       let low' : b <ℤ (pos 1000 *ℤ u) = low_ in
@@ -45,14 +46,14 @@ module _ (offer : Offer) (k : ℕ) (cs ch : List ℕ) (up : IsAscending ch) (up'
       ]
   closes_below b (inr both) = rw (ahead_from k ch cs up up' low both.1) both.0
 
-  first_closing : (bs : List (Leaf × ℤ)) (leaf : Leaf) → IsFirstBelow limit bs leaf → IsFirstClosing offer k cs ch bs leaf
-  first_closing [] leaf first = first
-  first_closing (b ∷ bs) leaf (inl here) = inl (below_closes b.1 here.0, here.1)
-  first_closing (b ∷ bs) leaf (inr later) = inr ((λ closes. later.0 (closes_below b.1 closes)), first_closing bs leaf later.1)
+  pub first_to : (bs : List (Leaf × ℤ)) (leaf : Leaf) → IsFirstBelow limit bs leaf → IsFirstClosing offer k cs ch bs leaf
+  first_to [] leaf first = first
+  first_to (b ∷ bs) leaf (inl here) = inl (below_closes b.1 here.0, here.1)
+  first_to (b ∷ bs) leaf (inr later) = inr ((λ closes. later.0 (closes_below b.1 closes)), first_to bs leaf later.1)
 
-  none_closing : (bs : List (Leaf × ℤ)) → NoneBelow limit bs → NoneCloses offer k cs ch bs
-  none_closing [] none = tt
-  none_closing (b ∷ bs) none = ((λ closes. none.0 (closes_below b.1 closes)), none_closing bs none.1)
+  pub none_to : (bs : List (Leaf × ℤ)) → NoneBelow limit bs → NoneCloses offer k cs ch bs
+  none_to [] none = tt
+  none_to (b ∷ bs) none = ((λ closes. none.0 (closes_below b.1 closes)), none_to bs none.1)
 
   module _ (base most : ℤ) (budget credits courses : ℕ) (ps : List Prospect) (base_is : base ≡ base_of offer cs) (most_is : most ≡ limit) (budget_is : budget ≡ budget_left offer cs) (credits_is : credits ≡ credits_left offer cs)
       (courses_is : courses ≡ courses_left offer cs) (ps_is : ps ≡ prospects offer cs (open_places offer k cs)) where
@@ -61,8 +62,8 @@ module _ (offer : Offer) (k : ℕ) (cs ch : List ℕ) (up : IsAscending ch) (up'
 
     pub some_closes : (r : Option Leaf) → IfSome r (IsFirstBelow most (all_bounds base budget credits courses ps)) → IfSome r (IsFirstClosing offer k cs ch (bounds offer k cs))
     some_closes None h = h
-    some_closes (Some leaf) h = first_closing (bounds offer k cs) leaf (subst (λ l. IsFirstBelow l (bounds offer k cs) leaf) most_is (subst (λ bs. IsFirstBelow most bs leaf) same_bounds h))
+    some_closes (Some leaf) h = first_to (bounds offer k cs) leaf (subst (λ l. IsFirstBelow l (bounds offer k cs) leaf) most_is (subst (λ bs. IsFirstBelow most bs leaf) same_bounds h))
 
     pub none_closes : (r : Option Leaf) → IfNone r (NoneBelow most (all_bounds base budget credits courses ps)) → IfNone r (NoneCloses offer k cs ch (bounds offer k cs))
-    none_closes None h = none_closing (bounds offer k cs) (subst (λ l. NoneBelow l (bounds offer k cs)) most_is (subst (NoneBelow most) same_bounds h))
+    none_closes None h = none_to (bounds offer k cs) (subst (λ l. NoneBelow l (bounds offer k cs)) most_is (subst (NoneBelow most) same_bounds h))
     none_closes (Some leaf) h = h

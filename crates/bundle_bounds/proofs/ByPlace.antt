@@ -1,6 +1,6 @@
 -- Bundles by their places on the menu.
 use Rattle.std.proofs.Common.{◌≡◌, ℕ, zero, suc, ◌+◌, ◌<◌, Bool, true, false, ◌==◌, List, [], ◌∷◌, length, map, refl, sym, ap, ◌∙◌, arith, inl, inr}
-use Rattle.std.proofs.lemmas.Bool.{cases_order, false≢true}
+use Rattle.std.proofs.lemmas.Bool.{false≢true}
 use Rattle.std.proofs.lemmas.List.{length-map}
 use Rattle.std.proofs.lemmas.Bool.Decides.{nat_tests}
 use Rattle.market_lists.specs.Totals.{total}
@@ -9,50 +9,20 @@ use Rattle.bundle_rules.specs.Existence.Members.{has-here, has-there, has-cases,
 use Rattle.bundle_rules.specs.declared.menu.Rated.{Rated}
 use Rattle.bundle_rules.specs.Menus.{IsMenu, section_at, place_in, wishes_of, by_place}
 use Rattle.bundle_rules.specs.Existence.Places.{section_at-place_in, rated_on_menu}
-use Rattle.bundle_rules.proofs.Feasibility.{credits_by_place}
+use Rattle.bundle_rules.proofs.Feasibility.{credits_by_place, section_has}
+use Rattle.bundle_rules.proofs.PlacesFirst.{AllOnMenu, place_in-rises}
 use Rattle.bundle_bounds.specs.Offers.{Offer, price_at, allowed_at, places_of}
 use Rattle.bundle_bounds.specs.Laws.{IsTakable}
 use Rattle.bundle_bounds.proofs.Openness.{MayBeTaken}
-
--- the sections of a menu, by place
-sections : List Rated → List ℕ
-sections places = map (λ rated. rated.section.0) places
-
-section_at-has : (places : List Rated) (j : ℕ) → j < length places → has (map (λ rated. rated.section.0) places) (section_at places j) ≡ true
-section_at-has [] j low = absurd (omega arith)
-section_at-has (rated ∷ places) zero low = has-here rated.section.0 (map (λ r. r.section.0) places)
-section_at-has (rated ∷ places) (suc j) low = has-there rated.section.0 (map (λ r. r.section.0) places) (section_at places j) (section_at-has places j (omega arith))
-
--- a later place has a later section
-pub section_at-rises : (places : List Rated) (i j : ℕ) → IsAscending (map (λ rated. rated.section.0) places) → i < j → j < length places → section_at places i < section_at places j
-section_at-rises [] i j up rises low = absurd (omega arith)
-section_at-rises (rated ∷ places) i zero up rises low = absurd (omega arith)
-section_at-rises (rated ∷ places) zero (suc j) up rises low = has-above rated.section.0 (map (λ r. r.section.0) places) (section_at places j) up.0 (section_at-has places j (omega arith))
-section_at-rises (rated ∷ places) (suc i) (suc j) up rises low = section_at-rises places i j up.1 (omega arith) (omega arith)
 
 -- the place of the section at a place is that place
 pub place_in-section_at : (places : List Rated) (j : ℕ) → IsAscending (map (λ rated. rated.section.0) places) → j < length places → place_in places (section_at places j) ≡ j
 place_in-section_at [] j up low = absurd (omega arith)
 place_in-section_at (rated ∷ places) zero up low = let same : (rated.section.0 == rated.section.0) ≡ true = grind (arith, nat_tests) in rw same refl
 place_in-section_at (rated ∷ places) (suc j) up low =
-    let above : rated.section.0 < section_at places j = has-above rated.section.0 (map (λ r. r.section.0) places) (section_at places j) up.0 (section_at-has places j (omega arith)) in
+    let above : rated.section.0 < section_at places j = has-above rated.section.0 (map (λ r. r.section.0) places) (section_at places j) up.0 (section_has places j (omega arith)) in
     let other : (rated.section.0 == section_at places j) ≡ false = grind (arith, nat_tests) in
     rw other (ap suc (place_in-section_at places j up.1 (omega arith)))
-
--- each of these sections is on the menu
-abbrev pub AllOnMenu : List Rated → List ℕ → Type 0
-AllOnMenu places ss = (s : ℕ) → has ss s ≡ true → place_in places s < length places
-
--- a later section has a later place
-pub place_in-rises : (places : List Rated) (s t : ℕ) → IsAscending (map (λ rated. rated.section.0) places) → place_in places s < length places → place_in places t < length places → s < t → place_in places s < place_in places t
-place_in-rises places s t up on on' rises =
-    let first : section_at places (place_in places s) ≡ s = section_at-place_in places s on in
-    let second : section_at places (place_in places t) ≡ t = section_at-place_in places t on' in
-    elim (cases_order (place_in places s) (place_in places t)) [
-      | inl same ↦ let e : section_at places (place_in places s) ≡ section_at places (place_in places t) = ap (section_at places) same in absurd (omega arith)
-      | inr (inl below) ↦ below
-      | inr (inr above) ↦ let e : section_at places (place_in places t) < section_at places (place_in places s) = section_at-rises places (place_in places t) (place_in places s) up above on in absurd (omega arith)
-    ]
 
 -- a place of the bundle is that of one of its sections
 pub has-places : (places : List Rated) (ss : List ℕ) (p : ℕ) → has (map (place_in places) ss) p ≡ true → (s : ℕ) × (has ss s ≡ true) × (place_in places s ≡ p)

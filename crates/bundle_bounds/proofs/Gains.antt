@@ -9,7 +9,7 @@ use Rattle.bundle_rules.specs.Menus.{by_place, adjustment_in}
 use Rattle.bundle_bounds.specs.Offers.{Offer}
 use Rattle.bundle_bounds.specs.Opens.{above_zero, addition, hopes, weight, prospects}
 
-at_most_above : (z : ℤ) → z ≤ℤ pos (above_zero z)
+pub at_most_above : (z : ℤ) → z ≤ℤ pos (above_zero z)
 at_most_above (pos n) = omega (arith, ints)
 at_most_above (negsuc n) = omega (arith, ints)
 
@@ -33,7 +33,7 @@ module _ (w : Wishes) where
   gain cs [] = pos 0
   gain cs (d ∷ ds) = (adds cs d +ℤ adjustments w d ds) +ℤ gain cs ds
 
-  gain-more : (c : ℕ) (cs ds : List ℕ) → gain (c ∷ cs) ds ≡ adjustments w c ds +ℤ gain cs ds
+  pub gain-more : (c : ℕ) (cs ds : List ℕ) → gain (c ∷ cs) ds ≡ adjustments w c ds +ℤ gain cs ds
   gain-more c cs [] = omega (arith, ints)
   gain-more c cs (d ∷ ds) =
       let rest = gain-more c cs ds in

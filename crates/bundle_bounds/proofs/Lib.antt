@@ -7,7 +7,12 @@ pub mod Soundness
 pub mod Prices
 pub mod Outlook
 pub mod Limits
-pub mod FirstDifference
 pub mod BelowLimit
 pub mod LeafBounds
 pub mod NodeFacts
+pub mod ClosesSoundly
+pub mod FirstClosing
+pub mod Openings
+pub mod Lines
+pub mod LeafPlaces
+pub mod Knowing

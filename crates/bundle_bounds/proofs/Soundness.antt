@@ -113,7 +113,7 @@ places_sound offer k cs ds menu may low high =
     all_sound offer cs (pos 1000 *ℤ u) (prospects offer cs opens) bs apart reached (fits_of offer cs bs opens ds same may)
 
 -- the same members below k
-same_below : (offer : Offer) (k : ℕ) (chosen_ bundle : List ℕ) → IsMenu offer.menu → IsTakable offer chosen_ → IsTakable offer bundle → Completes offer k chosen_ bundle → (p : ℕ) → p < k → has (places_of offer.menu bundle) p ≡ has (places_of offer.menu chosen_) p
+pub same_below : (offer : Offer) (k : ℕ) (chosen_ bundle : List ℕ) → IsMenu offer.menu → IsTakable offer chosen_ → IsTakable offer bundle → Completes offer k chosen_ bundle → (p : ℕ) → p < k → has (places_of offer.menu bundle) p ≡ has (places_of offer.menu chosen_) p
 same_below offer k chosen_ bundle menu may may' completes p low =
     let places = offer.menu.places in
     elim (cases_lt p (length places)) [

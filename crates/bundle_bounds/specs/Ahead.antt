@@ -1,11 +1,17 @@
--- Whether the first difference of two ascending lists of places is the champion's.
-use Rattle.std.specs.Prelude.{ℕ, ℤ, pos, ◌+ℤ◌, ◌*ℤ◌, ◌==◌, nat_lt, if◌then◌else◌, Bool, false, List, [], ◌∷◌}
-
-abbrev pub is_ahead : ℕ → List ℕ → List ℕ → Bool
-is_ahead k [] chosen = false
-is_ahead k (p ∷ ps) [] = nat_lt p k
-is_ahead k (p ∷ ps) (c ∷ cs) = if p == c then is_ahead k ps cs else nat_lt p c
+-- The first bound that closes a node, as a value.
+use Rattle.std.specs.Prelude.{ℕ, ℤ, pos, ◌+ℤ◌, ◌*ℤ◌, if◌then◌else◌, Bool, Option, List}
+use Rattle.bundle_rules.specs.Ahead.{is_ahead}
+use Rattle.bundle_rules.specs.Wishes.{utility}
+use Rattle.bundle_rules.specs.Menus.{by_place}
+use Rattle.bundle_bounds.specs.declared.nodes.Leaf.{Leaf}
+use Rattle.bundle_bounds.specs.Offers.{Offer}
+use Rattle.bundle_bounds.specs.Bounds.{bounds}
+use Rattle.bundle_bounds.specs.Limits.{first_below}
 
 -- the number below which a bound closes a node, for a champion of this utility, and whether it is ahead
 abbrev pub limit_of : ℤ → Bool → ℤ
 limit_of most ahead = if ahead then pos 1000 *ℤ (most +ℤ pos 1) else pos 1000 *ℤ most
+
+-- the leaf of the first bound that closes a node for a champion, `None` where none does: the law of the first closing bound says so
+abbrev pub first_closing : Offer → ℕ → List ℕ → List ℕ → Option Leaf
+first_closing offer k chosen champion = first_below (limit_of (utility (by_place offer.menu) champion) (is_ahead k champion chosen)) (bounds offer k chosen)

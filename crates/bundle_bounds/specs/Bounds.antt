@@ -1,6 +1,6 @@
 -- The bounds at a node, in their order: each a number above 1000 times the utility of what can still be reached.
-use Rattle.std.specs.Prelude.{ℕ, ◌+◌, ◌*◌, ◌-◌, ◌/◌, ◌<◌, ℤ, pos, ◌+ℤ◌, ◌*ℤ◌, ◌<ℤ◌, ◌≡◌, ◌⊎◌, ◌&&◌, nat_lt, if◌then◌else◌, true, false, ⊤, List, [], ◌∷◌, ◌++◌}
-use Rattle.bundle_rules.specs.Sets.{has}
+use Rattle.std.specs.Prelude.{ℕ, ◌+◌, ◌*◌, ◌-◌, ◌/◌, ℤ, pos, ◌+ℤ◌, ◌*ℤ◌, ◌<ℤ◌, ◌≡◌, ◌⊎◌, ◌&&◌, nat_lt, if◌then◌else◌, ⊤, List, [], ◌∷◌, ◌++◌}
+use Rattle.bundle_rules.specs.Ahead.{IsAhead}
 use Rattle.bundle_rules.specs.Wishes.{utility}
 use Rattle.bundle_rules.specs.Menus.{by_place}
 use Rattle.bundle_bounds.specs.declared.nodes.Leaf.{Leaf}
@@ -50,11 +50,8 @@ bounds_over offer chosen ps = all_bounds (base_of offer chosen) (left_of offer c
 abbrev pub bounds : Offer → ℕ → List ℕ → List (Leaf × ℤ)
 bounds offer k chosen = bounds_over offer chosen (prospects offer chosen (open_places offer k chosen))
 
--- the first decided place on which the champion and the chosen ones differ is the champion's
-abbrev pub IsAhead : ℕ → List ℕ → List ℕ → Type 0
-IsAhead k champion chosen = (place : ℕ) × (place < k) × (has champion place ≡ true) × (has chosen place ≡ false) × ((t : ℕ) → t < place → has champion t ≡ has chosen t)
-
--- the bound closes the node: nothing that can still be reached has the champion's utility, or more than it where the champion is ahead
+-- the bound closes the node: nothing that can still be reached has the champion's utility, or more than it where the first decided place on which the
+-- champion and the chosen ones differ is the champion's
 abbrev pub Closes : Offer → ℕ → List ℕ → List ℕ → ℤ → Type 0
 Closes offer k chosen champion bound = (bound <ℤ (pos 1000 *ℤ utility (by_place offer.menu) champion))
     ⊎ ((bound <ℤ (pos 1000 *ℤ (utility (by_place offer.menu) champion +ℤ pos 1))) × IsAhead k champion chosen)

@@ -1,4 +1,4 @@
--- The law of the bounds.
+-- Nodes, and the soundness of their bounds.
 use Rattle.std.specs.Prelude.{ℕ, ◌<◌, ℤ, pos, ◌*ℤ◌, ◌≤ℤ◌, ◌≡◌, true, ⊤, List, [], ◌∷◌, length}
 use Rattle.bundle_rules.specs.Sets.{has}
 use Rattle.bundle_rules.specs.Wishes.{utility}

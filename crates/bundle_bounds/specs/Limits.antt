@@ -1,5 +1,5 @@
 -- Bounds below a limit.
-use Rattle.std.specs.Prelude.{ℤ, ◌<ℤ◌, ◌≡◌, ◌⊎◌, ⊤, List, [], ◌∷◌}
+use Rattle.std.specs.Prelude.{ℤ, ◌<ℤ◌, int_lt, if◌then◌else◌, ◌≡◌, ◌⊎◌, ⊤, Option, None, Some, List, [], ◌∷◌}
 use Rattle.bundle_bounds.specs.declared.nodes.Leaf.{Leaf}
 
 -- none of these is below the limit
@@ -11,3 +11,8 @@ NoneBelow limit (b ∷ bs) = (¬ (b.1 <ℤ limit)) × NoneBelow limit bs
 abbrev pub IsFirstBelow : ℤ → List (Leaf × ℤ) → Leaf → Type 0
 IsFirstBelow limit [] leaf = ⊥
 IsFirstBelow limit (b ∷ bs) leaf = ((b.1 <ℤ limit) × (b.0 ≡ leaf)) ⊎ ((¬ (b.1 <ℤ limit)) × IsFirstBelow limit bs leaf)
+
+-- that leaf as a value
+abbrev pub first_below : ℤ → List (Leaf × ℤ) → Option Leaf
+first_below limit [] = None
+first_below limit (b ∷ bs) = if int_lt b.1 limit then Some b.0 else first_below limit bs

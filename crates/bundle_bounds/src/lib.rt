@@ -1,14 +1,16 @@
 //! What can at most still be reached from a node of the search for a best bundle.
 #![tactic(auto)]
 
-mod ahead;
 mod closing;
+mod known;
 pub mod laws;
 mod nodes;
 mod opens;
+mod places;
 mod prospects;
 
 pub use nodes::{Leaf, Node, bound, bound_closes, is_open};
+pub use places::{adjustments_with, is_apart, price_of_place};
 
 #[cfg(test)]
 mod tests;

@@ -8,14 +8,14 @@ ghost use Rattle.bundle_rules.specs.Bundles.{sections_of};
 ghost use Rattle.bundle_bounds.specs.Offers.{offer_of, places_of};
 ghost use Rattle.bundle_bounds.specs.Opens.{is_open};
 ghost use Rattle.bundle_bounds.specs.Bounds.{bounds, HasBound, IsFirstClosing, NoneCloses};
-ghost use Rattle.bundle_bounds.specs.Ahead.{is_ahead, limit_of};
+ghost use Rattle.bundle_rules.specs.Ahead.{is_ahead};
+ghost use Rattle.bundle_bounds.specs.Ahead.{limit_of, first_closing};
 ghost use Rattle.bundle_bounds.specs.Laws.{IsNode};
 
-use crate::ahead::is_ahead;
 use crate::closing::{bound_of, first_below};
-use crate::opens::{Places, collect, is_open_at, rests_of};
+use crate::opens::{collect, is_open_at, rests_of};
 use crate::prospects::NO_PROSPECTS;
-use bundle_rules::{Bundle, Menu, utility};
+use bundle_rules::{Bundle, Menu, Places, is_ahead, utility};
 use market_units::{SectionSet, Tokens};
 
 /// A node: the places below `place` are decided, and of them those of `chosen` are taken.
@@ -99,6 +99,7 @@ pub fn bound_closes(
     requires champion { IsFeasible (wishes_of menu.now) (sections_of champion.now) }
     ensures first { IfSome result (IsFirstClosing (offer_of menu.now prices.now budget.0 allowed.now) node.now.place (places_of menu.now (sections_of node.now.chosen)) (places_of menu.now (sections_of champion.now))
         (bounds (offer_of menu.now prices.now budget.0 allowed.now) node.now.place (places_of menu.now (sections_of node.now.chosen)))) }
+    ensures value { result ≡ first_closing (offer_of menu.now prices.now budget.0 allowed.now) node.now.place (places_of menu.now (sections_of node.now.chosen)) (places_of menu.now (sections_of champion.now)) }
     ensures none { IfNone result (NoneCloses (offer_of menu.now prices.now budget.0 allowed.now) node.now.place (places_of menu.now (sections_of node.now.chosen)) (places_of menu.now (sections_of champion.now))
         (bounds (offer_of menu.now prices.now budget.0 allowed.now) node.now.place (places_of menu.now (sections_of node.now.chosen)))) }
 {

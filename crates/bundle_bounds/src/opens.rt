@@ -3,47 +3,18 @@ ghost use Rattle.std.specs.Prelude.{◌≡◌, ◌<◌, ◌≤◌, ◌-◌, ◌+
 ghost use Rattle.std.specs.List.{list_all};
 ghost use Rattle.std.specs.Ordering.{nat_cmp};
 ghost use Rattle.std.specs.FinSet as set;
-ghost use Rattle.market_lists.specs.Totals.{total, signed_total};
+ghost use Rattle.market_lists.specs.Totals.{total};
 ghost use Rattle.bundle_rules.specs.Demand.{price_in, HasPrices};
-ghost use Rattle.bundle_rules.specs.Menus.{section_at, credits_at, adjustment_in, clash_in, place_in, IsMenu};
+ghost use Rattle.bundle_rules.specs.Menus.{section_at, credits_at, adjustment_in, clash_in, IsMenu};
 ghost use Rattle.bundle_rules.specs.Bundles.{sections_of};
-ghost use Rattle.bundle_bounds.specs.Offers.{offer_of, price_at, AreOnMenu, places_of};
-ghost use Rattle.bundle_bounds.specs.Opens.{budget_left, credits_left, courses_left, is_apart, is_open, opens_from, addition, hopes, prospect, prospects, first_of_course, above_zero};
+ghost use Rattle.bundle_bounds.specs.Offers.{offer_of, AreOnMenu, places_of};
+ghost use Rattle.bundle_bounds.specs.Opens.{budget_left, credits_left, courses_left, opens_from, hopes, prospect, prospects, first_of_course, above_zero};
 ghost use Rattle.bundle_bounds.specs.Modest.{IsModest};
 
+use crate::places::{adjustments_with, is_apart, price_of_place};
 use crate::prospects::Prospect;
-use bundle_rules::{Bundle, Menu, Rated};
+use bundle_rules::{Menu, Rated};
 use market_units::{SectionSet, Tokens};
-
-/// The places of a bundle's sections.
-#[derive(Clone, Copy)]
-pub(crate) struct Places {
-    places: [u8; 8],
-    len: usize,
-    ghost short: { len ≤ 8 },
-}
-
-impl Places {
-    pub(crate) fn of(menu: &Menu, bundle: &Bundle) -> Places
-        ensures { take result.len result.places ≡ places_of menu.now (sections_of bundle.now) }
-    {
-        let mut places = [0; 8];
-        for (i, section) in bundle.sections().iter().enumerate() {
-            places[i] = menu.place(*section);
-        }
-        Places {
-            places,
-            len: bundle.sections().len(),
-        }
-    }
-
-    pub(crate) fn as_slice(&self) -> &[u8]
-        ensures value { result.now ≡ take self.now.len self.now.places }
-        ensures few { length result.now ≤ 8 }
-    {
-        &self.places[..self.len]
-    }
-}
 
 /// What the chosen places leave of each resource.
 #[derive(Clone, Copy)]
@@ -68,15 +39,6 @@ pub(crate) fn rests_of(menu: &Menu, prices: &[Tokens], budget: Tokens, chosen: &
     }
 }
 
-fn price_of_place(menu: &Menu, prices: &[Tokens], place: u8) -> u32
-    requires prices { HasPrices menu.now prices.now }
-    requires on_menu { place < length menu.now.places }
-    ensures value { result ≡ price_in prices.now (section_at menu.now.places place) }
-    ensures high { result ≤ 1000001 }
-{
-    prices[usize::from(menu.rated(place).section.0)].0
-}
-
 fn price_of(menu: &Menu, prices: &[Tokens], chosen: &[u8]) -> u32
     requires prices { HasPrices menu.now prices.now }
     requires on_menu { AreOnMenu menu.now chosen.now }
@@ -99,32 +61,6 @@ fn credits_of(menu: &Menu, chosen: &[u8]) -> u32
     match chosen {
         [] => 0,
         [place, more @ ..] => u32::from(menu.rated(*place).credits) + credits_of(menu, more),
-    }
-}
-
-// Whether the place clashes with none of the chosen ones.
-fn is_apart(menu: &Menu, chosen: &[u8], place: u8) -> bool
-    requires on_menu { AreOnMenu menu.now chosen.now }
-    requires place { place < length menu.now.places }
-    ensures { result ≡ list_all (λ other. not (clash_in menu.now.clashes place other)) chosen.now }
-{
-    chosen.iter().all(|other| !menu.clash(place, *other))
-}
-
-// What a place adds to the chosen ones by adjustments.
-fn adjustments_with(menu: &Menu, chosen: &[u8], place: u8) -> i32
-    requires on_menu { AreOnMenu menu.now chosen.now }
-    requires place { place < length menu.now.places }
-    requires few { length chosen.now ≤ 8 }
-    ensures value { result ≡ signed_total (λ other. adjustment_in menu.now.pairs other place) chosen.now }
-    ensures low { neg_ℤ (pos (200 * length chosen.now)) ≤ℤ result }
-    ensures high { result ≤ℤ pos (200 * length chosen.now) }
-{
-    match chosen {
-        [] => 0,
-        [other, more @ ..] => {
-            i32::from(menu.adjustment(*other, place)) + adjustments_with(menu, more, place)
-        }
     }
 }
 

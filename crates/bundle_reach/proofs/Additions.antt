@@ -1,7 +1,7 @@
 -- What places add to chosen ones is at most what is hoped for and their values with what is paid.
 use Rattle.std.proofs.Common.{◌≡◌, ℕ, zero, suc, ◌+◌, ◌*◌, ◌-◌, ◌≤◌, ◌<◌, true, List, [], ◌∷◌, length, sym, subst, arith, inl, inr}
 use Rattle.std.proofs.Math.Nat.{mul-add, mul-le-mul_left}
-use Rattle.std.specs.Prelude.{ℤ, pos, negsuc, ◌+ℤ◌, ◌≤ℤ◌}
+use Rattle.std.specs.Prelude.{ℤ, pos, ◌+ℤ◌, ◌≤ℤ◌}
 use Rattle.std.proofs.lemmas.Int.{ints}
 use Rattle.std.proofs.lemmas.Bool.{cases_order}
 use Rattle.market_lists.specs.Totals.{total, signed_total}
@@ -11,15 +11,10 @@ use Rattle.bundle_rules.specs.Existence.Members.{has-here, has-there, has-cases,
 use Rattle.bundle_rules.specs.Wishes.{adjustments}
 use Rattle.bundle_rules.specs.Menus.{by_place, adjustment_in, rating_at, credits_at}
 use Rattle.bundle_bounds.specs.Offers.{Offer, price_at}
-use Rattle.bundle_bounds.specs.Opens.{above_zero}
-use Rattle.bundle_bounds.proofs.Gains.{gain}
-use Rattle.bundle_reach.specs.declared.rates.Rates.{Rates}
+use Rattle.bundle_bounds.proofs.Gains.{at_most_above, gain, gain-more}
+use Rattle.bundle_reach.specs.declared.multipliers.Multipliers.{Multipliers}
 use Rattle.bundle_reach.specs.Covers.{AreApartFrom}
 use Rattle.bundle_reach.specs.Values.{hope, hopes_from, most_added, value}
-
-at_most_above : (z : ℤ) → z ≤ℤ pos (above_zero z)
-at_most_above (pos n) = omega (arith, ints)
-at_most_above (negsuc n) = omega (arith, ints)
 
 -- a sum over ascending places of a range is at most that of what is above zero over the whole range
 within_range : (f : ℕ → ℤ) (h : ℕ → ℕ) (first count : ℕ) (ps : List ℕ) → IsAscending ps → ((p : ℕ) → has ps p ≡ true → first ≤ p) → ((p : ℕ) → has ps p ≡ true → p < first + count) → ((p : ℕ) → has ps p ≡ true → f p ≤ℤ pos (h p))
@@ -81,21 +76,6 @@ module _ (offer : Offer) where
       let r : ℕ = rating_at offer.menu.places d in
       let goal : (((pos r +ℤ pos 0) +ℤ x) +ℤ g) ≤ℤ pos ((r + h) + t) = omega (arith, ints) in goal
 
-  gain_more : (c : ℕ) (cs ds : List ℕ) → gain (by_place offer.menu) (c ∷ cs) ds ≡ adjustments (by_place offer.menu) c ds +ℤ gain (by_place offer.menu) cs ds
-  gain_more c cs [] = omega (arith, ints)
-  gain_more c cs (d ∷ ds) =
-      let w = by_place offer.menu in
-      let rest = gain_more c cs ds in
-      let g : ℤ = gain w (c ∷ cs) ds in
-      let h : ℤ = gain w cs ds in
-      let a : ℤ = adjustments w c ds in
-      let rest' : g ≡ a +ℤ h = rest in
-      let r : ℤ = pos (w.rating d) in
-      let x : ℤ = w.adjustment c d in
-      let s : ℤ = signed_total (λ t. w.adjustment t d) cs in
-      let e : ℤ = adjustments w d ds in
-      let goal : ((r +ℤ (x +ℤ s)) +ℤ e) +ℤ g ≡ (x +ℤ a) +ℤ (((r +ℤ s) +ℤ e) +ℤ h) = omega (arith, ints) in goal
-
   own_hope : (k c : ℕ) (ds : List ℕ) → AreApartFrom offer k ds → adjustments (by_place offer.menu) c ds ≤ℤ pos (hopes_from offer k c)
   unfolding by_place
   own_hope k c ds free = adjustments_hope k c ds free
@@ -112,7 +92,7 @@ module _ (offer : Offer) where
       let g : ℤ = gain (by_place offer.menu) (c ∷ cs) ds in
       let h : ℤ = gain (by_place offer.menu) cs ds in
       let a : ℤ = adjustments (by_place offer.menu) c ds in
-      let e : g ≡ a +ℤ h = gain_more c cs ds in
+      let e : g ≡ a +ℤ h = gain-more (by_place offer.menu) c cs ds in
       let s : ℕ = total (hopes_from offer k) cs in
       let t : ℕ = total (most_added offer) ds in
       let rest' : h ≤ℤ pos (s + t) = rest in
@@ -121,33 +101,33 @@ module _ (offer : Offer) where
       let goal : g ≤ℤ pos ((x + s) + t) = omega (arith, ints) in goal
 
   -- and the most that each can add is its value with what is paid for it
-  most_added_paid : (rates : Rates) (ds : List ℕ) → 1000000 * total (most_added offer) ds ≤ total (value offer rates) ds + (rates.money * total (price_at offer) ds + rates.load * total (credits_at offer.menu.places) ds)
-  most_added_paid rates [] = omega arith
-  most_added_paid rates (d ∷ ds) =
-      let rest = most_added_paid rates ds in
+  most_added_paid : (multipliers : Multipliers) (ds : List ℕ) → 1000000 * total (most_added offer) ds ≤ total (value offer multipliers) ds + (multipliers.money * total (price_at offer) ds + multipliers.credits * total (credits_at offer.menu.places) ds)
+  most_added_paid multipliers [] = omega arith
+  most_added_paid multipliers (d ∷ ds) =
+      let rest = most_added_paid multipliers ds in
       let a : ℕ = total (most_added offer) ds in
-      let v : ℕ = total (value offer rates) ds in
-      let p : ℕ = rates.money * total (price_at offer) ds in
-      let l : ℕ = rates.load * total (credits_at offer.menu.places) ds in
+      let v : ℕ = total (value offer multipliers) ds in
+      let p : ℕ = multipliers.money * total (price_at offer) ds in
+      let l : ℕ = multipliers.credits * total (credits_at offer.menu.places) ds in
       let rest' : 1000000 * a ≤ v + (p + l) = rest in
       let b : ℕ = most_added offer d in
-      let q : ℕ = rates.money * price_at offer d in
-      let m : ℕ = rates.load * credits_at offer.menu.places d in
-      let first : rates.money * (price_at offer d + total (price_at offer) ds) ≡ q + p = mul-add rates.money (price_at offer d) (total (price_at offer) ds) in
-      let second : rates.load * (credits_at offer.menu.places d + total (credits_at offer.menu.places) ds) ≡ m + l = mul-add rates.load (credits_at offer.menu.places d) (total (credits_at offer.menu.places) ds) in
+      let q : ℕ = multipliers.money * price_at offer d in
+      let m : ℕ = multipliers.credits * credits_at offer.menu.places d in
+      let first : multipliers.money * (price_at offer d + total (price_at offer) ds) ≡ q + p = mul-add multipliers.money (price_at offer d) (total (price_at offer) ds) in
+      let second : multipliers.credits * (credits_at offer.menu.places d + total (credits_at offer.menu.places) ds) ≡ m + l = mul-add multipliers.credits (credits_at offer.menu.places d) (total (credits_at offer.menu.places) ds) in
       rw (first, second) (let goal : 1000000 * (b + a) ≤ ((1000000 * b - (q + m)) + v) + ((q + p) + (m + l)) = omega arith in goal)
 
   -- within what is left of the budget and of the credits
-  pub most_added_within : (rates : Rates) (ds : List ℕ) (budget credits : ℕ) → total (price_at offer) ds ≤ budget → total (credits_at offer.menu.places) ds ≤ credits
-      → 1000000 * total (most_added offer) ds ≤ total (value offer rates) ds + (rates.money * budget + rates.load * credits)
-  most_added_within rates ds budget credits affordable fits =
+  pub most_added_within : (multipliers : Multipliers) (ds : List ℕ) (budget credits : ℕ) → total (price_at offer) ds ≤ budget → total (credits_at offer.menu.places) ds ≤ credits
+      → 1000000 * total (most_added offer) ds ≤ total (value offer multipliers) ds + (multipliers.money * budget + multipliers.credits * credits)
+  most_added_within multipliers ds budget credits affordable fits =
       let a : ℕ = total (most_added offer) ds in
-      let v : ℕ = total (value offer rates) ds in
-      let p : ℕ = rates.money * total (price_at offer) ds in
-      let l : ℕ = rates.load * total (credits_at offer.menu.places) ds in
-      let paid : 1000000 * a ≤ v + (p + l) = most_added_paid rates ds in
-      let b : ℕ = rates.money * budget in
-      let c : ℕ = rates.load * credits in
-      let first : p ≤ b = mul-le-mul_left rates.money affordable in
-      let second : l ≤ c = mul-le-mul_left rates.load fits in
+      let v : ℕ = total (value offer multipliers) ds in
+      let p : ℕ = multipliers.money * total (price_at offer) ds in
+      let l : ℕ = multipliers.credits * total (credits_at offer.menu.places) ds in
+      let paid : 1000000 * a ≤ v + (p + l) = most_added_paid multipliers ds in
+      let b : ℕ = multipliers.money * budget in
+      let c : ℕ = multipliers.credits * credits in
+      let first : p ≤ b = mul-le-mul_left multipliers.money affordable in
+      let second : l ≤ c = mul-le-mul_left multipliers.credits fits in
       let goal : 1000000 * a ≤ v + (b + c) = omega arith in goal

@@ -1,5 +1,5 @@
 -- Where less can be reached from a node than its champion's utility, the champion is as good as all that completes it.
-use Rattle.std.proofs.Common.{◌≡◌, ◌≤◌, ◌<◌, ℕ, true, List, [], ◌∷◌, length, refl, sym, ◌∙◌, ap, subst, inl, inr, arith}
+use Rattle.std.proofs.Common.{◌≡◌, ◌≤◌, ◌<◌, ℕ, Bool, true, List, [], ◌∷◌, length, refl, sym, ◌∙◌, ap, subst, inl, inr, arith}
 use Rattle.std.specs.Prelude.{ℤ, pos, ◌+ℤ◌, ◌-ℤ◌, ◌*ℤ◌, ◌<ℤ◌, ◌≤ℤ◌, ◌^◌}
 use Rattle.std.proofs.lemmas.Int.{ints}
 use Rattle.market_lists.specs.Totals.{total}
@@ -12,13 +12,13 @@ use Rattle.bundle_bounds.specs.Offers.{Offer, places_of}
 use Rattle.bundle_reach.specs.Values.{hopes_from}
 use Rattle.bundle_reach.specs.Covers.{IsAdded}
 use Rattle.bundle_reach.specs.Reaches.{number_at, HoldsHopes}
-use Rattle.bundle_reach.specs.Closings.{MayClose, ComesFirst}
+use Rattle.bundle_bounds.specs.Closings.{MayClose, ComesFirst}
 
-module _ (offer : Offer) (k : ℕ) (chosen champion : List ℕ) (added : ℤ) (is : IsAdded offer k chosen added) where
+module _ (offer : Offer) (wanted : List ℕ → Bool) (k : ℕ) (chosen champion : List ℕ) (added : ℤ) (is : IsAdded offer k chosen added) where
   -- less than the champion has can be reached
   pub less_closes : (hopes : ℕ) (u worth lacking : ℤ) → u ≡ utility (by_place offer.menu) (places_of offer.menu chosen) → hopes ≡ total (hopes_from offer k) (places_of offer.menu chosen) → worth ≡ utility (wishes_of offer.menu) champion
-      → lacking ≡ (worth -ℤ u) -ℤ pos hopes → lacking ≤ℤ pos (2 ^ 34) → added <ℤ (pos 1000000 *ℤ lacking) → MayClose offer k chosen champion
-  less_closes hopes u worth lacking u_is hopes_are worth_is lacks high below bundle may completes =
+      → lacking ≡ (worth -ℤ u) -ℤ pos hopes → lacking ≤ℤ pos (2 ^ 34) → added <ℤ (pos 1000000 *ℤ lacking) → MayClose offer wanted k chosen champion
+  less_closes hopes u worth lacking u_is hopes_are worth_is lacks high below bundle may is_wanted completes =
       elim (is bundle may completes) [
         | inl enough ↦ absurd (omega (arith, ints))
         | inr reached ↦
@@ -30,8 +30,8 @@ module _ (offer : Offer) (k : ℕ) (chosen champion : List ℕ) (added : ℤ) (i
 
   -- no more than the champion has can be reached, and the champion comes first
   pub no_more_closes : (hopes : ℕ) (u worth lacking : ℤ) → u ≡ utility (by_place offer.menu) (places_of offer.menu chosen) → hopes ≡ total (hopes_from offer k) (places_of offer.menu chosen) → worth ≡ utility (wishes_of offer.menu) champion
-      → lacking ≡ (worth -ℤ u) -ℤ pos hopes → lacking ≤ℤ pos (2 ^ 34) → added <ℤ (pos 1000000 *ℤ (lacking +ℤ pos 1)) → ComesFirst offer k chosen champion → MayClose offer k chosen champion
-  no_more_closes hopes u worth lacking u_is hopes_are worth_is lacks high below first bundle may completes =
+      → lacking ≡ (worth -ℤ u) -ℤ pos hopes → lacking ≤ℤ pos (2 ^ 34) → added <ℤ (pos 1000000 *ℤ (lacking +ℤ pos 1)) → ComesFirst offer k chosen champion → MayClose offer wanted k chosen champion
+  no_more_closes hopes u worth lacking u_is hopes_are worth_is lacks high below first bundle may is_wanted completes =
       elim (is bundle may completes) [
         | inl enough ↦ absurd (omega (arith, ints))
         | inr reached ↦

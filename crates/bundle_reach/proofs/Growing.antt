@@ -15,11 +15,12 @@ use Rattle.bundle_rules.specs.Existence.Places.{on_menu_rated}
 use Rattle.bundle_rules.proofs.Feasibility.{place_of_rated}
 use Rattle.bundle_bounds.specs.Offers.{places_of}
 use Rattle.bundle_bounds.proofs.Gains.{utility-append}
-use Rattle.bundle_bounds.proofs.ByPlace.{place_in-section_at, section_at-rises}
+use Rattle.bundle_rules.proofs.PlacesFirst.{section_at-rises}
+use Rattle.bundle_bounds.proofs.ByPlace.{place_in-section_at}
 use Rattle.bundle_rules.specs.Existence.Places.{section_at-place_in}
 use Rattle.bundle_reach.specs.declared.branch.Branch.{Branch}
 use Rattle.bundle_reach.specs.Branches.{chosen_of, with_next_of, AreSmallSums, IsBranch}
-use Rattle.bundle_reach.proofs.Openings.{has-last, ascending-last}
+use Rattle.bundle_bounds.proofs.Openings.{has-last, ascending-last}
 
 signed_total-map : (f : ℕ → ℤ) (g : ℕ → ℕ) (xs : List ℕ) → signed_total f (map g xs) ≡ signed_total (λ x. f (g x)) xs
 signed_total-map f g [] = refl

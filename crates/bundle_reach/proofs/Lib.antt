@@ -4,5 +4,4 @@ pub mod Hoping
 pub mod Covering
 pub mod Openings
 pub mod Growing
-pub mod Aheads
 pub mod Closing

@@ -1,7 +1,6 @@
 -- A million times the utility of what completes a node is at most what can be reached from it.
 use Rattle.std.proofs.Common.{◌≡◌, ℕ, suc, ◌+◌, ◌*◌, ◌-◌, ◌≤◌, ◌<◌, true, false, List, [], ◌∷◌, ◌++◌, length, sym, ap, subst, ◌∙◌, arith, inl, inr, length-append, suc-mul}
 use Rattle.std.specs.Prelude.{ℤ, pos, ◌+ℤ◌, ◌*ℤ◌, ◌≤ℤ◌}
-use Rattle.std.proofs.lemmas.Bool.{cases_Bool, cases_lt}
 use Rattle.std.proofs.lemmas.Int.{ints}
 use Rattle.std.proofs.lemmas.List.{length-map}
 use Rattle.market_lists.specs.Totals.{total}
@@ -15,30 +14,15 @@ use Rattle.bundle_bounds.specs.Offers.{Offer, places_of, price_at}
 use Rattle.bundle_bounds.specs.Opens.{budget_left, credits_left}
 use Rattle.bundle_bounds.specs.Laws.{IsTakable, IsNode, Completes}
 use Rattle.bundle_bounds.proofs.Gains.{gain, utility-append}
+use Rattle.bundle_bounds.proofs.Soundness.{same_below}
 use Rattle.bundle_bounds.proofs.Openness.{MayBeTaken, ascending_rest, has-append_right, front_of}
-use Rattle.bundle_bounds.proofs.ByPlace.{has_by_place, on_menu, taken_places, has-places}
-use Rattle.bundle_reach.specs.declared.rates.Rates.{Rates}
+use Rattle.bundle_bounds.proofs.ByPlace.{taken_places, has-places}
+use Rattle.bundle_reach.specs.declared.multipliers.Multipliers.{Multipliers}
 use Rattle.bundle_reach.specs.Values.{hopes_from, most_added, value}
 use Rattle.bundle_reach.specs.Covers.{AreApartFrom, reach_of}
 use Rattle.bundle_reach.specs.Reaches.{IsLightest}
 use Rattle.bundle_reach.specs.Laws.{ReachIsSound}
 use Rattle.bundle_reach.proofs.Additions.{rest_from, gain_hoped, most_added_within}
-
--- the same members below k
-same_below : (offer : Offer) (k : ℕ) (chosen bundle : List ℕ) → IsMenu offer.menu → IsTakable offer chosen → IsTakable offer bundle → Completes offer k chosen bundle → (p : ℕ) → p < k → has (places_of offer.menu bundle) p ≡ has (places_of offer.menu chosen) p
-same_below offer k chosen bundle menu may may' completes p low =
-    let places = offer.menu.places in
-    elim (cases_lt p (length places)) [
-      | inl on ↦ has_by_place places bundle p menu.places.ascending (on_menu offer bundle may') on ∙ completes p low on ∙ sym (has_by_place places chosen p menu.places.ascending (on_menu offer chosen may) on)
-      | inr off ↦ none bundle may' off ∙ sym (none chosen may off)
-    ]
-  where
-    none : (ss : List ℕ) → IsTakable offer ss → length offer.menu.places ≤ p → has (places_of offer.menu ss) p ≡ false
-    none ss take off =
-        elim (cases_Bool (has (places_of offer.menu ss) p)) [
-          | inl is ↦ let on = (taken_places offer ss menu take).on_menu p is in absurd (omega arith)
-          | inr not_in ↦ not_in
-        ]
 
 -- the places that complete chosen ones
 pub record AreAdded (offer : Offer) (k : ℕ) (cs ps ds : List ℕ) : Type 0 where
@@ -80,8 +64,8 @@ added_places offer k chosen bundle menu node may completes =
     )
 
 -- what is reached by added places
-reached : (offer : Offer) (rates : Rates) (k most : ℕ) (cs ps ds : List ℕ) → AreAdded offer k cs ps ds → total (value offer rates) ds ≤ most → (pos 1000000 *ℤ utility (by_place offer.menu) ps) ≤ℤ reach_of offer rates k cs most
-reached offer rates k most cs ps ds added covered =
+reached : (offer : Offer) (multipliers : Multipliers) (k most : ℕ) (cs ps ds : List ℕ) → AreAdded offer k cs ps ds → total (value offer multipliers) ds ≤ most → (pos 1000000 *ℤ utility (by_place offer.menu) ps) ≤ℤ reach_of offer multipliers k cs most
+reached offer multipliers k most cs ps ds added covered =
     let w = by_place offer.menu in
     let u : ℤ = utility w ps in
     let v : ℤ = utility w cs in
@@ -90,14 +74,14 @@ reached offer rates k most cs ps ds added covered =
     let h : ℕ = total (hopes_from offer k) cs in
     let a : ℕ = total (most_added offer) ds in
     let gains : g ≤ℤ pos (h + a) = gain_hoped offer k cs ds added.free in
-    let x : ℕ = total (value offer rates) ds in
-    let m : ℕ = rates.money * budget_left offer cs + rates.load * credits_left offer cs in
-    let paid : 1000000 * a ≤ x + m = most_added_within offer rates ds (budget_left offer cs) (credits_left offer cs) added.affordable added.credits in
+    let x : ℕ = total (value offer multipliers) ds in
+    let m : ℕ = multipliers.money * budget_left offer cs + multipliers.credits * credits_left offer cs in
+    let paid : 1000000 * a ≤ x + m = most_added_within offer multipliers ds (budget_left offer cs) (credits_left offer cs) added.affordable added.credits in
     let covered' : x ≤ most = covered in
     let goal : (pos 1000000 *ℤ u) ≤ℤ ((pos 1000000 *ℤ (v +ℤ pos h)) +ℤ pos (m + most)) = omega (arith, ints) in goal
 
 pub reach_is_sound : ReachIsSound
-reach_is_sound offer rates k chosen bundle count most menu node may completes few covers =
+reach_is_sound offer multipliers k chosen bundle count most menu node may completes few covers =
     let cs = places_of offer.menu chosen in
     let ps = places_of offer.menu bundle in
     let added = added_places offer k chosen bundle menu node may completes in
@@ -106,7 +90,7 @@ reach_is_sound offer rates k chosen bundle count most menu node may completes fe
     let front : length cs ≡ length chosen = length-map chosen (place_in offer.menu.places) in
     let split : length ps ≡ length cs + length ds = added.1.count in
     let within : length ds ≤ count = omega arith in
-    subst (λ u. (pos 1000000 *ℤ u) ≤ℤ reach_of offer rates k cs most) (utility_by_place offer.menu bundle) (reached offer rates k most cs ps ds added.1 (covers ds added.1.free within))
+    subst (λ u. (pos 1000000 *ℤ u) ≤ℤ reach_of offer multipliers k cs most) (utility_by_place offer.menu bundle) (reached offer multipliers k most cs ps ds added.1 (covers ds added.1.free within))
 
 -- so many places have at least so many times the credits of the lightest
 lightest_times : (offer : Offer) (lightest k : ℕ) (ds : List ℕ) → IsLightest offer lightest → AreApartFrom offer k ds → length ds * lightest ≤ total (credits_at offer.menu.places) ds

@@ -7,7 +7,7 @@ use Rattle.bundle_rules.specs.Menus.{by_place, wishes_of, clash_in}
 use Rattle.bundle_bounds.specs.Offers.{Offer, allowed_at, places_of}
 use Rattle.bundle_bounds.specs.Opens.{budget_left, credits_left}
 use Rattle.bundle_bounds.specs.Laws.{IsTakable, Completes}
-use Rattle.bundle_reach.specs.declared.rates.Rates.{Rates}
+use Rattle.bundle_reach.specs.declared.multipliers.Multipliers.{Multipliers}
 use Rattle.bundle_reach.specs.Values.{hopes_from, value}
 
 -- allowed places from k on, of which no two clash
@@ -19,17 +19,17 @@ pub record AreApartFrom (offer : Offer) (k : ℕ) (ps : List ℕ) : Type 0 where
   pub apart : (p q : ℕ) → has ps p ≡ true → has ps q ≡ true → p ≢ q → clash_in offer.menu.clashes p q ≡ false
 
 -- the number is at least the values of any so many places from k on that may be taken together
-abbrev pub Covers : Offer → Rates → ℕ → ℕ → ℕ → Type 0
-Covers offer rates k count most = (ps : List ℕ) → AreApartFrom offer k ps → length ps ≤ count → total (value offer rates) ps ≤ most
+abbrev pub Covers : Offer → Multipliers → ℕ → ℕ → ℕ → Type 0
+Covers offer multipliers k count most = (ps : List ℕ) → AreApartFrom offer k ps → length ps ≤ count → total (value offer multipliers) ps ≤ most
 
 -- a million times the utility of chosen places with all that their adjustments with places from k on can add
 abbrev pub hoped_of : Offer → ℕ → List ℕ → ℤ
 hoped_of offer k chosen = pos 1000000 *ℤ (utility (by_place offer.menu) chosen +ℤ pos (total (hopes_from offer k) chosen))
 
--- what can be reached from a node: what is hoped for, what is left of the budget and of the credits at these rates, and a number that covers
+-- what can be reached from a node: what is hoped for, what is left of the budget and of the credits at these multipliers, and a number that covers
 -- what can be added
-abbrev pub reach_of : Offer → Rates → ℕ → List ℕ → ℕ → ℤ
-reach_of offer rates k chosen most = hoped_of offer k chosen +ℤ pos ((rates.money * budget_left offer chosen + rates.load * credits_left offer chosen) + most)
+abbrev pub reach_of : Offer → Multipliers → ℕ → List ℕ → ℕ → ℤ
+reach_of offer multipliers k chosen most = hoped_of offer k chosen +ℤ pos ((multipliers.money * budget_left offer chosen + multipliers.credits * credits_left offer chosen) + most)
 
 -- a number of millionths that is enough for anything, or at least what a takable bundle can add to the hopes of the node that it completes
 abbrev pub IsAdded : Offer → ℕ → List ℕ → ℤ → Type 0

@@ -4,12 +4,12 @@ use Rattle.bundle_rules.specs.Wishes.{utility}
 use Rattle.bundle_rules.specs.Menus.{IsMenu, wishes_of}
 use Rattle.bundle_bounds.specs.Offers.{Offer, places_of}
 use Rattle.bundle_bounds.specs.Laws.{IsTakable, IsNode, Completes}
-use Rattle.bundle_reach.specs.declared.rates.Rates.{Rates}
+use Rattle.bundle_reach.specs.declared.multipliers.Multipliers.{Multipliers}
 use Rattle.bundle_reach.specs.Covers.{Covers, reach_of}
 
--- at any rates a million times the utility of each takable bundle that completes a node by at most so many sections is no more than what
+-- at any multipliers a million times the utility of each takable bundle that completes a node by at most so many sections is no more than what
 -- can be reached from the node
 abbrev pub ReachIsSound : Type 0
-ReachIsSound = (offer : Offer) (rates : Rates) (k : ℕ) (chosen bundle : List ℕ) (count most : ℕ) → IsMenu offer.menu → IsNode offer k chosen
-    → IsTakable offer bundle → Completes offer k chosen bundle → length bundle ≤ length chosen + count → Covers offer rates k count most
-    → (pos 1000000 *ℤ utility (wishes_of offer.menu) bundle) ≤ℤ reach_of offer rates k (places_of offer.menu chosen) most
+ReachIsSound = (offer : Offer) (multipliers : Multipliers) (k : ℕ) (chosen bundle : List ℕ) (count most : ℕ) → IsMenu offer.menu → IsNode offer k chosen
+    → IsTakable offer bundle → Completes offer k chosen bundle → length bundle ≤ length chosen + count → Covers offer multipliers k count most
+    → (pos 1000000 *ℤ utility (wishes_of offer.menu) bundle) ≤ℤ reach_of offer multipliers k (places_of offer.menu chosen) most

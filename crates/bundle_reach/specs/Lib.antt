@@ -1,4 +1,3 @@
-pub mod Closings
 pub mod Branches
 pub mod Values
 pub mod Covers

@@ -2,7 +2,7 @@
 use Rattle.std.specs.Prelude.{ℕ, ◌*◌, ◌≤◌, ◌<◌, ◌≡◌, true, List, [], length, slice_index, slice_index_or}
 use Rattle.bundle_rules.specs.Menus.{credits_at}
 use Rattle.bundle_bounds.specs.Offers.{Offer, allowed_at}
-use Rattle.bundle_reach.specs.declared.rates.Rates.{Rates}
+use Rattle.bundle_reach.specs.declared.multipliers.Multipliers.{Multipliers}
 use Rattle.bundle_reach.specs.declared.reach.Reach.{Reach}
 use Rattle.bundle_reach.specs.Values.{hopes_from}
 use Rattle.bundle_reach.specs.Covers.{Covers}
@@ -16,8 +16,8 @@ abbrev pub HoldsHopes : Offer → List (List ℕ) → ℕ → Type 0
 HoldsHopes offer table from = (k place : ℕ) → from ≤ k → k ≤ length offer.menu.places → place < k → number_at table k place ≡ hopes_from offer k place
 
 -- each row from this one on has for each count a number that covers so many places from the row's on
-abbrev pub HoldsCovers : Offer → Rates → List (List ℕ) → ℕ → Type 0
-HoldsCovers offer rates table from = (k count : ℕ) → from ≤ k → k ≤ length offer.menu.places → count ≤ 8 → Covers offer rates k count (number_at table k count)
+abbrev pub HoldsCovers : Offer → Multipliers → List (List ℕ) → ℕ → Type 0
+HoldsCovers offer multipliers table from = (k count : ℕ) → from ≤ k → k ≤ length offer.menu.places → count ≤ 8 → Covers offer multipliers k count (number_at table k count)
 
 -- in these rows no number is greater than the greatest value for each of so many places
 abbrev pub AreSmall : List (List ℕ) → ℕ → ℕ → Type 0
@@ -31,4 +31,4 @@ IsLightest offer lightest = (place : ℕ) → place < length offer.menu.places �
 pub record IsReach (offer : Offer) (reach : Reach) : Type 0 where
   pub lightest : IsLightest offer reach.lightest
   pub hopes : HoldsHopes offer reach.hopes 0
-  pub covers : HoldsCovers offer reach.rates reach.most 0
+  pub covers : HoldsCovers offer reach.multipliers reach.most 0

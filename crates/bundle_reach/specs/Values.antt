@@ -5,7 +5,7 @@ use Rattle.bundle_rules.specs.Menus.{adjustment_in, rating_at, credits_at}
 use Rattle.bundle_rules.specs.Places.{places_from}
 use Rattle.bundle_bounds.specs.Offers.{Offer, price_at, allowed_at}
 use Rattle.bundle_bounds.specs.Opens.{above_zero}
-use Rattle.bundle_reach.specs.declared.rates.Rates.{Rates}
+use Rattle.bundle_reach.specs.declared.multipliers.Multipliers.{Multipliers}
 
 -- what the adjustment of a place with another can add: nothing where the other is not allowed
 abbrev pub hope : Offer → ℕ → ℕ → ℕ
@@ -19,6 +19,6 @@ hopes_from offer k place = total (hope offer place) (places_from k (length offer
 abbrev pub most_added : Offer → ℕ → ℕ
 most_added offer place = rating_at offer.menu.places place + hopes_from offer (place + 1) place
 
--- what is left of a million times the most that a place can add, where its price and its credits are paid at these rates
-abbrev pub value : Offer → Rates → ℕ → ℕ
-value offer rates place = 1000000 * most_added offer place - (rates.money * price_at offer place + rates.load * credits_at offer.menu.places place)
+-- what is left of a million times the most that a place can add, where its price and its credits are paid at these multipliers
+abbrev pub value : Offer → Multipliers → ℕ → ℕ
+value offer multipliers place = 1000000 * most_added offer place - (multipliers.money * price_at offer place + multipliers.credits * credits_at offer.menu.places place)

@@ -1,21 +1,18 @@
 // A node of the search with its sums, so that nothing of it is computed anew.
-ghost use Rattle.std.specs.Prelude.{◌≡◌, ◌↔◌, ◌<◌, ◌≤◌, ◌+◌, ◌-◌, [], ℕ, List, IsTrue, length};
+ghost use Rattle.std.specs.Prelude.{◌≡◌, ◌↔◌, ◌<◌, ◌≤◌, ◌+◌, ◌-◌, ◌++◌, ◌∷◌, [], ℕ, List, IsTrue, length};
 ghost use Rattle.std.specs.Ordering.{nat_cmp};
 ghost use Rattle.std.specs.FinSet as set;
 ghost use Rattle.market_units.specs.declared.units.Tokens.{Tokens};
 ghost use Rattle.bundle_rules.specs.Demand.{price_in, HasPrices};
-ghost use Rattle.bundle_rules.specs.Menus.{MenuData, IsMenu, wishes_of};
+ghost use Rattle.bundle_rules.specs.Menus.{MenuData, IsMenu, section_at, wishes_of};
 ghost use Rattle.bundle_rules.specs.Wishes.{utility};
-ghost use Rattle.bundle_rules.specs.Bundles.{sections_of};
 ghost use Rattle.bundle_bounds.specs.Offers.{offer_of, places_of};
 ghost use Rattle.bundle_bounds.specs.Laws.{IsTakable, IsNode};
-ghost use Rattle.bundle_reach.specs.Closings.{ComesFirst};
+ghost use Rattle.bundle_bounds.specs.Closings.{ComesFirst};
 
-use crate::ahead::is_ahead;
-use crate::places::{adjustments_with, is_apart, price_of};
-use bundle_bounds::Node;
-use bundle_rules::{Bundle, Menu};
-use market_units::{MAX_SECTIONS, SectionSet, Tokens};
+use bundle_bounds::{Node, adjustments_with, is_apart, price_of_place};
+use bundle_rules::{Bundle, Menu, is_ahead};
+use market_units::{SectionSet, Tokens};
 
 const ROOM: usize = 8;
 
@@ -39,9 +36,28 @@ impl Branch {
         ensures chosen { chosen_of result ≡ [] }
         ensures branch { (menu : MenuData) (price : ℕ → ℕ) → IsBranch menu price result }
     {
+        Branch::begun_at(0)
+    }
+
+    /// The branch that has the section of this place alone, and has decided no later one.
+    pub fn alone(menu: &Menu, prices: &[Tokens], place: u8) -> Branch
+        requires prices { HasPrices menu.now prices.now }
+        requires on_menu { place < length menu.now.places }
+        ensures branch { IsBranch menu.now (price_in prices.now) result }
+        ensures chosen { chosen_of result ≡ section_at menu.now.places place ∷ [] }
+    {
+        Branch::begun_at(place).with_next(menu, prices)
+    }
+
+    // The branch that has decided the places below this one, and has chosen nothing.
+    fn begun_at(place: u8) -> Branch
+        ensures place { result.node.place ≡ place }
+        ensures chosen { chosen_of result ≡ [] }
+        ensures branch { (menu : MenuData) (price : ℕ → ℕ) → IsBranch menu price result }
+    {
         Branch {
             node: Node {
-                place: 0,
+                place,
                 chosen: Bundle::empty(),
             },
             places: [0; ROOM],
@@ -58,28 +74,30 @@ impl Branch {
         self.utility
     }
 
-    /// Whether the section of the next place may be taken with the chosen ones: it is allowed and clashes with none of
-    /// them, and all together are within the budget, the credit cap and the course cap.
+    /// Whether the section of an undecided place may be taken with the chosen ones: it is allowed and clashes with none
+    /// of them, and all together are within the budget, the credit cap and the course cap.
     pub fn may_take(
         &self,
         menu: &Menu,
         prices: &[Tokens],
         budget: Tokens,
         allowed: &SectionSet,
+        place: u8,
     ) -> bool
         requires prices { HasPrices menu.now prices.now }
         requires branch { IsBranch menu.now (price_in prices.now) self.now }
         requires node { IsNode (offer_of menu.now prices.now budget.0 allowed.now) self.now.node.place (chosen_of self.now) }
-        requires next { self.now.node.place < length menu.now.places }
-        ensures takable { IsTrue result ↔ IsTakable (offer_of menu.now prices.now budget.0 allowed.now) (with_next_of menu.now self.now) }
+        requires undecided { self.now.node.place ≤ place }
+        requires on_menu { place < length menu.now.places }
+        ensures takable { IsTrue result ↔ IsTakable (offer_of menu.now prices.now budget.0 allowed.now) (chosen_of self.now ++ section_at menu.now.places place ∷ []) }
         ensures room { IsTrue result → length (chosen_of self.now) < 8 }
     {
-        prove!(self.node.place < menu.len());
-        let rated = menu.rated(self.node.place);
+        prove!(place < menu.len());
+        let rated = menu.rated(place);
         if !allowed.has(rated.section) {
             return false;
         }
-        if price_of(menu, prices, self.node.place) > self.budget_left(budget) {
+        if price_of_place(menu, prices, place) > self.budget_left(budget) {
             return false;
         }
         if u32::from(rated.credits) > self.credits_left(menu) {
@@ -88,7 +106,7 @@ impl Branch {
         if self.courses_left(menu) == 0 {
             return false;
         }
-        is_apart(menu, self.places(), self.node.place)
+        is_apart(menu, self.places(), place)
     }
 
     /// The branch with the section of the next place.
@@ -113,7 +131,7 @@ impl Branch {
                 chosen: self.node.chosen.with(rated.section),
             },
             places,
-            paid: self.paid + price_of(menu, prices, self.node.place),
+            paid: self.paid + price_of_place(menu, prices, self.node.place),
             credits: self.credits + u32::from(rated.credits),
             utility: self.utility + i32::from(rated.rating) + adjustments,
         }
@@ -143,6 +161,7 @@ impl Branch {
     {
         &self.places[..self.node.chosen.sections().len()]
     }
+
     // What the chosen sections leave of the budget.
     pub(crate) fn budget_left(&self, budget: Tokens) -> u32
         ensures { result ≡ budget.0 - self.now.paid }
@@ -168,17 +187,12 @@ impl Branch {
     }
 
     // Whether the champion has the first section on which it differs from all that completes the node.
-    pub(crate) fn is_behind(&self, menu: &Menu, champion: &Bundle) -> bool
-        requires { self.now.node.place ≤ length menu.now.places }
-        ensures { (prices : List Tokens) (budget : ℕ) (allowed : set.FinSet nat_cmp) → IsNode (offer_of menu.now prices budget allowed) self.now.node.place (chosen_of self.now)
-            → IsTakable (offer_of menu.now prices budget allowed) (sections_of champion.now) → IsTrue result
-            → ComesFirst (offer_of menu.now prices budget allowed) self.now.node.place (chosen_of self.now) (sections_of champion.now) }
+    pub(crate) fn is_behind(&self, champion: &Branch) -> bool
+        ensures { (menu : MenuData) (prices : List Tokens) (budget : ℕ) (allowed : set.FinSet nat_cmp) → IsMenu menu
+            → IsBranch menu (price_in prices) self.now → IsNode (offer_of menu prices budget allowed) self.now.node.place (chosen_of self.now)
+            → IsBranch menu (price_in prices) champion.now → IsTakable (offer_of menu prices budget allowed) (chosen_of champion.now) → IsTrue result
+            → ComesFirst (offer_of menu prices budget allowed) self.now.node.place (chosen_of self.now) (chosen_of champion.now) }
     {
-        let limit = if self.node.place < menu.len() {
-            menu.rated(self.node.place).section.0
-        } else {
-            MAX_SECTIONS
-        };
-        is_ahead(limit, champion.sections(), self.node.chosen.sections())
+        is_ahead(self.node.place, champion.places(), self.places())
     }
 }

@@ -2,14 +2,13 @@
 //! once a demand.
 #![tactic(auto)]
 
-mod ahead;
 mod branch;
 pub mod laws;
+mod multipliers;
 mod places;
-mod rates;
 mod reach;
 mod tables;
 
 pub use branch::Branch;
-pub use rates::Rates;
+pub use multipliers::Multipliers;
 pub use reach::Reach;

@@ -1,23 +1,21 @@
 // The most that can still be reached from a node, looked up.
-ghost use Rattle.std.specs.Prelude.{◌≡◌, ◌↔◌, ◌<◌, ◌≤◌, ◌+◌, ◌*◌, ◌-◌, ◌^◌, ◌-ℤ◌, ◌*ℤ◌, ◌≤ℤ◌, ◌<ℤ◌, pos, neg_ℤ, ℕ, List, IsTrue, length};
+ghost use Rattle.std.specs.Prelude.{◌≡◌, ◌↔◌, ◌<◌, ◌≤◌, ◌+◌, ◌*◌, ◌-◌, ◌^◌, ◌-ℤ◌, ◌*ℤ◌, ◌≤ℤ◌, ◌<ℤ◌, pos, neg_ℤ, ℕ, Bool, List, IsTrue, length};
 ghost use Rattle.std.specs.Ordering.{nat_cmp};
 ghost use Rattle.std.specs.FinSet as set;
 ghost use Rattle.market_units.specs.declared.units.Tokens.{Tokens};
-ghost use Rattle.bundle_rules.specs.Bundles.{sections_of};
 ghost use Rattle.bundle_rules.specs.Demand.{price_in, HasPrices};
-ghost use Rattle.bundle_rules.specs.Menus.{wishes_of, IsMenu};
-ghost use Rattle.bundle_rules.specs.Wishes.{utility};
+ghost use Rattle.bundle_rules.specs.Menus.{IsMenu};
 ghost use Rattle.bundle_bounds.specs.Offers.{offer_of};
 ghost use Rattle.bundle_bounds.specs.Laws.{IsTakable, IsNode};
 ghost use Rattle.bundle_reach.specs.Branches.{chosen_of, IsBranch};
-ghost use Rattle.bundle_reach.specs.Closings.{MayClose};
+ghost use Rattle.bundle_bounds.specs.Closings.{MayClose};
 ghost use Rattle.bundle_reach.specs.Covers.{IsAdded};
 
 use crate::branch::Branch;
+use crate::multipliers::{Multipliers, multipliers_at};
 use crate::places::{fitting, hopes_of};
-use crate::rates::{Rates, rates_at};
 use crate::tables::{COUNTS, MILLION, PLACES, ROWS, lightest, put_hopes, put_most};
-use bundle_rules::{Bundle, Menu};
+use bundle_rules::Menu;
 use market_units::{SectionSet, Tokens};
 
 // More than can be added at any node, in millionths of a point of utility.
@@ -26,7 +24,7 @@ const ENOUGH: u64 = 1 << 62;
 /// What the places from each one on can still add at one demand.
 #[derive(Drop)]
 pub struct Reach {
-    rates: Rates,
+    multipliers: Multipliers,
     lightest: u32,
     hopes: [[u16; PLACES]; ROWS],
     most: [[u64; COUNTS]; ROWS],
@@ -39,7 +37,10 @@ impl Reach {
     /// A table that was measured for no demand yet: `closes` promises nothing before `measure`.
     pub fn empty() -> Reach {
         Reach {
-            rates: Rates { money: 0, load: 0 },
+            multipliers: Multipliers {
+                money: 0,
+                credits: 0,
+            },
             lightest: 0,
             hopes: [[0; PLACES]; ROWS],
             most: [[0; COUNTS]; ROWS],
@@ -54,44 +55,45 @@ impl Reach {
     {
         self.lightest = lightest(menu, allowed);
         put_hopes(menu, allowed, &mut self.hopes);
-        self.rates = rates_at(menu, prices, budget, allowed, &self.hopes, self.lightest);
+        self.multipliers = multipliers_at(
+            menu,
+            prices,
+            budget,
+            allowed,
+            &self.hopes,
+            self.lightest,
+        );
         put_most(
             menu,
             prices,
             allowed,
-            self.rates,
+            self.multipliers,
             &self.hopes,
             &mut self.most,
         );
     }
 
-    /// Whether nothing that completes the branch's node can be better than a champion of this worth, its utility: less
-    /// can be reached than the worth, or less than one more, and the first decided section on which they differ is the
-    /// champion's. The table is one that was measured for the same menu and budget.
-    pub fn closes(
-        &self,
-        menu: &Menu,
-        budget: Tokens,
-        branch: &Branch,
-        champion: &Bundle,
-        worth: i32,
-    ) -> bool
+    /// Whether nothing that completes the branch's node can be better than the champion: less can be reached than its
+    /// utility, or less than one more, and the first decided section on which they differ is the champion's. So nothing
+    /// that is wanted can, whatever bundles are wanted. The table is one that was measured for the same menu and budget.
+    pub fn closes(&self, menu: &Menu, budget: Tokens, branch: &Branch, champion: &Branch) -> bool
         requires branch { (price : ℕ → ℕ) × IsBranch menu.now price branch.now }
         requires place { branch.now.node.place ≤ length menu.now.places }
-        ensures { (prices : List Tokens) (allowed : set.FinSet nat_cmp) → IsReach (offer_of menu.now prices budget.0 allowed) self.now
+        ensures { (wanted : List ℕ → Bool) (prices : List Tokens) (allowed : set.FinSet nat_cmp) → IsReach (offer_of menu.now prices budget.0 allowed) self.now
             → IsBranch menu.now (price_in prices) branch.now → IsNode (offer_of menu.now prices budget.0 allowed) branch.now.node.place (chosen_of branch.now)
-            → IsTakable (offer_of menu.now prices budget.0 allowed) (sections_of champion.now) → worth ≡ utility (wishes_of menu.now) (sections_of champion.now)
-            → IsTrue result → MayClose (offer_of menu.now prices budget.0 allowed) branch.now.node.place (chosen_of branch.now) (sections_of champion.now) }
+            → IsBranch menu.now (price_in prices) champion.now → IsTakable (offer_of menu.now prices budget.0 allowed) (chosen_of champion.now)
+            → IsTrue result → MayClose (offer_of menu.now prices budget.0 allowed) wanted branch.now.node.place (chosen_of branch.now) (chosen_of champion.now) }
     {
         prove!(branch.node.place <= menu.len());
         let added = self.added(menu, budget, branch);
         let hoped = hopes_of(&self.hopes[usize::from(branch.node.place)], branch.places());
-        let lacking = lacking(worth, branch.utility(), hoped);
+        let lacking = lacking(champion.utility(), branch.utility(), hoped);
         if is_below(added, lacking) {
             return true;
         }
-        is_below(added, lacking + 1) && branch.is_behind(menu, champion)
+        is_below(added, lacking + 1) && branch.is_behind(champion)
     }
+
     /// A branch that begins well: each section that more is promised with, and that may be taken, is taken.
     /// A search that begins with it as its champion closes most nodes at once. The table is one that was measured for
     /// the same menu, prices, budget and allowed sections; with another the branch may be worth little.
@@ -134,7 +136,7 @@ impl Reach {
         if !self.promises_more(menu, &branch) {
             return branch.without_next();
         }
-        if !branch.may_take(menu, prices, budget, allowed) {
+        if !branch.may_take(menu, prices, budget, allowed, branch.node.place) {
             return branch.without_next();
         }
         branch.with_next(menu, prices)
@@ -175,8 +177,8 @@ impl Reach {
         let budget_left = branch.budget_left(budget);
         let credits_left = branch.credits_left(menu);
         let count = self.fitting(menu, branch);
-        let paid = self.rates.money * u64::from(budget_left)
-            + self.rates.load * u64::from(credits_left);
+        let paid = self.multipliers.money * u64::from(budget_left)
+            + self.multipliers.credits * u64::from(credits_left);
         let most = self.most[usize::from(branch.node.place)][count];
         paid.saturating_add(most).min(ENOUGH) as i64
     }

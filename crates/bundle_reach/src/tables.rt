@@ -11,8 +11,8 @@ ghost use Rattle.bundle_reach.specs.Values.{hopes_from, value};
 ghost use Rattle.bundle_reach.specs.Covers.{Covers};
 ghost use Rattle.bundle_reach.specs.Reaches.{HoldsHopes, HoldsCovers, IsLightest, AreSmall};
 
-use crate::places::price_of;
-use crate::rates::Rates;
+use crate::multipliers::Multipliers;
+use bundle_bounds::price_of_place;
 use bundle_rules::Menu;
 use market_units::{MAX_SECTION_CREDITS, SectionSet, Tokens};
 
@@ -96,19 +96,19 @@ pub(crate) fn put_most(
     menu: &Menu,
     prices: &[Tokens],
     allowed: &SectionSet,
-    rates: Rates,
+    multipliers: Multipliers,
     hopes: &[[u16; PLACES]; ROWS],
     most: &mut [[u64; COUNTS]; ROWS],
 )
     requires prices { HasPrices menu.now prices.now }
     requires hopes { (budget : ℕ) → HoldsHopes (offer_of menu.now prices.now budget allowed.now) hopes.now 0 }
-    ensures { (budget : ℕ) → HoldsCovers (offer_of menu.now prices.now budget allowed.now) rates most.new 0 }
+    ensures { (budget : ℕ) → HoldsCovers (offer_of menu.now prices.now budget allowed.now) multipliers most.new 0 }
 {
     let count = menu.len();
     most[usize::from(count)] = [0; COUNTS];
     for place in (0..count).rev() {
         let hoped = hopes[usize::from(place) + 1][usize::from(place)];
-        let row = most_from(menu, prices, allowed, rates, place, hoped, most);
+        let row = most_from(menu, prices, allowed, multipliers, place, hoped, most);
         most[usize::from(place)] = row;
     }
 }
@@ -118,7 +118,7 @@ fn most_from(
     menu: &Menu,
     prices: &[Tokens],
     allowed: &SectionSet,
-    rates: Rates,
+    multipliers: Multipliers,
     place: u8,
     hoped: u16,
     most: &[[u64; COUNTS]; ROWS],
@@ -128,32 +128,32 @@ fn most_from(
     requires menu { IsMenu menu.now }
     requires small { AreSmall most.now (place + 1) (length menu.now.places) }
     ensures covers { (budget count : ℕ) → hoped ≡ hopes_from (offer_of menu.now prices.now budget allowed.now) (place + 1) place
-        → HoldsCovers (offer_of menu.now prices.now budget allowed.now) rates most.now (place + 1) → count ≤ 8
-        → Covers (offer_of menu.now prices.now budget allowed.now) rates place count (slice_index result count) }
+        → HoldsCovers (offer_of menu.now prices.now budget allowed.now) multipliers most.now (place + 1) → count ≤ 8
+        → Covers (offer_of menu.now prices.now budget allowed.now) multipliers place count (slice_index result count) }
     ensures small { (count : ℕ) → count ≤ 8 → slice_index result count ≤ 65635000000 * count }
 {
     let later = most[usize::from(place) + 1];
     if !allowed.has(menu.rated(place).section) {
         return later;
     }
-    let value = value_at(menu, prices, rates, place, hoped);
+    let value = value_at(menu, prices, multipliers, place, hoped);
     let apart = most[usize::from(next_apart(menu, place, place + 1))];
     most_at(later, apart, value)
 }
 
 // What is left of a million times the most that a place can add, where its adjustments with later places can add so
 // much.
-fn value_at(menu: &Menu, prices: &[Tokens], rates: Rates, place: u8, hoped: u16) -> u64
+fn value_at(menu: &Menu, prices: &[Tokens], multipliers: Multipliers, place: u8, hoped: u16) -> u64
     requires prices { HasPrices menu.now prices.now }
     requires place { place < length menu.now.places }
-    ensures value { (budget : ℕ) (allowed : set.FinSet nat_cmp) → hoped ≡ hopes_from (offer_of menu.now prices.now budget allowed) (place + 1) place → result ≡ value (offer_of menu.now prices.now budget allowed) rates place }
+    ensures value { (budget : ℕ) (allowed : set.FinSet nat_cmp) → hoped ≡ hopes_from (offer_of menu.now prices.now budget allowed) (place + 1) place → result ≡ value (offer_of menu.now prices.now budget allowed) multipliers place }
     ensures high { result ≤ 65635000000 }
 {
     let rated = menu.rated(place);
     let most_added = u64::from(rated.rating) + u64::from(hoped);
-    let price = rates.money * u64::from(price_of(menu, prices, place));
-    let load = rates.load * u64::from(rated.credits);
-    (MILLION * most_added).saturating_sub(price + load)
+    let price = multipliers.money * u64::from(price_of_place(menu, prices, place));
+    let credits = multipliers.credits * u64::from(rated.credits);
+    (MILLION * most_added).saturating_sub(price + credits)
 }
 
 // The first place from one on that does not clash with an earlier one, or the number of places where there is none.

@@ -114,7 +114,7 @@ feasible_to m ss feasible = record {
 }
 
 -- rated sections are among those of the menu
-section_has : (places : List Rated) (k : ℕ) → k < length places → has (map (λ rated. rated.section.0) places) (section_at places k) ≡ true
+pub section_has : (places : List Rated) (k : ℕ) → k < length places → has (map (λ rated. rated.section.0) places) (section_at places k) ≡ true
 section_has [] k low = absurd (omega arith)
 section_has (r ∷ rs) zero low = has-here r.section.0 (map (λ rated. rated.section.0) rs)
 section_has (r ∷ rs) (suc k) low = has-there r.section.0 (map (λ rated. rated.section.0) rs) (section_at rs k) (section_has rs k (omega arith))

@@ -6,10 +6,13 @@ pub mod Bundled
 pub mod EqualBundles
 pub mod Ends
 pub mod Firsts
-pub mod FirstDifferences
+pub mod FirstDifference
 pub mod ClashTests
 pub mod Later
 pub mod Ascents
 pub mod Feasibility
 pub mod Choices
 pub mod Tables
+pub mod PlacesFirst
+pub mod Parts
+pub mod GivenBest

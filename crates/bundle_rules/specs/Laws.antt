@@ -1,13 +1,15 @@
 -- The laws of preference and of demand.
-use Rattle.std.specs.Prelude.{ℕ, ◌≡◌, ◌≢◌, ◌↔◌, ◌⊎◌, Bool, List, length}
+use Rattle.std.specs.Prelude.{ℕ, ◌<◌, ◌≡◌, ◌≢◌, ◌↔◌, ◌⊎◌, Bool, true, List, [], ◌∷◌, length}
 use Rattle.market_lists.specs.Subsets.{chosen}
 use Rattle.bundle_rules.specs.declared.bundle.Bundle.{Bundle}
 use Rattle.bundle_rules.specs.Bundles.{sections_of}
-use Rattle.bundle_rules.specs.Sets.{IsAscending}
+use Rattle.bundle_rules.specs.Sets.{has, IsAscending}
+use Rattle.bundle_rules.specs.Ahead.{IsAhead, is_ahead}
 use Rattle.bundle_rules.specs.Wishes.{Wishes, AllRated, utility}
 use Rattle.bundle_rules.specs.Agreement.{Agrees}
 use Rattle.bundle_rules.specs.Preferences.{IsPreferred}
-use Rattle.bundle_rules.specs.Demand.{IsBest, HasOneBest}
+use Rattle.bundle_rules.specs.Demand.{IsChoice, IsBest, HasOneBest}
+use Rattle.bundle_rules.specs.Given.{IsBestOf, IsBestWith, SomeHas}
 use Rattle.bundle_rules.specs.Best.{best}
 use Rattle.bundle_rules.specs.Menus.{MenuData, IsMenu, by_place, wishes_of}
 use Rattle.bundle_rules.specs.Places.{bits_of, menu_sections, menu_places, AreBestBits}
@@ -55,3 +57,20 @@ BestByBits = (menu : MenuData) (price : ℕ → ℕ) (budget : ℕ) (allowed : �
 -- where wishes agree on what is rated, the best bundle of the ones is that of the others
 abbrev pub BestByAgreement : Type 0
 BestByAgreement = (a b : Wishes) → Agrees a b → (price : ℕ → ℕ) (budget : ℕ) (allowed : ℕ → Bool) (bundle : List ℕ) → IsBest a price budget allowed bundle ↔ IsBest b price budget allowed bundle
+
+-- where every bundle is wanted, the best of the wanted ones is the best
+abbrev pub BestOfAll : Type 0
+BestOfAll = (menu : MenuData) (price : ℕ → ℕ) (budget : ℕ) (allowed : ℕ → Bool) (bundle : List ℕ) → IsBestOf (wishes_of menu) price budget allowed (λ b. true) bundle ↔ IsBest (wishes_of menu) price budget allowed bundle
+
+-- one bundle is the best with the section where some choice has it, and none but that one; some choice has it exactly where the section alone is a choice
+pub record HasBestWith (menu : MenuData) (price : ℕ → ℕ) (budget : ℕ) (allowed : ℕ → Bool) (section : ℕ) : Type 0 where
+  pub one : SomeHas (wishes_of menu) price budget allowed section → (best : List ℕ) × IsBestWith (wishes_of menu) price budget allowed section best
+  pub only : (a b : List ℕ) → IsBestWith (wishes_of menu) price budget allowed section a → IsBestWith (wishes_of menu) price budget allowed section b → a ≡ b
+  pub alone : SomeHas (wishes_of menu) price budget allowed section ↔ IsChoice (wishes_of menu) price budget allowed (section ∷ [])
+
+abbrev pub BestWithASection : Type 0
+BestWithASection = (menu : MenuData) (price : ℕ → ℕ) (budget : ℕ) (allowed : ℕ → Bool) (section : ℕ) → HasBestWith menu price budget allowed section
+
+-- of ascending lists, all of the second below the limit, the test tells whether the first is ahead
+abbrev pub AheadIsTheFirstDifference : Type 0
+AheadIsTheFirstDifference = (limit : ℕ) (champion chosen : List ℕ) → IsAscending champion → IsAscending chosen → ((c : ℕ) → has chosen c ≡ true → c < limit) → is_ahead limit champion chosen ≡ true ↔ IsAhead limit champion chosen

@@ -11,6 +11,9 @@ pub mod Existence
 pub mod Best
 pub mod Menus
 pub mod Places
+pub mod PlaceLists
+pub mod Ahead
+pub mod Given
 pub mod Kept
 pub mod Rows
 pub mod Ordinals

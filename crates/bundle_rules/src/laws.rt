@@ -1,5 +1,5 @@
 //! What holds of preference and demand: each call here does nothing, and its contract is a law.
-ghost use Rattle.bundle_rules.specs.Laws.{BestByAgreement, BestByBits, BestIsTheBest, EqualSectionsEqualBundles, SetsAreBits, StrictPreference, UniqueDemand};
+ghost use Rattle.bundle_rules.specs.Laws.{AheadIsTheFirstDifference, BestByAgreement, BestByBits, BestIsTheBest, BestOfAll, BestWithASection, EqualSectionsEqualBundles, SetsAreBits, StrictPreference, UniqueDemand};
 
 /// Preference is a strict total order of sets of sections: no set is preferred to itself, what is preferred to a
 /// preferred set is preferred, and of two different sets one is preferred.
@@ -35,4 +35,20 @@ pub fn agreeing_wishes_have_one_best()
 /// Two bundles of equal sections are equal.
 pub fn equal_sections_equal_bundles()
     ensures { EqualSectionsEqualBundles }
+{}
+
+/// Where every bundle is wanted, the best of the wanted ones is the best bundle.
+pub fn best_of_all()
+    ensures { BestOfAll }
+{}
+
+/// At most one bundle is the best with a given section, and one is exactly where some choice has the section, which is
+/// exactly where the section alone is a choice.
+pub fn best_with_a_section()
+    ensures { BestWithASection }
+{}
+
+/// `is_ahead` tells whether the lowest place on which two ascending lists differ is in the first, below the limit.
+pub fn ahead_is_the_first_difference()
+    ensures { AheadIsTheFirstDifference }
 {}

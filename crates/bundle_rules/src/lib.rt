@@ -1,16 +1,20 @@
 //! Menus, bundles, and which bundle a student wants.
 #![tactic(auto)]
 
+mod ahead;
 mod bundle;
 mod conditions;
 mod demand;
 pub mod laws;
 mod menu;
+mod place_list;
 mod preferences;
 
+pub use ahead::is_ahead;
 pub use bundle::Bundle;
 pub use demand::{best_plain, has_prices};
-pub use menu::{Menu, Rated};
+pub use menu::{Menu, Rated, place_among};
+pub use place_list::Places;
 pub use preferences::{feasible, prefers, utility};
 
 #[cfg(test)]
@@ -53,9 +57,10 @@ mod tests {
         let pairs = [case.pair];
         let (credits, courses) = case.caps;
         assert!(rt; Menu::may_build(&places, &pairs, &case.clashes, credits, courses));
-        let menu = Menu::build(alloc, &places, &pairs, &case.clashes, credits, courses).expect(
+        let built = Menu::build(alloc, &places, &pairs, &case.clashes, credits, courses).expect(
             rt, "memory",
         );
+        let menu = built.copy(alloc).expect(rt, "memory");
         assert!(rt; has_prices(&menu, &case.prices));
         let best = best_plain(&menu, &case.prices, Tokens(case.budget), &case.allowed);
         for section in 0..3 {

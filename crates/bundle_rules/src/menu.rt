@@ -108,6 +108,20 @@ impl Menu {
         })
     }
 
+    /// Another menu that is equal to this one, or that memory is wanting.
+    pub fn copy(&self, alloc: Global) -> Result<Menu, NoMemory>
+        ensures { IfOk result (λ menu. menu ≡ self.now) }
+    {
+        Ok(Menu {
+            places: self.places.to_vec(alloc)?,
+            pairs: self.pairs.to_vec(alloc)?,
+            clashes: self.clashes.to_vec(alloc)?,
+            credits: self.credits,
+            courses: self.courses,
+            adjustments: self.adjustments.to_vec(alloc)?,
+        })
+    }
+
     /// The number of places.
     pub fn len(&self) -> u8
         ensures value { result ≡ length self.now.places }
@@ -176,7 +190,8 @@ impl Menu {
     }
 }
 
-fn place_among(places: &[Rated], section: SectionNo) -> usize
+/// The place of a section among these, or their number where it has none.
+pub fn place_among(places: &[Rated], section: SectionNo) -> usize
     ensures value { result ≡ place_in places.now section.0 }
     ensures within { result ≤ length places.now }
 {

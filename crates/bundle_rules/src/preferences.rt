@@ -1,16 +1,14 @@
 // Which bundles a student may take, and which of two the student prefers.
 ghost use Rattle.std.specs.Prelude.{◌≡◌, ◌↔◌, ◌<◌, ◌≤◌, ◌*◌, ℕ, pos, neg_ℤ, ◌≤ℤ◌, IsTrue, length, map, take, All};
 ghost use Rattle.market_lists.specs.Totals.{total};
-ghost use Rattle.bundle_rules.specs.Sets.{IsAscending, DiffersFirstIn};
-ghost use Rattle.bundle_rules.specs.Ordinals.{ordinals};
+ghost use Rattle.bundle_rules.specs.Sets.{DiffersFirstIn};
 ghost use Rattle.bundle_rules.specs.Wishes.{AllRated, IsFeasible, utility, adjustments};
 ghost use Rattle.bundle_rules.specs.Apart.{ClashesWithNone, AreApart, IsWithinCaps, MayTake};
 ghost use Rattle.bundle_rules.specs.Preferences.{IsPreferred};
 ghost use Rattle.bundle_rules.specs.Bundles.{sections_of};
 ghost use Rattle.bundle_rules.specs.Menus.{by_place, wishes_of, place_in, IsMenu};
 
-use crate::{Bundle, Menu};
-use market_units::SectionNo;
+use crate::{Bundle, Menu, Places, is_ahead};
 
 /// The sum of the bundle's ratings and of the adjustments of its unordered pairs. All its sections are on the menu.
 pub fn utility(menu: &Menu, bundle: &Bundle) -> i32
@@ -38,39 +36,21 @@ pub fn prefers(menu: &Menu, a: &Bundle, b: &Bundle) -> bool
     let first = utility(menu, a);
     let second = utility(menu, b);
     if first == second {
-        differs_first(a.sections(), b.sections())
+        comes_first(menu, a, b)
     } else {
         first > second
     }
 }
 
-// The places of a bundle's sections; a section that is not on the menu has the number of places.
-#[derive(Clone, Copy)]
-struct Places {
-    places: [u8; 8],
-    len: usize,
-    ghost short: { len ≤ 8 },
-}
-
-impl Places {
-    fn of(menu: &Menu, bundle: &Bundle) -> Places
-        ensures { take result.len result.places ≡ map (place_in menu.now.places) (sections_of bundle.now) }
-    {
-        let mut places = [0; 8];
-        for (i, section) in bundle.sections().iter().enumerate() {
-            places[i] = menu.place(*section);
-        }
-        Places {
-            places,
-            len: bundle.sections().len(),
-        }
-    }
-
-    fn as_slice(&self) -> &[u8]
-        ensures { result.now ≡ take self.now.len self.now.places }
-    {
-        &self.places[..self.len]
-    }
+// Whether the lowest section on which they differ is in the first: the places of sections ascend as they do.
+fn comes_first(menu: &Menu, a: &Bundle, b: &Bundle) -> bool
+    requires first { AllRated (wishes_of menu.now) (sections_of a.now) }
+    requires second { AllRated (wishes_of menu.now) (sections_of b.now) }
+    ensures { IsTrue result ↔ DiffersFirstIn (sections_of a.now) (sections_of b.now) }
+{
+    let first = Places::of(menu, a);
+    let second = Places::of(menu, b);
+    is_ahead(menu.len(), first.as_slice(), second.as_slice())
 }
 
 // Whether the places are on the menu, no two clash, and both caps hold.
@@ -162,26 +142,5 @@ fn credits_of(menu: &Menu, places: &[u8]) -> u32
     match places {
         [] => 0,
         [place, more @ ..] => u32::from(menu.rated(*place).credits) + credits_of(menu, more),
-    }
-}
-
-// Whether the lowest section on which they differ is in the first.
-fn differs_first(a: &[SectionNo], b: &[SectionNo]) -> bool
-    requires first { IsAscending (ordinals a.now) }
-    requires second { IsAscending (ordinals b.now) }
-    ensures { IsTrue result ↔ DiffersFirstIn (ordinals a.now) (ordinals b.now) }
-{
-    match a {
-        [] => false,
-        [first, more @ ..] => match b {
-            [] => true,
-            [other, others @ ..] => {
-                if first == other {
-                    differs_first(more, others)
-                } else {
-                    first.0 < other.0
-                }
-            }
-        },
     }
 }

@@ -12,7 +12,7 @@ use Rattle.chronicle.specs.Seats.{origin, origin_of, standing, standing_of, IsAt
 use Rattle.chronicle.specs.Turn.{Place, At, MayCall, IsWaiting, Draws, Serves, MayStep, Steps, HasToPass, Passes}
 use Rattle.chronicle.specs.Views.{waiting, in_turn, done}
 use Rattle.chronicle.proofs.ViewLists.{same_view}
-use Rattle.chronicle.proofs.HistoryLaws.{legal_with_step, calls_by-own}
+use Rattle.chronicle.proofs.HistoryLaws.{legal_with_step, calls_by-own, none_between}
 
 module _ {T B S Q A : Type 0} (base_of : T → B) (state_of : T → S) (room : T → ℕ) (sound : B → Q → Bool) (after : B → S → ℕ → Q → S) (reply : B → S → ℕ → Q → A) where
   -- what a seat at rest tells is in its view
@@ -75,6 +75,7 @@ module _ {T B S Q A : Type 0} (base_of : T → B) (state_of : T → S) (room : T
     pub legal : IsLegal sound after reply self.base self.opening new.seen
     pub own : new.own ≡ old.own ++ step_of number request answer ∷ []
     pub all_own : calls_by number new.seen ≡ new.own
+    pub others : (between : List (StepOf Q A)) → new.seen ≡ (old.seen ++ between) ++ step_of number request answer ∷ [] → calls_by number between ≡ []
     pub left : new.left + 1 ≡ old.left
 
   pub call_made : (table : TableId) (self : Origin B S) (number ticket : ℕ) (request : Q) (answer : A) (me drawn turned stepped passed : Place T B S Q A) (old : Standing B S Q A) → IsAtRest number me → standing_of table number me.0 ≡ old → old.chronicle ≡ Some self → 1 ≤ old.left
@@ -100,6 +101,9 @@ module _ {T B S Q A : Type 0} (base_of : T → B) (state_of : T → S) (room : T
       let opening_is : v.opening ≡ self.opening = ap (λ (x : Origin B S). x.opening) origin_is in
       let legal : IsLegal sound after reply v.base v.opening (turn.history ++ entry ∷ []) = legal_with_step sound after reply v.base v.opening turn.history entry turn.ready.legal may.sound_request made.0 in
       let calls : calls_by v.number (turn.history ++ entry ∷ []) ≡ v.own ++ entry ∷ [] = calls_by-own v.number turn.history entry (sym rest.numbered.0) ∙ ap (λ (l : List (StepOf Q A)). l ++ entry ∷ []) turn.own in
+      let all_own : calls_by number (turn.history ++ entry ∷ []) ≡ v.own ++ entry ∷ [] = ap (λ (n : ℕ). calls_by n (turn.history ++ entry ∷ [])) (sym rest.numbered.0) ∙ calls in
+      let own : v.own ++ entry ∷ [] ≡ old.own ++ entry ∷ [] = ap (λ (l : List (StepOf Q A)). l ++ entry ∷ []) own_is in
+      let before : calls_by number old.seen ≡ old.own = sym (λ i. calls_by (rest.numbered.0 i) (seen_is i)) ∙ rest.all_own ∙ own_is in
       let begins : BeginsWith turn.history old.seen = subst (λ (l : List (StepOf Q A)). BeginsWith turn.history l) seen_is turn.begins in
       let number_is : number ≡ old.number = ap (λ (s : Standing B S Q A). s.number) is in
       subst (λ (y : ℕ × Place T B S Q A). CallMade self y.0 request answer old (standing_of table number y.1.0) table number y.1) (λ i. (number_is i, sym now i)) (record {
@@ -109,11 +113,13 @@ module _ {T B S Q A : Type 0} (base_of : T → B) (state_of : T → S) (room : T
           numbered = rest.numbered;
           idle = refl;
           alone = rest.alone;
+          all_own = calls;
         };
         chronicle = ap (λ (s : Standing B S Q A). s.chronicle) telling;
         seen = (begins.0, ap (λ (l : List (StepOf Q A)). l ++ entry ∷ []) begins.1);
         legal = subst (λ (y : B × S). IsLegal sound after reply y.0 y.1 (turn.history ++ entry ∷ [])) (λ i. (base_is i, opening_is i)) legal;
-        own = ap (λ (l : List (StepOf Q A)). l ++ entry ∷ []) own_is;
-        all_own = ap (λ (n : ℕ). calls_by n (turn.history ++ entry ∷ [])) (sym rest.numbered.0) ∙ calls;
+        own = own;
+        all_own = all_own;
+        others = λ between more. none_between number old.seen between old.own entry refl before (ap (λ (l : List (StepOf Q A)). calls_by number l) (sym more) ∙ all_own ∙ own);
         left = (let left : ℕ = v.left in let goal : (left - 1) + 1 ≡ old.left = omega arith in goal);
       })

@@ -6,10 +6,12 @@ use Rattle.std.specs.Vec.{vec_capacity}
 use Rattle.std.proofs.lemmas.List.{drop_all}
 use Rattle.atomic_table.specs.Seated.{TableId}
 use Rattle.atomic_table.specs.Table.{opening, Splits}
+use Rattle.chronicle.specs.declared.journal.StepOf.{StepOf}
 use Rattle.chronicle.specs.declared.kept.Kept.{Kept}
 use Rattle.chronicle.specs.declared.origin.Origin.{Origin}
 use Rattle.chronicle.specs.declared.standing.Standing.{Standing}
 use Rattle.chronicle.specs.declared.view.View.{View}
+use Rattle.chronicle.specs.History.{calls_by}
 use Rattle.chronicle.specs.Rule.{Keeps}
 use Rattle.chronicle.specs.Seats.{origin, standing, standing_of, new_seats, IsAtRest, IsDealing}
 use Rattle.chronicle.specs.Turn.{Place}
@@ -29,8 +31,12 @@ sum_of-take-suc (suc i) (x ∷ xs) below =
     let goal : x + a ≡ x + b + d = omega arith in goal
 
 -- the sum of one number more
-pub sum_of-take : (i : ℕ) (xs : List ℕ) → i < length xs → sum_of (take (i + 1) xs) ≡ sum_of (take i xs) + slice_index xs i
+sum_of-take : (i : ℕ) (xs : List ℕ) → i < length xs → sum_of (take (i + 1) xs) ≡ sum_of (take i xs) + slice_index xs i
 sum_of-take i xs below = ap (λ (n : ℕ). sum_of (take n xs)) (let next : i + 1 ≡ suc i = omega arith in next) ∙ sum_of-take-suc i xs below
+
+-- what the numbers so far sum up to, with the next one
+pub sum_with_next : (i calls : ℕ) (xs : List ℕ) → i < length xs → calls ≡ sum_of (take i xs) → calls + slice_index xs i ≡ sum_of (take (i + 1) xs)
+sum_with_next i calls xs below so_far = ap (λ (n : ℕ). n + slice_index xs i) so_far ∙ sym (sum_of-take i xs below)
 
 -- a beginning sums up to no more
 pub sum_of-take-le : (i : ℕ) (xs : List ℕ) → sum_of (take i xs) ≤ sum_of xs
@@ -110,6 +116,7 @@ module _ {T B S Q A : Type 0} where
     numbered = (d.made_is, low);
     idle = refl;
     alone = (refl, refl, refl);
+    all_own = refl;
   }
 
   pub dealt_tells : (o : Origin B S) (table : TableId) (number : ℕ) (me new : Place T B S Q A) → IsDealing o number me → table ≡ o.table → new ≡ (split_right me.0, [])
@@ -131,6 +138,7 @@ module _ {T B S Q A : Type 0} where
     numbered = (d.first, (let goal : 0 < 65535 = omega arith in goal));
     idle = d.idle;
     alone = (d.alone.0, d.alone.1, last_plan o number me d all);
+    all_own = ap (λ (l : List (StepOf Q A)). calls_by d.view.number l) d.nothing_seen.0 ∙ sym d.nothing_seen.1;
   }
 
   pub first_tells : (o : Origin B S) (table : TableId) (number : ℕ) (me : Place T B S Q A) → IsDealing o number me → length o.allotments ≤ number → table ≡ o.table

@@ -21,6 +21,7 @@ use Rattle.chronicle.specs.Rule.{Keeps}
 use Rattle.chronicle.specs.Seats.{origin, origin_of, standing, standing_of, IsAtRest, Knows, HasJoined}
 use Rattle.chronicle.specs.Turn.{Place}
 use Rattle.chronicle.specs.Views.{with_seat, joined, numbers}
+use Rattle.chronicle.proofs.HistoryLaws.{none_after}
 use Rattle.chronicle.proofs.SeatSteps.{joins, nobody_else}
 use Rattle.chronicle.proofs.ViewLists.{same_view, each_so, each_in, in_front, in_back}
 
@@ -49,13 +50,15 @@ module _ {B S Q A : Type 0} where
     own = ⊎_elim (λ h. inl h) (λ (h : IsIn (seat.number, seat.own) v.joined). inr (in_front v.joined ((w.number, w.own) ∷ w.joined) (seat.number, seat.own) h)) k.own;
     seen = ⊎_elim (λ (e : v.seen ≡ seat.seen). inr (in_back v.noted (v.seen ∷ w.seen ∷ w.noted) seat.seen (inl e)))
         (λ (h : IsIn seat.seen v.noted). inr (in_front v.noted (v.seen ∷ w.seen ∷ w.noted) seat.seen h)) k.seen;
+    all_own = k.all_own;
   }
 
   -- and it knows the other
-  pub knows_joined : (v w : View B S Q A) (seat : Standing B S Q A) → w.number ≡ seat.number → w.own ≡ seat.own → w.seen ≡ seat.seen → Knows (with_seat v w) seat
-  knows_joined v w seat number own seen = record {
+  pub knows_joined : (v w : View B S Q A) (seat : Standing B S Q A) → w.number ≡ seat.number → w.own ≡ seat.own → w.seen ≡ seat.seen → calls_by w.number w.seen ≡ w.own → Knows (with_seat v w) seat
+  knows_joined v w seat number own seen all_own = record {
     own = inr (in_back v.joined ((w.number, w.own) ∷ w.joined) (seat.number, seat.own) (inl (λ i. (number i, own i))));
     seen = inr (in_back v.noted (v.seen ∷ w.seen ∷ w.noted) seat.seen (inr (inl seen)));
+    all_own = sym (λ i. calls_by (number i) (seen i)) ∙ all_own ∙ own;
   }
 
   -- the seats known have their numbers in the view
@@ -80,6 +83,7 @@ module _ {T B S Q A : Type 0} where
           record {
             own = inl (rest.numbered.0 ∙ ap (λ (s : Standing B S Q A). s.number) telling, ap (λ (s : Standing B S Q A). s.own) telling);
             seen = inl (ap (λ (s : Standing B S Q A). s.seen) telling);
+            all_own = sym (λ i. calls_by ((rest.numbered.0 ∙ ap (λ (s : Standing B S Q A). s.number) telling) i) (telling i).seen) ∙ rest.all_own ∙ ap (λ (s : Standing B S Q A). s.own) telling;
           },
           tt,
         );
@@ -113,7 +117,7 @@ module _ {T B S Q A : Type 0} where
         idle = h.idle;
         dealt = h.dealt;
         knows = (
-          knows_joined v w seat rest.numbered.0 (ap (λ (s : Standing B S Q A). s.own) telling) (ap (λ (s : Standing B S Q A). s.seen) telling),
+          knows_joined v w seat rest.numbered.0 (ap (λ (s : Standing B S Q A). s.own) telling) (ap (λ (s : Standing B S Q A). s.seen) telling) rest.all_own,
           each_so (Knows v) (Knows (with_seat v w)) seats (knows_still v w) h.knows,
         );
       }
@@ -131,6 +135,7 @@ module _ {T B S Q A : Type 0} (base_of : T → B) (state_of : T → S) (room : T
     pub entries : All (λ (step : StepOf Q A). Any (λ (s : Standing B S Q A). s.number ≡ step.seat) seats) journal
     pub own : All (λ (s : Standing B S Q A). calls_by s.number journal ≡ s.own) seats
     pub seen : All (λ (s : Standing B S Q A). BeginsWith journal s.seen) seats
+    pub others : All (λ (s : Standing B S Q A). (rest : List (StepOf Q A)) → journal ≡ s.seen ++ rest → calls_by s.number rest ≡ []) seats
     pub base : base_of object ≡ o.base
     pub last : state_of object ≡ state_after after o.base o.opening journal
 
@@ -142,9 +147,9 @@ module _ {T B S Q A : Type 0} (base_of : T → B) (state_of : T → S) (room : T
       let v : View B S Q A = h.view in
       let at : get_elem? s.views id ≡ some (Some v) = there ∙ ap (λ (m : Place T B S Q A). some m.0) h.is in
       let mine = r.fits id v at in
-      let base_is : r.base ≡ o.base = sym mine.same_base ∙ h.same_base in
-      let opening_is : r.opening ≡ o.opening = sym mine.same_opening ∙ h.same_opening in
-      let allotments_are : r.allotments ≡ o.allotments = sym mine.same_allotments ∙ h.same_allotments in
+      let base_is : r.base ≡ o.base = sym mine.same.0 ∙ h.same_base in
+      let opening_is : r.opening ≡ o.opening = sym mine.same.1 ∙ h.same_opening in
+      let allotments_are : r.allotments ≡ o.allotments = sym mine.same.2 ∙ h.same_allotments in
       let seats_are : length r.allotments ≡ length o.allotments = ap length allotments_are in
       let known : All (Knows v) seats = All-from_recursion (Knows v) seats h.knows in
       let all_numbers : (n : ℕ) → n < length r.allotments → IsIn n (numbers v) = λ n below. (
@@ -157,11 +162,12 @@ module _ {T B S Q A : Type 0} (base_of : T → B) (state_of : T → S) (room : T
       let few : r.made ≤ length r.allotments = r.made_few in
       let named : (step : StepOf Q A) → step.seat < r.made → Any (λ (x : Standing B S Q A). x.number ≡ step.seat) seats = λ step low. everyone step.seat (let goal : step.seat < length o.allotments = omega arith in goal) in
       let calls_are : (seat : Standing B S Q A) → Knows v seat → calls_by seat.number r.history ≡ seat.own = λ seat k. ⊎_elim
-      (λ (e : (v.number ≡ seat.number) × (v.own ≡ seat.own)). ap (λ (n : ℕ). calls_by n r.history) (sym e.0) ∙ mine.own ∙ e.1)
-      (λ (i : IsIn (seat.number, seat.own) v.joined). each_in (λ (x : ℕ × List (StepOf Q A)). calls_by x.0 r.history ≡ x.1) v.joined (seat.number, seat.own) mine.joined i) k.own in
+      (λ (e : (v.number ≡ seat.number) × (v.own ≡ seat.own)). ap (λ (n : ℕ). calls_by n r.history) (sym e.0) ∙ mine.calls.0 ∙ e.1)
+      (λ (i : IsIn (seat.number, seat.own) v.joined). each_in (λ (x : ℕ × List (StepOf Q A)). calls_by x.0 r.history ≡ x.1) v.joined (seat.number, seat.own) mine.calls.1 i) k.own in
+      let calls_in_journal : (seat : Standing B S Q A) → Knows v seat → calls_by seat.number kept.journal.items ≡ seat.own = λ seat k. ap (λ (l : List (StepOf Q A)). calls_by seat.number l) journal ∙ calls_are seat k in
       let begins : (seat : Standing B S Q A) → Knows v seat → BeginsWith r.history seat.seen = λ seat k. ⊎_elim
-      (λ (e : v.seen ≡ seat.seen). subst (λ (l : List (StepOf Q A)). BeginsWith r.history l) e mine.begins)
-      (λ (i : IsIn seat.seen v.noted). each_in (BeginsWith r.history) v.noted seat.seen mine.noted i) k.seen in (
+      (λ (e : v.seen ≡ seat.seen). subst (λ (l : List (StepOf Q A)). BeginsWith r.history l) e mine.begins.0)
+      (λ (i : IsIn seat.seen v.noted). each_in (BeginsWith r.history) v.noted seat.seen mine.begins.1 i) k.seen in (
         kept,
         home.1,
         record {
@@ -169,8 +175,11 @@ module _ {T B S Q A : Type 0} (base_of : T → B) (state_of : T → S) (room : T
           entries = All-from_recursion (λ (step : StepOf Q A). Any (λ (x : Standing B S Q A). x.number ≡ step.seat) seats) kept.journal.items
               (subst (λ (l : List (StepOf Q A)). Each (λ (step : StepOf Q A). Any (λ (x : Standing B S Q A). x.number ≡ step.seat) seats) l) (sym journal)
               (each_so (λ (step : StepOf Q A). step.seat < r.made) (λ (step : StepOf Q A). Any (λ (x : Standing B S Q A). x.number ≡ step.seat) seats) r.history named r.entries));
-          own = λ k d below. ap (λ (l : List (StepOf Q A)). calls_by (slice_index_or seats k d).number l) journal ∙ calls_are (slice_index_or seats k d) (known k d below);
+          own = λ k d below. calls_in_journal (slice_index_or seats k d) (known k d below);
           seen = λ k d below. subst (λ (l : List (StepOf Q A)). BeginsWith l (slice_index_or seats k d).seen) (sym journal) (begins (slice_index_or seats k d) (known k d below));
+          others = λ k d below rest is. (
+              let seat = slice_index_or seats k d in let k' = known k d below in
+              none_after seat.number seat.seen rest seat.own k'.all_own (ap (λ (l : List (StepOf Q A)). calls_by seat.number l) (sym is) ∙ calls_in_journal seat k'));
           base = fits.same_base ∙ base_is;
           last = fits.last ∙ (λ i. state_after after (base_is i) (opening_is i) (sym journal i));
         },

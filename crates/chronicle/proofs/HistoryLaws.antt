@@ -1,7 +1,8 @@
 -- The laws of histories: how the state, legality and a seat's calls follow a history that grows.
 use Rattle.std.proofs.lemmas.Bool.Decides.{nat_tests}
 use Rattle.std.specs.List.{AllByRecursion as Each}
-use Rattle.std.proofs.Common.{◌==◌, false, arith, ◌≡◌, ◌≢◌, ◌++◌, ◌∷◌, [], ◌∙◌, ℕ, List, Bool, true, refl, subst, append_assoc}
+use Rattle.std.proofs.Common.{◌==◌, false, arith, ◌≡◌, ◌≢◌, ◌++◌, ◌∷◌, [], ◌∙◌, ℕ, List, Bool, true, refl, sym, subst, append_assoc, append-nil}
+use Rattle.std.proofs.lemmas.List.{append_cancel_left, append_cancel_right}
 use Rattle.market_lists.specs.Beginnings.{BeginsWith}
 use Rattle.market_lists.proofs.Parts.{part_of-append, part_of-own, part_of-other}
 use Rattle.chronicle.specs.declared.journal.StepOf.{StepOf}
@@ -60,6 +61,17 @@ module _ {Q A : Type 0} where
   -- and after one of another seat
   pub calls_by-other : (number : ℕ) (history : List (StepOf Q A)) (step : StepOf Q A) → step.seat ≢ number → calls_by number (history ++ step ∷ []) ≡ calls_by number history
   calls_by-other number history step other = part_of-other (λ (x : StepOf Q A). x.seat) number history step other
+
+  -- where a seat's calls are those of the front, the rest has none
+  pub none_after : (number : ℕ) (front rest own : List (StepOf Q A)) → calls_by number front ≡ own → calls_by number (front ++ rest) ≡ own → calls_by number rest ≡ []
+  none_after number front rest own before whole =
+      append_cancel_left (calls_by number front) (calls_by number rest) [] (sym (calls_by-append number front rest) ∙ whole ∙ sym before ∙ sym (append-nil (calls_by number front)))
+
+  -- and where one more of its own ends them, there is none between
+  pub none_between : (number : ℕ) (front between own : List (StepOf Q A)) (step : StepOf Q A) → step.seat ≡ number → calls_by number front ≡ own
+      → calls_by number ((front ++ between) ++ step ∷ []) ≡ own ++ step ∷ [] → calls_by number between ≡ []
+  none_between number front between own step is before whole =
+      none_after number front between own before (append_cancel_right (calls_by number (front ++ between)) own (step ∷ []) (sym (calls_by-own number (front ++ between) step is) ∙ whole))
 
   -- what is extended is a beginning
   pub begins_from_extends : (old new : List (StepOf Q A)) (step : StepOf Q A) → Extends old new step → BeginsWith new old

@@ -94,13 +94,9 @@ module _ {T B S Q A : Type 0} (base_of : T → B) (state_of : T → S) (room : T
         small = limit;
         drawn = (let goal : 0 ≤ 0 = omega arith in goal);
         fits = fits_last (Fits (base_of kept.object) (state_of kept.object) allotments [] 0 1 (λ t. 0) (λ m. 0)) [] 0 v refl (λ j u e. absurd (some-ne-none (Some u) (sym e))) (record {
-          same_base = refl;
-          same_opening = refl;
-          same_allotments = refl;
-          begins = begins-nothing [];
-          noted = tt;
-          own = refl;
-          joined = tt;
+          same = (refl, refl, refl);
+          begins = (begins-nothing [], tt);
+          calls = (refl, tt);
           numbered = λ m h. ⊎_elim (λ (e : 0 ≡ m). ((let goal : m < 1 = omega arith in goal), refl)) (λ none. absurd none) h;
           joined_idle = λ _. refl;
           waits = λ t e. absurd (cc);
@@ -176,13 +172,9 @@ module _ {T B S Q A : Type 0} (base_of : T → B) (state_of : T → S) (room : T
         fits = fits_last P vs m u long
             (fits_set P s.views id w
             (record {
-              same_base = mine.same_base;
-              same_opening = mine.same_opening;
-              same_allotments = mine.same_allotments;
+              same = mine.same;
               begins = mine.begins;
-              noted = mine.noted;
-              own = mine.own;
-              joined = mine.joined;
+              calls = mine.calls;
               numbered = λ j h. (let q = mine.numbered j h in let low : j < r.made = q.0 in ((let goal : j < r.made + 1 = omega arith in goal), old_home j low ∙ q.1));
               joined_idle = mine.joined_idle;
               waits = λ t e. absurd (no_ticket t (inl e));
@@ -190,13 +182,9 @@ module _ {T B S Q A : Type 0} (base_of : T → B) (state_of : T → S) (room : T
               deals = λ _. (of.0, ap (λ (y : ℕ). y + 1) made_is, (let goal : r.made + 1 + tail ≡ length r.allotments = omega arith in goal), (let goal : rest ≤ v.left - a = omega arith in goal));
             })
             (λ j y other there. (let f = r.fits j y there in record {
-              same_base = f.same_base;
-              same_opening = f.same_opening;
-              same_allotments = f.same_allotments;
+              same = f.same;
               begins = f.begins;
-              noted = f.noted;
-              own = f.own;
-              joined = f.joined;
+              calls = f.calls;
               numbered = λ i h. (let q = f.numbered i h in let low : i < r.made = q.0 in ((let goal : i < r.made + 1 = omega arith in goal), old_home i low ∙ q.1));
               joined_idle = f.joined_idle;
               waits = f.waits;
@@ -204,13 +192,9 @@ module _ {T B S Q A : Type 0} (base_of : T → B) (state_of : T → S) (room : T
               deals = λ some_other. (let theirs = f.deals some_other in let named = f.numbered y.number (inl refl) in absurd (other (sym named.1 ∙ ap r.home theirs.0 ∙ first)));
             })))
             (record {
-              same_base = mine.same_base;
-              same_opening = mine.same_opening;
-              same_allotments = mine.same_allotments;
-              begins = begins-nothing r.history;
-              noted = tt;
-              own = calls_by-unmade v.made r.history (each_so (λ (y : StepOf Q A). y.seat < r.made) (λ (y : StepOf Q A). y.seat ≢ v.made) r.history (λ y low same. (let clash : ⊥ = omega arith in clash)) r.entries);
-              joined = tt;
+              same = mine.same;
+              begins = (begins-nothing r.history, tt);
+              calls = (calls_by-unmade v.made r.history (each_so (λ (y : StepOf Q A). y.seat < r.made) (λ (y : StepOf Q A). y.seat ≢ v.made) r.history (λ y low same. (let clash : ⊥ = omega arith in clash)) r.entries), tt);
               numbered = λ j h. ⊎_elim (λ (e : v.made ≡ j). (let is : j ≡ r.made = sym e ∙ made_is in ((let goal : j < r.made + 1 = omega arith in goal), ap home is ∙ new_home))) (λ none. absurd none) h;
               joined_idle = λ _. refl;
               waits = λ t e. absurd (cc);
@@ -272,13 +256,9 @@ module _ {T B S Q A : Type 0} (base_of : T → B) (state_of : T → S) (room : T
         drawn = r.drawn;
         fits = fits_spent P vs other (λ j y not_other there'. fits_set (λ (i : ℕ) (z : W). i ≢ other → P i z) s.views id both
             (λ _. record {
-              same_base = mine.same_base;
-              same_opening = mine.same_opening;
-              same_allotments = mine.same_allotments;
-              begins = begins_longer_of r.history v.seen w.seen mine.begins theirs.begins;
-              noted = each-append (BeginsWith r.history) v.noted (v.seen ∷ w.seen ∷ w.noted) mine.noted (mine.begins, (theirs.begins, theirs.noted));
-              own = mine.own;
-              joined = each-append (λ (x : ℕ × List (StepOf Q A)). calls_by x.0 r.history ≡ x.1) v.joined (noted_w ∷ w.joined) mine.joined (theirs.own, theirs.joined);
+              same = mine.same;
+              begins = (begins_longer_of r.history v.seen w.seen mine.begins.0 theirs.begins.0, each-append (BeginsWith r.history) v.noted (v.seen ∷ w.seen ∷ w.noted) mine.begins.1 (mine.begins.0, theirs.begins));
+              calls = (mine.calls.0, each-append (λ (x : ℕ × List (StepOf Q A)). calls_by x.0 r.history ≡ x.1) v.joined (noted_w ∷ w.joined) mine.calls.1 theirs.calls);
               numbered = λ n h. ⊎_elim
                   (λ (i : IsIn n (numbers v)). (let q = mine.numbered n i in (q.0, same_home n (λ e. apart (sym e ∙ q.1)) ∙ q.1)))
                   (λ (i : IsIn n (numbers w)). (let q = theirs.numbered n i in (q.0, moved_home n q.1))) (either n h);
@@ -288,13 +268,9 @@ module _ {T B S Q A : Type 0} (base_of : T → B) (state_of : T → S) (room : T
               deals = λ some_plan. absurd (some_plan dealt_all);
             })
             (λ i z not_id there'' not_other'. (let f = r.fits i z there'' in record {
-              same_base = f.same_base;
-              same_opening = f.same_opening;
-              same_allotments = f.same_allotments;
+              same = f.same;
               begins = f.begins;
-              noted = f.noted;
-              own = f.own;
-              joined = f.joined;
+              calls = f.calls;
               numbered = λ n h. (let q = f.numbered n h in (q.0, same_home n (λ e. not_other' (sym q.1 ∙ e)) ∙ q.1));
               joined_idle = f.joined_idle;
               waits = f.waits;

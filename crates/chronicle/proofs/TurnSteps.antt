@@ -110,13 +110,9 @@ module _ {T B S Q A : Type 0} (base_of : T → B) (state_of : T → S) (room : T
           drawn = (let goal : n ≤ x + 1 = omega arith in goal);
           fits = fits_set (Fits r.base r.opening r.allotments r.history (x + 1) r.made holder r.home) s.views id w
               (record {
-                same_base = mine.same_base;
-                same_opening = mine.same_opening;
-                same_allotments = mine.same_allotments;
+                same = mine.same;
                 begins = mine.begins;
-                noted = mine.noted;
-                own = mine.own;
-                joined = mine.joined;
+                calls = mine.calls;
                 numbered = mine.numbered;
                 joined_idle = λ some_joined. absurd (some_joined alone);
                 waits = λ t e. (let same : x ≡ t = cc in subst (λ (y : ℕ). (n ≤ y) × (y < x + 1) × (holder y ≡ id)) same ((let a : n ≤ x = omega arith in a), (let b : x < x + 1 = omega arith in b), new_holder));
@@ -124,13 +120,9 @@ module _ {T B S Q A : Type 0} (base_of : T → B) (state_of : T → S) (room : T
                 deals = λ some_plan. absurd (some_plan dealt);
               })
               (λ j u other there. (let f = r.fits j u there in record {
-                same_base = f.same_base;
-                same_opening = f.same_opening;
-                same_allotments = f.same_allotments;
+                same = f.same;
                 begins = f.begins;
-                noted = f.noted;
-                own = f.own;
-                joined = f.joined;
+                calls = f.calls;
                 numbered = f.numbered;
                 joined_idle = f.joined_idle;
                 waits = λ t e. (let q = f.waits t e in let below : t < r.tickets = q.1 in (q.0, (let a : t < x + 1 = omega arith in a), old_holder t below ∙ q.2));
@@ -202,13 +194,9 @@ module _ {T B S Q A : Type 0} (base_of : T → B) (state_of : T → S) (room : T
           drawn = r.drawn;
           fits = fits_set (Fits r.base r.opening r.allotments r.history r.tickets r.made r.holder r.home) s.views id w
               (record {
-                same_base = mine.same_base;
-                same_opening = mine.same_opening;
-                same_allotments = mine.same_allotments;
-                begins = begins-itself r.history;
-                noted = mine.noted;
-                own = mine.own;
-                joined = mine.joined;
+                same = mine.same;
+                begins = (begins-itself r.history, mine.begins.1);
+                calls = mine.calls;
                 numbered = mine.numbered;
                 joined_idle = λ some_joined. absurd (some_joined alone);
                 waits = λ t e. absurd (cc);
@@ -225,13 +213,13 @@ module _ {T B S Q A : Type 0} (base_of : T → B) (state_of : T → S) (room : T
           at_home = λ nobody. absurd (nobody id w ticket (set_here s.views id (Some w) (at_below s.views id (Some v) at)) refl);
           out = λ j u t there turn. here;
         },
-        mine.begins,
-        mine.own,
+        mine.begins.0,
+        mine.calls.0,
         record {
           turn = (ticket, refl);
-          legal = subst (λ (y : B × S). IsLegal sound after reply y.0 y.1 r.history) (λ i. (sym mine.same_base i, sym mine.same_opening i)) r.legal;
-          is_after = subst (λ (y : B × S × List ℕ). IsAfter base_of state_of room sound after reply y.0 y.1 y.2 r.history kept) (λ i. (sym mine.same_base i, sym mine.same_opening i, sym mine.same_allotments i)) fits;
-          fits = subst (λ (y : List ℕ). n < sum_of y) (sym mine.same_allotments) (let goal : n < sum_of r.allotments = omega arith in goal);
+          legal = subst (λ (y : B × S). IsLegal sound after reply y.0 y.1 r.history) (λ i. (sym mine.same.0 i, sym mine.same.1 i)) r.legal;
+          is_after = subst (λ (y : B × S × List ℕ). IsAfter base_of state_of room sound after reply y.0 y.1 y.2 r.history kept) (λ i. (sym mine.same.0 i, sym mine.same.1 i, sym mine.same.2 i)) fits;
+          fits = subst (λ (y : List ℕ). n < sum_of y) (sym mine.same.2) (let goal : n < sum_of r.allotments = omega arith in goal);
           alone = (alone, dealt);
         },
       )
@@ -329,8 +317,8 @@ module _ {T B S Q A : Type 0} (base_of : T → B) (state_of : T → S) (room : T
           words = ap (λ (ws : List ℕ). set ws 0 ((x + 1) % 2 ^ 64)) r.words ∙ ap (λ (y : ℕ). y ∷ r.tickets ∷ []) next;
           one_slot = length-set s.homes 0 (some kept) ∙ r.one_slot;
           legal = legal_with_step sound after reply r.base r.opening r.history taken r.legal
-              (subst (λ (y : B). sound y taken.request ≡ true) mine.same_base ok)
-              (subst (λ (y : B × S × List (StepOf Q A)). taken.reply ≡ reply y.0 (state_after after y.0 y.1 y.2) taken.seat taken.request) (λ i. (mine.same_base i, mine.same_opening i, seen i)) replied);
+              (subst (λ (y : B). sound y taken.request ≡ true) mine.same.0 ok)
+              (subst (λ (y : B × S × List (StepOf Q A)). taken.reply ≡ reply y.0 (state_after after y.0 y.1 y.2) taken.seat taken.request) (λ i. (mine.same.0 i, mine.same.1 i, seen i)) replied);
           entries = each-append (λ (y : StepOf Q A). y.seat < r.made) r.history (taken ∷ []) r.entries (subst (λ (y : ℕ). y < r.made) numbered ours.0, tt);
           made_few = r.made_few;
           balance = (let goal : r.tickets + k' ≡ sum_of r.allotments = omega arith in goal);
@@ -338,13 +326,9 @@ module _ {T B S Q A : Type 0} (base_of : T → B) (state_of : T → S) (room : T
           drawn = (let goal : length history ≤ r.tickets = omega arith in goal);
           fits = fits_set (Fits r.base r.opening r.allotments history r.tickets r.made r.holder r.home) s.views id w
               (record {
-                same_base = mine.same_base;
-                same_opening = mine.same_opening;
-                same_allotments = mine.same_allotments;
-                begins = subst (λ (l : List (StepOf Q A)). BeginsWith history (l ++ taken ∷ [])) (sym seen) (begins-itself history);
-                noted = each_so (BeginsWith r.history) (BeginsWith history) v.noted (λ l h. begins-longer r.history l (taken ∷ []) h) mine.noted;
-                own = calls_by-own v.number r.history taken (sym numbered) ∙ ap (λ (l : List (StepOf Q A)). l ++ taken ∷ []) mine.own;
-                joined = subst (λ (l : List (ℕ × List (StepOf Q A))). Each (λ (y : ℕ × List (StepOf Q A)). calls_by y.0 history ≡ y.1) l) (sym alone) tt;
+                same = mine.same;
+                begins = (subst (λ (l : List (StepOf Q A)). BeginsWith history (l ++ taken ∷ [])) (sym seen) (begins-itself history), each_so (BeginsWith r.history) (BeginsWith history) v.noted (λ l h. begins-longer r.history l (taken ∷ []) h) mine.begins.1);
+                calls = (calls_by-own v.number r.history taken (sym numbered) ∙ ap (λ (l : List (StepOf Q A)). l ++ taken ∷ []) mine.calls.0, subst (λ (l : List (ℕ × List (StepOf Q A))). Each (λ (y : ℕ × List (StepOf Q A)). calls_by y.0 history ≡ y.1) l) (sym alone) tt);
                 numbered = mine.numbered;
                 joined_idle = λ _. refl;
                 waits = λ p e. absurd (cc);
@@ -352,13 +336,9 @@ module _ {T B S Q A : Type 0} (base_of : T → B) (state_of : T → S) (room : T
                 deals = mine.deals;
               })
               (λ j u other there. (let f = r.fits j u there in record {
-                same_base = f.same_base;
-                same_opening = f.same_opening;
-                same_allotments = f.same_allotments;
-                begins = begins-longer r.history u.seen (taken ∷ []) f.begins;
-                noted = each_so (BeginsWith r.history) (BeginsWith history) u.noted (λ l h. begins-longer r.history l (taken ∷ []) h) f.noted;
-                own = calls_by-other u.number r.history taken (λ same. others_call j u u.number other there (inl refl) (sym same)) ∙ f.own;
-                joined = joined_stay r.history taken u.joined (λ m stands. others_call j u m other there (inr stands)) f.joined;
+                same = f.same;
+                begins = (begins-longer r.history u.seen (taken ∷ []) f.begins.0, each_so (BeginsWith r.history) (BeginsWith history) u.noted (λ l h. begins-longer r.history l (taken ∷ []) h) f.begins.1);
+                calls = (calls_by-other u.number r.history taken (λ same. others_call j u u.number other there (inl refl) (sym same)) ∙ f.calls.0, joined_stay r.history taken u.joined (λ m stands. others_call j u m other there (inr stands)) f.calls.1);
                 numbered = f.numbered;
                 joined_idle = f.joined_idle;
                 waits = λ p e. (let q = f.waits p e in let low : n ≤ p = q.0 in let apart : p ≢ n = λ same. not_now j u p other same q.2 in ((let goal : length history ≤ p = omega arith in goal), q.1, q.2));
@@ -371,7 +351,7 @@ module _ {T B S Q A : Type 0} (base_of : T → B) (state_of : T → S) (room : T
           at_home = λ nobody. (
             kept,
             (let one : length s.homes ≡ 1 = r.one_slot in set_here s.homes 0 (some kept) (omega arith)),
-            stepped_after r.base r.opening r.allotments r.history v taken kept mine.same_base mine.same_opening mine.same_allotments seen stepped,
+            stepped_after r.base r.opening r.allotments r.history v taken kept mine.same.0 mine.same.1 mine.same.2 seen stepped,
           );
           out = λ j u p there e. fits_set (λ (i : ℕ) (y : W). (q : ℕ) → y.phase ≡ phase.InTurn q → get_elem? (set s.homes 0 (some kept)) 0 ≡ some none) s.views id w
               (λ q e'. absurd (cc))

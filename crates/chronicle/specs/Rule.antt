@@ -26,15 +26,11 @@ module _ {B S Q A : Type 0} where
 
   -- What the rule says of the view that stands at j. The view of `holder t` has the ticket t, and the number n stands in the view of `home n`
   pub record Fits (base : B) (opening : S) (allotments : List ℕ) (history : List (StepOf Q A)) (tickets made : ℕ) (holder home : ℕ → ℕ) (j : ℕ) (v : View B S Q A) : Type 0 where
-    pub same_base : v.base ≡ base
-    pub same_opening : v.opening ≡ opening
-    pub same_allotments : v.allotments ≡ allotments
+    pub same : (v.base ≡ base) × (v.opening ≡ opening) × (v.allotments ≡ allotments)
     -- what it has seen, and what it noted that others had seen, begins the history
-    pub begins : BeginsWith history v.seen
-    pub noted : Each (BeginsWith history) v.noted
+    pub begins : BeginsWith history v.seen × Each (BeginsWith history) v.noted
     -- its own calls, and those that it noted, are all that the history has of their numbers
-    pub own : calls_by v.number history ≡ v.own
-    pub joined : Each (λ (x : ℕ × List (StepOf Q A)). calls_by x.0 history ≡ x.1) v.joined
+    pub calls : (calls_by v.number history ≡ v.own) × Each (λ (x : ℕ × List (StepOf Q A)). calls_by x.0 history ≡ x.1) v.joined
     -- its numbers were made, and stand in no other view
     pub numbered : (n : ℕ) → IsIn n (numbers v) → (n < made) × (home n ≡ j)
     -- with joined numbers it makes no call

@@ -9,6 +9,7 @@ use Rattle.chronicle.specs.declared.origin.Origin.{Origin}
 use Rattle.chronicle.specs.declared.standing.Standing.{Standing}
 use Rattle.chronicle.specs.declared.view.View.{View}
 use Rattle.chronicle.specs.declared.view.Phase.TheVariants as phase
+use Rattle.chronicle.specs.History.{calls_by}
 use Rattle.chronicle.specs.Members.{IsIn}
 use Rattle.chronicle.specs.Views.{left_of, seen_of, own_of, first_of, sum_of}
 
@@ -34,19 +35,21 @@ module _ {B S Q A : Type 0} where
   abbrev pub standing_of : TableId → ℕ → Option (View B S Q A) → Standing B S Q A
   standing_of table number view = standing (origin_of table view) number (left_of view) (seen_of view) (own_of view)
 
-  -- what a view knows of a seat that it was or that it joined: its calls, and what it had seen
+  -- what a view knows of a seat that it was or that it joined: its calls, which are all that it had seen of itself, and what it had seen
   pub record Knows (view : View B S Q A) (seat : Standing B S Q A) : Type 0 where
     pub own : ((view.number ≡ seat.number) × (view.own ≡ seat.own)) ⊎ IsIn (seat.number, seat.own) view.joined
     pub seen : (view.seen ≡ seat.seen) ⊎ IsIn seat.seen view.noted
+    pub all_own : calls_by seat.number seat.seen ≡ seat.own
 
 module _ {T B S Q A : Type 0} where
-  -- a seat that makes no call and has joined no other
+  -- a seat that makes no call and has joined no other; its own calls are all that it has seen of itself
   pub record IsAtRest (number : ℕ) (me : Me (Kept T Q A) (Option (View B S Q A))) : Type 0 where
     pub view : View B S Q A
     pub is : me ≡ (Some view, [])
     pub numbered : (view.number ≡ number) × (number < 65535)
     pub idle : view.phase ≡ phase.Idle
     pub alone : (view.joined ≡ []) × (view.noted ≡ []) × (view.plan ≡ [])
+    pub all_own : calls_by view.number view.seen ≡ view.own
 
   -- The first seat, when the seats with numbers below this one were made: it has not called, and has the allotments of all that are still to come beside its own
   pub record IsDealing (chronicle : Origin B S) (made : ℕ) (me : Me (Kept T Q A) (Option (View B S Q A))) : Type 0 where

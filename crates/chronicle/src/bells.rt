@@ -1,6 +1,7 @@
 // Where threads sleep until their turns.
-ghost use Rattle.std.specs.Prelude.{◌≡◌, ◌≤◌, IfOk};
+ghost use Rattle.std.specs.Prelude.{◌≡◌, ◌≤◌, ◌%◌, IfOk};
 
+use crossbeam_utils::CachePadded;
 use market_units::NoMemory;
 use std::alloc::Global;
 use std::marker::Model;
@@ -11,7 +12,7 @@ use std::thread::Parker;
 /// another and are no more than the seats, so no two of them have the same bell. Contracts see how many there are.
 #[derive(Drop)]
 pub struct Bells {
-    parkers: Vec<Parker>,
+    parkers: Vec<CachePadded<Parker>>,
 }
 
 impl Model for Bells {
@@ -32,7 +33,7 @@ impl Bells {
     {
         let mut parkers = Vec::with_capacity(alloc, seats)?;
         'seats: for _ in 0..seats {
-            parkers.push(Parker::new())?;
+            parkers.push(CachePadded::new(Parker::new()))?;
         }
         Ok(Bells { parkers })
     }
@@ -48,7 +49,13 @@ impl Bells {
     }
 
     fn of(&self, ticket: u64) -> &Parker {
-        let seats = self.parkers.len() as u64;
-        &self.parkers[(ticket % seats) as usize]
+        &self.parkers[self.place_of(ticket)]
+    }
+
+    // Which bell is that of this ticket.
+    fn place_of(&self, ticket: u64) -> usize
+        ensures { result ≡ ticket % self.now }
+    {
+        (ticket % self.parkers.len() as u64) as usize
     }
 }

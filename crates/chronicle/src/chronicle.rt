@@ -16,6 +16,7 @@ use crate::view::View;
 use atomic_table::{Refused, Table};
 use market_units::NoMemory;
 use std::alloc::Global;
+use std::hint;
 use std::marker::Model;
 use std::snapshot::Snapshot;
 use std::sync::Wait;
@@ -25,6 +26,12 @@ const SERVING: usize = 0;
 
 // The word that says which ticket is drawn next.
 const TICKET: usize = 1;
+
+// How many tickets may be before one that is watched for, the one that is served among them.
+const NEAR: u64 = 2;
+
+// How often a thread looks before it sleeps.
+const LOOKS: u32 = 100;
 
 /// An object that threads share, with the history of their calls. Calls take turns by ticket; a thread that is not
 /// served yet sleeps at the bell of its ticket, which is rung when its turn comes. Contracts see it as its `Origin`.
@@ -49,7 +56,7 @@ impl<O: Object> Model for Chronicle<O> {
 
     ghost view = { λ c. origin c.table.shared.table_id (O.base c.table.shared.key.object.value) (O.state c.table.shared.key.object.value) c.table.shared.key.allotments.value.items };
 
-    ghost invariant = { λ c. (c.table.shared.table_id.words ≡ 2) × (c.table.shared.table_id.slots ≡ 1) × (1 ≤ length c.table.shared.key.allotments.value.items) };
+    ghost invariant = { λ c. (c.table.shared.table_id.words ≡ 2) × (c.table.shared.table_id.slots ≡ 1) × (1 ≤ length c.table.shared.key.allotments.value.items) × (c.bells ≡ length c.table.shared.key.allotments.value.items) };
 }
 
 impl<O: Object> Chronicle<O> {
@@ -153,6 +160,7 @@ impl<O: Object> Chronicle<O> {
         ensures seats { All (λ step. Any (λ s. s.number ≡ step.seat) seats.items) result.1 }
         ensures own { All (λ s. calls_by s.number result.1 ≡ s.own) seats.items }
         ensures seen { All (λ s. BeginsWith result.1 s.seen) seats.items }
+        ensures others { All (λ s. (rest : _) → result.1 ≡ s.seen ++ rest → calls_by s.number rest ≡ []) seats.items }
         ensures base { O.base result.0 ≡ self.base }
         ensures last { O.state result.0 ≡ state_after O.after self.base self.opening result.1 }
     {
@@ -204,6 +212,7 @@ impl<O: Object> Chronicle<O> {
         ensures legal { IsLegal O.sound O.after O.reply self.now.base self.now.opening seat.new.seen }
         ensures own { seat.new.own ≡ seat.old.own ++ step_of seat.old.number request result ∷ [] }
         ensures all_own { calls_by seat.old.number seat.new.seen ≡ seat.new.own }
+        ensures others { (between : _) → seat.new.seen ≡ (seat.old.seen ++ between) ++ step_of seat.old.number request result ∷ [] → calls_by seat.old.number between ≡ [] }
         ensures left { seat.new.left + 1 ≡ seat.old.left }
         ensures same { (seat.new.chronicle ≡ seat.old.chronicle) × (seat.new.number ≡ seat.old.number) }
     {
@@ -226,7 +235,7 @@ impl<O: Object> Chronicle<O> {
         self.table.shared.fetch_add::<Draw>(place, TICKET, 1)
     }
 
-    // Looks, and sleeps, until the ticket is served.
+    // Looks until the ticket is served.
     fn wait<R: Wait>(&self, rt: &R, place: &mut Place<O>, ticket: u64)
         requires own { place.old.table_id ≡ self.now.table }
         requires waits { IsWaiting ticket place.old.me }
@@ -237,9 +246,28 @@ impl<O: Object> Chronicle<O> {
             if self.table.shared.load::<Look<O>>(place, SERVING) == ticket {
                 return;
             }
-            self.bells.sleep(rt, ticket);
+            self.watch_or_sleep(rt, ticket);
         }
         unreachable!()
+    }
+
+    // Comes back when it may be the ticket's turn.
+    fn watch_or_sleep<R: Wait>(&self, rt: &R, ticket: u64) {
+        if !self.watch(ticket) {
+            self.bells.sleep(rt, ticket);
+        }
+    }
+
+    // Watches for a bounded time which ticket is served, where few are before this one. Answers whether it is its turn.
+    fn watch(&self, ticket: u64) -> bool {
+        for _ in 0..LOOKS {
+            let before = ticket.wrapping_sub(self.table.shared.peek(SERVING));
+            if before == 0 || before > NEAR {
+                return before == 0;
+            }
+            hint::spin_loop();
+        }
+        false
     }
 
     // Takes the seat's step, in its turn.
@@ -254,7 +282,8 @@ impl<O: Object> Chronicle<O> {
         kept.step(number, request)
     }
 
-    // Gives the object back, passes the turn on, and wakes the thread whose turn it is now.
+    // Gives the object back, passes the turn on, and rings the bell of the next ticket if it was drawn. Who draws it
+    // after this look looks in its turn after the turn was passed, so it finds itself served and does not sleep.
     fn pass(&self, place: &mut Place<O>, number: u16, request: &O::Request, reply: &O::Reply)
         requires own { place.old.table_id ≡ self.now.table }
         requires has_to_pass { HasToPass O.base O.state O.room O.sound O.after O.reply (step_of number request.now reply.now) place.old.me }
@@ -262,6 +291,9 @@ impl<O: Object> Chronicle<O> {
         ensures passes { Passes place.old.me place.new.me }
     {
         let served = self.table.shared.fetch_add::<Pass>(place, SERVING, 1);
-        self.bells.ring(served.wrapping_add(1));
+        let next = served.wrapping_add(1);
+        if self.table.shared.peek(TICKET) != next {
+            self.bells.ring(next);
+        }
     }
 }

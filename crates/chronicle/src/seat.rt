@@ -38,11 +38,13 @@ impl<O: Object> Model for Seat<O> {
 }
 
 impl<O: Object> Seat<O> {
+    ghost use Rattle.chronicle.specs.History.{calls_by};
     ghost use Rattle.chronicle.specs.Seats.{IsAtRest, standing_of};
 
-    /// The seat's number, from 0.
+    /// The seat's number, from 0. Its own calls are all that it has seen of itself.
     pub fn number(&self) -> u16
-        ensures { result ≡ self.now.number }
+        ensures number { result ≡ self.now.number }
+        ensures all_own { calls_by self.now.number self.now.seen ≡ self.now.own }
     {
         self.number
     }

@@ -4,15 +4,24 @@ use super::*;
 use adder::Adder;
 use market_units::NoMemory;
 use std::alloc::Global;
+use std::process::Abort;
 use std::sync::Wait;
+use std::sync::atomic::{AtomicU64, Ordering};
 use std::test::Fail;
 use std::thread;
 use std::thread::Threads;
+use std::time::{Clock, Duration};
 
 mod adder;
 
 // How often each thread calls.
 const CALLS: u64 = 50;
+
+// How long a step takes that makes the other threads sleep, in looks of theirs.
+const SLOW: u32 = 2000;
+
+// How long the threads may take, in milliseconds, before the test fails.
+const PATIENCE: u32 = 30_000;
 
 // Closes with seats that stand at their numbers.
 fn close_in_order(chronicle: Chronicle<Adder>, seats: Vec<Seat<Adder>>) -> (Adder, Journal<Adder>)
@@ -29,7 +38,12 @@ fn call_by_turns<R: Wait>(
     alloc: Global,
 ) -> Result<([u64; 3], Adder, Journal<Adder>), NoMemory> {
     let allotments = vec![in alloc; 2u64, 1u64]?;
-    let (chronicle, mut seats) = Chronicle::start(alloc, Adder { sum: 0, room: 3 }, allotments)?;
+    let adder = Adder {
+        sum: 0,
+        room: 3,
+        pause: 0,
+    };
+    let (chronicle, mut seats) = Chronicle::start(alloc, adder, allotments)?;
     let first = chronicle.call(rt, &mut seats[0], 5);
     let second = chronicle.call(rt, &mut seats[1], 7);
     let third = chronicle.call(rt, &mut seats[0], 1);
@@ -120,6 +134,7 @@ fn call_at_once<R: Threads + Wait + Sync>(
     let adder = Adder {
         sum: 0,
         room: 4 * CALLS,
+        pause: SLOW,
     };
     let (chronicle, mut seats) = Chronicle::start(alloc, adder, allotments)?;
     call_all(rt, &chronicle, seats.as_mut_slice());
@@ -127,10 +142,38 @@ fn call_at_once<R: Threads + Wait + Sync>(
     Ok(closed)
 }
 
-// Several real threads share one history.
+// The same, and tells that it is done.
+fn call_and_tell<R: Threads + Wait + Sync>(
+    rt: &R,
+    alloc: Global,
+    is_done: &AtomicU64,
+) -> Result<(Adder, Journal<Adder>), NoMemory> {
+    let closed = call_at_once(rt, alloc);
+    is_done.store(1, Ordering::SeqCst);
+    closed
+}
+
+// Ends the test where a thread sleeps that nobody wakes, which would else sleep for ever.
+fn watch<R: Clock + Abort>(rt: &R, is_done: &AtomicU64) {
+    for _ in 0..PATIENCE {
+        if is_done.load(Ordering::SeqCst) == 1 {
+            return;
+        }
+        thread::sleep(rt, Duration::from_millis(1));
+    }
+    panic!(rt; "a thread was not woken");
+}
+
+// Several real threads share one history. Each sleeps while the others have their turns, and is woken.
 #[test]
 fn threads_share_one_history(rt: HostRuntime) -> Result<(), Fail> {
-    let (adder, journal) = call_at_once(&rt, rt.alloc())?;
+    let is_done = AtomicU64::new(0);
+    let (_, closed) = thread::join(
+        &rt,
+        || watch(&rt, &is_done),
+        || call_and_tell(&rt, rt.alloc(), &is_done),
+    );
+    let (adder, journal) = closed?;
     assert_eq!(rt; adder.sum, CALLS * 10);
     assert_eq!(rt; journal.steps().len(), 200);
     for seat in 0..4u16 {

@@ -11,7 +11,7 @@ use Rattle.std.proofs.lemmas.Slice.Eq.{bytes_eq-Decides}
 use Rattle.timetable_rules.specs.Overlap.{some_overlap}
 use Rattle.timetable_rules.specs.Clash.{IsClashTable, tells}
 use Rattle.timetable_rules.specs.Parts.{no_part, share_part}
-use Rattle.timetable_rules.proofs.Relations.{share_part-other_way, share_part-relation, some_overlap-other_way, some_overlap-relation}
+use Rattle.timetable_rules.proofs.Relations.{eqb-other_way, share_part-other_way, share_part-relation, some_overlap-other_way, some_overlap-relation}
 use Rattle.course_catalog.specs.Sections.{Section, SectionsClash, section_at, sections_clash}
 use Rattle.course_catalog.specs.Courses.{course_number, course_numbers, courses_of}
 use Rattle.course_catalog.specs.Laws.{AreMutual}
@@ -72,9 +72,6 @@ sections_clash-relation sections a b =
       },
       λ clash. test_by_clash a b (bytes_eq one.course other.course) (share_part one.parts other.parts) (some_overlap one.meetings other.meetings) _ _ _ same shared met clash.different clash.cause,
     )
-
-eqb-other_way : (x y : ℕ) → nat_eq x y ≡ nat_eq y x
-eqb-other_way x y = grind (arith, nat_tests)
 
 course-other_way : (ones others : List ℕ) → bytes_eq ones others ≡ bytes_eq others ones
 course-other_way ones others =

@@ -92,10 +92,7 @@ fn parts_in(version: usize, fields: &ByteRecord) -> Option<Parts>
     ensures some { IfSome result (λ parts. IsTrue (parts.first || parts.second)) }
 {
     if version == 1 {
-        Some(Parts {
-            first: true,
-            second: true,
-        })
+        Some(Parts::WHOLE_TERM)
     } else {
         read_parts(field_in(fields, 6))
     }

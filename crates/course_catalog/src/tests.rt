@@ -3,12 +3,15 @@ use market_units::{Name, SectionNo, read_name};
 use std::alloc::Global;
 use std::process::Abort;
 use std::test::Fail;
+use timetable_rules::Parts;
 
 const HEADER: &[u8] = b"section,course,seats,credits,meetings\n";
 
-// The header, and these records after it.
-fn table(alloc: Global, records: &[u8]) -> Result<Vec<u8>, Fail> {
-    let mut text = Vec::from_slice(alloc, HEADER)?;
+const SECOND_HEADER: &[u8] = b"section,course,seats,credits,meetings,parts\n";
+
+// A header, and these records after it.
+fn table(alloc: Global, header: &[u8], records: &[u8]) -> Result<Vec<u8>, Fail> {
+    let mut text = Vec::from_slice(alloc, header)?;
     text.extend_from_slice(records)?;
     Ok(text)
 }
@@ -101,7 +104,34 @@ fn refused_records(rt: HostRuntime) -> Result<(), Fail> {
         ),
     ];
     for (records, refusal) in cases {
-        let text = table(rt.alloc(), records)?;
+        let text = table(rt.alloc(), HEADER, records)?;
+        assert_eq!(rt; refusal_of(rt.alloc(), &text), Some(refusal), "{records:?}");
+    }
+    Ok(())
+}
+
+#[test]
+fn refused_records_of_version_2(rt: HostRuntime) -> Result<(), Fail> {
+    let cases: [(&[u8], CatalogRefusal); 7] = [
+        (
+            b"A,AA,1,1,M0900-1020,1\nB,BB,1,1,M0900-1020,21\n",
+            CatalogRefusal::Parts { row: 3 },
+        ),
+        (
+            b"A,AA,1,1,,1\nB,BB,1,1,,3\n",
+            CatalogRefusal::Parts { row: 3 },
+        ),
+        (b"A,AA,1,1,,\n", CatalogRefusal::Parts { row: 2 }),
+        (b"A,AA,1,1,M,21\n", CatalogRefusal::Meetings { row: 2 }),
+        (b"A,AA,1,1,\n", CatalogRefusal::Fields { row: 2 }),
+        (b"A,AA,1,1,,1,\n", CatalogRefusal::Fields { row: 2 }),
+        (
+            b"A,AA,1,1,,12\nA,AA,1,1,,x\n",
+            CatalogRefusal::Repeated { row: 3, earlier: 2 },
+        ),
+    ];
+    for (records, refusal) in cases {
+        let text = table(rt.alloc(), SECOND_HEADER, records)?;
         assert_eq!(rt; refusal_of(rt.alloc(), &text), Some(refusal), "{records:?}");
     }
     Ok(())
@@ -109,13 +139,14 @@ fn refused_records(rt: HostRuntime) -> Result<(), Fail> {
 
 #[test]
 fn refused_headers(rt: HostRuntime) -> Result<(), Fail> {
-    let texts: [&[u8]; 6] = [
+    let texts: [&[u8]; 7] = [
         b"",
         b"\xef\xbb\xbf",
         b"\xef\xbb\xbf\xef\xbb\xbfsection,course,seats,credits,meetings\n",
         b"course,section,seats,credits,meetings\nA,AA,1,1,\n",
         b"section,course,seats,credits,meetings,room\nA,AA,1,1,\n",
         b"section, course,seats,credits,meetings\nA,AA,1,1,\n",
+        b"section,course,seats,credits,parts,meetings\nA,AA,1,1,12,\n",
     ];
     for text in texts {
         assert_eq!(rt;
@@ -160,6 +191,8 @@ fn is_told(rt: &impl Abort, alloc: Global, text: &[u8]) -> Result<(), Fail> {
     assert!(rt;
         catalog.clash(a, c) && catalog.clash(c, b) && !catalog.clash(a, b) && !catalog.clash(a, a)
     );
+    assert_eq!(rt; catalog.version(), 1);
+    assert!(rt; catalog.parts(a) == Parts::WHOLE_TERM && catalog.parts(c) == Parts::WHOLE_TERM);
     assert_eq!(rt; catalog.find(&name(b"B")?), Some(b));
     assert_eq!(rt; catalog.find(&name(b"AA")?), None);
     Ok(())
@@ -182,6 +215,28 @@ fn what_is_told(rt: HostRuntime) -> Result<(), Fail> {
         rt.alloc(),
         b"\r\r\"section\",\"course\",seats,credits,\"meet\"ings\r\"A\",AA,\"2\",1,\"M0900-1020\"\r\nB,\"BB\",0,100,T0900-1000;M1020-1140\na-Z_0.9,AA,9999,0,\"M1139-1200\"",
     )
+}
+
+#[test]
+fn parts_of_the_term(rt: HostRuntime) -> Result<(), Fail> {
+    let text = table(
+        rt.alloc(),
+        SECOND_HEADER,
+        b"A,AA,1,1,M0900-1020,1\nB,BB,1,1,M0900-1020,2\nC,AA,1,1,,2\nD,DD,1,1,M0900-1020,12\n",
+    )?;
+    let Ok(catalog) = read(rt.alloc(), &text) else {
+        return Err(Fail::from("refused"));
+    };
+    if catalog.len() != 4 {
+        return Err(Fail::from("not four sections"));
+    }
+    let (a, b, c, d) = (SectionNo(0), SectionNo(1), SectionNo(2), SectionNo(3));
+    assert_eq!(rt; catalog.version(), 2);
+    assert!(rt; catalog.parts(a) == Parts::FIRST_HALF && catalog.parts(b) == Parts::SECOND_HALF);
+    assert_eq!(rt; catalog.parts(d), Parts::WHOLE_TERM);
+    assert!(rt; !catalog.clash(a, b) && !catalog.clash(b, c) && !catalog.clash(c, d));
+    assert!(rt; catalog.clash(a, c) && catalog.clash(d, a) && catalog.clash(b, d));
+    Ok(())
 }
 
 // The header and this many rows.

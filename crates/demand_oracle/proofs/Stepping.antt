@@ -1,5 +1,5 @@
 -- What each step of the search leaves to wait.
-use Rattle.std.proofs.Common.{◌≡◌, ◌<◌, ◌≤◌, ◌+◌, ◌-◌, ◌⊎◌, ◌∙◌, sym, ℕ, zero, suc, Bool, false, Option, None, Some, List, [], ◌∷◌, length, drop, inl, inr, subst, arith}
+use Rattle.std.proofs.Common.{◌≡◌, ◌<◌, ◌≤◌, ◌+◌, ◌-◌, ◌⊎◌, ◌∙◌, sym, ℕ, zero, suc, Bool, true, false, Option, None, Some, List, [], ◌∷◌, length, drop, inl, inr, subst, arith}
 use Rattle.std.specs.Prelude.{MatchOption, ◌<ℤ◌, ◌↔◌, IsTrue}
 use Rattle.std.proofs.lemmas.Int.{ints}
 use Rattle.std.proofs.lemmas.Bool.{cases_lt, true≢false}
@@ -8,14 +8,15 @@ use Rattle.bundle_rules.specs.Preferences.{IsPreferred}
 use Rattle.bundle_rules.specs.Wishes.{Wishes, utility}
 use Rattle.bundle_rules.specs.Places.{menu_sections}
 use Rattle.bundle_bounds.specs.Offers.{Offer}
-use Rattle.bundle_bounds.specs.Laws.{IsTakable}
+use Rattle.bundle_bounds.specs.Laws.{IsTakable, Completes}
 use Rattle.bundle_bounds.proofs.NodeFacts.{nothing_chosen}
-use Rattle.bundle_reach.proofs.Openings.{node_with, node_without}
+use Rattle.bundle_bounds.proofs.Openings.{node_with, node_without}
 use Rattle.bundle_reach.specs.declared.branch.Branch.{Branch}
 use Rattle.bundle_reach.specs.Branches.{chosen_of, with_next_of, IsBranch}
-use Rattle.bundle_reach.specs.Closings.{MayClose}
+use Rattle.bundle_bounds.specs.Closings.{MayClose}
 use Rattle.demand_oracle.specs.Search.{IsSearched}
 use Rattle.demand_oracle.specs.Waiting.{AreSearched, MayWait, before_waiting, nodes_below, HasStepped}
+use Rattle.demand_oracle.proofs.Wanting.{none_wanted}
 use Rattle.demand_oracle.proofs.Branches.{full_to_end, ended_here, closed_here, shut_here, open_here}
 
 -- where the next of the waiting branches is taken, none is lost
@@ -44,9 +45,9 @@ branches_fewer : (places k : ℕ) → k < places → (nodes_below (places - (k +
 branches_fewer places k low =
     let one_more : places - k ≡ suc (places - (k + 1)) = omega arith in rw one_more (omega arith)
 
-module _ (offer : Offer) (branch : Branch) (under : List Branch) (champion : List ℕ) (menu : IsMenu offer.menu) (may : MayWait offer (branch ∷ under)) where
+module _ (offer : Offer) (wanted : List ℕ → Bool) (branch : Branch) (under : List Branch) (champion : List ℕ) (menu : IsMenu offer.menu) (may : MayWait offer (branch ∷ under)) where
   -- the champion after the node is known
-  node_done : (next : List ℕ) → IsSearched offer branch.node.place (chosen_of branch) (drop branch.node.place (menu_sections offer.menu)) champion next → HasStepped offer (branch ∷ under) champion under next
+  node_done : (next : List ℕ) → IsSearched offer wanted branch.node.place (chosen_of branch) (drop branch.node.place (menu_sections offer.menu)) champion next → HasStepped offer wanted (branch ∷ under) champion under next
   node_done next searched = record {
     may_wait = may.4;
     fewer = let some : 0 < nodes_below (length offer.menu.places - branch.node.place) = some_below _ in omega arith;
@@ -54,15 +55,38 @@ module _ (offer : Offer) (branch : Branch) (under : List Branch) (champion : Lis
   }
 
   -- nothing more can be taken
-  pub node_whole : (next : List ℕ) → (length offer.menu.places ≤ branch.node.place) ⊎ (offer.menu.courses ≤ length (chosen_of branch)) → IsSearched offer branch.node.place (chosen_of branch) [] champion next
-      → HasStepped offer (branch ∷ under) champion under next
-  node_whole next (inl past) ended = node_done next (ended_here offer branch.node.place (chosen_of branch) champion next past ended)
-  node_whole next (inr full) ended = node_done next (full_to_end offer branch.node.place (chosen_of branch) (drop branch.node.place (menu_sections offer.menu)) champion next full ended)
+  pub node_whole : (next : List ℕ) → (length offer.menu.places ≤ branch.node.place) ⊎ (offer.menu.courses ≤ length (chosen_of branch)) → IsSearched offer wanted branch.node.place (chosen_of branch) [] champion next
+      → HasStepped offer wanted (branch ∷ under) champion under next
+  node_whole next (inl past) ended = node_done next (ended_here offer wanted branch.node.place (chosen_of branch) champion next past ended)
+  node_whole next (inr full) ended = node_done next (full_to_end offer wanted branch.node.place (chosen_of branch) (drop branch.node.place (menu_sections offer.menu)) champion next full ended)
 
   module _ (low : branch.node.place < length offer.menu.places) where
     -- the node is closed
-    pub node_closed : MayClose offer branch.node.place (chosen_of branch) champion → HasStepped offer (branch ∷ under) champion under champion
-    node_closed close = node_done champion (closed_here offer branch.node.place (chosen_of branch) low champion close)
+    pub node_closed : MayClose offer wanted branch.node.place (chosen_of branch) champion → HasStepped offer wanted (branch ∷ under) champion under champion
+    node_closed close = node_done champion (closed_here offer wanted branch.node.place (chosen_of branch) low champion close)
+
+    -- the node without its next section is not looked at, since nothing that completes it is wanted
+    pub node_forced : (with_it : Branch) → with_it.node.place ≡ branch.node.place + 1 → chosen_of with_it ≡ with_next_of offer.menu branch → IsBranch offer.menu offer.price with_it
+        → IsTakable offer (with_next_of offer.menu branch) → ((bundle : List ℕ) → IsTakable offer bundle → Completes offer (branch.node.place + 1) (chosen_of branch) bundle → wanted bundle ≡ false)
+        → HasStepped offer wanted (branch ∷ under) champion (with_it ∷ under) champion
+    node_forced with_it next more is_branch' takable unwanted = record {
+      may_wait = (
+        rw next (let before : length under ≤ branch.node.place = may.0 in omega arith),
+        rw next (omega arith),
+        rw (next, more) (node_with offer branch.node.place (chosen_of branch) menu low may.2 takable),
+        is_branch',
+        may.4,
+      );
+      fewer =
+          let some : 0 < nodes_below (length offer.menu.places - (branch.node.place + 1)) = some_below _ in
+          let sum = branches_fewer (length offer.menu.places) branch.node.place low in rw next (omega arith);
+      same_result = λ result are. (
+        are.0,
+        open_here offer wanted branch.node.place (chosen_of branch) low champion are.0 are.0 takable (rw (next, more) at are.1)
+            (none_wanted offer wanted (branch.node.place + 1) (chosen_of branch) (drop (branch.node.place + 1) (menu_sections offer.menu)) are.0 (node_without offer branch.node.place (chosen_of branch) may.2) unwanted),
+        are.2,
+      );
+    }
 
     module _ (without : Branch) (later : without.node.place ≡ branch.node.place + 1) (same : chosen_of without ≡ chosen_of branch) (is_branch : IsBranch offer.menu offer.price without) where
       without_waits : MayWait offer (without ∷ under)
@@ -75,17 +99,17 @@ module _ (offer : Offer) (branch : Branch) (under : List Branch) (champion : Lis
       )
 
       -- the node without its next section waits
-      pub node_passed : (IsTakable offer (with_next_of offer.menu branch) → ⊥) → HasStepped offer (branch ∷ under) champion (without ∷ under) champion
+      pub node_passed : (IsTakable offer (with_next_of offer.menu branch) → ⊥) → HasStepped offer wanted (branch ∷ under) champion (without ∷ under) champion
       node_passed shut = record {
         may_wait = without_waits;
         fewer =
             let some : 0 < nodes_below (length offer.menu.places - (branch.node.place + 1)) = some_below _ in rw later (omega (arith, branches_fewer (length offer.menu.places) branch.node.place low));
-        same_result = λ result are. (are.0, shut_here offer branch.node.place (chosen_of branch) low champion are.0 shut (rw (later, same) at are.1), are.2);
+        same_result = λ result are. (are.0, shut_here offer wanted branch.node.place (chosen_of branch) low champion are.0 shut (rw (later, same) at are.1), are.2);
       }
 
       -- both branches wait, first the one with the next section
       pub node_branched : (with_it : Branch) → with_it.node.place ≡ branch.node.place + 1 → chosen_of with_it ≡ with_next_of offer.menu branch → IsBranch offer.menu offer.price with_it
-          → IsTakable offer (with_next_of offer.menu branch) → HasStepped offer (branch ∷ under) champion (with_it ∷ (without ∷ under)) champion
+          → IsTakable offer (with_next_of offer.menu branch) → HasStepped offer wanted (branch ∷ under) champion (with_it ∷ (without ∷ under)) champion
       node_branched with_it next more is_branch' takable = record {
         may_wait = (
           rw next (let before : length under ≤ branch.node.place = may.0 in omega arith),
@@ -99,7 +123,7 @@ module _ (offer : Offer) (branch : Branch) (under : List Branch) (champion : Lis
             let sum = branches_fewer (length offer.menu.places) branch.node.place low in rw (later, next) (omega arith);
         same_result = λ result are. (
           are.2.0,
-          open_here offer branch.node.place (chosen_of branch) low champion are.0 are.2.0 takable (rw (next, more) at are.1) (rw (later, same) at are.2.1),
+          open_here offer wanted branch.node.place (chosen_of branch) low champion are.0 are.2.0 takable (rw (next, more) at are.1) (rw (later, same) at are.2.1),
           are.2.2,
         );
       }
@@ -109,5 +133,5 @@ pub root_waits : (offer : Offer) (root : Branch) → root.node.place ≡ 0 → c
 root_waits offer root place chosen is_branch = (omega arith, rw place (omega arith), rw (place, chosen) (nothing_chosen offer 0), is_branch, tt)
 
 -- and its search is the search of all places
-pub root_searched : (offer : Offer) (root : Branch) (champion result : List ℕ) → root.node.place ≡ 0 → chosen_of root ≡ [] → AreSearched offer (root ∷ []) champion result → IsSearched offer 0 [] (menu_sections offer.menu) champion result
-root_searched offer root champion result place chosen are = subst (IsSearched offer 0 [] (menu_sections offer.menu) champion) (sym are.2) (rw (place, chosen) at are.1)
+pub root_searched : (offer : Offer) (wanted : List ℕ → Bool) (root : Branch) (champion result : List ℕ) → root.node.place ≡ 0 → chosen_of root ≡ [] → AreSearched offer wanted (root ∷ []) champion result → IsSearched offer wanted 0 [] (menu_sections offer.menu) champion result
+root_searched offer wanted root champion result place chosen are = subst (IsSearched offer wanted 0 [] (menu_sections offer.menu) champion) (sym are.2) (rw (place, chosen) at are.1)

@@ -1,13 +1,8 @@
-//! What holds of the search: each call here does nothing, and its contract is a law.
-ghost use Rattle.demand_oracle.specs.Laws.{BoundsCloseSoundly, SearchFindsTheBest};
+//! What holds of the search: the call here does nothing, and its contract is a law.
+ghost use Rattle.demand_oracle.specs.Laws.{SearchFindsTheBest};
 
-/// A search that closes a node only where no takable bundle that completes it is better than the champion finds the
-/// best bundle.
+/// A search that closes a node only where no takable wanted bundle that completes it is better than the champion finds
+/// the best of the wanted bundles, whichever are wanted.
 pub fn search_finds_the_best()
     ensures { SearchFindsTheBest }
-{}
-
-/// Where a bound closes a node for a champion, no takable bundle that completes the node is better than it.
-pub fn bounds_close_soundly()
-    ensures { BoundsCloseSoundly }
 {}

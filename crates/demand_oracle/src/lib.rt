@@ -1,11 +1,11 @@
-//! The bundle that a student wants at given prices, by branch and bound.
+//! The bundle that a student wants at given prices, of all bundles or of those with a given section, by branch and bound.
 #![tactic(auto)]
 
 pub mod laws;
 mod oracle;
 mod pending;
 
-pub use oracle::{Workspace, demand};
+pub use oracle::{Workspace, demand, demand_with};
 
 #[cfg(test)]
 mod tests;

@@ -1,20 +1,23 @@
-// The best bundle, by a depth-first search that closes nodes by their bounds.
-ghost use Rattle.std.specs.Prelude.{◌≡◌, ◌≤◌, ◌⊎◌, ◌↔◌, [], ◌∷◌, ℕ, IfNone, IfOk, IsTrue, length};
+// The best bundle, by a depth-first search that closes nodes by what can still be reached from them.
+ghost use Rattle.std.specs.Prelude.{◌≡◌, ◌<◌, ◌≤◌, ◌⊎◌, ◌↔◌, [], ◌∷◌, ℕ, List, Some, IfSome, IfNone, IfOk, IsTrue, length};
 ghost use Rattle.std.specs.FinSet as set;
 ghost use Rattle.bundle_rules.specs.Bundles.{sections_of};
 ghost use Rattle.bundle_rules.specs.Demand.{price_in, HasPrices, IsBest};
-ghost use Rattle.bundle_rules.specs.Menus.{wishes_of, IsMenu};
-ghost use Rattle.bundle_rules.specs.Preferences.{IsPreferred};
+ghost use Rattle.bundle_rules.specs.Given.{IsBestOf, IsBestWith, SomeHas};
+ghost use Rattle.bundle_rules.specs.Menus.{wishes_of, section_at, IsMenu};
 ghost use Rattle.bundle_rules.specs.Wishes.{IsFeasible};
+ghost use Rattle.bundle_bounds.specs.Closings.{MayClose};
+ghost use Rattle.bundle_bounds.specs.Laws.{IsNode, IsTakable};
 ghost use Rattle.bundle_bounds.specs.Offers.{offer_of};
 ghost use Rattle.bundle_reach.specs.Branches.{chosen_of, IsBranch};
 ghost use Rattle.bundle_reach.specs.Reaches.{IsReach};
+ghost use Rattle.demand_oracle.specs.Search.{wanted_by, IsBetter};
 ghost use Rattle.demand_oracle.specs.Waiting.{IsChampion, MayWait, before_waiting, HasStepped};
 
 use crate::pending::Pending;
 use bundle_reach::{Branch, Reach};
 use bundle_rules::{Bundle, Menu, prefers};
-use market_units::{NoMemory, SectionSet, Tokens};
+use market_units::{NoMemory, SectionNo, SectionSet, Tokens};
 use std::alloc::Global;
 use std::marker::Model;
 
@@ -78,71 +81,152 @@ pub fn demand(
     requires { HasPrices menu.now prices.now }
     ensures { IsBest (wishes_of menu.now) (price_in prices.now) budget.0 (set.contains allowed.now) (sections_of result) }
 {
-    workspace.frames.opened = 0;
-    search(&mut workspace.frames, menu, prices, budget, allowed)
+    search(&mut workspace.frames, menu, prices, budget, allowed, None)
 }
 
-// The best bundle: the root is looked at first, and while branches are left, the next one.
+/// The best bundle with a given section: the feasible one of allowed sections with this one among them, of price sum at
+/// most the budget, that is preferred to every other such bundle. `None` exactly where there is no such bundle, as where
+/// the section is not on the menu. It takes no memory. There is a price for each section of the menu, each at most
+/// 1,000,001.
+pub fn demand_with(
+    workspace: &mut Workspace,
+    menu: &Menu,
+    prices: &[Tokens],
+    budget: Tokens,
+    allowed: &SectionSet,
+    section: SectionNo,
+) -> Option<Bundle>
+    requires { HasPrices menu.now prices.now }
+    ensures some { IfSome result (λ bundle. IsBestWith (wishes_of menu.now) (price_in prices.now) budget.0 (set.contains allowed.now) section.0 (sections_of bundle)) }
+    ensures none { IfNone result (¬ SomeHas (wishes_of menu.now) (price_in prices.now) budget.0 (set.contains allowed.now) section.0) }
+{
+    workspace.frames.opened = 0;
+    let place = menu.place(section);
+    if place >= menu.len() {
+        return None;
+    }
+    if !Branch::root().may_take(menu, prices, budget, allowed, place) {
+        return None;
+    }
+    let bundle = search(
+        &mut workspace.frames,
+        menu,
+        prices,
+        budget,
+        allowed,
+        Some(place),
+    );
+    Some(bundle)
+}
+
+// The best bundle, of those with the section of a place where one is given, which may be taken alone: the root is looked
+// at first, and while branches are left, the next one. Each of the two demands has its own copy of the machine code of
+// this and of what it calls, so that the plain one asks nothing about a given place.
+#[inline(always)]
 fn search(
     frames: &mut Frames,
     menu: &Menu,
     prices: &[Tokens],
     budget: Tokens,
     allowed: &SectionSet,
+    given: Option<u8>,
 ) -> Bundle
     requires prices { HasPrices menu.now prices.now }
     requires none { frames.old.pending ≡ [] }
-    ensures best { IsBest (wishes_of menu.now) (price_in prices.now) budget.0 (set.contains allowed.now) (sections_of result) }
+    requires given { IfSome given (λ place. place < length menu.now.places) }
+    requires alone { IfSome given (λ place. IsTakable (offer_of menu.now prices.now budget.0 allowed.now) (section_at menu.now.places place ∷ [])) }
+    ensures best { IsBestOf (wishes_of menu.now) (price_in prices.now) budget.0 (set.contains allowed.now) (wanted_by menu.now given) (sections_of result) }
     ensures none { frames.new.pending ≡ [] }
 {
+    frames.opened = 0;
     frames.reach.measure(menu, prices, budget, allowed);
     let reach = &frames.reach;
-    let mut champion = reach.first_champion(menu, prices, budget, allowed);
+    let mut champion = first_champion(reach, menu, prices, budget, allowed, given);
     let mut next = Some(Branch::root());
     while let Some(branch) = next {
-        next = step(frames, menu, prices, budget, allowed, branch, &mut champion);
+        next = step(
+            frames,
+            menu,
+            prices,
+            budget,
+            allowed,
+            given,
+            branch,
+            &mut champion,
+        );
     }
     champion.node.chosen
 }
 
+// The champion that a search begins with: the section of the given place alone, and where none is given a branch that
+// begins well.
+#[inline(always)]
+fn first_champion(
+    reach: &Reach,
+    menu: &Menu,
+    prices: &[Tokens],
+    budget: Tokens,
+    allowed: &SectionSet,
+    given: Option<u8>,
+) -> Branch
+    requires prices { HasPrices menu.now prices.now }
+    requires given { IfSome given (λ place. place < length menu.now.places) }
+    requires alone { IfSome given (λ place. IsTakable (offer_of menu.now prices.now budget.0 allowed.now) (section_at menu.now.places place ∷ [])) }
+    ensures { IsChampion (offer_of menu.now prices.now budget.0 allowed.now) (wanted_by menu.now given) result }
+{
+    match given {
+        Some(place) => Branch::alone(menu, prices, place),
+        None => reach.first_champion(menu, prices, budget, allowed),
+    }
+}
+
 // Looks at a branch, and tells the branch to look at after it, or `None` where none is left. The chosen sections are
 // compared with the champion, or the branch is closed, or it is tried with its next section, where that may be taken,
-// while it waits without it.
+// while it waits without it. Without the given section nothing is looked at.
+#[inline(always)]
 fn step(
     frames: &mut Frames,
     menu: &Menu,
     prices: &[Tokens],
     budget: Tokens,
     allowed: &SectionSet,
+    given: Option<u8>,
     branch: Branch,
     champion: &mut Branch,
 ) -> Option<Branch>
     requires prices { HasPrices menu.now prices.now }
+    requires given { IfSome given (λ place. place < length menu.now.places) }
     requires reach { IsReach (offer_of menu.now prices.now budget.0 allowed.now) frames.old.reach }
     requires branch { MayWait (offer_of menu.now prices.now budget.0 allowed.now) (branch ∷ frames.old.pending) }
-    requires champion { IsChampion (offer_of menu.now prices.now budget.0 allowed.now) champion.old }
+    requires champion { IsChampion (offer_of menu.now prices.now budget.0 allowed.now) (wanted_by menu.now given) champion.old }
     ensures menu { IsMenu menu.now }
     ensures reach { frames.new.reach ≡ frames.old.reach }
-    ensures champion { IsChampion (offer_of menu.now prices.now budget.0 allowed.now) champion.new }
+    ensures champion { IsChampion (offer_of menu.now prices.now budget.0 allowed.now) (wanted_by menu.now given) champion.new }
     ensures last { IfNone result (frames.new.pending ≡ []) }
-    ensures stepped { HasStepped (offer_of menu.now prices.now budget.0 allowed.now) (branch ∷ frames.old.pending) (chosen_of champion.old) (before_waiting result frames.new.pending) (chosen_of champion.new) }
+    ensures stepped { HasStepped (offer_of menu.now prices.now budget.0 allowed.now) (wanted_by menu.now given) (branch ∷ frames.old.pending) (chosen_of champion.old) (before_waiting result frames.new.pending) (chosen_of champion.new) }
 {
     if is_whole(menu, &branch) {
-        *champion = preferred(menu, branch, *champion);
+        *champion = better(menu, given, branch, *champion);
         return frames.pending.take();
     }
     frames.opened = frames.opened.saturating_add(1);
+    if is_lost(menu, prices, budget, allowed, given, &branch) {
+        return frames.pending.take();
+    }
     let reach = &frames.reach;
-    let worth = champion.utility();
-    if reach.closes(menu, budget, &branch, &champion.node.chosen, worth) {
+    if reach.closes(menu, budget, &branch, champion) {
         return frames.pending.take();
     }
     let without = branch.without_next();
-    if !branch.may_take(menu, prices, budget, allowed) {
+    if !branch.may_take(menu, prices, budget, allowed, branch.node.place) {
         return Some(without);
     }
+    let with_it = branch.with_next(menu, prices);
+    if is_given(given, branch.node.place) {
+        return Some(with_it);
+    }
     frames.pending.put(without);
-    Some(branch.with_next(menu, prices))
+    Some(with_it)
 }
 
 // Whether nothing more can be taken: all places are decided, or as many sections are chosen as the course cap allows.
@@ -157,14 +241,69 @@ fn is_whole(menu: &Menu, branch: &Branch) -> bool
     branch.node.chosen.sections().len() >= usize::from(menu.courses())
 }
 
-// The branch, where its sections are preferred to those of the champion, and else the champion.
-fn preferred(menu: &Menu, branch: Branch, champion: Branch) -> Branch
+// Whether the given place is undecided, and its section may no more be taken with the chosen ones.
+#[inline(always)]
+fn is_lost(
+    menu: &Menu,
+    prices: &[Tokens],
+    budget: Tokens,
+    allowed: &SectionSet,
+    given: Option<u8>,
+    branch: &Branch,
+) -> bool
+    requires prices { HasPrices menu.now prices.now }
+    requires given { IfSome given (λ place. place < length menu.now.places) }
+    requires branch { IsBranch menu.now (price_in prices.now) branch.now }
+    requires node { IsNode (offer_of menu.now prices.now budget.0 allowed.now) branch.now.node.place (chosen_of branch.now) }
+    ensures { (champion : List ℕ) → IsMenu menu.now → IsTrue result → MayClose (offer_of menu.now prices.now budget.0 allowed.now) (wanted_by menu.now given) branch.now.node.place (chosen_of branch.now) champion }
+{
+    match given {
+        Some(place) => {
+            if place < branch.node.place {
+                return false;
+            }
+            !branch.may_take(menu, prices, budget, allowed, place)
+        }
+        None => false,
+    }
+}
+
+// Whether the place is the given one.
+#[inline(always)]
+fn is_given(given: Option<u8>, place: u8) -> bool
+    ensures { IsTrue result ↔ (given ≡ Some place) }
+{
+    match given {
+        Some(other) => other == place,
+        None => false,
+    }
+}
+
+// Whether the bundle has the section of the given place, where one is given.
+#[inline(always)]
+fn is_wanted(menu: &Menu, given: Option<u8>, bundle: &Bundle) -> bool
+    requires { IfSome given (λ place. place < length menu.now.places) }
+    ensures { result ≡ wanted_by menu.now given (sections_of bundle.now) }
+{
+    match given {
+        Some(place) => bundle.has(menu.rated(place).section),
+        None => true,
+    }
+}
+
+// The branch, where its sections are wanted and preferred to those of the champion, and else the champion.
+fn better(menu: &Menu, given: Option<u8>, branch: Branch, champion: Branch) -> Branch
+    requires given { IfSome given (λ place. place < length menu.now.places) }
     requires branch { (price : ℕ → ℕ) × IsBranch menu.now price branch }
     requires champion { (price : ℕ → ℕ) × IsBranch menu.now price champion }
     requires chosen { IsFeasible (wishes_of menu.now) (chosen_of branch) }
     requires held { IsFeasible (wishes_of menu.now) (chosen_of champion) }
-    ensures { (IsPreferred (wishes_of menu.now) (chosen_of branch) (chosen_of champion) × (result ≡ branch)) ⊎ ((¬ IsPreferred (wishes_of menu.now) (chosen_of branch) (chosen_of champion)) × (result ≡ champion)) }
+    ensures { (IsBetter (wishes_of menu.now) (wanted_by menu.now given) (chosen_of branch) (chosen_of champion) × (result ≡ branch))
+        ⊎ ((¬ IsBetter (wishes_of menu.now) (wanted_by menu.now given) (chosen_of branch) (chosen_of champion)) × (result ≡ champion)) }
 {
+    if !is_wanted(menu, given, &branch.node.chosen) {
+        return champion;
+    }
     if branch.utility() < champion.utility() {
         return champion;
     }

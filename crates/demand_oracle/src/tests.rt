@@ -1,10 +1,10 @@
-// A menu whose best bundle is plain to see, and made menus at which `best_plain` tells the answer.
+// A menu whose best bundle is plain to see, and made menus at which trying all bundles tells the answer.
 ghost use Rattle.std.specs.Prelude.{◌<◌, ◌≤◌};
 
 use super::*;
 use crate::pending::Pending;
 use bundle_reach::Branch;
-use bundle_rules::{Menu, Rated, best_plain, has_prices};
+use bundle_rules::{Bundle, Menu, Rated, best_plain, feasible, has_prices, prefers};
 use market_units::{SectionNo, SectionSet, Tokens};
 use std::alloc::Global;
 use std::process::Abort;
@@ -157,6 +157,112 @@ fn what_trying_all_choices_finds(rt: HostRuntime) -> Result<(), Fail> {
             "at turn {turn}"
         );
     }
+    Ok(())
+}
+
+// The sections of the menu that these bits choose, of more than 8 the first 8.
+fn chosen(menu: &Menu, bits: u32) -> Bundle {
+    let mut bundle = Bundle::empty();
+    for place in 0..menu.len() {
+        let section = menu.rated(place).section;
+        let is_chosen = (bits >> (place % 32)) & 1 == 1;
+        if is_chosen && bundle.sections().len() < 8 && bundle.is_below(section) {
+            bundle = bundle.with(section);
+        }
+    }
+    bundle
+}
+
+fn price_of(prices: &[Tokens], bundle: &Bundle) -> u32 {
+    let mut sum: u32 = 0;
+    for section in bundle.sections() {
+        if let Some(price) = prices.get(usize::from(section.0)) {
+            sum = sum.saturating_add(price.0);
+        }
+    }
+    sum
+}
+
+fn all_allowed(allowed: &SectionSet, bundle: &Bundle) -> bool {
+    for section in bundle.sections() {
+        if section.0 >= 400 || !allowed.has(*section) {
+            return false;
+        }
+    }
+    true
+}
+
+// The best bundle with a section, by trying all bundles of a menu of at most 12 places.
+fn best_with<R: Abort>(
+    rt: &R,
+    menu: &Menu,
+    prices: &[Tokens],
+    budget: Tokens,
+    allowed: &SectionSet,
+    section: SectionNo,
+) -> Option<Bundle> {
+    let mut best: Option<Bundle> = None;
+    for bits in 0..4096 {
+        let bundle = chosen(menu, bits);
+        let is_cheap = price_of(prices, &bundle) <= budget.0;
+        if bundle.has(section) && is_cheap && all_allowed(allowed, &bundle) {
+            best = better_of(rt, menu, bundle, best);
+        }
+    }
+    best
+}
+
+// The bundle, where it is feasible and preferred to the other.
+fn better_of<R: Abort>(
+    rt: &R,
+    menu: &Menu,
+    bundle: Bundle,
+    other: Option<Bundle>,
+) -> Option<Bundle> {
+    if !feasible(menu, &bundle) {
+        return other;
+    }
+    match other {
+        Some(held) => {
+            assert!(rt; feasible(menu, &held));
+            if prefers(menu, &bundle, &held) {
+                Some(bundle)
+            } else {
+                Some(held)
+            }
+        }
+        None => Some(bundle),
+    }
+}
+
+#[test]
+fn the_best_with_a_given_section(rt: HostRuntime) -> Result<(), Fail> {
+    let mut seed = 2;
+    let mut workspace = Workspace::reserve(rt.alloc()).expect(&rt, "memory");
+    let (mut no_bundle, mut not_wanted) = (0u32, 0u32);
+    for turn in 0..100 {
+        let menu = made_menu(&rt, rt.alloc(), &mut seed);
+        let prices = made_prices(&mut seed);
+        let budget = Tokens(u32::from(made(&mut seed, 200)));
+        let allowed = made_allowed(&mut seed);
+        assert!(rt; menu.len() > 0);
+        let place = made(&mut seed, u16::from(menu.len())) as u8;
+        assert!(rt; place < menu.len());
+        let section = menu.rated(place).section;
+        assert!(rt; has_prices(&menu, &prices));
+        let best = demand_with(&mut workspace, &menu, &prices, budget, &allowed, section);
+        let tried = best_with(&rt, &menu, &prices, budget, &allowed, section);
+        assert!(rt; best == tried, "at turn {turn}");
+        let plain = demand(&mut workspace, &menu, &prices, budget, &allowed);
+        no_bundle = no_bundle.wrapping_add(u32::from(best.is_none()));
+        not_wanted = not_wanted.wrapping_add(u32::from(best.is_some() && !plain.has(section)));
+        let off_menu = SectionNo(36);
+        let none = demand_with(&mut workspace, &menu, &prices, budget, &allowed, off_menu);
+        assert!(rt; none.is_none());
+    }
+    // Both kinds occur: a section of the menu that fits nowhere, and one that the plain demand lacks.
+    assert!(rt; no_bundle >= 10);
+    assert!(rt; not_wanted >= 10);
     Ok(())
 }
 

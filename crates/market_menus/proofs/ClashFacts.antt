@@ -1,33 +1,13 @@
 -- The clashes of places, as a menu has them.
-use Rattle.std.proofs.Common.{ℕ, zero, suc, ◌≡◌, ◌≢◌, ◌<◌, ◌∙◌, true, false, nat_eq, List, [], ◌∷◌, map, length, refl, sym, inl, inr, arith}
-use Rattle.std.specs.Cmp.Lexicographic.{nat_list_eq_equiv}
+use Rattle.std.proofs.Common.{ℕ, zero, suc, ◌≡◌, ◌≢◌, ◌<◌, ◌∙◌, List, [], ◌∷◌, map, length, sym, inl, inr, arith}
 use Rattle.std.proofs.lemmas.Bool.{cases_lt}
-use Rattle.std.proofs.lemmas.Bool.Decides.{nat_tests}
-use Rattle.timetable_rules.specs.declared.meeting.Meeting.{Meeting}
-use Rattle.timetable_rules.specs.Overlap.{some_overlap}
-use Rattle.timetable_rules.proofs.Relations.{clashes_mutual}
 use Rattle.bundle_rules.specs.declared.menu.Rated.{Rated}
 use Rattle.bundle_rules.specs.Menus.{AreClashes, course_at, section_at}
 use Rattle.bundle_rules.specs.Sets.{AllAbove, IsAscending}
 use Rattle.course_catalog.specs.Courses.{course_number}
-use Rattle.course_catalog.specs.Sections.{Section, section_at as listed, sections_clash}
-use Rattle.course_catalog.proofs.ClashFacts.{one_number-one_course, sections_clash-relation}
+use Rattle.course_catalog.specs.Sections.{Section, section_at as listed}
+use Rattle.course_catalog.proofs.ClashFacts.{clashes_mutual, one_number-one_course, sections_clash-relation}
 use Rattle.market_menus.specs.ClashWords.{AreClashWords}
-
-overlap_other_way : (ones others : List Meeting) → some_overlap ones others ≡ some_overlap others ones
-overlap_other_way ones others = (clashes_mutual (ones ∷ others ∷ []) (0 ∷ 1 ∷ []) 0 1).other_way
-
-equal_other_way : (a b : ℕ) → nat_eq a b ≡ nat_eq b a
-equal_other_way a b = grind (arith, nat_tests)
-
--- two sections clash both ways
-pub clash_other_way : (catalog : List Section) (a b : ℕ) → sections_clash catalog a b ≡ sections_clash catalog b a
-clash_other_way catalog a b =
-    rw (equal_other_way a b, nat_list_eq_equiv.symm (listed catalog a).course (listed catalog b).course, overlap_other_way (listed catalog a).meetings (listed catalog b).meetings) refl
-
--- no section clashes with itself
-pub clash_not_itself : (catalog : List Section) (a : ℕ) → sections_clash catalog a a ≡ false
-clash_not_itself catalog a = let same : nat_eq a a ≡ true = grind (arith, nat_tests) in rw same refl
 
 above_at : (s : ℕ) (places : List Rated) (k : ℕ) → AllAbove s (map (λ (rated : Rated). rated.section.0) places) → k < length places → s < section_at places k
 above_at s [] k above inside = absurd (omega arith)
@@ -54,9 +34,9 @@ pub are_clashes : (catalog : List Section) (places : List Rated) (words : List �
     → AreClashWords catalog places words → AreClashes places words
 are_clashes catalog places words up courses within is = record {
   words = is.whole;
-  not_itself = λ a first. is.each a a first first ∙ clash_not_itself catalog (section_at places a);
+  not_itself = λ a first. is.each a a first first ∙ (clashes_mutual catalog (section_at places a) (section_at places a)).not_itself;
   each = λ a b first second. record {
-    both_ways = is.each a b first second ∙ clash_other_way catalog (section_at places a) (section_at places b) ∙ sym (is.each b a second first);
+    both_ways = is.each a b first second ∙ (clashes_mutual catalog (section_at places a) (section_at places b)).other_way ∙ sym (is.each b a second first);
     one_course = λ apart same.
         let one = section_at places a in
         let other = section_at places b in

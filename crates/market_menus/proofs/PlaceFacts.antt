@@ -5,17 +5,18 @@ use Rattle.std.specs.List.{list_any}
 use Rattle.std.specs.Ordering.{nat_cmp, eq_by_cmp}
 use Rattle.std.specs.FinMap.{FinMap, contains_key, contains_key-keys, entries}
 use Rattle.std.proofs.lemmas.Bool.Decides.{nat_tests}
-use Rattle.std.proofs.lemmas.List.{length-map, get_or-map}
+use Rattle.std.proofs.lemmas.List.{length-map}
 use Rattle.std.proofs.lemmas.List.Elements.{All-map}
 use Rattle.market_units.specs.declared.units.SectionNo.{SectionNo}
 use Rattle.bundle_rules.specs.declared.menu.Rated.{Rated}
 use Rattle.bundle_rules.specs.Menus.{ArePlaces, IsRated, place_in, course_at, section_at}
 use Rattle.bundle_rules.specs.Sets.{IsAscending}
-use Rattle.course_catalog.specs.Catalog.{IsCatalog}
+use Rattle.course_catalog.specs.Catalog.{CatalogData, IsCatalog}
 use Rattle.course_catalog.specs.Courses.{course_number}
 use Rattle.course_catalog.specs.Sections.{Section, section_at as listed}
 use Rattle.preference_desk.specs.Rows.{AreRatings, rating_entry}
 use Rattle.preference_desk.specs.StudentPreferences.{SectionsBelow, StudentPreferences}
+use Rattle.preference_desk.proofs.BelowLemmas.{rated_below}
 use Rattle.market_menus.specs.MenusOf.{rated_of}
 use Rattle.market_menus.proofs.Orders.{ascending_keys, equal_is}
 use Rattle.market_menus.proofs.WordBits.{section_at-get_or}
@@ -24,33 +25,29 @@ pub map_twice : {A B C : Type 0} (g : B → C) (f : A → B) (xs : List A) → m
 map_twice g f [] = refl
 map_twice g f (x ∷ xs) = ap (λ rest. g (f x) ∷ rest) (map_twice g f xs)
 
--- what holds of each image
-pub All-from_map : {A B : Type 0} (P : B → Type 0) (f : A → B) (xs : List A) → All P (map f xs) → All (λ x. P (f x)) xs
-All-from_map P f xs each k d inside = subst P (get_or-map f xs k d (f d) inside) (each k (f d) (omega (arith, length-map xs f)))
-
 -- the sections of the places
 pub place_sections : (catalog : List Section) (es : List (ℕ × ℕ)) → map (λ (rated : Rated). rated.section.0) (map (rated_of catalog) es) ≡ map (λ e. e.0) es
 place_sections catalog [] = refl
 place_sections catalog (e ∷ es) = ap (λ rest. e.0 ∷ rest) (place_sections catalog es)
 
-is_rated : (catalog : List Section) (rating : ℕ × ℕ) → IsCatalog catalog → rating.0 < length catalog → (1 ≤ rating.1) × (rating.1 ≤ 100) → IsRated (rated_of catalog rating)
+is_rated : (catalog : CatalogData) (rating : ℕ × ℕ) → IsCatalog catalog → rating.0 < length catalog.sections → (1 ≤ rating.1) × (rating.1 ≤ 100) → IsRated (rated_of catalog.sections rating)
 is_rated catalog rating is inside range = record {
   section = omega (arith, is.few);
   rating_low = range.0;
   rating_high = range.1;
-  credits = (is.each rating.0 _ inside).few_credits;
+  credits = (is.each rating.0 _ inside).is_section.few_credits;
 }
 
 -- the places of ratings are such as a menu has
-pub are_places : (catalog : List Section) (items : List (SectionNo × ℕ)) → IsCatalog catalog → AreRatings items → All (λ (rating : SectionNo × ℕ). rating.0.0 < length catalog) items
-    → ArePlaces (map (λ rating. rated_of catalog (rating_entry rating)) items)
+pub are_places : (catalog : CatalogData) (items : List (SectionNo × ℕ)) → IsCatalog catalog → AreRatings items → All (λ (rating : SectionNo × ℕ). rating.0.0 < length catalog.sections) items
+    → ArePlaces (map (λ rating. rated_of catalog.sections (rating_entry rating)) items)
 are_places catalog items is ratings inside = record {
-  few = omega (arith, ratings.few, length-map items (λ rating. rated_of catalog (rating_entry rating)));
+  few = omega (arith, ratings.few, length-map items (λ rating. rated_of catalog.sections (rating_entry rating)));
   ascending =
-      let e : map (λ (rated : Rated). rated.section.0) (map (λ rating. rated_of catalog (rating_entry rating)) items) ≡ map (λ e. e.0) (map rating_entry items) =
-      ap (map (λ (rated : Rated). rated.section.0)) (map_twice (rated_of catalog) rating_entry items) ∙ place_sections catalog (map rating_entry items) in
+      let e : map (λ (rated : Rated). rated.section.0) (map (λ rating. rated_of catalog.sections (rating_entry rating)) items) ≡ map (λ e. e.0) (map rating_entry items) =
+      ap (map (λ (rated : Rated). rated.section.0)) (map_twice (rated_of catalog.sections) rating_entry items) ∙ place_sections catalog.sections (map rating_entry items) in
       subst IsAscending (sym e) (ascending_keys (map rating_entry items) ratings.sorted);
-  each = All-map IsRated (λ rating. rated_of catalog (rating_entry rating)) items (λ k d below. is_rated catalog (rating_entry (get_or items k d)) is (inside k d below) (ratings.each k d below));
+  each = All-map IsRated (λ rating. rated_of catalog.sections (rating_entry rating)) items (λ k d below. is_rated catalog (rating_entry (get_or items k d)) is (inside k d below) (ratings.each k d below));
 }
 
 by_test : (b : Bool) (p n : ℕ) (found : Bool) → nat_lt p n ≡ found → nat_lt (cond b 0 (suc p)) (suc n) ≡ (b || found)
@@ -79,11 +76,6 @@ course_of_place catalog [] k below = absurd (omega arith)
 course_of_place catalog (e ∷ es) zero below = refl
 course_of_place catalog (e ∷ es) (suc k) below = course_of_place catalog es k (omega arith)
 
--- rated sections are sections of the catalogue
-pub ratings_below : (n : ℕ) (wanted : StudentPreferences) (items : List (SectionNo × ℕ)) → SectionsBelow n wanted → map rating_entry items ≡ entries wanted.ratings → All (λ (rating : SectionNo × ℕ). rating.0.0 < n) items
-ratings_below n wanted items below is =
-    All-from_map (λ (rated : ℕ × ℕ). rated.0 < n) rating_entry items (subst (All (λ (rated : ℕ × ℕ). rated.0 < n)) (sym is) below.rated)
-
 -- what holds of the places of ratings
 pub record AreGoodPlaces (catalog : List Section) (places : List Rated) : Type 0 where
   pub places_are : ArePlaces places
@@ -94,20 +86,20 @@ pub record AreGoodPlaces (catalog : List Section) (places : List Rated) : Type 0
 section_below : (n : ℕ) (places : List Rated) (d : Rated) → All (λ (rated : Rated). rated.section.0 < n) places → (k : ℕ) → k < length places → section_at places k < n
 section_below n places d each k inside = rw (section_at-get_or places k d inside) (each k d inside)
 
-made_places : (catalog : List Section) (items : List (SectionNo × ℕ)) → IsCatalog catalog → AreRatings items → All (λ (rating : SectionNo × ℕ). rating.0.0 < length catalog) items
-    → AreGoodPlaces catalog (map (λ rating. rated_of catalog (rating_entry rating)) items)
+made_places : (catalog : CatalogData) (items : List (SectionNo × ℕ)) → IsCatalog catalog → AreRatings items → All (λ (rating : SectionNo × ℕ). rating.0.0 < length catalog.sections) items
+    → AreGoodPlaces catalog.sections (map (λ rating. rated_of catalog.sections (rating_entry rating)) items)
 made_places catalog items is ratings inside =
-    let made = map (λ rating. rated_of catalog (rating_entry rating)) items in
-    let each : All (λ (rated : Rated). rated.section.0 < length catalog) made = All-map (λ (rated : Rated). rated.section.0 < length catalog) (λ rating. rated_of catalog (rating_entry rating)) items inside in
+    let made = map (λ rating. rated_of catalog.sections (rating_entry rating)) items in
+    let each : All (λ (rated : Rated). rated.section.0 < length catalog.sections) made = All-map (λ (rated : Rated). rated.section.0 < length catalog.sections) (λ rating. rated_of catalog.sections (rating_entry rating)) items inside in
     record {
       places_are = are_places catalog items is ratings inside;
       below = each;
-      courses = subst (λ (places : List Rated). (k : ℕ) → k < length places → course_at places k ≡ course_number catalog (listed catalog (section_at places k)).course) (sym (map_twice (rated_of catalog) rating_entry items)) (course_of_place catalog (map rating_entry items));
-      sections = section_below (length catalog) made (rated_of catalog (0, 0)) each;
+      courses = subst (λ (places : List Rated). (k : ℕ) → k < length places → course_at places k ≡ course_number catalog.sections (listed catalog.sections (section_at places k)).course) (sym (map_twice (rated_of catalog.sections) rating_entry items)) (course_of_place catalog.sections (map rating_entry items));
+      sections = section_below (length catalog.sections) made (rated_of catalog.sections (0, 0)) each;
     }
 
 -- places made of a student's ratings are good
-pub good_places : (catalog : List Section) (wanted : StudentPreferences) (items : List (SectionNo × ℕ)) (places : List Rated) → IsCatalog catalog → AreRatings items → SectionsBelow (length catalog) wanted → map rating_entry items ≡ entries wanted.ratings
-    → places ≡ map (λ rating. rated_of catalog (rating_entry rating)) items → AreGoodPlaces catalog places
+pub good_places : (catalog : CatalogData) (wanted : StudentPreferences) (items : List (SectionNo × ℕ)) (places : List Rated) → IsCatalog catalog → AreRatings items → SectionsBelow (length catalog.sections) wanted → map rating_entry items ≡ entries wanted.ratings
+    → places ≡ map (λ rating. rated_of catalog.sections (rating_entry rating)) items → AreGoodPlaces catalog.sections places
 good_places catalog wanted items places is ratings below entries made =
-    subst (AreGoodPlaces catalog) (sym made) (made_places catalog items is ratings (ratings_below (length catalog) wanted items below entries))
+    subst (AreGoodPlaces catalog.sections) (sym made) (made_places catalog items is ratings (rated_below (length catalog.sections) wanted items below entries))

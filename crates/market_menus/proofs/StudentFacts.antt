@@ -1,6 +1,6 @@
 -- The menus of the students so far.
-use Rattle.std.proofs.Common.{ℕ, zero, suc, ◌≡◌, ◌<◌, ◌+◌, List, [], ◌∷◌, ◌++◌, ◌∙◌, ap, map, length, take, get_or}
-use Rattle.std.specs.Prelude.{ℤ, Some, Result, Ok, Err, IfOk, option_map, slice_get}
+use Rattle.std.proofs.Common.{ℕ, ◌≡◌, ◌<◌, ◌+◌, List, [], ◌∷◌, ◌++◌, ◌∙◌, ap, map, length, take, get_or}
+use Rattle.std.specs.Prelude.{ℤ, Result, Ok, Err, IfOk}
 use Rattle.std.specs.List.{filter_map}
 use Rattle.std.specs.FinMap.{entries}
 use Rattle.std.proofs.lemmas.List.{take_more}
@@ -16,12 +16,6 @@ use Rattle.market_menus.specs.MenusOf.{AreMenusOf, IsMenuOf, places_of, rated_of
 use Rattle.market_menus.specs.PairPlaces.{pair_among}
 use Rattle.market_menus.proofs.PairFacts.{filter_map-map, pairs_by_ratings}
 use Rattle.market_menus.proofs.PlaceFacts.{map_twice}
-
--- what stands at a place, in the two ways of saying it
-pub read_at : {A B : Type 0} (f : A → B) (xs : List A) (n : ℕ) (v : B) (d : A) → option_map f (slice_get xs n) ≡ Some v → v ≡ f (get_or xs n d)
-read_at f [] n v d e = cc
-read_at f (x ∷ xs) zero v d e = cc
-read_at f (x ∷ xs) (suc n) v d e = read_at f xs n v d e
 
 one_more : (catalog : List Section) (students : List Student) (preferences : List StudentPreferences) (menus : List MenuData) (student : Student) (wanted : StudentPreferences) (menu : MenuData)
     → AreMenusOf catalog students preferences menus → IsMenuOf catalog student wanted menu → AreMenusOf catalog (students ++ student ∷ []) (preferences ++ wanted ∷ []) (menus ++ menu ∷ [])

@@ -14,8 +14,8 @@ pub(crate) fn clashes_of(
     places: &[Rated],
 ) -> Result<Vec<u64>, NoMemory>
     requires few { length places.now ≤ 60 }
-    requires sections { All (λ rated. rated.section.0 < length catalog.now) places.now }
-    ensures { IfOk result (λ words. AreClashWords catalog.now places.now words.items) }
+    requires sections { All (λ rated. rated.section.0 < length catalog.now.sections) places.now }
+    ensures { IfOk result (λ words. AreClashWords catalog.now.sections places.now words.items) }
 {
     let mut words = Vec::with_capacity(alloc, places.len())?;
     'places: for rated in places {
@@ -27,9 +27,9 @@ pub(crate) fn clashes_of(
 // The word of a section: its bit t tells whether it clashes with the section of place t.
 fn clash_word(catalog: &Catalog, places: &[Rated], section: SectionNo) -> u64
     requires few { length places.now ≤ 60 }
-    requires section { section.0 < length catalog.now }
-    requires sections { All (λ rated. rated.section.0 < length catalog.now) places.now }
-    ensures { IsClashWord catalog.now places.now section.0 result }
+    requires section { section.0 < length catalog.now.sections }
+    requires sections { All (λ rated. rated.section.0 < length catalog.now.sections) places.now }
+    ensures { IsClashWord catalog.now.sections places.now section.0 result }
 {
     let mut word = 0;
     'others: for (place, rated) in places.iter().enumerate() {

@@ -23,9 +23,9 @@ pub fn menus(
     roll: &Roll,
     preferences: &Preferences,
 ) -> Result<Vec<Menu>, NoMemory>
-    requires students { length (preferences_of preferences.now) ≡ length roll.now }
-    requires sections { All (SectionsBelow (length catalog.now)) (preferences_of preferences.now) }
-    ensures { IfOk result (λ menus. AreMenusOf catalog.now roll.now (preferences_of preferences.now) menus.items) }
+    requires students { length (preferences_of preferences.now) ≡ length roll.now.students }
+    requires sections { All (SectionsBelow (length catalog.now.sections)) (preferences_of preferences.now) }
+    ensures { IfOk result (λ menus. AreMenusOf catalog.now.sections roll.now.students (preferences_of preferences.now) menus.items) }
 {
     let students = roll.len();
     let mut menus = Vec::with_capacity(alloc, usize::from(students))?;
@@ -43,10 +43,10 @@ fn menu_of(
     preferences: &Preferences,
     student: StudentNo,
 ) -> Result<Menu, NoMemory>
-    requires student { student.0 < length roll.now }
-    requires students { length (preferences_of preferences.now) ≡ length roll.now }
-    requires sections { All (SectionsBelow (length catalog.now)) (preferences_of preferences.now) }
-    ensures { IfOk result (λ menu. IsMenuOf catalog.now (student_at roll.now student.0) (wanted_by preferences.now student.0) menu) }
+    requires student { student.0 < length roll.now.students }
+    requires students { length (preferences_of preferences.now) ≡ length roll.now.students }
+    requires sections { All (SectionsBelow (length catalog.now.sections)) (preferences_of preferences.now) }
+    ensures { IfOk result (λ menu. IsMenuOf catalog.now.sections (student_at roll.now.students student.0) (wanted_by preferences.now student.0) menu) }
 {
     let _few_sections = catalog.len();
     let places = places_of(alloc, catalog, preferences.ratings(student))?;

@@ -1,11 +1,10 @@
 // The adjusted pairs of a student both of whose sections are rated.
 ghost use Rattle.std.specs.Prelude.{◌≡◌, ◌≤◌, IfOk, length};
 ghost use Rattle.std.specs.List.{filter_map};
-ghost use Rattle.bundle_rules.specs.Menus.{place_in};
 ghost use Rattle.preference_desk.specs.Rows.{pair_entry};
 ghost use Rattle.market_menus.specs.PairPlaces.{place_among, pair_among};
 
-use bundle_rules::Rated;
+use bundle_rules::{Rated, place_among};
 use market_units::{NoMemory, SectionNo};
 use std::alloc::Global;
 
@@ -33,37 +32,20 @@ fn pair_among(places: &[Rated], pair: (SectionNo, SectionNo, i16)) -> Option<(u8
     ensures { result ≡ pair_among places.now (pair_entry pair) }
 {
     let (first, second, adjustment) = pair;
-    let first_place = place_among(places, first)?;
-    let second_place = place_among(places, second)?;
+    let first_place = place_of(places, first)?;
+    let second_place = place_of(places, second)?;
     Some((first_place, second_place, adjustment))
 }
 
 // The place of the section, where it has one.
-fn place_among(places: &[Rated], section: SectionNo) -> Option<u8>
+fn place_of(places: &[Rated], section: SectionNo) -> Option<u8>
     requires { length places.now ≤ 60 }
     ensures { result ≡ place_among places.now section.0 }
 {
-    let place = place_or_len(places, section);
+    let place = place_among(places, section);
     if place < places.len() {
         Some(place as u8)
     } else {
         None
-    }
-}
-
-// The place of the section, or the number of places where it has none.
-fn place_or_len(places: &[Rated], section: SectionNo) -> usize
-    ensures value { result ≡ place_in places.now section.0 }
-    ensures within { result ≤ length places.now }
-{
-    match places {
-        [] => 0,
-        [rated, more @ ..] => {
-            if rated.section == section {
-                0
-            } else {
-                place_or_len(more, section) + 1
-            }
-        }
     }
 }

@@ -14,8 +14,8 @@ pub(crate) fn places_of(
     catalog: &Catalog,
     ratings: &[(SectionNo, u8)],
 ) -> Result<Vec<Rated>, NoMemory>
-    requires { All (λ rating. rating.0.0 < length catalog.now) ratings.now }
-    ensures { IfOk result (λ places. places.items ≡ map (λ rating. rated_of catalog.now (rating_entry rating)) ratings.now) }
+    requires { All (λ rating. rating.0.0 < length catalog.now.sections) ratings.now }
+    ensures { IfOk result (λ places. places.items ≡ map (λ rating. rated_of catalog.now.sections (rating_entry rating)) ratings.now) }
 {
     let mut places = Vec::with_capacity(alloc, ratings.len())?;
     'ratings: for (section, rating) in ratings {

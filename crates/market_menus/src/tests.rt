@@ -49,7 +49,7 @@ fn menus_of(
     roll: &Roll,
     desk: &Desk,
 ) -> Result<Vec<Menu>, NoMemory>
-    requires { names_of desk.now ≡ market_names catalog.now roll.now }
+    requires { names_of desk.now ≡ market_names catalog.now.sections roll.now.students }
 {
     menus(alloc, catalog, roll, desk.closed())
 }

@@ -35,6 +35,12 @@ one_name_more names keys new n name distinct inside so is e =
     ap (map name_bytes) added ∙ map-append name_bytes keys (name ∷ []) ∙ ap (λ front. front ++ name_bytes name ∷ []) so ∙ ap (λ last. take n names ++ last ∷ []) is ∙ sym (take_more names n [] inside)
 
 -- what stands at a place, in the two ways of saying it
+pub read_at : {A B : Type 0} (f : A → B) (xs : List A) (n : ℕ) (v : B) (d : A) → option_map f (slice_get xs n) ≡ Some v → v ≡ f (get_or xs n d)
+read_at f [] n v d e = cc
+read_at f (x ∷ xs) zero v d e = cc
+read_at f (x ∷ xs) (suc n) v d e = read_at f xs n v d e
+
+-- and the same of the images
 pub read_option : {A B : Type 0} (f : A → B) (xs : List A) (n : ℕ) (v d : B) → option_map f (slice_get xs n) ≡ Some v → v ≡ get_or (map f xs) n d
 read_option f [] n v d e = cc
 read_option f (x ∷ xs) zero v d e = cc

@@ -1,3 +1,4 @@
+pub mod BelowLemmas
 pub mod CopyLemmas
 pub mod JournalLemmas
 pub mod NameLemmas
@@ -5,5 +6,6 @@ pub mod PairLemmas
 pub mod PreferenceLemmas
 pub mod RatingLemmas
 pub mod RowLemmas
+pub mod RowWrites
 pub mod SectionLemmas
 pub mod SharedLemmas

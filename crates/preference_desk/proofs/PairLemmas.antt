@@ -1,24 +1,27 @@
 -- What a change makes of one student's adjustments.
-use Rattle.std.proofs.Common.{ℕ, zero, suc, get_or, ◌≡◌, ◌+◌, ◌<◌, ◌≤◌, Bool, true, false, not, cond, List, [], ◌∷◌, map, length, set, refl, ap, sym, ◌∙◌, arith, length-set}
-use Rattle.std.specs.Prelude.{ℤ, pos, negsuc, unsigned_abs, nat_lt}
-use Rattle.std.specs.List.{insert, remove, position_or_len}
+use Rattle.std.proofs.Common.{ℕ, zero, suc, get_or, ◌≡◌, ◌+◌, ◌<◌, ◌≤◌, Bool, true, false, not, cond, List, [], ◌∷◌, map, length, set, refl, ap, sym, subst, ◌==◌, ◌&&◌, ◌∙◌, arith, length-set}
+use Rattle.std.specs.Prelude.{ℤ, pos, negsuc, unsigned_abs, nat_lt, nat_le, Option, Some, None, is_some, option_map}
+use Rattle.std.specs.List.{position_or_len}
 use Rattle.std.specs.Ordering.{nat_cmp, is_le, is_eq, ordering_then}
 use Rattle.std.specs.declared.cmp.Ordering.{Ordering}
 use Rattle.std.specs.declared.cmp.Ordering.TheVariants.{Less, Equal, Greater}
 use Rattle.std.specs.Cmp.{IsTotalOrder, nat_cmp_total, on_total, then_total}
-use Rattle.std.specs.FinMap.{FinMap, IsAntisymmetric, nat_cmp-IsAntisymmetric, from_sorted, insert as insert_in, remove as remove_from}
+use Rattle.std.specs.FinMap.{FinMap, IsAntisymmetric, nat_cmp-IsAntisymmetric, from_sorted, insert as insert_in, remove as remove_from, contains_key, len}
 use Rattle.std.proofs.lemmas.Int.{to_z-of_z}
 use mir.Val.{SFits, to_z, of_z}
 use mir.Syntax.{w16}
 use Rattle.std.proofs.lemmas.Bool.{eq-eqb, ne_eqb, le-ltb}
+use Rattle.std.proofs.lemmas.Bool.Decides.{nat_tests}
 use Rattle.std.proofs.lemmas.List.Edits.{length-insert, length-remove}
 use Rattle.std.proofs.lemmas.List.Elements.{All-set}
 use Rattle.market_units.specs.declared.units.SectionNo.{SectionNo}
 use Rattle.preference_desk.specs.Places.{place_in, stands}
-use Rattle.preference_desk.specs.Rows.{ArePairs, pair_entry}
+use Rattle.preference_desk.specs.Rows.{ArePairs, IsAdjustment, pair_entry}
+use Rattle.preference_desk.specs.Writes.{written, has_room}
 use Rattle.preference_desk.specs.StudentPreferences.{pair_cmp, with_pair}
-use Rattle.preference_desk.proofs.RowLemmas.{taken_out, none_out, put_in, put_over, place_inside, place_fits, stands_at, not_behind, key_at, PutIn}
-use Rattle.preference_desk.proofs.RatingLemmas.{All-insert, All-remove, length-entries, get_or-entries}
+use Rattle.preference_desk.proofs.RowLemmas.{length-entries, stands_at, not_behind}
+use Rattle.preference_desk.proofs.RowWrites.{IsRow, row_set, with_value}
+use Rattle.preference_desk.proofs.RatingLemmas.{get_or-entries}
 
 pub pair_cmp_total : IsTotalOrder pair_cmp
 pair_cmp_total = then_total (on_total (λ (pair : ℕ × ℕ). pair.0) nat_cmp_total) (on_total (λ (pair : ℕ × ℕ). pair.1) nat_cmp_total)
@@ -47,74 +50,64 @@ zero_is n fits e = sym (to_z-of_z w16 n fits) ∙ ap (to_z w16) e
 pub other_is : (n : ℤ) → (of_z w16 n ≡ 0 → ⊥) → n ≡ pos 0 → ⊥
 other_is n other e = other (ap (of_z w16) e)
 
-abbrev IsAdjustment : (SectionNo × SectionNo × ℤ) → Type 0
-IsAdjustment adjusted = (adjusted.0.0 < adjusted.1.0) × (1 ≤ unsigned_abs adjusted.2) × (unsigned_abs adjusted.2 ≤ 200)
-
-module _ (items : List (SectionNo × SectionNo × ℤ)) (first second : SectionNo) (kept : ArePairs items) where
-  pub inside : stands pair_cmp (first.0, second.0) (map pair_entry items) ≡ true → place_in pair_cmp (first.0, second.0) (map pair_entry items) < length items
-  inside here = omega (arith, place_inside pair_cmp (first.0, second.0) (map pair_entry items) here, length-entries pair_entry items)
-
-  pub fits : place_in pair_cmp (first.0, second.0) (map pair_entry items) ≤ length items
-  fits = omega (arith, place_fits pair_cmp (first.0, second.0) (map pair_entry items), length-entries pair_entry items)
-
-  pub removed_kept : stands pair_cmp (first.0, second.0) (map pair_entry items) ≡ true → ArePairs (remove items (place_in pair_cmp (first.0, second.0) (map pair_entry items)))
-  removed_kept here = record {
-    sorted = (taken_out pair_cmp pair_cmp_total pair_cmp_same pair_entry items (first.0, second.0) kept.sorted here).sorted;
-    few = omega (arith, kept.few, length-remove items (place_in pair_cmp (first.0, second.0) (map pair_entry items)) (inside here));
-    each = All-remove IsAdjustment items (place_in pair_cmp (first.0, second.0) (map pair_entry items)) kept.each;
-  }
-
-  pub removed_view : stands pair_cmp (first.0, second.0) (map pair_entry items) ≡ true
-      → from_sorted {R = pair_cmp} (map pair_entry (remove items (place_in pair_cmp (first.0, second.0) (map pair_entry items)))) ≡ remove_from (from_sorted (map pair_entry items)) (first.0, second.0)
-  removed_view here = (taken_out pair_cmp pair_cmp_total pair_cmp_same pair_entry items (first.0, second.0) kept.sorted here).view
-
-  pub absent_view : stands pair_cmp (first.0, second.0) (map pair_entry items) ≡ false → from_sorted {R = pair_cmp} (map pair_entry items) ≡ remove_from (from_sorted (map pair_entry items)) (first.0, second.0)
-  absent_view none = none_out pair_cmp pair_cmp_total pair_cmp_same pair_entry items (first.0, second.0) kept.sorted none
-
-  over : (n : ℤ) → stands pair_cmp (first.0, second.0) (map pair_entry items) ≡ true → PutIn pair_cmp pair_cmp_total pair_cmp_same pair_entry items (set items (place_in pair_cmp (first.0, second.0) (map pair_entry items)) (first, second, n)) (first.0, second.0) n
-  over n here =
-      put_over pair_cmp pair_cmp_total pair_cmp_same pair_entry items (first.0, second.0) (first, second, n) n ((0, 0), pos 0)
-      (ap (λ k. (k, n)) (sym (key_at pair_cmp pair_cmp_total pair_cmp_same pair_entry items (first.0, second.0) ((0, 0), pos 0) here))) kept.sorted here
-
-  pub replaced_kept : (n : ℤ) → stands pair_cmp (first.0, second.0) (map pair_entry items) ≡ true → first.0 < second.0 → 1 ≤ unsigned_abs n → unsigned_abs n ≤ 200 → ArePairs (set items (place_in pair_cmp (first.0, second.0) (map pair_entry items)) (first, second, n))
-  replaced_kept n here order some small = record {
-    sorted = (over n here).sorted;
-    few = omega (arith, kept.few, length-set items (place_in pair_cmp (first.0, second.0) (map pair_entry items)) (first, second, n));
-    each = All-set IsAdjustment items (place_in pair_cmp (first.0, second.0) (map pair_entry items)) (first, second, n) (order, some, small) kept.each;
-  }
-
-  pub replaced_view : (n : ℤ) → stands pair_cmp (first.0, second.0) (map pair_entry items) ≡ true
-      → from_sorted {R = pair_cmp} (map pair_entry (set items (place_in pair_cmp (first.0, second.0) (map pair_entry items)) (first, second, n))) ≡ insert_in (from_sorted (map pair_entry items)) (first.0, second.0) n
-  replaced_view n here = (over n here).view
-
-  fresh : (n : ℤ) → stands pair_cmp (first.0, second.0) (map pair_entry items) ≡ false → PutIn pair_cmp pair_cmp_total pair_cmp_same pair_entry items (insert items (place_in pair_cmp (first.0, second.0) (map pair_entry items)) (first, second, n)) (first.0, second.0) n
-  fresh n none = put_in pair_cmp pair_cmp_total pair_cmp_same pair_entry items (first.0, second.0) (first, second, n) n refl kept.sorted none
-
-  pub inserted_kept : (n : ℤ) → stands pair_cmp (first.0, second.0) (map pair_entry items) ≡ false → length items < 200 → first.0 < second.0 → 1 ≤ unsigned_abs n → unsigned_abs n ≤ 200 → ArePairs (insert items (place_in pair_cmp (first.0, second.0) (map pair_entry items)) (first, second, n))
-  inserted_kept n none room order some small = record {
-    sorted = (fresh n none).sorted;
-    few = omega (arith, length-insert items (place_in pair_cmp (first.0, second.0) (map pair_entry items)) (first, second, n) fits);
-    each = All-insert IsAdjustment items (place_in pair_cmp (first.0, second.0) (map pair_entry items)) (first, second, n) kept.each (order, some, small);
-  }
-
-  pub inserted_view : (n : ℤ) → stands pair_cmp (first.0, second.0) (map pair_entry items) ≡ false
-      → from_sorted {R = pair_cmp} (map pair_entry (insert items (place_in pair_cmp (first.0, second.0) (map pair_entry items)) (first, second, n))) ≡ insert_in (from_sorted (map pair_entry items)) (first.0, second.0) n
-  inserted_view n none = (fresh n none).view
-
--- an adjustment of 0 takes the pair out, and another puts it in
 zero_size : (n : ℤ) → n ≡ pos 0 → unsigned_abs n ≡ 0
 zero_size n e = ap unsigned_abs e
 
-pub some_size : (n : ℤ) → (n ≡ pos 0 → ⊥) → 1 ≤ unsigned_abs n
-some_size (pos zero) other = absurd (other refl)
-some_size (pos (suc n)) other = omega arith
-some_size (negsuc n) other = omega arith
+some_size : (n : ℤ) → (n ≡ pos 0 → ⊥) → unsigned_abs n ≡ 0 → ⊥
+some_size (pos zero) other e = other refl
+some_size (pos (suc n)) other e = omega (arith, e)
+some_size (negsuc n) other e = omega (arith, e)
 
-pub paired_none : (pairs : FinMap {K = ℕ × ℕ} pair_cmp ℤ) (pair : ℕ × ℕ) (n : ℤ) → n ≡ pos 0 → with_pair pairs pair n ≡ remove_from pairs pair
-paired_none pairs pair n e = ap (λ b. cond b (remove_from pairs pair) (insert_in pairs pair n)) (eq-eqb (unsigned_abs n) 0 (zero_size n e))
+-- whether an adjustment is 0
+pub is_zero : (n : ℤ) → SFits w16 n → of_z w16 n ≡ 0 → (unsigned_abs n == 0) ≡ true
+is_zero n fits e = eq-eqb (unsigned_abs n) 0 (zero_size n (zero_is n fits e))
 
-pub paired_some : (pairs : FinMap {K = ℕ × ℕ} pair_cmp ℤ) (pair : ℕ × ℕ) (n : ℤ) → (n ≡ pos 0 → ⊥) → with_pair pairs pair n ≡ insert_in pairs pair n
-paired_some pairs pair n other = ap (λ b. cond b (remove_from pairs pair) (insert_in pairs pair n)) (ne_eqb (unsigned_abs n) 0 (λ e. absurd (omega (arith, some_size n other))))
+pub is_other : (n : ℤ) → (of_z w16 n ≡ 0 → ⊥) → (unsigned_abs n == 0) ≡ false
+is_other n other = ne_eqb (unsigned_abs n) 0 (some_size n (other_is n other))
+
+-- the value that an adjustment makes: none of 0
+abbrev pub value_of : ℤ → Option ℤ
+value_of n = cond (unsigned_abs n == 0) None (Some n)
+
+tie : (first second : SectionNo) (n : ℤ) (b : Bool) → option_map pair_entry (cond b None (Some (first, second, n))) ≡ option_map (λ v. ((first.0, second.0), v)) (cond b None (Some n))
+tie first second n true = refl
+tie first second n false = refl
+
+fine : (first second : SectionNo) (n : ℤ) → first.0 < second.0 → unsigned_abs n ≤ 200 → (b : Bool) → (unsigned_abs n == 0) ≡ b → (e : SectionNo × SectionNo × ℤ) → cond b None (Some (first, second, n)) ≡ Some e → IsAdjustment e
+fine first second n order small true nought e is = cc
+fine first second n order small false other e is =
+    let same : (first, second, n) ≡ e = cc in
+    let some : 1 ≤ unsigned_abs n = grind (arith, nat_tests) in
+    subst IsAdjustment same (order, some, small)
+
+wants : (n : ℤ) (b : Bool) → (unsigned_abs n == 0) ≡ b → nat_lt 0 (unsigned_abs n) ≡ is_some (cond b None (Some n))
+wants n true nought = grind (arith, nat_tests)
+wants n false other = grind (arith, nat_tests)
+
+valued : (m : FinMap {K = ℕ × ℕ} pair_cmp ℤ) (pair : ℕ × ℕ) (n : ℤ) (b : Bool) → with_value pair_cmp pair_cmp_total pair_cmp_same pair_entry IsAdjustment 200 m pair (cond b None (Some n)) ≡ cond b (remove_from m pair) (insert_in m pair n)
+valued m pair n true = refl
+valued m pair n false = refl
+
+-- what setting an adjustment leaves of a student's adjustments
+pub record IsAdjusted (old new : List (SectionNo × SectionNo × ℤ)) (pair : ℕ × ℕ) (n : ℤ) (result : Bool) : Type 0 where
+  pub kept : ArePairs new
+  pub room : result ≡ not (nat_lt 0 (unsigned_abs n) && not (contains_key (from_sorted {R = pair_cmp} (map pair_entry old)) pair) && nat_le 200 (len (from_sorted {R = pair_cmp} (map pair_entry old))))
+  pub view : from_sorted {R = pair_cmp} (map pair_entry new) ≡ cond result (with_pair (from_sorted (map pair_entry old)) pair n) (from_sorted (map pair_entry old))
+
+pub adjusted_set : (old new : List (SectionNo × SectionNo × ℤ)) (first second : SectionNo) (n : ℤ) (x : Option (SectionNo × SectionNo × ℤ)) (place : ℕ) (here result : Bool) → ArePairs old → first.0 < second.0 → unsigned_abs n ≤ 200
+    → x ≡ cond (unsigned_abs n == 0) None (Some (first, second, n)) → place ≡ place_in pair_cmp (first.0, second.0) (map pair_entry old) → here ≡ stands pair_cmp (first.0, second.0) (map pair_entry old)
+    → result ≡ has_room 200 old here x → new ≡ cond result (written old place here x) old → IsAdjusted old new (first.0, second.0) n result
+adjusted_set old new first second n x place here result kept order small x_is place_is here_is room is =
+    let row : IsRow pair_cmp pair_cmp_total pair_cmp_same pair_entry IsAdjustment 200 old = record { sorted = kept.sorted; few = kept.few; each = kept.each } in
+    let none = unsigned_abs n == 0 in
+    let s = row_set pair_cmp pair_cmp_total pair_cmp_same pair_entry IsAdjustment 200 old new (first.0, second.0) x (value_of n) place here result
+    (ap (option_map pair_entry) x_is ∙ tie first second n none) (λ e is. fine first second n order small none refl e (sym x_is ∙ is)) row place_is here_is room is in
+    let m = from_sorted {R = pair_cmp} (map pair_entry old) in
+    record {
+      kept = record { sorted = s.row.sorted; few = s.row.few; each = s.row.each };
+      room = s.room ∙ ap (λ b. not (b && not (contains_key m (first.0, second.0)) && nat_le 200 (len m))) (sym (wants n none refl));
+      view = s.view ∙ ap (λ w. cond result w m) (valued m (first.0, second.0) n none);
+    }
 
 one_place : (b : Bool) (n m : ℕ) → n ≡ m → cond (not b) (1 + n) 0 ≡ cond b 0 (suc m)
 one_place true n m is = refl

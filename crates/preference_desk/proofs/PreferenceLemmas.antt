@@ -9,7 +9,7 @@ use Rattle.preference_desk.specs.PairsView.{pairs_in}
 use Rattle.preference_desk.specs.RatingsView.{ratings_in}
 use Rattle.preference_desk.specs.PreferencesView.{wanted_in}
 use Rattle.preference_desk.specs.StudentPreferences.{StudentPreferences, no_preferences, with_rating, with_pair}
-use Rattle.preference_desk.proofs.RatingLemmas.{length-entries}
+use Rattle.preference_desk.proofs.RowLemmas.{length-entries}
 
 read_entry : {A B : Type 0} (f : A → B) (xs : List A) (i : ℕ) (d : A) (e : B) → i < length xs → get_or (map f xs) i e ≡ f (get_or xs i d)
 read_entry f [] i d e inside = absurd (omega arith)

@@ -1,5 +1,5 @@
 -- What a write at a key's place makes of a row in the order of its keys.
-use Rattle.std.proofs.Common.{ℕ, zero, suc, ◌≡◌, ◌<◌, ◌≤◌, Bool, true, false, not, cond, ◌&&◌, List, [], ◌∷◌, map, length, set, get_or, refl, ap, sym, ◌∙◌, subst, arith, true≢false}
+use Rattle.std.proofs.Common.{ℕ, zero, suc, ◌≡◌, ◌<◌, ◌≤◌, Bool, true, false, not, cond, ◌&&◌, List, [], ◌∷◌, map, length, set, get_or, take, drop, refl, ap, sym, ◌∙◌, subst, arith, true≢false}
 use Rattle.std.specs.Prelude.{Some, None, is_some, T}
 use Rattle.std.specs.List.{insert, remove, All}
 use Rattle.std.specs.Ordering.{is_le, is_lt, is_eq, eq_by_cmp}
@@ -9,7 +9,7 @@ use Rattle.std.specs.Cmp.{IsTotalOrder, alike_right, eq_by_cmp_equiv}
 use Rattle.std.specs.FinMap.{FinMap, IsAntisymmetric, entries, entries_sorted, from_sorted, empty, insert as insert_in, remove as remove_from, contains_key, len, len-entries, empty_of_len, same_entries_map, same_map, entries-from_sorted, entries-insert, get-from_sorted, get-remove}
 use Rattle.std.specs.FinMap.Entries.{by_order, put, find, is_sorted, where_key, below_all, is_sorted-put, is_sorted-where_key, find-where_key}
 use Rattle.std.proofs.lemmas.List.{map-set}
-use Rattle.std.proofs.lemmas.List.Elements.{All-nil, All-cons, All-head, All-tail}
+use Rattle.std.proofs.lemmas.List.Elements.{All-nil, All-cons, All-head, All-tail, All-append, All-take, All-drop}
 use Rattle.preference_desk.specs.Places.{place_in, stands}
 
 and_first : (a b : Bool) → (a && b) ≡ true → a ≡ true
@@ -30,6 +30,16 @@ remove-map f [] zero = refl
 remove-map f [] (suc i) = refl
 remove-map f (y ∷ xs) zero = refl
 remove-map f (y ∷ xs) (suc i) = ap (λ rest. f y ∷ rest) (remove-map f xs i)
+
+pub All-insert : {A : Type 0} (P : A → Type 0) (xs : List A) (i : ℕ) (x : A) → All P xs → P x → All P (insert xs i x)
+All-insert P xs i x each here = All-append P (take i xs) _ (All-take P i xs each) (All-cons P x (drop i xs) here (All-drop P i xs each))
+
+pub All-remove : {A : Type 0} (P : A → Type 0) (xs : List A) (i : ℕ) → All P xs → All P (remove xs i)
+All-remove P xs i each = All-append P (take i xs) _ (All-take P i xs each) (All-drop P (suc i) xs each)
+
+pub length-entries : {A B : Type 0} (f : A → B) (xs : List A) → length (map f xs) ≡ length xs
+length-entries f [] = refl
+length-entries f (x ∷ xs) = omega (arith, length-entries f xs)
 
 told : {b : Bool} → b ≡ true → T b
 told e = subst T (sym e) tt

@@ -14,3 +14,4 @@ pub mod RatingsView
 pub mod Rows
 pub mod Shared
 pub mod StudentPreferences
+pub mod Writes

@@ -13,14 +13,22 @@ rating_entry rated = (rated.0.0, rated.1)
 abbrev pub pair_entry : (SectionNo × SectionNo × ℤ) → (ℕ × ℕ) × ℤ
 pair_entry adjusted = ((adjusted.0.0, adjusted.1.0), adjusted.2)
 
--- at most 60 ratings from 1 to 100, sections ascending
+-- a rating from 1 to 100
+abbrev pub IsRating : (SectionNo × ℕ) → Type 0
+IsRating rated = (1 ≤ rated.1) × (rated.1 ≤ 100)
+
+-- an adjustment from -200 to 200 other than 0, the lower section first
+abbrev pub IsAdjustment : (SectionNo × SectionNo × ℤ) → Type 0
+IsAdjustment adjusted = (adjusted.0.0 < adjusted.1.0) × (1 ≤ unsigned_abs adjusted.2) × (unsigned_abs adjusted.2 ≤ 200)
+
+-- at most 60 ratings, sections ascending
 pub record AreRatings (items : List (SectionNo × ℕ)) : Type 0 where
   pub sorted : IsTrue (is_sorted nat_cmp (map rating_entry items))
   pub few : length items ≤ 60
-  pub each : All (λ (rated : SectionNo × ℕ). (1 ≤ rated.1) × (rated.1 ≤ 100)) items
+  pub each : All IsRating items
 
--- at most 200 adjustments from -200 to 200 other than 0, lower sections first, pairs ascending
+-- at most 200 adjustments, pairs ascending
 pub record ArePairs (items : List (SectionNo × SectionNo × ℤ)) : Type 0 where
   pub sorted : IsTrue (is_sorted pair_cmp (map pair_entry items))
   pub few : length items ≤ 200
-  pub each : All (λ (adjusted : SectionNo × SectionNo × ℤ). (adjusted.0.0 < adjusted.1.0) × (1 ≤ unsigned_abs adjusted.2) × (unsigned_abs adjusted.2 ≤ 200)) items
+  pub each : All IsAdjustment items

@@ -49,8 +49,8 @@ impl Desk {
         roll: &Roll,
         lines: u32,
     ) -> Result<Desk, NoMemory>
-        ensures names { IfOk result (λ desk. names_of desk ≡ market_names catalog.now roll.now) }
-        ensures state { IfOk result (λ desk. state_of desk ≡ opening (market_names catalog.now roll.now)) }
+        ensures names { IfOk result (λ desk. names_of desk ≡ market_names catalog.now.sections roll.now.students) }
+        ensures state { IfOk result (λ desk. state_of desk ≡ opening (market_names catalog.now.sections roll.now.students)) }
         ensures entries { IfOk result (λ desk. entries_of desk ≡ []) }
         ensures room { IfOk result (λ desk. room_of desk ≡ lines) }
     {

@@ -10,6 +10,7 @@ mod pairs;
 mod preferences;
 mod ratings;
 mod reply;
+mod rows;
 mod shared;
 mod steps;
 

@@ -1,5 +1,5 @@
 // One student's adjustments of pairs of sections.
-ghost use Rattle.std.specs.Prelude.{◌≡◌, ◌≤◌, ◌<◌, not, nat_lt, ◌&&◌, nat_le, map, if◌then◌else◌, unsigned_abs, IfOk};
+ghost use Rattle.std.specs.Prelude.{◌≡◌, ◌≤◌, ◌<◌, ◌==◌, None, Some, not, nat_lt, ◌&&◌, nat_le, map, if◌then◌else◌, unsigned_abs, IfOk};
 ghost use Rattle.std.specs.List.{position};
 ghost use Rattle.std.specs.Ordering.{is_eq, is_le};
 ghost use Rattle.std.specs.Vec.{vec_capacity};
@@ -7,6 +7,7 @@ ghost use Rattle.preference_desk.specs.Places.{place_in, stands};
 ghost use Rattle.preference_desk.specs.Rows.{ArePairs, pair_entry};
 ghost use Rattle.preference_desk.specs.StudentPreferences.{pair_cmp};
 
+use crate::rows;
 use market_units::{MAX_PAIRS, NoMemory, SectionNo};
 use std::alloc::Global;
 
@@ -48,22 +49,9 @@ impl Pairs {
         ensures set { pairs_in self.new ≡ (if result then with_pair (pairs_in self.old) (first.0, second.0) n else pairs_in self.old) }
     {
         let place = place_of(&self.items, first, second);
-        if stands_at(&self.items, place, first, second) {
-            if n == 0 {
-                self.items.remove(place);
-                return true;
-            }
-            self.items[place] = (first, second, n);
-            return true;
-        }
-        if n == 0 {
-            return true;
-        }
-        if self.items.len() >= MAX_PAIRS {
-            return false;
-        }
-        self.items.insert(place, (first, second, n)).unwrap();
-        true
+        let stands = stands_at(&self.items, place, first, second);
+        let entry = adjusted(first, second, n);
+        rows::write(&mut self.items, MAX_PAIRS, place, stands, entry)
     }
 
     pub(crate) fn clear(&mut self)
@@ -71,6 +59,16 @@ impl Pairs {
     {
         self.items.clear();
     }
+}
+
+// The entry that an adjustment makes of its pair; an adjustment of 0 makes none.
+fn adjusted(first: SectionNo, second: SectionNo, n: i16) -> Option<(SectionNo, SectionNo, i16)>
+    ensures { result ≡ (if unsigned_abs n == 0 then None else Some (first, second, n)) }
+{
+    if n == 0 {
+        return None;
+    }
+    Some((first, second, n))
 }
 
 // The place of the pair among those that are adjusted, or of the next one.

@@ -1,11 +1,12 @@
 // One student's ratings.
-ghost use Rattle.std.specs.Prelude.{◌≡◌, ◌≤◌, not, nat_lt, ◌&&◌, nat_le, map, if◌then◌else◌, IfOk};
+ghost use Rattle.std.specs.Prelude.{◌≡◌, ◌≤◌, ◌==◌, None, Some, not, nat_lt, ◌&&◌, nat_le, map, if◌then◌else◌, IfOk};
 ghost use Rattle.std.specs.List.{position};
 ghost use Rattle.std.specs.Ordering.{nat_cmp};
 ghost use Rattle.std.specs.Vec.{vec_capacity};
 ghost use Rattle.preference_desk.specs.Places.{place_in, stands};
 ghost use Rattle.preference_desk.specs.Rows.{AreRatings, rating_entry};
 
+use crate::rows;
 use market_units::{MAX_RATINGS, NoMemory, SectionNo};
 use std::alloc::Global;
 
@@ -46,22 +47,9 @@ impl Ratings {
         ensures set { ratings_in self.new ≡ (if result then with_rating (ratings_in self.old) section.0 rating else ratings_in self.old) }
     {
         let place = place_of(&self.items, section);
-        if stands_at(&self.items, place, section) {
-            if rating == 0 {
-                self.items.remove(place);
-                return true;
-            }
-            self.items[place] = (section, rating);
-            return true;
-        }
-        if rating == 0 {
-            return true;
-        }
-        if self.items.len() >= MAX_RATINGS {
-            return false;
-        }
-        self.items.insert(place, (section, rating)).unwrap();
-        true
+        let stands = stands_at(&self.items, place, section);
+        let entry = rated(section, rating);
+        rows::write(&mut self.items, MAX_RATINGS, place, stands, entry)
     }
 
     pub(crate) fn clear(&mut self)
@@ -69,6 +57,16 @@ impl Ratings {
     {
         self.items.clear();
     }
+}
+
+// The entry that a rating makes of its section; a rating of 0 makes none.
+fn rated(section: SectionNo, rating: u8) -> Option<(SectionNo, u8)>
+    ensures { result ≡ (if rating == 0 then None else Some (section, rating)) }
+{
+    if rating == 0 {
+        return None;
+    }
+    Some((section, rating))
 }
 
 // The place of the section among those that are rated, or of the next one.

@@ -19,9 +19,9 @@ pub(crate) fn put_students(
     roll: &Roll,
     preferences: &Preferences,
 ) -> Result<(), NoMemory>
-    requires students { length (preferences_of preferences.now) ≡ length roll.now }
-    requires sections { All (SectionsBelow (length catalog.now)) (preferences_of preferences.now) }
-    ensures { OnOk result (text.new.items ≡ text.old.items ++ wanted_text catalog.now roll.now (preferences_of preferences.now)) }
+    requires students { length (preferences_of preferences.now) ≡ length roll.now.students }
+    requires sections { All (SectionsBelow (length catalog.now.sections)) (preferences_of preferences.now) }
+    ensures { OnOk result (text.new.items ≡ text.old.items ++ wanted_text catalog.now.sections roll.now.students (preferences_of preferences.now)) }
 {
     'students: for number in 0..roll.len() {
         let student = StudentNo(number);
@@ -39,8 +39,8 @@ fn put_student(
     student: StudentNo,
 ) -> Result<(), NoMemory>
     requires student { student.0 < length (preferences_of preferences.now) }
-    requires sections { All (SectionsBelow (length catalog.now)) (preferences_of preferences.now) }
-    ensures { OnOk result (text.new.items ≡ text.old.items ++ student_text catalog.now (name_bytes name) (wanted_by preferences.now student.0)) }
+    requires sections { All (SectionsBelow (length catalog.now.sections)) (preferences_of preferences.now) }
+    ensures { OnOk result (text.new.items ≡ text.old.items ++ student_text catalog.now.sections (name_bytes name) (wanted_by preferences.now student.0)) }
 {
     put_ratings(text, catalog, name, preferences.ratings(student))?;
     put_adjustments(text, catalog, name, preferences.pairs(student))
@@ -53,8 +53,8 @@ fn put_ratings(
     student: Name,
     ratings: &[(SectionNo, u8)],
 ) -> Result<(), NoMemory>
-    requires { All (λ rated. rated.0.0 < length catalog.now) ratings.now }
-    ensures { OnOk result (text.new.items ≡ text.old.items ++ ratings_text catalog.now (name_bytes student) (map rating_entry ratings.now)) }
+    requires { All (λ rated. rated.0.0 < length catalog.now.sections) ratings.now }
+    ensures { OnOk result (text.new.items ≡ text.old.items ++ ratings_text catalog.now.sections (name_bytes student) (map rating_entry ratings.now)) }
 {
     'ratings: for (section, rating) in ratings {
         put_rating(text, student, catalog.name(*section), *rating)?;
@@ -69,8 +69,8 @@ fn put_adjustments(
     student: Name,
     pairs: &[(SectionNo, SectionNo, i16)],
 ) -> Result<(), NoMemory>
-    requires { All (λ adjusted. (adjusted.0.0 < length catalog.now) × (adjusted.1.0 < length catalog.now)) pairs.now }
-    ensures { OnOk result (text.new.items ≡ text.old.items ++ adjustments_text catalog.now (name_bytes student) (map pair_entry pairs.now)) }
+    requires { All (λ adjusted. (adjusted.0.0 < length catalog.now.sections) × (adjusted.1.0 < length catalog.now.sections)) pairs.now }
+    ensures { OnOk result (text.new.items ≡ text.old.items ++ adjustments_text catalog.now.sections (name_bytes student) (map pair_entry pairs.now)) }
 {
     'pairs: for (first, second, adjustment) in pairs {
         let first = catalog.name(*first);

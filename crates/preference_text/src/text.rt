@@ -21,9 +21,9 @@ pub fn preferences_text(
     roll: &Roll,
     desk: &Desk,
 ) -> Result<Vec<u8>, NoMemory>
-    requires names { names_of desk.now ≡ market_names catalog.now roll.now }
+    requires names { names_of desk.now ≡ market_names catalog.now.sections roll.now.students }
     requires short { All HasShortCommand (entries_of desk.now) }
-    ensures { IfOk result (λ text. text.items ≡ preferences_text catalog.now roll.now (entries_of desk.now)) }
+    ensures { IfOk result (λ text. text.items ≡ preferences_text catalog.now.sections roll.now.students (entries_of desk.now)) }
 {
     let mut text = Vec::new(alloc);
     put_journal(&mut text, desk.journal())?;

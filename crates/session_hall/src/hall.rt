@@ -40,9 +40,9 @@ pub fn hold<R: Threads + Wait + Sync, G: Gate + Sync>(
 ) -> Result<ClosedDesk, NoMemory>
     requires sessions { (1 ≤ length streams.now) × (length streams.now ≤ MAX_SESSIONS) }
     requires commands { command_count streams.now ≤ MAX_COMMANDS }
-    ensures names { IfOk result (λ closed. names_of closed.desk ≡ market_names catalog.now roll.now) }
+    ensures names { IfOk result (λ closed. names_of closed.desk ≡ market_names catalog.now.sections roll.now.students) }
     ensures entries { IfOk result (λ closed. entries_of closed.desk ≡ map entry_of_step closed.journal) }
-    ensures legal { IfOk result (λ closed. IsLegalJournal (market_names catalog.now roll.now) (map entry_of_step closed.journal)) }
+    ensures legal { IfOk result (λ closed. IsLegalJournal (market_names catalog.now.sections roll.now.students) (map entry_of_step closed.journal)) }
     ensures merges { IfOk result (λ closed. MergesStreams (command_lists streams.now) (map entry_of_step closed.journal)) }
 {
     let lines = count_commands(streams);

@@ -2,7 +2,7 @@ ghost use Rattle.std.specs.Prelude.{◌≤◌, length, IfOk};
 
 use super::*;
 use course_catalog::read_catalog;
-use gates::MeetingGate;
+use gates::{HoldingGate, MeetingGate};
 use market_edge::Gate;
 use market_units::{SectionNo, StudentNo};
 use preference_desk::{Entry, Reply};
@@ -48,15 +48,16 @@ fn stream_of(alloc: Global, lines: &[(&[u8], Reply)]) -> Result<Vec<Command>, Fa
     Ok(commands)
 }
 
-// What the two sessions leave.
+// What two sessions with these lines leave.
 fn hold_two<R: Threads + Wait + Sync, G: Gate + Sync>(
     rt: &R,
     alloc: Global,
+    lines: [&[(&[u8], Reply)]; 2],
     gate: &G,
 ) -> Result<ClosedDesk, Fail> {
     let catalog = read_catalog(alloc, CATALOG)?;
     let roll = read_roll(alloc, ROLL)?;
-    let streams = [stream_of(alloc, &FIRST)?, stream_of(alloc, &SECOND)?];
+    let streams = [stream_of(alloc, lines[0])?, stream_of(alloc, lines[1])?];
     Ok(hold(rt, alloc, &catalog, &roll, &streams, gate)?)
 }
 
@@ -93,7 +94,7 @@ fn ratings_of<'a>(rt: &impl Abort, closed: &'a ClosedDesk, student: u16) -> &'a 
 #[test]
 fn two_sessions_post_at_once(rt: HostRuntime) -> Result<(), Fail> {
     let gate = MeetingGate::new();
-    let closed = hold_two(&rt, rt.alloc(), &gate)?;
+    let closed = hold_two(&rt, rt.alloc(), [&FIRST, &SECOND], &gate)?;
     let entries = closed.desk.journal();
     assert_eq!(rt; entries.len(), 7);
     assert!(rt; is_posted(entries, 1, &FIRST));
@@ -113,5 +114,31 @@ fn two_sessions_post_at_once(rt: HostRuntime) -> Result<(), Fail> {
     assert_eq!(rt; count_of(&gate.first_calls), 4);
     assert_eq!(rt; count_of(&gate.second_calls), 3);
     assert_eq!(rt; count_of(&gate.others), 0);
+    Ok(())
+}
+
+// Each session passes its gate after its reply: the first one's last pass lets the second begin, and the second one's
+// last pass lets the first go on, so the first has posted both its lines before the second posts one.
+#[test]
+fn a_session_is_held_after_its_reply(rt: HostRuntime) -> Result<(), Fail> {
+    let gate = HoldingGate::new();
+    let lines = [&FIRST[..2], &SECOND[..2]];
+    let closed = hold_two(&rt, rt.alloc(), lines, &gate)?;
+    let entries = closed.desk.journal();
+    assert_eq!(rt; entries.len(), 4);
+    assert_eq!(rt;
+        [
+            entries[0].session,
+            entries[1].session,
+            entries[2].session,
+            entries[3].session
+        ],
+        [1, 1, 2, 2]
+    );
+    assert!(rt; is_posted(entries, 1, lines[0]));
+    assert!(rt; is_posted(entries, 2, lines[1]));
+    assert_eq!(rt; count_of(&gate.missed), 0);
+    assert_eq!(rt; count_of(&gate.first_calls), 2);
+    assert_eq!(rt; count_of(&gate.second_calls), 2);
     Ok(())
 }

@@ -5,7 +5,7 @@ use Rattle.std.proofs.lemmas.List.Elements.{All-cons, All-nil}
 use Rattle.market_units.specs.declared.names.Name.{Name}
 use Rattle.market_units.specs.Name.{name_bytes}
 use Rattle.student_roll.specs.Kept.{KeepsStudents}
-use Rattle.student_roll.specs.Students.{IsListed, RollData, Student, single_student}
+use Rattle.student_roll.specs.Students.{IsListed, Student, single_student}
 
 -- one student in its ranges is a roll
 pub keeps_one : (keys : List Name) (students : List Student) (name : Name) (credits courses : ℕ) → credits ≤ 800 → courses ≤ 8

@@ -4,7 +4,7 @@ use Rattle.std.specs.List.{IsDistinct}
 use Rattle.std.specs.Str.{bytes_eq}
 use Rattle.market_units.specs.Names.{IsName}
 
--- a student: the name, the base of the budget and what is carried over, both in tokens, and the caps on credits and courses
+-- a student: the name, the base and what is carried over, both in tokens, and the caps on credits and courses
 pub record Student : Type 0 where
   pub name : List ℕ
   pub base : ℕ

@@ -96,7 +96,7 @@ impl Roll {
         self.students[usize::from(student.0)].name()
     }
 
-    /// The base of the student's budget in tokens, at most 900,000.
+    /// The student's base in tokens, on which the budget is drawn: at most 900,000.
     pub fn base(&self, student: StudentNo) -> u32
         requires { student.0 < length self.now.students }
         ensures base { option_map (λ s. s.base) (slice_get self.now.students student.0) ≡ Some result }

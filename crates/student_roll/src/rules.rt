@@ -61,13 +61,7 @@ impl Table for RollRules {
         let credits = number(fields, row, 3, u64::from(MAX_CREDITS))?;
         let courses = number(fields, row, 4, u64::from(MAX_COURSES))?;
         let carry = carry_in(version, row, base as u32, fields)?;
-        Ok(Entry::new(
-            name,
-            base as u32,
-            credits as u16,
-            courses as u8,
-            carry,
-        ))
+        Ok(Entry::new(name, base as u32, credits as u16, courses as u8, carry))
     }
 }
 

@@ -75,6 +75,54 @@ fn a_roll_is_refused_at_its_first_fault(rt: HostRuntime) -> Result<(), Fail> {
 }
 
 #[test]
+fn a_carry_has_its_range_and_its_column(rt: HostRuntime) -> Result<(), Fail> {
+    let refused: [(&[u8], RollRefusal); 7] = [
+        (
+            b"student,budget,credits,courses,carry\nu,100,10,1,0\nv,100,10,1,899901\n",
+            RollRefusal::Number { row: 3, column: 5 },
+        ),
+        (
+            b"student,budget,credits,courses,carry\nu,900000,10,1,1\n",
+            RollRefusal::Number { row: 2, column: 5 },
+        ),
+        (
+            b"student,budget,credits,courses,carry\nu,0,10,1,05\n",
+            RollRefusal::Number { row: 2, column: 5 },
+        ),
+        (
+            b"student,budget,credits,courses,carry\nu,0,10,9,x\n",
+            RollRefusal::Number { row: 2, column: 4 },
+        ),
+        (
+            b"student,budget,credits,courses,carry\nu,0,10,1\n",
+            RollRefusal::Fields { row: 2 },
+        ),
+        (
+            b"student,budget,credits,courses\nu,0,10,1,0\n",
+            RollRefusal::Fields { row: 2 },
+        ),
+        (
+            b"student,budget,credits,carry,courses\nu,0,10,0,1\n",
+            RollRefusal::Header,
+        ),
+    ];
+    for (bytes, wanted) in refused.iter() {
+        match read_roll(rt.alloc(), bytes) {
+            Ok(_) => assert!(rt; false, "read"),
+            Err(refusal) => assert_eq!(rt; refusal, *wanted),
+        }
+    }
+    let roll = read_roll(
+        rt.alloc(),
+        b"student,budget,credits,courses,carry\nu,100,10,1,899900\nv,0,10,1,900000\n",
+    )?;
+    assert!(rt; roll.version() == 2 && roll.len() == 2);
+    assert!(rt; roll.base(StudentNo(0)) == 100 && roll.carry(StudentNo(0)) == 899_900);
+    assert!(rt; roll.base(StudentNo(1)) == 0 && roll.carry(StudentNo(1)) == 900_000);
+    Ok(())
+}
+
+#[test]
 fn a_roll_says_what_its_records_say(rt: HostRuntime) -> Result<(), Fail> {
     let ann = read_name(b"ann").ok_or("a name")?;
     let bob = read_name(b"bob").ok_or("a name")?;
@@ -87,12 +135,14 @@ fn a_roll_says_what_its_records_say(rt: HostRuntime) -> Result<(), Fail> {
     assert!(rt; roll.base(StudentNo(0)) == 900_000 && roll.base(StudentNo(1)) == 0);
     assert!(rt; roll.credits(StudentNo(0)) == 800 && roll.credits(StudentNo(1)) == 10);
     assert!(rt; roll.courses(StudentNo(0)) == 8 && roll.courses(StudentNo(1)) == 2);
+    assert!(rt; roll.version() == 1 && roll.carry(StudentNo(0)) == 0);
     assert_eq!(rt; roll.find(&bob), Some(StudentNo(1)));
     assert_eq!(rt; roll.find(&zoe), None);
     let none = read_roll(rt.alloc(), b"student,budget,credits,courses")?;
     assert!(rt; none.is_empty());
     let one = Roll::single(rt.alloc(), zoe, 10, 3)?;
     assert!(rt; one.len() == 1 && one.name(StudentNo(0)) == zoe);
+    assert!(rt; one.version() == 1 && one.carry(StudentNo(0)) == 0);
     assert!(rt;
         one.base(StudentNo(0)) == 0
             && one.credits(StudentNo(0)) == 10

@@ -1,10 +1,10 @@
 -- The texts of parts.
-use Rattle.std.proofs.Common.{ℕ, ◌≡◌, ◌↔◌, ◌++◌, ◌∙◌, IsTrue, Bool, true, false, cond, List, [], Option, Some, None, codes, refl, sym, ap, inl, inr}
+use Rattle.std.proofs.Common.{ℕ, ◌≡◌, ◌↔◌, Bool, true, false, List, Some, codes, refl, inl, inr}
 use Rattle.std.specs.Str.{bytes_eq}
 use Rattle.std.specs.Cmp.Lexicographic.{bytes_decides}
 use Rattle.std.proofs.lemmas.Bool.{cases_Bool}
 use Rattle.timetable_rules.specs.declared.parts.Parts.{Parts}
-use Rattle.timetable_rules.specs.Parts.{SpellsParts, spelled_parts, parts_spelling, first_half, second_half, whole_term}
+use Rattle.timetable_rules.specs.Parts.{SpellsParts, spelled_parts, first_half, second_half, whole_term}
 
 from_spelled : (text : List ℕ) (parts : Parts) → spelled_parts text ≡ Some parts → SpellsParts text parts
 from_spelled text parts is =

@@ -60,7 +60,8 @@ clashes-relation meetings courses parts a b =
       λ clash. test_by_clash a b (get_or courses a 0) (get_or courses b 0) _ _ _ _ share met clash.different clash.cause,
     )
 
-eqb-other_way : (x y : ℕ) → nat_eq x y ≡ nat_eq y x
+-- a test of equal numbers, whichever is named first
+pub eqb-other_way : (x y : ℕ) → nat_eq x y ≡ nat_eq y x
 eqb-other_way x y = grind (arith, nat_tests)
 
 SomeOverlap-other_way : (ones others : List Meeting) → SomeOverlap ones others → SomeOverlap others ones

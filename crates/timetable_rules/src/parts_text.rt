@@ -12,18 +12,9 @@ pub fn read_parts(bytes: &[u8]) -> Option<Parts>
     ensures none { IfNone result ((parts : Parts) → ¬ SpellsParts bytes.now parts) }
 {
     match bytes {
-        b"1" => Some(Parts {
-            first: true,
-            second: false,
-        }),
-        b"2" => Some(Parts {
-            first: false,
-            second: true,
-        }),
-        b"12" => Some(Parts {
-            first: true,
-            second: true,
-        }),
+        b"1" => Some(Parts::FIRST_HALF),
+        b"2" => Some(Parts::SECOND_HALF),
+        b"12" => Some(Parts::WHOLE_TERM),
         _ => None,
     }
 }

@@ -102,6 +102,46 @@ fn what_is_read(rt: HostRuntime) -> Result<(), Fail> {
     Ok(())
 }
 
+#[test]
+fn parts_of_a_term(rt: HostRuntime) -> Result<(), Fail> {
+    assert_eq!(rt; read_parts(b"1"), Some(Parts::FIRST_HALF));
+    assert_eq!(rt; read_parts(b"2"), Some(Parts::SECOND_HALF));
+    assert_eq!(rt; read_parts(b"12"), Some(Parts::WHOLE_TERM));
+    let refused: [&[u8]; 10] = [
+        b"", b"0", b"3", b"21", b"11", b"123", b"01", b" 1", b"1;2", b"\xb9",
+    ];
+    for text in refused {
+        assert!(rt; read_parts(text).is_none(), "{text:?}");
+    }
+    let meetings = [
+        read(b"M0900-1020"),
+        read(b"M0900-1020"),
+        read(b"M0900-1020"),
+        read(NO_MEETING),
+    ];
+    let parts = [
+        Parts::FIRST_HALF,
+        Parts::SECOND_HALF,
+        Parts::WHOLE_TERM,
+        Parts::SECOND_HALF,
+    ];
+    let Ok(table) = ClashTable::build(rt.alloc(), &meetings, &[0, 1, 2, 0], &parts) else {
+        return Err(Fail::from("no memory"));
+    };
+    let pairs: [(u16, u16); 3] = [(0, 2), (1, 2), (0, 3)];
+    for a in 0..4 {
+        for b in 0..4 {
+            let expected = pairs.contains(&(a, b)) || pairs.contains(&(b, a));
+            assert_eq!(rt;
+                table.clash(SectionNo(a), SectionNo(b)),
+                expected,
+                "{a} {b}"
+            );
+        }
+    }
+    Ok(())
+}
+
 fn read(text: &[u8]) -> Meetings {
     read_meetings(text).unwrap_or(Meetings::none())
 }
@@ -118,7 +158,8 @@ fn sections_that_clash(rt: HostRuntime) -> Result<(), Fail> {
         read(NO_MEETING),
     ];
     let courses = [0, 1, 2, 3, 4, 5, 3];
-    let Ok(table) = ClashTable::build(rt.alloc(), &meetings, &courses) else {
+    let Ok(table) = ClashTable::build(rt.alloc(), &meetings, &courses, &[Parts::WHOLE_TERM; 7])
+    else {
         return Err(Fail::from("no memory"));
     };
     let pairs: [(u16, u16); 4] = [(0, 2), (0, 4), (1, 2), (3, 6)];
@@ -146,7 +187,8 @@ fn four_hundred_sections(rt: HostRuntime) -> Result<(), Fail> {
         }
         courses[section] = section as u16;
     }
-    let Ok(table) = ClashTable::build(rt.alloc(), &meetings, &courses) else {
+    let Ok(table) = ClashTable::build(rt.alloc(), &meetings, &courses, &[Parts::WHOLE_TERM; 400])
+    else {
         return Err(Fail::from("no memory"));
     };
     assert!(rt; table.clash(SectionNo(1), SectionNo(399)));

@@ -1,4 +1,7 @@
 // Tables of small menus, and which nodes they close, worked by hand.
+ghost use Rattle.std.specs.Prelude.{◌≤◌, length};
+ghost use Rattle.bundle_rules.specs.Demand.{price_in, HasPrices};
+ghost use Rattle.bundle_reach.specs.Branches.{IsBranch};
 
 use super::*;
 use bundle_rules::{Rated, has_prices};
@@ -48,19 +51,33 @@ fn menu_of<R: Abort>(rt: &R, alloc: Global, case: &Case) -> Menu {
     .expect(rt, "memory")
 }
 
+// A champion of the first two sections, of those that are taken.
+fn champion_of(menu: &Menu, prices: &[Tokens], first: bool, second: bool) -> Branch
+    requires prices { HasPrices menu.now prices.now }
+    requires places { 2 ≤ length menu.now.places }
+    ensures { IsBranch menu.now (price_in prices.now) result }
+{
+    let root = Branch::root();
+    match (first, second) {
+        (true, true) => root.with_next(menu, prices).with_next(menu, prices),
+        (true, false) => root.with_next(menu, prices),
+        (false, true) => root.without_next().with_next(menu, prices),
+        (false, false) => root,
+    }
+}
+
 // Whether the nodes at the first place, at the second with the first section, and at the second without it are closed
-// for this champion of this worth.
+// for the champion that has the first two sections as told.
 fn closings<R: Abort>(
     rt: &R,
     menu: &Menu,
     prices: &[Tokens],
     budget: u32,
-    champion: &[SectionNo],
-    worth: i32,
+    (first, second): (bool, bool),
 ) -> [bool; 3] {
-    let champion = Bundle::of(champion).expect(rt, "ascending");
     assert!(rt; has_prices(menu, prices));
-    assert!(rt; menu.len() > 0);
+    assert!(rt; menu.len() >= 2);
+    let champion = champion_of(menu, prices, first, second);
     let budget = Tokens(budget);
     let mut reach = Reach::empty();
     reach.measure(menu, prices, budget, &SectionSet::full(400));
@@ -68,9 +85,9 @@ fn closings<R: Abort>(
     let with_it = root.with_next(menu, prices);
     let without = root.without_next();
     [
-        reach.closes(menu, budget, &root, &champion, worth),
-        reach.closes(menu, budget, &with_it, &champion, worth),
-        reach.closes(menu, budget, &without, &champion, worth),
+        reach.closes(menu, budget, &root, &champion),
+        reach.closes(menu, budget, &with_it, &champion),
+        reach.closes(menu, budget, &without, &champion),
     ]
 }
 
@@ -116,8 +133,6 @@ fn the_numbers_of_a_table(rt: HostRuntime) -> Result<(), Fail> {
 
 #[test]
 fn the_nodes_that_are_closed(rt: HostRuntime) -> Result<(), Fail> {
-    let (first, second) = (SectionNo(0), SectionNo(1));
-
     // Of two equal ones one may be taken: without the first there is nothing better than it, and without the second
     // there is.
     let equal = Case {
@@ -129,11 +144,11 @@ fn the_nodes_that_are_closed(rt: HostRuntime) -> Result<(), Fail> {
     let menu = menu_of(&rt, rt.alloc(), &equal);
     let prices = [Tokens(0); 4];
     assert_eq!(rt;
-        closings(&rt, &menu, &prices, 0, &[first], 50),
+        closings(&rt, &menu, &prices, 0, (true, false)),
         [false, false, true]
     );
     assert_eq!(rt;
-        closings(&rt, &menu, &prices, 0, &[second], 50),
+        closings(&rt, &menu, &prices, 0, (false, true)),
         [false, false, false]
     );
 
@@ -147,7 +162,7 @@ fn the_nodes_that_are_closed(rt: HostRuntime) -> Result<(), Fail> {
     let menu = menu_of(&rt, rt.alloc(), &priced);
     let prices = [Tokens(10), Tokens(20), Tokens(20)];
     assert_eq!(rt;
-        closings(&rt, &menu, &prices, 30, &[first, second], 110),
+        closings(&rt, &menu, &prices, 30, (true, true)),
         [false, false, true]
     );
 
@@ -160,7 +175,7 @@ fn the_nodes_that_are_closed(rt: HostRuntime) -> Result<(), Fail> {
     let menu = menu_of(&rt, rt.alloc(), &loaded);
     let prices = [Tokens(0); 3];
     assert_eq!(rt;
-        closings(&rt, &menu, &prices, 0, &[first, second], 110),
+        closings(&rt, &menu, &prices, 0, (true, true)),
         [false, false, true]
     );
 
@@ -172,7 +187,7 @@ fn the_nodes_that_are_closed(rt: HostRuntime) -> Result<(), Fail> {
     };
     let menu = menu_of(&rt, rt.alloc(), &heavy);
     assert_eq!(rt;
-        closings(&rt, &menu, &prices, 0, &[second], 60),
+        closings(&rt, &menu, &prices, 0, (false, true)),
         [false, true, false]
     );
     Ok(())

@@ -102,3 +102,15 @@ rated-below menu s rated =
 -- every menu has one best bundle
 pub one_best : (menu : MenuData) (price : ℕ → ℕ) (budget : ℕ) (allowed : ℕ → Bool) → HasOneBest (wishes_of menu) price budget allowed
 one_best menu price budget allowed = one_best_below (wishes_of menu) price budget allowed (above_all menu.places) (rated-below menu)
+
+-- an ascending list that has each rated section
+pub all_sections : MenuData → List ℕ
+all_sections menu = from 0 (above_all menu.places)
+
+pub all_sections-ascending : (menu : MenuData) → IsAscending (all_sections menu)
+unfolding all_sections
+all_sections-ascending menu = from-ascending 0 (above_all menu.places)
+
+pub all_sections-has : (menu : MenuData) (s : ℕ) → 0 < (wishes_of menu).rating s → has (all_sections menu) s ≡ true
+unfolding all_sections
+all_sections-has menu s rated = from-has 0 (above_all menu.places) s (omega arith) (let h : s < above_all menu.places = rated-below menu s rated in omega arith)

@@ -69,10 +69,11 @@ module _ (w : Wishes) (price : ℕ → ℕ) (budget : ℕ) (allowed : ℕ → Bo
           let whole : length other ≡ length front + length (x ∷ xs) = ap length (e.whole ∙ ap (λ ys. front ++ ys) at) ∙ length-append front (x ∷ xs) in
           absurd (omega arith)
 
-  wider : (front : List ℕ) (s : ℕ) (rest bundle : List ℕ) → Extends front rest bundle → Extends front (s ∷ rest) bundle
+  -- what extends the front by later sections extends it by one more of them
+  pub wider : (front : List ℕ) (s : ℕ) (rest bundle : List ℕ) → Extends front rest bundle → Extends front (s ∷ rest) bundle
   wider front s rest bundle e = record { more = e.more; whole = e.whole; among = λ t in_it. has-there s rest t (e.among t in_it) }
 
-  begun : (front : List ℕ) (s : ℕ) (rest bundle : List ℕ) → Extends (front ++ s ∷ []) rest bundle → Extends front (s ∷ rest) bundle
+  pub begun : (front : List ℕ) (s : ℕ) (rest bundle : List ℕ) → Extends (front ++ s ∷ []) rest bundle → Extends front (s ∷ rest) bundle
   begun front s rest bundle e = record {
     more = s ∷ e.more;
     whole = e.whole ∙ append_assoc front (s ∷ []) e.more;

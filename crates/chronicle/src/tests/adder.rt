@@ -1,12 +1,15 @@
 ghost use Rattle.std.specs.Prelude.{◌+◌, ◌*◌, ◌^◌, ◌<◌, nat_lt};
 
 use crate::object::Object;
+use std::hint;
 
 /// A sum, to which requests below 1,000 are added. The reply is the sum after it.
 #[derive(Drop)]
 pub struct Adder {
     pub sum: u64,
     pub room: u64,
+    /// How long a step takes, in looks of a thread that waits.
+    pub pause: u32,
     ghost fits: { sum + 1000 * room < 2 ^ 64 },
 }
 
@@ -32,6 +35,9 @@ impl Object for Adder {
     ghost reply = { λ _ sum _ n. sum + n };
 
     fn step(&mut self, _seat: u16, request: u32) -> u64 {
+        for _ in 0..self.pause {
+            hint::spin_loop();
+        }
         self.room -= 1;
         self.sum += u64::from(request);
         self.sum

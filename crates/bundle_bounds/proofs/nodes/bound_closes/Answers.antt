@@ -8,9 +8,11 @@ use Rattle.bundle_rules.specs.Menus.{by_place}
 use Rattle.bundle_rules.proofs.Feasibility.{places_of_rated, place_of_rated, utility_by_place}
 use Rattle.bundle_bounds.specs.Offers.{offer_of, places_of}
 use Rattle.bundle_bounds.specs.Opens.{budget_left, credits_left, courses_left, opens_from, open_places, prospects}
-use Rattle.bundle_bounds.specs.Ahead.{is_ahead, limit_of}
+use Rattle.bundle_rules.specs.Ahead.{is_ahead}
+use Rattle.bundle_bounds.specs.Ahead.{limit_of}
 use Rattle.bundle_bounds.specs.Modest.{IsModest}
 use Rattle.bundle_bounds.proofs.BelowLimit.{rest_of_room, some_closes, none_closes}
+use Rattle.bundle_bounds.proofs.FirstClosing.{first_closing_is_the_first, found_closing}
 use Rattle.bundle_bounds.proofs.ByPlace.{ascending_places, has-places}
 use Rattle.bundle_bounds.proofs.Outlook.{open_places-within}
 use Rattle.bundle_bounds.proofs.nodes.bound_closes.Goals as goal
@@ -97,3 +99,11 @@ returns-clause-none c =
     ∙ ap (λ n. prospects offer cs (opens_from offer cs n (length places - n))) from_is
     ∙ ap (prospects offer cs) (sym (open_places-within offer k cs)) in
     none_closes offer k cs ch up up' low _ _ _ _ _ _ base most (budget ∙ ap (budget_left offer) same) (credits ∙ ap (credits_left offer) same) (courses ∙ ap (courses_left offer) same) ps c.first_below.result c.first_below.ensures.none
+
+pub returns-clause-value : goal.returns-clause-value
+returns-clause-value c =
+    let offer = offer_of c.args.menu.now c.args.prices.now c.args.budget.0 c.args.allowed.now in
+    let k = c.args.node.now.place in
+    let chosen = sections_of c.args.node.now.chosen in
+    let champion = sections_of c.args.champion.now in
+    found_closing offer k chosen champion c.first_below.result (first_closing_is_the_first offer k chosen champion c.len.ensures.menu c.requires.node c.requires.champion) (returns-clause-first c) (returns-clause-none c)

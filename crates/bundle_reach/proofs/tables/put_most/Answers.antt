@@ -15,8 +15,8 @@ loop-place-init c =
       whole = length-set c.args.most.now c.from.result _ ∙ c.told-most;
       filled = λ budget.
           let offer = offer_of c.args.menu.now c.args.prices.now budget c.args.allowed.now in
-          subst (λ n. HoldsCovers offer c.args.rates (set c.args.most.now c.from.result (replicate 9 0)) n) (sym c.len-count.ensures.value)
-          (subst (λ n. HoldsCovers offer c.args.rates (set c.args.most.now n (replicate 9 0)) (length c.args.menu.now.places)) at (covers_last offer c.args.rates c.args.most.now (replicate 9 0)));
+          subst (λ n. HoldsCovers offer c.args.multipliers (set c.args.most.now c.from.result (replicate 9 0)) n) (sym c.len-count.ensures.value)
+          (subst (λ n. HoldsCovers offer c.args.multipliers (set c.args.most.now n (replicate 9 0)) (length c.args.menu.now.places)) at (covers_last offer c.args.multipliers c.args.most.now (replicate 9 0)));
       small =
           subst (λ n. AreSmall (set c.args.most.now c.from.result (replicate 9 0)) n (length c.args.menu.now.places)) (sym c.len-count.ensures.value)
           (subst (λ n. AreSmall (set c.args.most.now n (replicate 9 0)) (length c.args.menu.now.places) (length c.args.menu.now.places)) at
@@ -33,11 +33,11 @@ loop-place-preserved c =
       whole = length-set c.loop-place.most c.from-in-loop-place-3.result _ ∙ c.loop-place.invariant.whole;
       filled = λ budget.
           let offer = offer_of c.args.menu.now c.args.prices.now budget c.args.allowed.now in
-          let covered = subst (HoldsCovers offer c.args.rates c.loop-place.most) next (c.loop-place.invariant.filled budget) in
+          let covered = subst (HoldsCovers offer c.args.multipliers c.loop-place.most) next (c.loop-place.invariant.filled budget) in
           let hoped : number_at c.args.hopes.now (c.from-in-loop-place.result + 1) c.from-in-loop-place-2.result ≡ hopes_from offer (c.loop-place.place - 1 + 1) (c.loop-place.place - 1) =
           rw (row, c.from-in-loop-place-2.ensures) (c.requires.hopes budget (c.loop-place.place - 1 + 1) (c.loop-place.place - 1) (omega arith) (omega arith) (omega arith)) in
-          subst (λ n. HoldsCovers offer c.args.rates (set c.loop-place.most n c.most_from-row.result) (c.loop-place.place - 1)) at
-          (covers_more offer c.args.rates c.loop-place.most (c.loop-place.place - 1) c.most_from-row.result (omega arith) covered (λ count low. c.most_from-row.ensures.covers budget count hoped covered low));
+          subst (λ n. HoldsCovers offer c.args.multipliers (set c.loop-place.most n c.most_from-row.result) (c.loop-place.place - 1)) at
+          (covers_more offer c.args.multipliers c.loop-place.most (c.loop-place.place - 1) c.most_from-row.result (omega arith) covered (λ count low. c.most_from-row.ensures.covers budget count hoped covered low));
       small =
           subst (λ n. AreSmall (set c.loop-place.most n c.most_from-row.result) (c.loop-place.place - 1) (length c.args.menu.now.places)) at
           (small_more c.loop-place.most (c.loop-place.place - 1) (length c.args.menu.now.places) c.most_from-row.result (omega arith) (subst (λ n. AreSmall c.loop-place.most n (length c.args.menu.now.places)) next c.loop-place.invariant.small) c.most_from-row.ensures.small);

@@ -7,6 +7,6 @@ use Rattle.bundle_reach.proofs.tables.put_most.Given as goal
 abbrev pub invariant-loop-place : goal.invariant-loop-place
 invariant-loop-place l = record {
   whole : length l.most ≡ 61;
-  filled : (budget : ℕ) → HoldsCovers (offer_of l.menu l.prices budget l.allowed) l.rates l.most l.place;
+  filled : (budget : ℕ) → HoldsCovers (offer_of l.menu l.prices budget l.allowed) l.multipliers l.most l.place;
   small : AreSmall l.most l.place (length l.menu.places);
 }

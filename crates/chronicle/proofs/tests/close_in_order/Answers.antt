@@ -1,4 +1,4 @@
-use Rattle.std.proofs.Common.{◌≡◌, ◌≤◌, ◌<◌, ℕ, arith, length}
+use Rattle.std.proofs.Common.{◌≤◌, ◌<◌, arith, length}
 use Rattle.chronicle.proofs.SeatLists.{all_at_their_numbers}
 use Rattle.chronicle.proofs.tests.close_in_order.Goals as goal
 

@@ -5,4 +5,4 @@ use Rattle.preference_desk.proofs.copies.sections_of.Given as goal
 
 -- so many names were copied
 abbrev pub invariant-loop-section : goal.invariant-loop-section
-invariant-loop-section l = map name_bytes l.names.keys ≡ take l.section (map (λ (section : Section). section.name) l.catalog)
+invariant-loop-section l = map name_bytes l.names.keys ≡ take l.section (map (λ (section : Section). section.name) l.catalog.sections)

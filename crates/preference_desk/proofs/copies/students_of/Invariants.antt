@@ -5,4 +5,4 @@ use Rattle.preference_desk.proofs.copies.students_of.Given as goal
 
 -- so many names were copied
 abbrev pub invariant-loop-student : goal.invariant-loop-student
-invariant-loop-student l = map name_bytes l.names.keys ≡ take l.student (map (λ (student : Student). student.name) l.roll)
+invariant-loop-student l = map name_bytes l.names.keys ≡ take l.student (map (λ (student : Student). student.name) l.roll.students)

@@ -58,7 +58,7 @@ returns-clause-entries g c =
 pub returns-clause-legal : goal.returns-clause-legal
 returns-clause-legal g c =
     let chronicle = c.in_ok-chronicle.chronicle in
-    steps_are_legal (market_names c.args.catalog.now c.args.roll.now) chronicle.base chronicle.opening c.close-desk.result.1 c.close-desk.ensures.legal
+    steps_are_legal (market_names c.args.catalog.now.sections c.args.roll.now.students) chronicle.base chronicle.opening c.close-desk.result.1 c.close-desk.ensures.legal
     (ap (λ known. known.names) c.in_ok-chronicle.ensures.chronicle.0 ∙ c.in_ok-desk.ensures.names)
     (ap (λ told. told.state) c.in_ok-chronicle.ensures.chronicle.1 ∙ c.in_ok-desk.ensures.state)
 

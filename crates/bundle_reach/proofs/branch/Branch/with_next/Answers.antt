@@ -83,12 +83,12 @@ returns-clause-branch c =
     omega (arith, ints) in
     let added = utility_next menu is price branch c.requires.branch c.requires.next adjustments (c.adjustments_with-adjustments.ensures.value ∙ ap (signed_total (λ other. adjustment_in menu.pairs other k)) places) in
     let reached : (u +ℤ pos c.rated-rated.result.now.rating) +ℤ adjustments ≡ utility (wishes_of menu) (with_next_of menu branch) = ap (λ r. (u +ℤ pos r) +ℤ adjustments) rating ∙ sym added in
-    let small = small_next menu is price branch c.requires.branch c.requires.next c.price_of.result c.from.result c.rated-rated.result.now.rating adjustments c.price_of.ensures.high (rw c.from.ensures c.rated-rated.ensures.range.credits) rating_high room low_a high_a in
+    let small = small_next menu is price branch c.requires.branch c.requires.next c.price_of_place.result c.from.result c.rated-rated.result.now.rating adjustments c.price_of_place.ensures.high (rw c.from.ensures c.rated-rated.ensures.range.credits) rating_high room low_a high_a in
     next_branch menu is price branch c.requires.branch c.requires.next c.with.result _ _ _ _ (c.with.ensures ∙ ap (λ s. chosen ++ s ∷ []) (sym section))
     (rw whole (places_next menu is price branch c.requires.branch c.requires.next (omega arith)))
-    (ap (λ p. branch.paid + p) c.price_of.ensures.value ∙ sym (paid_next menu is price branch c.requires.branch c.requires.next))
+    (ap (λ p. branch.paid + p) c.price_of_place.ensures.value ∙ sym (paid_next menu is price branch c.requires.branch c.requires.next))
     (ap (λ p. branch.credits + p) credits ∙ sym (credits_next menu is price branch c.requires.branch c.requires.next))
-    (sum ∙ reached) (subst (AreSmallSums (length (with_next_of menu branch)) (branch.paid + c.price_of.result) (branch.credits + c.from.result)) (sym sum) small)
+    (sum ∙ reached) (subst (AreSmallSums (length (with_next_of menu branch)) (branch.paid + c.price_of_place.result) (branch.credits + c.from.result)) (sym sum) small)
 
 pub returns-clause-chosen : goal.returns-clause-chosen
 returns-clause-chosen c = c.with.ensures ∙ ap (λ s. chosen_of c.args.self ++ s ∷ []) (sym (section_at-is c.args.menu.now.places c.args.self.node.place c.rated-rated.result.now c.rated-rated.ensures.value))

@@ -21,22 +21,22 @@ returns-clause-value c prices allowed reach is node bundle may completes =
     let k : ℕ = branch.node.place in
     let chosen = chosen_of branch in
     let cs = places_of menu chosen in
-    let rates = c.args.self.now.rates in
+    let multipliers = c.args.self.now.multipliers in
     let budget : c.budget_left-budget_left.result ≡ budget_left offer cs = c.budget_left-budget_left.ensures ∙ budget_kept offer c.requires.menu branch is node in
     let credits : c.credits_left-credits_left.result ≡ credits_left offer cs = c.credits_left-credits_left.ensures.value ∙ credits_kept offer c.requires.menu branch is node in
     let count : ℕ = c.fitting-count.result in
     let fits = fits_count offer k chosen bundle c.args.self.now.lightest (menu.courses - length chosen) (menu.credits - branch.credits) count c.requires.menu node may completes reach.lightest refl (credits_kept offer c.requires.menu branch is node) c.fitting-count.ensures.enough in
     let most : ℕ = number_at c.args.self.now.most k count in
     let covered = reach.covers k count (omega arith) c.requires.place (omega arith) in
-    let sound = reach_is_sound offer rates k chosen bundle count most c.requires.menu node may completes fits covered in
+    let sound = reach_is_sound offer multipliers k chosen bundle count most c.requires.menu node may completes fits covered in
     let u : ℤ = utility (wishes_of menu) bundle in
     let h : ℤ = hoped_of offer k cs in
-    let p : ℕ = rates.money * budget_left offer cs in
-    let l : ℕ = rates.load * credits_left offer cs in
+    let p : ℕ = multipliers.money * budget_left offer cs in
+    let l : ℕ = multipliers.credits * credits_left offer cs in
     let sound' : (pos 1000000 *ℤ u) ≤ℤ (h +ℤ pos ((p + l) + most)) = sound in
     let budget' : c.from.result ≡ budget_left offer cs = c.from.ensures ∙ budget in
     let credits' : c.from-2.result ≡ credits_left offer cs = c.from-2.ensures ∙ credits in
-    let paid : rates.money * c.from.result + rates.load * c.from-2.result ≡ p + l = rw (budget', credits') refl in
+    let paid : multipliers.money * c.from.result + multipliers.credits * c.from-2.result ≡ p + l = rw (budget', credits') refl in
     let read : number_at c.args.self.now.most c.from-3.result count ≡ most = ap (λ n. number_at c.args.self.now.most n count) c.from-3.ensures in
     elim (cases_lt c.min.result (2 ^ 62)) [
       | inl less ↦

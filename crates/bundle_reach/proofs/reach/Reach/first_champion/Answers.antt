@@ -2,7 +2,7 @@ use Rattle.std.proofs.Common.{sym}
 use Rattle.bundle_rules.specs.Demand.{price_in}
 use Rattle.bundle_bounds.specs.Offers.{offer_of}
 use Rattle.bundle_bounds.proofs.NodeFacts.{nothing_chosen}
-use Rattle.bundle_reach.proofs.Openings.{node_same}
+use Rattle.bundle_bounds.proofs.Openings.{node_same}
 use Rattle.bundle_reach.proofs.reach.Reach.first_champion.Goals as goal
 
 pub loop-branch-init : goal.loop-branch-init

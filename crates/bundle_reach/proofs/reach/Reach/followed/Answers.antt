@@ -1,7 +1,7 @@
 use Rattle.std.proofs.Common.{sym}
 use Rattle.bundle_bounds.specs.Offers.{offer_of}
 use Rattle.bundle_reach.specs.Branches.{chosen_of}
-use Rattle.bundle_reach.proofs.Openings.{node_with, node_without, node_same}
+use Rattle.bundle_bounds.proofs.Openings.{node_with, node_without, node_same}
 use Rattle.bundle_reach.proofs.reach.Reach.followed.Goals as goal
 
 pub returns-then-not-promises_more-clause-node : goal.returns-then-not-promises_more-clause-node

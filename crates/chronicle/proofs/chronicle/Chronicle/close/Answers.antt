@@ -23,6 +23,7 @@ returns g c =
       seats = closed.entries;
       own = closed.own;
       seen = closed.seen;
+      others = closed.others;
       base = closed.base;
       last = closed.last;
     }

@@ -1,5 +1,0 @@
-use Rattle.std.proofs.Common.{length}
-use Rattle.bundle_rules.proofs.preferences.+differs_first.Given as goal
-
-abbrev pub decreases-differs_first : goal.decreases-differs_first
-decreases-differs_first l = length l.a.now

@@ -1,0 +1,40 @@
+// The places of a bundle's sections on a menu.
+ghost use Rattle.std.specs.Prelude.{◌≡◌, ◌≤◌, length, map};
+ghost use Rattle.bundle_rules.specs.Menus.{place_in};
+ghost use Rattle.bundle_rules.specs.Bundles.{sections_of};
+
+use crate::{Bundle, Menu};
+
+/// The places of a bundle's sections, in their order; a section that is not on the menu has the number of places.
+#[derive(Clone, Copy)]
+pub struct Places {
+    places: [u8; 8],
+    len: usize,
+    ghost short: { len ≤ 8 },
+}
+
+impl Places {
+    ghost use Rattle.bundle_rules.specs.PlaceLists.{listed};
+
+    /// The places of the bundle's sections on the menu.
+    pub fn of(menu: &Menu, bundle: &Bundle) -> Places
+        ensures { listed result ≡ map (place_in menu.now.places) (sections_of bundle.now) }
+    {
+        let mut places = [0; 8];
+        for (i, section) in bundle.sections().iter().enumerate() {
+            places[i] = menu.place(*section);
+        }
+        Places {
+            places,
+            len: bundle.sections().len(),
+        }
+    }
+
+    /// The places, as many as the bundle has sections.
+    pub fn as_slice(&self) -> &[u8]
+        ensures value { result.now ≡ listed self.now }
+        ensures few { length result.now ≤ 8 }
+    {
+        &self.places[..self.len]
+    }
+}

@@ -1,0 +1,7 @@
+pub mod Crowds
+pub mod Made
+pub mod Choosing
+pub mod Prices
+pub mod Asking
+pub mod Counting
+pub mod Laws

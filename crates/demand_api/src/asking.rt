@@ -1,0 +1,117 @@
+// What can be asked of a crowd.
+ghost use Rattle.std.specs.Prelude.{◌≡◌, ◌<◌, ◌≤◌, ◌↔◌, ℕ, IsTrue, IfOk, All, length, map};
+ghost use Rattle.bundle_rules.specs.Demand.{price_in};
+ghost use Rattle.bundle_rules.specs.Bundles.{sections_of};
+ghost use Rattle.demand_api.specs.Crowds.{CrowdData, IsCrowd, top, demand_of, count, counts};
+ghost use Rattle.demand_api.specs.Prices.{AreLeastPrices};
+ghost use Rattle.demand_api.specs.Asking.{one_more, ArePricesFor, RoseByDigits};
+
+use bundle_rules::Bundle;
+use market_units::{NoMemory, SectionNo, StudentNo, Tokens};
+use std::alloc::Global;
+use std::sync::Wait;
+use std::thread::Threads;
+
+/// A crowd that is asked what it demands. Whoever implements this may use any method: each answer is fixed by the
+/// crowd and the prices. A vector of prices has one price for each section, each at most the top. Besides its value,
+/// a call can only answer that memory was wanted.
+pub trait Demands {
+    /// The crowd, which no call changes.
+    ghost crowd: { Self → CrowdData };
+
+    /// How many calls of `counts`, `bundles` and `exceeds` were made, up to the greatest `u64`.
+    ghost asked: { Self → ℕ };
+
+    /// The top price: one more than the greatest budget, and 1 without students.
+    fn top(&self) -> Tokens
+        ensures value { result.0 ≡ top (crowd self.now) }
+        ensures crowd { IsCrowd (crowd self.now) };
+
+    /// The number of students, at most 2,000.
+    fn students(&self) -> u16
+        ensures value { result ≡ length (crowd self.now).students }
+        ensures crowd { IsCrowd (crowd self.now) };
+
+    /// How many students take each section, at each of 1 to 16 vectors of prices.
+    fn counts<R: Threads + Wait + Sync>(
+        &mut self,
+        rt: &R,
+        alloc: Global,
+        batch: &[Vec<Tokens>],
+    ) -> Result<Vec<Vec<u32>>, NoMemory>
+        requires some { 1 ≤ length batch.now }
+        requires few { length batch.now ≤ 16 }
+        requires prices { All (λ prices. ArePricesFor (crowd self.old) prices.items) batch.now }
+        ensures crowd { crowd self.new ≡ crowd self.old }
+        ensures asked { asked self.new ≡ one_more (asked self.old) }
+        ensures value { IfOk result (λ found. map (λ counts. counts.items) found.items ≡ map (λ prices. counts (crowd self.old) (price_in prices.items)) batch.now) };
+
+    /// What each of at most 2,000 students takes, in the order of the list.
+    fn bundles<R: Threads + Wait + Sync>(
+        &mut self,
+        rt: &R,
+        alloc: Global,
+        prices: &[Tokens],
+        students: &[StudentNo],
+    ) -> Result<Vec<Bundle>, NoMemory>
+        requires prices { ArePricesFor (crowd self.old) prices.now }
+        requires few { length students.now ≤ 2000 }
+        requires range { All (λ student. student.0 < length (crowd self.old).students) students.now }
+        ensures crowd { crowd self.new ≡ crowd self.old }
+        ensures asked { asked self.new ≡ one_more (asked self.old) }
+        ensures value { IfOk result (λ bundles. map sections_of bundles.items ≡ map (λ student. demand_of (crowd self.old) (price_in prices.now) student.0) students.now) };
+
+    /// Whether more than `limit` students take the section.
+    fn exceeds<R: Threads + Wait + Sync>(
+        &mut self,
+        rt: &R,
+        alloc: Global,
+        prices: &[Tokens],
+        section: SectionNo,
+        limit: u32,
+    ) -> Result<bool, NoMemory>
+        requires prices { ArePricesFor (crowd self.old) prices.now }
+        requires section { section.0 < (crowd self.old).sections }
+        ensures crowd { crowd self.new ≡ crowd self.old }
+        ensures asked { asked self.new ≡ one_more (asked self.old) }
+        ensures value { IfOk result (λ more. IsTrue more ↔ (limit < count (crowd self.old) (price_in prices.now) section.0)) };
+
+    /// For each of at most 400 pairs of a section and a limit the least price of the section, from its present one
+    /// up, at which at most that many students take it, the other prices as given. The number of calls made does not
+    /// fall, and rises at most by the binary digits of the top, and one more, for each pair. The provided body halves;
+    /// who knows the students' other choices can answer from them.
+    fn least_prices<R: Threads + Wait + Sync>(
+        &mut self,
+        rt: &R,
+        alloc: Global,
+        prices: &[Tokens],
+        pairs: &[(SectionNo, u32)],
+    ) -> Result<Vec<Tokens>, NoMemory>
+        requires prices { ArePricesFor (crowd self.old) prices.now }
+        requires few { length pairs.now ≤ 400 }
+        requires sections { All (λ pair. pair.0.0 < (crowd self.old).sections) pairs.now }
+        ensures crowd { crowd self.new ≡ crowd self.old }
+        ensures asked { RoseByDigits (length pairs.now) (top (crowd self.old)) (asked self.old) (asked self.new) }
+        ensures value { IfOk result (λ least. AreLeastPrices (crowd self.old) (price_in prices.now) pairs.now least.items) }
+    {
+        let mut found = Vec::new(alloc);
+        let mut trial = prices.to_vec(alloc)?;
+        for (section, limit) in pairs {
+            let place = usize::from(section.0);
+            let mut low = prices[place].0;
+            let mut high = self.top().0;
+            while low < high {
+                let middle = low + (high - low) / 2;
+                trial[place] = Tokens(middle);
+                if self.exceeds(rt, alloc, &trial, *section, *limit)? {
+                    low = middle + 1;
+                } else {
+                    high = middle;
+                }
+            }
+            trial[place] = prices[place];
+            found.push(Tokens(low))?;
+        }
+        Ok(found)
+    }
+}

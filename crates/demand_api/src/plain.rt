@@ -1,0 +1,82 @@
+// What a crowd takes, by trying every choice of each student.
+ghost use Rattle.std.specs.Prelude.{◌≡◌, ◌<◌, ℕ, IfOk, All, length, map, nat_lt};
+ghost use Rattle.std.specs.FinSet as set;
+ghost use Rattle.market_units.specs.declared.units.Tokens.{Tokens};
+ghost use Rattle.bundle_rules.specs.Demand.{price_in};
+ghost use Rattle.bundle_rules.specs.Bundles.{sections_of};
+ghost use Rattle.demand_api.specs.Crowds.{demand_of, count, counts};
+ghost use Rattle.demand_api.specs.Made.{MakeCrowd, crowd_of};
+ghost use Rattle.demand_api.specs.Asking.{ArePricesFor};
+
+use crate::Crowd;
+use crate::counting::count_bundle;
+use bundle_rules::{Bundle, best_plain};
+use market_units::{NoMemory, SectionNo, SectionSet, StudentNo, Tokens};
+use std::alloc::Global;
+
+// What the student at this place takes, with all sections allowed.
+fn demand(crowd: &Crowd, prices: &[Tokens], allowed: &SectionSet, place: usize) -> Bundle
+    requires crowd { MakeCrowd crowd.now.menus.items crowd.now.budgets.items crowd.now.sections }
+    requires prices { ArePricesFor (crowd_of crowd.now.menus.items crowd.now.budgets.items crowd.now.sections) prices.now }
+    requires allowed { (s : ℕ) → set.contains allowed.now s ≡ nat_lt s crowd.now.sections }
+    requires range { place < length crowd.now.menus.items }
+    ensures { sections_of result ≡ demand_of (crowd_of crowd.now.menus.items crowd.now.budgets.items crowd.now.sections) (price_in prices.now) place }
+{
+    best_plain(&crowd.menus[place], prices, crowd.budgets[place], allowed)
+}
+
+// What the listed students take.
+pub(crate) fn bundles(
+    alloc: Global,
+    crowd: &Crowd,
+    prices: &[Tokens],
+    students: &[StudentNo],
+) -> Result<Vec<Bundle>, NoMemory>
+    requires crowd { MakeCrowd crowd.now.menus.items crowd.now.budgets.items crowd.now.sections }
+    requires prices { ArePricesFor (crowd_of crowd.now.menus.items crowd.now.budgets.items crowd.now.sections) prices.now }
+    requires range { All (λ student. student.0 < length crowd.now.menus.items) students.now }
+    ensures { IfOk result (λ bundles. map sections_of bundles.items ≡ map (λ student. demand_of (crowd_of crowd.now.menus.items crowd.now.budgets.items crowd.now.sections) (price_in prices.now) student.0) students.now) }
+{
+    let allowed = SectionSet::full(crowd.sections);
+    let mut bundles = Vec::new(alloc);
+    for student in students {
+        let bundle = demand(crowd, prices, &allowed, usize::from(student.0));
+        bundles.push(bundle)?;
+    }
+    Ok(bundles)
+}
+
+// How many students take each section.
+pub(crate) fn counts_at(
+    alloc: Global,
+    crowd: &Crowd,
+    prices: &[Tokens],
+) -> Result<Vec<u32>, NoMemory>
+    requires crowd { MakeCrowd crowd.now.menus.items crowd.now.budgets.items crowd.now.sections }
+    requires prices { ArePricesFor (crowd_of crowd.now.menus.items crowd.now.budgets.items crowd.now.sections) prices.now }
+    ensures { IfOk result (λ found. found.items ≡ counts (crowd_of crowd.now.menus.items crowd.now.budgets.items crowd.now.sections) (price_in prices.now)) }
+{
+    let allowed = SectionSet::full(crowd.sections);
+    let mut counts = vec![in alloc; 0u32; usize::from(crowd.sections)]?;
+    for place in 0..crowd.menus.len() {
+        let bundle = demand(crowd, prices, &allowed, place);
+        count_bundle(&mut counts, bundle.sections());
+    }
+    Ok(counts)
+}
+
+// How many students take the section.
+pub(crate) fn count_of(crowd: &Crowd, prices: &[Tokens], section: SectionNo) -> u32
+    requires crowd { MakeCrowd crowd.now.menus.items crowd.now.budgets.items crowd.now.sections }
+    requires prices { ArePricesFor (crowd_of crowd.now.menus.items crowd.now.budgets.items crowd.now.sections) prices.now }
+    ensures { result ≡ count (crowd_of crowd.now.menus.items crowd.now.budgets.items crowd.now.sections) (price_in prices.now) section.0 }
+{
+    let allowed = SectionSet::full(crowd.sections);
+    let mut count = 0;
+    for place in 0..crowd.menus.len() {
+        if demand(crowd, prices, &allowed, place).has(section) {
+            count += 1;
+        }
+    }
+    count
+}

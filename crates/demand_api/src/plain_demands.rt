@@ -1,0 +1,85 @@
+// Demands of a crowd in one thread, found by trying every choice.
+ghost use Rattle.std.specs.Prelude.{◌≡◌};
+ghost use Rattle.std.specs.Arc.{arc_value};
+ghost use Rattle.demand_api.specs.Made.{MakeCrowd, crowd_of};
+
+use crate::plain::{bundles, count_of, counts_at};
+use crate::{Crowd, Demands};
+use bundle_rules::Bundle;
+use market_units::{NoMemory, SectionNo, StudentNo, Tokens};
+use std::alloc::Global;
+use std::sync::{Arc, Wait};
+use std::thread::Threads;
+
+/// A crowd that is asked in one thread. It tries every choice of each student, so it serves small crowds.
+#[derive(Drop)]
+pub struct PlainDemands {
+    crowd: Arc<Crowd>,
+    asked: u64,
+    ghost sound: { MakeCrowd (arc_value crowd).menus.items (arc_value crowd).budgets.items (arc_value crowd).sections },
+}
+
+impl PlainDemands {
+    /// The demands of this crowd, of which nothing was asked.
+    pub fn make(crowd: Arc<Crowd>) -> PlainDemands
+        requires { MakeCrowd (arc_value crowd).menus.items (arc_value crowd).budgets.items (arc_value crowd).sections }
+        ensures crowd { ⟦<PlainDemands as Demands>⟧.crowd result ≡ crowd_of (arc_value crowd).menus.items (arc_value crowd).budgets.items (arc_value crowd).sections }
+        ensures asked { ⟦<PlainDemands as Demands>⟧.asked result ≡ 0 }
+    {
+        PlainDemands { crowd, asked: 0 }
+    }
+}
+
+impl Demands for PlainDemands {
+    ghost crowd = { λ demands. crowd_of (arc_value demands.crowd).menus.items (arc_value demands.crowd).budgets.items (arc_value demands.crowd).sections };
+
+    ghost asked = { λ demands. demands.asked };
+
+    fn top(&self) -> Tokens {
+        self.crowd.top()
+    }
+
+    fn students(&self) -> u16 {
+        let crowd: &Crowd = &self.crowd;
+        crowd.menus.len() as u16
+    }
+
+    fn counts<R: Threads + Wait + Sync>(
+        &mut self,
+        _rt: &R,
+        alloc: Global,
+        batch: &[Vec<Tokens>],
+    ) -> Result<Vec<Vec<u32>>, NoMemory> {
+        self.asked = self.asked.saturating_add(1);
+        let crowd: &Crowd = &self.crowd;
+        let mut found = Vec::new(alloc);
+        for prices in batch {
+            let counts = counts_at(alloc, crowd, prices)?;
+            found.push(counts)?;
+        }
+        Ok(found)
+    }
+
+    fn bundles<R: Threads + Wait + Sync>(
+        &mut self,
+        _rt: &R,
+        alloc: Global,
+        prices: &[Tokens],
+        students: &[StudentNo],
+    ) -> Result<Vec<Bundle>, NoMemory> {
+        self.asked = self.asked.saturating_add(1);
+        bundles(alloc, &self.crowd, prices, students)
+    }
+
+    fn exceeds<R: Threads + Wait + Sync>(
+        &mut self,
+        _rt: &R,
+        _alloc: Global,
+        prices: &[Tokens],
+        section: SectionNo,
+        limit: u32,
+    ) -> Result<bool, NoMemory> {
+        self.asked = self.asked.saturating_add(1);
+        Ok(count_of(&self.crowd, prices, section) > limit)
+    }
+}

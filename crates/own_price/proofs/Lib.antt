@@ -1,0 +1,5 @@
+pub mod Leasts
+pub mod Tallies
+pub mod Uncounting
+pub mod Exchanging
+pub mod Raising

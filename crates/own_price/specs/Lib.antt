@@ -1,0 +1,5 @@
+pub mod Least
+pub mod Holding
+pub mod Kept
+pub mod Exchanges
+pub mod Laws

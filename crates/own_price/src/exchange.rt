@@ -1,0 +1,80 @@
+// Bundles with a count for each section, and bundles that are exchanged for others.
+ghost use Rattle.std.specs.Prelude.{◌≡◌, ◌<◌, ◌≤◌, ℕ, IfOk, All, length, map, true, slice_index, slice_set};
+ghost use Rattle.bundle_rules.specs.Sets.{has, IsAscending};
+ghost use Rattle.bundle_rules.specs.Ordinals.{ordinals};
+ghost use Rattle.bundle_rules.specs.Bundles.{sections_of};
+ghost use Rattle.demand_api.specs.Counting.{HasCounted};
+ghost use Rattle.own_price.specs.Kept.{AreWithin, IsTally};
+ghost use Rattle.own_price.specs.Exchanges.{exchanged};
+
+use bundle_rules::Bundle;
+use demand_api::count_bundle;
+use market_units::{NoMemory, SectionNo, StudentNo};
+use std::alloc::Global;
+
+// How many of the bundles have each section.
+pub(crate) fn tally(
+    alloc: Global,
+    sections: usize,
+    bundles: &[Bundle],
+) -> Result<Vec<u32>, NoMemory>
+    requires few { length bundles.now ≤ 2000 }
+    requires within { AreWithin sections (map sections_of bundles.now) }
+    ensures { IfOk result (λ counts. IsTally sections bundles.now counts.items) }
+{
+    let mut counts = vec![in alloc; 0u32; sections]?;
+    for bundle in bundles {
+        count_bundle(&mut counts, bundle.sections());
+    }
+    Ok(counts)
+}
+
+// Gives each listed student another bundle.
+pub(crate) fn exchange_all(
+    bundles: &mut [Bundle],
+    counts: &mut [u32],
+    students: &[StudentNo],
+    others: &[Bundle],
+)
+    requires tally { IsTally (length counts.old) bundles.old counts.old }
+    requires same { length others.now ≡ length students.now }
+    requires range { All (λ student. student.0 < length bundles.old) students.now }
+    requires within { AreWithin (length counts.old) (map sections_of others.now) }
+    ensures tally { IsTally (length counts.old) bundles.new counts.new }
+    ensures bundles { bundles.new ≡ exchanged bundles.old students.now others.now }
+{
+    for place in 0..students.len() {
+        exchange(bundles, counts, students[place], others[place]);
+    }
+}
+
+// Gives a student another bundle.
+fn exchange(bundles: &mut [Bundle], counts: &mut [u32], student: StudentNo, other: Bundle)
+    requires tally { IsTally (length counts.old) bundles.old counts.old }
+    requires range { student.0 < length bundles.old }
+    requires within { (s : ℕ) → has (sections_of other) s ≡ true → s < length counts.old }
+    ensures tally { IsTally (length counts.old) bundles.new counts.new }
+    ensures bundles { bundles.new ≡ slice_set bundles.old student.0 other }
+{
+    let place = usize::from(student.0);
+    uncount_bundle(counts, bundles[place].sections());
+    count_bundle(counts, other.sections());
+    bundles[place] = other;
+}
+
+// Takes one from the count of each section of a bundle.
+fn uncount_bundle(counts: &mut [u32], sections: &[SectionNo])
+    requires range { All (λ section. section.0 < length counts.old) sections.now }
+    requires set { IsAscending (ordinals sections.now) }
+    requires some { All (λ section. 1 ≤ slice_index counts.old section.0) sections.now }
+    ensures len { length counts.new ≡ length counts.old }
+    ensures each { (s : ℕ) → s < length counts.old → HasCounted counts.new counts.old (ordinals sections.now) s }
+{
+    match sections {
+        [] => {}
+        [section, more @ ..] => {
+            uncount_bundle(counts, more);
+            counts[usize::from(section.0)] -= 1;
+        }
+    }
+}

@@ -1,0 +1,16 @@
+pub mod BoardStep
+pub mod Boards
+pub mod Cells
+pub mod Closings
+pub mod Cursors
+pub mod Fates
+pub mod Kept
+pub mod Marks
+pub mod Openings
+pub mod Places
+pub mod Rights
+pub mod Seats
+pub mod Settling
+pub mod Shared
+pub mod Tallies
+pub mod Terms

@@ -1,0 +1,48 @@
+// What a worker asks of a board, and what the board answers.
+use bundle_rules::Bundle;
+use market_units::StudentNo;
+
+/// The work of finding what one student takes at the prices of one version.
+#[derive(Clone, Copy, Debug, PartialEq, Eq)]
+pub struct Task {
+    pub version: u8,
+    pub student: StudentNo,
+}
+
+/// What a draw gives.
+#[derive(Clone, Copy, Debug, PartialEq, Eq)]
+pub enum Draw {
+    /// The seat holds the task from now on.
+    Task(Task),
+    /// Each task is drawn, or of a settled version.
+    Done,
+}
+
+/// What comes of a post.
+#[derive(Clone, Copy, Debug, PartialEq, Eq)]
+pub enum Posted {
+    /// The seat does not hold the task. Nothing changes.
+    NotYours,
+    /// The version was settled. So many of its posted bundles have the section that is asked of.
+    Late { count: u32 },
+    /// The bundle stands in its place.
+    Taken,
+}
+
+/// A call on a board.
+#[derive(Clone, Copy, Debug, PartialEq, Eq)]
+pub enum BoardCall {
+    Draw,
+    Post {
+        version: u8,
+        student: StudentNo,
+        bundle: Bundle,
+    },
+}
+
+/// The answer to a call.
+#[derive(Clone, Copy, Debug, PartialEq, Eq)]
+pub enum BoardReply {
+    Draw(Draw),
+    Post(Posted),
+}

@@ -1,0 +1,14 @@
+pub mod Nodes
+pub mod Sound
+pub mod Complete
+pub mod Uniqueness
+pub mod Settling
+pub mod Stepping
+pub mod Digits
+pub mod Reading
+pub mod Spelling
+pub mod OneSymbol
+pub mod LowLeaves
+pub mod NoDefects
+pub mod Following
+pub mod Writing

@@ -1,0 +1,16 @@
+use Rattle.std.proofs.Common.{None, refl}
+use Rattle.bundle_rules.specs.Bundles.{sections_of}
+use Rattle.bundle_bounds.specs.Offers.{offer_of}
+use Rattle.proof_tree.proofs.Complete.{trees_prove_the_best}
+use Rattle.proof_tree.proofs.NoDefects.{no_defect_in_a_tree}
+use Rattle.proof_tree.proofs.Following.{ok_iff, if_err}
+use Rattle.proof_tree.proofs.checking.check_tree.Goals as goal
+
+pub returns-clause-ok : goal.returns-clause-ok
+returns-clause-ok c =
+    let offer = offer_of c.args.menu.now c.args.prices.now c.args.budget.0 c.args.allowed.now in
+    let champion = sections_of c.args.champion.now in
+    ok_iff c.follow.result _ _ _ c.follow.ensures.ok c.follow.ensures.defect (λ is. ((trees_prove_the_best offer champion c.len.ensures.menu c.requires.champion).0 (is.0, is.1), is)) (λ defect found both. no_defect_in_a_tree offer champion c.args.text.now defect c.len.ensures.menu both.1 (found refl))
+
+pub returns-clause-defect : goal.returns-clause-defect
+returns-clause-defect c = if_err c.follow.result _ _ c.follow.ensures.defect (λ defect found. found refl)

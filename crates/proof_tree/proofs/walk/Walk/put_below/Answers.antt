@@ -1,0 +1,87 @@
+use Rattle.std.proofs.Common.{◌≡◌, ◌<◌, ◌≤◌, ◌+◌, ◌++◌, ◌∷◌, ℕ, suc, length, sym, subst, ap, ◌∙◌, arith}
+use Rattle.bundle_rules.specs.Bundles.{sections_of}
+use Rattle.bundle_bounds.specs.Offers.{offer_of, places_of}
+use Rattle.proof_tree.specs.declared.signs.Sign.TheVariants.{Forced, Open, Passed}
+use Rattle.proof_tree.specs.Trees.{IsSign}
+use Rattle.proof_tree.specs.Steps.{MayWait, waiting_of, spots_of, spot}
+use Rattle.proof_tree.specs.Walks.{below}
+use Rattle.proof_tree.proofs.Stepping.{room_for_two, open_where_forced, wait_with, wait_without, spot_with, spot_without}
+use Rattle.proof_tree.proofs.walk.Walk.put_below.Goals as goal
+
+few_more : (count next : ℕ) → count ≤ 8 → next ≡ count + 1 → next ≤ 9
+few_more count next low is = omega arith
+
+one_more : (a b : ℕ) → a ≤ b → suc a ≤ b + 1
+one_more a b low = omega arith
+
+low_suc : (n : ℕ) → n ≤ 8 → n < 9
+low_suc n low = omega arith
+
+pub with_next-requires-clause-open : goal.with_next-requires-clause-open
+with_next-requires-clause-open c =
+    let o = c.requires.sign in
+    let offer = offer_of c.args.menu.now o.0 o.1 o.2 in
+    let k = c.args.node.now.place in
+    let cs = places_of c.args.menu.now (sections_of c.args.node.now.chosen) in
+    (o.0, o.1, o.2, o.5.2, open_where_forced offer o.3 o.4 k cs (subst (IsSign offer o.3 o.4 k cs) c.in-Forced.is o.6))
+
+pub with_next-requires-in-Open-clause-open : goal.with_next-requires-in-Open-clause-open
+with_next-requires-in-Open-clause-open c =
+    let o = c.requires.sign in
+    let offer = offer_of c.args.menu.now o.0 o.1 o.2 in
+    let k = c.args.node.now.place in
+    let cs = places_of c.args.menu.now (sections_of c.args.node.now.chosen) in
+    (o.0, o.1, o.2, o.5.2, (subst (IsSign offer o.3 o.4 k cs) c.in-Open.is o.6).2)
+
+pub put-requires-in-Open-2 : goal.put-requires-in-Open-2
+put-requires-in-Open-2 c =
+    low_suc _ (room_for_two c.put-in-Open.new.self.waiting (waiting_of c.args.self.now) c.put-in-Open.new.self.count _ _ c.put-in-Open.ensures.whole c.put-in-Open.ensures.waiting c.requires.sign.5.0 c.with_next-in-Open.ensures.room)
+
+pub returns-in-Forced-clause-may_wait : goal.returns-in-Forced-clause-may_wait
+returns-in-Forced-clause-may_wait c = λ prices budget allowed required champion waits is.
+    let offer = offer_of c.args.menu.now prices budget allowed in
+    let k = c.args.node.now.place in
+    let cs = places_of c.args.menu.now (sections_of c.args.node.now.chosen) in
+    let sign = subst (IsSign offer required champion k cs) c.in-Forced.is is in
+    let few : length (waiting_of c.args.self.now) ≤ length (sections_of c.args.node.now.chosen) = waits.0 in
+    record {
+      few = few_more c.args.self.now.count c.put.new.self.count c.requires.few c.put.ensures.count;
+      nodes = subst (MayWait offer) (sym c.put.ensures.waiting) (wait_with offer c.args.node.now (waiting_of c.args.self.now) waits sign.0.left c.with_next.ensures.menu c.with_next.result (waiting_of c.args.self.now) c.with_next.ensures.place c.with_next.ensures.chosen (open_where_forced offer required champion k cs sign) (omega arith) waits.3);
+    }
+
+pub returns-in-Forced-clause-below : goal.returns-in-Forced-clause-below
+returns-in-Forced-clause-below c =
+    let o = c.requires.sign in
+    let offer = offer_of c.args.menu.now o.0 o.1 o.2 in
+    let k = c.args.node.now.place in
+    let cs = places_of c.args.menu.now (sections_of c.args.node.now.chosen) in
+    let sign = subst (IsSign offer o.3 o.4 k cs) c.in-Forced.is o.6 in
+    rw (c.in-Forced.is, c.put.ensures.waiting) (ap (λ s. s ∷ spots_of c.args.menu.now (waiting_of c.args.self.now)) (spot_with offer c.args.node.now (waiting_of c.args.self.now) o.5 sign.0.left c.with_next.ensures.menu c.with_next.result c.with_next.ensures.place c.with_next.ensures.chosen))
+
+pub returns-in-Open-clause-may_wait : goal.returns-in-Open-clause-may_wait
+returns-in-Open-clause-may_wait c = λ prices budget allowed required champion waits is.
+    let offer = offer_of c.args.menu.now prices budget allowed in
+    let k = c.args.node.now.place in
+    let cs = places_of c.args.menu.now (sections_of c.args.node.now.chosen) in
+    let under = waiting_of c.args.self.now in
+    let sign = subst (IsSign offer required champion k cs) c.in-Open.is is in
+    let others = c.without_next.result ∷ under in
+    let few : length (waiting_of c.args.self.now) ≤ length (sections_of c.args.node.now.chosen) = waits.0 in
+    let after = wait_without offer c.args.node.now under waits sign.0.left c.without_next.result c.without_next.ensures.place c.without_next.ensures.chosen in
+    let both = wait_with offer c.args.node.now under waits sign.0.left c.with_next-in-Open.ensures.menu c.with_next-in-Open.result others c.with_next-in-Open.ensures.place c.with_next-in-Open.ensures.chosen sign.2 (one_more _ _ few) after in
+    record {
+      few = few_more c.put-in-Open.new.self.count c.put-in-Open-2.new.self.count (room_for_two c.put-in-Open.new.self.waiting under c.put-in-Open.new.self.count _ _ c.put-in-Open.ensures.whole c.put-in-Open.ensures.waiting few c.with_next-in-Open.ensures.room) c.put-in-Open-2.ensures.count;
+      nodes = subst (MayWait offer) (sym (c.put-in-Open-2.ensures.waiting ∙ ap (λ ns. c.with_next-in-Open.result ∷ ns) c.put-in-Open.ensures.waiting)) both;
+    }
+
+pub returns-in-Open-clause-below : goal.returns-in-Open-clause-below
+returns-in-Open-clause-below c =
+    let o = c.requires.sign in
+    let offer = offer_of c.args.menu.now o.0 o.1 o.2 in
+    let k = c.args.node.now.place in
+    let cs = places_of c.args.menu.now (sections_of c.args.node.now.chosen) in
+    let under = waiting_of c.args.self.now in
+    let sign = subst (IsSign offer o.3 o.4 k cs) c.in-Open.is o.6 in
+    let first = spot_with offer c.args.node.now under o.5 sign.0.left c.with_next-in-Open.ensures.menu c.with_next-in-Open.result c.with_next-in-Open.ensures.place c.with_next-in-Open.ensures.chosen in
+    let second = spot_without offer c.args.node.now under o.5 sign.0.left c.without_next.result c.without_next.ensures.place c.without_next.ensures.chosen in
+    rw (c.in-Open.is, c.put-in-Open-2.ensures.waiting, c.put-in-Open.ensures.waiting) (λ i. first i ∷ second i ∷ spots_of c.args.menu.now under)

@@ -1,0 +1,6 @@
+-- The bytes of a symbol.
+use Rattle.std.specs.Prelude.{ℕ, List, take}
+use Rattle.proof_tree.specs.declared.symbols.Symbol.{Symbol}
+
+abbrev pub bytes_of : Symbol → List ℕ
+bytes_of symbol = take symbol.len symbol.bytes

@@ -1,0 +1,133 @@
+// The trees of champions, written.
+ghost use Rattle.std.specs.Prelude.{◌≡◌, ◌<◌, ◌≤◌, ◌++◌, ◌+◌, ℕ, List, Some, None, IfSome, IfNone, IfOk, length, take, drop};
+ghost use Rattle.std.specs.FinSet as set;
+ghost use Rattle.bundle_rules.specs.Bundles.{sections_of};
+ghost use Rattle.bundle_rules.specs.Demand.{HasPrices, IsBest, price_in};
+ghost use Rattle.bundle_rules.specs.Given.{IsBestWith};
+ghost use Rattle.bundle_rules.specs.Menus.{wishes_of, place_in};
+ghost use Rattle.bundle_bounds.specs.Offers.{offer_of};
+ghost use Rattle.bundle_bounds.specs.Laws.{IsTakable};
+ghost use Rattle.proof_tree.specs.Texts.{IsTreeText};
+ghost use Rattle.proof_tree.specs.Laws.{HasTree};
+
+use crate::symbols::spell;
+use crate::walk::{Step, Walk};
+use bundle_rules::{Bundle, Menu};
+use market_units::{NoMemory, SectionNo, SectionSet, Tokens};
+use std::alloc::Global;
+
+/// The text of the canonical tree of a champion that is the best bundle. There is a price for each section of the menu,
+/// each at most 1,000,001.
+pub fn build(
+    alloc: Global,
+    menu: &Menu,
+    prices: &[Tokens],
+    budget: Tokens,
+    allowed: &SectionSet,
+    champion: &Bundle,
+) -> Result<Vec<u8>, NoMemory>
+    requires prices { HasPrices menu.now prices.now }
+    requires best { IsBest (wishes_of menu.now) (price_in prices.now) budget.0 (set.contains allowed.now) (sections_of champion.now) }
+    ensures { IfOk result (λ text. IsTreeText (offer_of menu.now prices.now budget.0 allowed.now) None (sections_of champion.now) text.items) }
+{
+    prove!(menu.len() <= 60);
+    written(alloc, menu, prices, budget, allowed, None, champion)
+}
+
+/// The text of the forced tree of a champion that is the best bundle with the section. There is a price for each
+/// section of the menu, each at most 1,000,001.
+pub fn build_forced(
+    alloc: Global,
+    menu: &Menu,
+    prices: &[Tokens],
+    budget: Tokens,
+    allowed: &SectionSet,
+    section: SectionNo,
+    champion: &Bundle,
+) -> Result<Vec<u8>, NoMemory>
+    requires prices { HasPrices menu.now prices.now }
+    requires best { IsBestWith (wishes_of menu.now) (price_in prices.now) budget.0 (set.contains allowed.now) section.0 (sections_of champion.now) }
+    ensures { IfOk result (λ text. IsTreeText (offer_of menu.now prices.now budget.0 allowed.now) (Some (place_in menu.now.places section.0)) (sections_of champion.now) text.items) }
+{
+    prove!(menu.len() <= 60);
+    let place = menu.place(section);
+    written(alloc, menu, prices, budget, allowed, Some(place), champion)
+}
+
+// The text of the champion's tree, where there is one.
+fn written(
+    alloc: Global,
+    menu: &Menu,
+    prices: &[Tokens],
+    budget: Tokens,
+    allowed: &SectionSet,
+    required: Option<u8>,
+    champion: &Bundle,
+) -> Result<Vec<u8>, NoMemory>
+    requires prices { HasPrices menu.now prices.now }
+    requires required { IfSome required (λ place. place < length menu.now.places) }
+    requires champion { IsTakable (offer_of menu.now prices.now budget.0 allowed.now) (sections_of champion.now) }
+    requires tree { HasTree (offer_of menu.now prices.now budget.0 allowed.now) required (sections_of champion.now) }
+    ensures { IfOk result (λ text. IsTreeText (offer_of menu.now prices.now budget.0 allowed.now) required (sections_of champion.now) text.items) }
+{
+    let mut text = Vec::new(alloc);
+    let mut walk = Walk::start();
+    'nodes: loop {
+        match walk.step(menu, prices, budget, allowed, required, champion) {
+            Step::Signed(sign) => {
+                let symbol = spell(sign);
+                text.extend_from_slice(symbol.as_slice())?;
+            }
+            Step::Unsigned => return Ok(text),
+            Step::Ended => return Ok(text),
+        }
+    }
+}
+
+/// Writes the text of the canonical tree of a champion that is the best bundle to the front of the room, and gives how
+/// many bytes it has; `None` exactly where it is longer than the room, which then holds no tree. It takes no memory. There is
+/// a price for each section of the menu, each at most 1,000,001.
+pub fn build_into(
+    menu: &Menu,
+    prices: &[Tokens],
+    budget: Tokens,
+    allowed: &SectionSet,
+    champion: &Bundle,
+    room: &mut [u8],
+) -> Option<usize>
+    requires prices { HasPrices menu.now prices.now }
+    requires best { IsBest (wishes_of menu.now) (price_in prices.now) budget.0 (set.contains allowed.now) (sections_of champion.now) }
+    ensures some { IfSome result (λ count. (count ≤ length room.old) × IsTreeText (offer_of menu.now prices.now budget.0 allowed.now) None (sections_of champion.now) (take count room.new)) }
+    ensures same { IfSome result (λ count. drop count room.new ≡ drop count room.old) }
+    ensures none { IfNone result ((text : List ℕ) → IsTreeText (offer_of menu.now prices.now budget.0 allowed.now) None (sections_of champion.now) text → length room.old < length text) }
+{
+    prove!(menu.len() <= 60);
+    let mut count = 0;
+    let mut walk = Walk::start();
+    'nodes: loop {
+        match walk.step(menu, prices, budget, allowed, None, champion) {
+            Step::Signed(sign) => {
+                let symbol = spell(sign);
+                count = put_at(room, count, symbol.as_slice())?;
+            }
+            Step::Unsigned => return Some(count),
+            Step::Ended => return Some(count),
+        }
+    }
+}
+
+// Writes the bytes behind the first ones of the room, and gives how many these are then; `None` exactly where there is
+// not so much room.
+fn put_at(room: &mut [u8], count: usize, bytes: &[u8]) -> Option<usize>
+    requires { count ≤ length room.old }
+    ensures size { length room.new ≡ length room.old }
+    ensures some { IfSome result (λ next. (next ≡ count + length bytes.now) × (next ≤ length room.old) × (take next room.new ≡ take count room.old ++ bytes.now) × (drop next room.new ≡ drop next room.old)) }
+    ensures none { IfNone result (length room.old < count + length bytes.now) }
+{
+    if bytes.len() > room.len() - count {
+        return None;
+    }
+    let next = count + bytes.len();
+    room[count..next].copy_from_slice(bytes);
+    Some(next)
+}

@@ -1,0 +1,18 @@
+//! Trees that prove a bundle best.
+#![tactic(auto)]
+
+mod building;
+mod checking;
+mod defects;
+pub mod laws;
+mod signs;
+mod symbols;
+mod walk;
+
+pub use building::{build, build_forced, build_into};
+pub use checking::{check_forced, check_tree};
+pub use defects::TreeDefect;
+pub use signs::Sign;
+
+#[cfg(test)]
+mod tests;

@@ -1,0 +1,128 @@
+// The canonical sign of a node.
+ghost use Rattle.std.specs.Prelude.{◌≡◌, ◌<◌, ◌≤◌, ◌↔◌, ℕ, List, Some, IsTrue, IfSome, IfNone, length};
+ghost use Rattle.bundle_rules.specs.Demand.{HasPrices};
+ghost use Rattle.bundle_rules.specs.Menus.{IsMenu};
+ghost use Rattle.bundle_rules.specs.Bundles.{sections_of};
+ghost use Rattle.bundle_bounds.specs.Offers.{offer_of, places_of};
+ghost use Rattle.bundle_bounds.specs.Laws.{IsTakable, IsNode};
+ghost use Rattle.proof_tree.specs.Trees.{IsShut, IsSign, GoesOn, HasNoSign};
+
+use bundle_bounds::{Leaf, Node, bound_closes, is_open};
+use bundle_rules::{Bundle, Menu};
+use market_units::{SectionSet, Tokens};
+
+/// What stands at a node of a tree: the champion's end (`*`), the required place is not open (`x`), a bound closes the
+/// node (its leaf), the next place is the required one (`!`), it is open (`+`), it is not open (`-`).
+#[derive(Clone, Copy, Debug, PartialEq, Eq)]
+pub enum Sign {
+    Champion,
+    Shut,
+    Closed(Leaf),
+    Forced,
+    Open,
+    Passed,
+}
+
+// Whether all places are decided, and the chosen sections are the champion.
+fn is_end(menu: &Menu, champion: &Bundle, node: &Node) -> bool
+    requires { node.now.place ≤ length menu.now.places }
+    ensures menu { IsMenu menu.now }
+    ensures end { IsTrue result ↔ ((node.now.place ≡ length menu.now.places) × (sections_of node.now.chosen ≡ sections_of champion.now)) }
+{
+    node.place >= menu.len() && node.chosen == *champion
+}
+
+// Whether the required place is undecided and not open.
+fn is_shut(
+    menu: &Menu,
+    prices: &[Tokens],
+    budget: Tokens,
+    allowed: &SectionSet,
+    required: Option<u8>,
+    node: &Node,
+) -> bool
+    requires prices { HasPrices menu.now prices.now }
+    requires node { IsNode (offer_of menu.now prices.now budget.0 allowed.now) node.now.place (sections_of node.now.chosen) }
+    requires required { IfSome required (λ place. place < length menu.now.places) }
+    ensures { IsTrue result ↔ IsShut (offer_of menu.now prices.now budget.0 allowed.now) required node.now.place (places_of menu.now (sections_of node.now.chosen)) }
+{
+    match required {
+        Some(place) => {
+            if place < node.place {
+                return false;
+            }
+            !is_open(menu, prices, budget, allowed, node, place)
+        }
+        None => false,
+    }
+}
+
+// The sign of a node that goes on.
+fn next_sign(
+    menu: &Menu,
+    prices: &[Tokens],
+    budget: Tokens,
+    allowed: &SectionSet,
+    required: Option<u8>,
+    node: &Node,
+) -> Sign
+    requires prices { HasPrices menu.now prices.now }
+    requires node { IsNode (offer_of menu.now prices.now budget.0 allowed.now) node.now.place (sections_of node.now.chosen) }
+    requires left { node.now.place < length menu.now.places }
+    ensures { (champion : List ℕ) → GoesOn (offer_of menu.now prices.now budget.0 allowed.now) required champion node.now.place (places_of menu.now (sections_of node.now.chosen))
+        → IsSign (offer_of menu.now prices.now budget.0 allowed.now) required champion node.now.place (places_of menu.now (sections_of node.now.chosen)) result }
+{
+    if is_place(required, node.place) {
+        return Sign::Forced;
+    }
+    if is_open(menu, prices, budget, allowed, node, node.place) {
+        Sign::Open
+    } else {
+        Sign::Passed
+    }
+}
+
+// Whether the required place is this one.
+fn is_place(required: Option<u8>, place: u8) -> bool
+    ensures { IsTrue result ↔ (required ≡ Some place) }
+{
+    match required {
+        Some(other) => other == place,
+        None => false,
+    }
+}
+
+// The canonical sign of a node, or `None` where it has none: all places are decided, the chosen sections are not the
+// champion, and no bound closes it.
+pub(crate) fn sign_at(
+    menu: &Menu,
+    prices: &[Tokens],
+    budget: Tokens,
+    allowed: &SectionSet,
+    required: Option<u8>,
+    champion: &Bundle,
+    node: &Node,
+) -> Option<Sign>
+    requires prices { HasPrices menu.now prices.now }
+    requires node { IsNode (offer_of menu.now prices.now budget.0 allowed.now) node.now.place (sections_of node.now.chosen) }
+    requires within { node.now.place ≤ length menu.now.places }
+    requires required { IfSome required (λ place. place < length menu.now.places) }
+    requires champion { IsTakable (offer_of menu.now prices.now budget.0 allowed.now) (sections_of champion.now) }
+    ensures menu { IsMenu menu.now }
+    ensures some { IfSome result (IsSign (offer_of menu.now prices.now budget.0 allowed.now) required (places_of menu.now (sections_of champion.now)) node.now.place (places_of menu.now (sections_of node.now.chosen))) }
+    ensures none { IfNone result (HasNoSign (offer_of menu.now prices.now budget.0 allowed.now) required (places_of menu.now (sections_of champion.now)) node.now.place (places_of menu.now (sections_of node.now.chosen))) }
+{
+    if is_end(menu, champion, node) {
+        return Some(Sign::Champion);
+    }
+    if is_shut(menu, prices, budget, allowed, required, node) {
+        return Some(Sign::Shut);
+    }
+    if let Some(leaf) = bound_closes(menu, prices, budget, allowed, node, champion) {
+        return Some(Sign::Closed(leaf));
+    }
+    if node.place >= menu.len() {
+        return None;
+    }
+    Some(next_sign(menu, prices, budget, allowed, required, node))
+}

@@ -1,0 +1,198 @@
+// The symbols of trees: read from the front of a text, and written.
+ghost use Rattle.std.specs.Prelude.{◌≡◌, ◌≢◌, ◌<◌, ◌≤◌, ◌↔◌, ◌++◌, ◌∷◌, [], ℕ, List, None, Some, IsTrue, IfSome, IfNone, take};
+ghost use Rattle.std.specs.Fmt.{decimal};
+ghost use Rattle.bundle_bounds.specs.declared.nodes.Leaf.{Leaf};
+ghost use Rattle.proof_tree.specs.declared.signs.Sign.{Sign};
+ghost use Rattle.proof_tree.specs.declared.signs.Sign.TheVariants.{Closed};
+ghost use Rattle.proof_tree.specs.Spellings.{bytes_of};
+ghost use Rattle.proof_tree.specs.Texts.{IsDigit, NoDigitFirst, IsShort, Stands, leaf_text, number_of, symbol};
+
+use crate::signs::Sign;
+use bundle_bounds::Leaf;
+
+// Whether the byte is a decimal digit.
+fn is_digit(byte: u8) -> bool
+    ensures { IsTrue result ↔ IsDigit byte }
+{
+    byte >= b'0' && byte <= b'9'
+}
+
+// Whether no digit stands first.
+fn ends_here(text: &[u8]) -> bool
+    ensures { IsTrue result ↔ NoDigitFirst text.now }
+{
+    match text {
+        [] => true,
+        [byte, ..] => !is_digit(*byte),
+    }
+}
+
+// The number of one or two digits that stands first, and what is left: as many digits are taken as follow.
+fn read_place(text: &[u8]) -> Option<(u8, &[u8])>
+    ensures some { IfSome result (λ read. (text.now ≡ decimal read.0 ++ read.1.now) × (read.0 < 100) × NoDigitFirst read.1.now) }
+    ensures none { IfNone result ((place : ℕ) (rest : List ℕ) → place < 100 → NoDigitFirst rest → text.now ≢ decimal place ++ rest) }
+{
+    match text {
+        [] => None,
+        [first, rest @ ..] => {
+            if !is_digit(*first) {
+                return None;
+            }
+            if ends_here(rest) {
+                return Some((*first - b'0', rest));
+            }
+            if *first == b'0' {
+                return None;
+            }
+            read_second(*first, rest)
+        }
+    }
+}
+
+// The number of two digits of which this is the first, where another one stands first in the text and no third one
+// after it.
+fn read_second(first: u8, text: &[u8]) -> Option<(u8, &[u8])>
+    requires first { (49 ≤ first) × (first ≤ 57) }
+    requires second { ¬ NoDigitFirst text.now }
+    ensures some { IfSome result (λ read. (first ∷ text.now ≡ decimal read.0 ++ read.1.now) × (read.0 < 100) × NoDigitFirst read.1.now) }
+    ensures none { IfNone result ((place : ℕ) (rest : List ℕ) → place < 100 → NoDigitFirst rest → first ∷ text.now ≢ decimal place ++ rest) }
+{
+    match text {
+        [] => None,
+        [second, rest @ ..] => {
+            if !ends_here(rest) {
+                return None;
+            }
+            if !is_digit(*second) {
+                return None;
+            }
+            Some(((first - b'0') * 10 + (*second - b'0'), rest))
+        }
+    }
+}
+
+// The sign whose symbol is this byte alone.
+fn single_sign(byte: u8) -> Option<Sign>
+    ensures some { IfSome result (λ sign. (symbol sign ≡ byte ∷ []) × (number_of sign ≡ None)) }
+    ensures none { IfNone result ((sign : Sign) → number_of sign ≡ None → symbol sign ≢ byte ∷ []) }
+{
+    match byte {
+        b'*' => Some(Sign::Champion),
+        b'x' => Some(Sign::Shut),
+        b'n' => Some(Sign::Closed(Leaf::Plain)),
+        b'!' => Some(Sign::Forced),
+        b'+' => Some(Sign::Open),
+        b'-' => Some(Sign::Passed),
+        _ => None,
+    }
+}
+
+// The leaf with this letter and this number.
+fn numbered_leaf(letter: u8, place: u8) -> Option<Leaf>
+    ensures some { IfSome result (λ leaf. (leaf_text leaf ≡ letter ∷ decimal place) × (number_of (Closed leaf) ≡ Some place)) }
+    ensures none { IfNone result ((letter ≢ 98) × (letter ≢ 99) × (letter ≢ 109)) }
+{
+    match letter {
+        b'b' => Some(Leaf::Budget(place)),
+        b'c' => Some(Leaf::Credits(place)),
+        b'm' => Some(Leaf::Number(place)),
+        _ => None,
+    }
+}
+
+// The sign whose symbol stands first in the text, and what is left of the text.
+pub(crate) fn read_symbol(text: &[u8]) -> Option<(Sign, &[u8])>
+    ensures some { IfSome result (λ read. Stands read.0 text.now read.1.now) }
+    ensures none { IfNone result ((sign : Sign) (rest : List ℕ) → ¬ Stands sign text.now rest) }
+{
+    match text {
+        [] => None,
+        [letter, rest @ ..] => {
+            if let Some(sign) = single_sign(*letter) {
+                return Some((sign, rest));
+            }
+            let (place, later) = read_place(rest)?;
+            let leaf = numbered_leaf(*letter, place)?;
+            Some((Sign::Closed(leaf), later))
+        }
+    }
+}
+
+/// The symbol of a sign, as bytes.
+#[derive(Clone, Copy)]
+pub(crate) struct Symbol {
+    bytes: [u8; 3],
+    len: usize,
+}
+
+impl Symbol {
+    ghost use Rattle.std.specs.Prelude.{◌≡◌, ◌≤◌};
+    ghost use Rattle.proof_tree.specs.Spellings.{bytes_of};
+
+    // Its bytes.
+    pub(crate) fn as_slice(&self) -> &[u8]
+        requires { self.now.len ≤ 3 }
+        ensures { result.now ≡ bytes_of self.now }
+    {
+        &self.bytes[..self.len]
+    }
+}
+
+// A byte alone.
+fn single(byte: u8) -> Symbol
+    ensures len { result.len ≤ 3 }
+    ensures bytes { bytes_of result ≡ byte ∷ [] }
+{
+    Symbol {
+        bytes: [byte, 0, 0],
+        len: 1,
+    }
+}
+
+// A letter with a number of one or two digits.
+fn numbered(letter: u8, place: u8) -> Symbol
+    requires { place < 100 }
+    ensures len { result.len ≤ 3 }
+    ensures bytes { bytes_of result ≡ letter ∷ decimal place }
+{
+    if place < 10 {
+        return Symbol {
+            bytes: [letter, b'0' + place, 0],
+            len: 2,
+        };
+    }
+    Symbol {
+        bytes: [letter, b'0' + place / 10, b'0' + place % 10],
+        len: 3,
+    }
+}
+
+// The symbol of a leaf.
+fn spell_leaf(leaf: Leaf) -> Symbol
+    requires { IsShort (Closed leaf) }
+    ensures len { result.len ≤ 3 }
+    ensures bytes { bytes_of result ≡ leaf_text leaf }
+{
+    match leaf {
+        Leaf::Plain => single(b'n'),
+        Leaf::Budget(place) => numbered(b'b', place),
+        Leaf::Credits(place) => numbered(b'c', place),
+        Leaf::Number(place) => numbered(b'm', place),
+    }
+}
+
+// The symbol of a sign.
+pub(crate) fn spell(sign: Sign) -> Symbol
+    requires { IsShort sign }
+    ensures len { result.len ≤ 3 }
+    ensures bytes { bytes_of result ≡ symbol sign }
+{
+    match sign {
+        Sign::Champion => single(b'*'),
+        Sign::Shut => single(b'x'),
+        Sign::Closed(leaf) => spell_leaf(leaf),
+        Sign::Forced => single(b'!'),
+        Sign::Open => single(b'+'),
+        Sign::Passed => single(b'-'),
+    }
+}
