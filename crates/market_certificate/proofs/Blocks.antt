@@ -1,7 +1,7 @@
 -- Blocks of lines, one for each name, and their first defect.
-use Rattle.std.proofs.Common.{ℕ, map, ◌<◌, ◌+◌, ◌≡◌, ◌≤◌, List, [], ◌∷◌, ◌++◌, length, take, drop, get_or, refl, ap, sym, ◌∙◌, arith, append_assoc, subst}
+use Rattle.std.proofs.Common.{ℕ, map, ◌<◌, ◌+◌, ◌≡◌, List, [], ◌∷◌, ◌++◌, length, take, drop, get_or, refl, ap, sym, ◌∙◌, arith, append_assoc, subst}
 use Rattle.std.specs.Prelude.{All}
-use Rattle.std.proofs.lemmas.List.{drop_more, length-append, length-map, length-take-le, map-append, take-append-drop, take_more}
+use Rattle.std.proofs.lemmas.List.{drop_more, length-append, map-append, take-append-drop, take_more}
 use Rattle.std.proofs.lemmas.List.Elements.{All-push}
 use Rattle.std.proofs.Math.Seq.{take-length}
 use Rattle.market_units.specs.declared.names.Name.{Name}
@@ -64,11 +64,11 @@ pub read_defect : {V : Type 0} (tables : Tables) (form : List ℕ → Form) (lin
 read_defect tables form line P has names values k name number text next rest refusal read inside named stops more =
     let behind = One (form name) ∷ (each_due form (drop (k + 1) names) ++ more) in
     on_defect refusal _ _ (
-      λ at fault stop.
-      subst (λ due. Finds (AreDue tables due) number text at fault) (sym (due_split form names k name more inside named)) (
-        finds_behind (AreDue tables (each_due form (take k names) ++ behind)) (AreDue tables behind) (each_line line (take k names) values) number text next rest at fault
-        (behind_each tables form line P has (take k names) values behind read.range) read.takes (stops_here tables (form name) (each_due form (drop (k + 1) names) ++ more) next rest at fault stop)
-      )
+    λ at fault stop.
+    subst (λ due. Finds (AreDue tables due) number text at fault) (sym (due_split form names k name more inside named)) (
+    finds_behind (AreDue tables (each_due form (take k names) ++ behind)) (AreDue tables behind) (each_line line (take k names) values) number text next rest at fault
+    (behind_each tables form line P has (take k names) values behind read.range) read.takes (stops_here tables (form name) (each_due form (drop (k + 1) names) ++ more) next rest at fault stop)
+    )
     ) stops
 
 -- behind the lines of all names, the first defect is that of the text
@@ -92,8 +92,8 @@ turns_more tables turns new turn number text next rest after behind read is take
     subst (λ ts. AreTurnsRead tables ts number text after behind) (sym pushed) (record {
       range = All-push (IsTurn tables.students tables.sections) turns turn read.range is;
       takes = subst (λ ls. Takes ls number text after behind) (sym (map-append (turn_line tables.students tables.sections) turns (turn ∷ []))) (
-        takes_both (map (turn_line tables.students tables.sections) turns) (turn_line tables.students tables.sections turn ∷ []) number text next rest after behind read.takes takes
-      );
+          takes_both (map (turn_line tables.students tables.sections) turns) (turn_line tables.students tables.sections turn ∷ []) number text next rest after behind read.takes takes
+          );
     })
 
 -- the next line begins as a turn does, and is none

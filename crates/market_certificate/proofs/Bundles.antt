@@ -1,5 +1,5 @@
 -- Names tell their sections, and a bundle's text tells the bundle.
-use Rattle.std.proofs.Common.{ℕ, zero, suc, ◌≡◌, ◌≢◌, ◌==◌, ◌<◌, ◌≤◌, ◌+◌, true, false, List, [], ◌∷◌, ◌++◌, length, length-append, map, take, get_or, eqb, ap, sym, refl, subst, arith, ◌∙◌}
+use Rattle.std.proofs.Common.{ℕ, zero, suc, ◌≡◌, ◌≢◌, ◌==◌, ◌<◌, ◌+◌, false, List, [], ◌∷◌, ◌++◌, length, length-append, map, take, get_or, ap, sym, refl, subst, arith, ◌∙◌}
 use Rattle.std.specs.Prelude.{All, IsTrue}
 use Rattle.std.specs.Iterator.{Yields}
 use Rattle.std.specs.Prelude.{Option, Some, None}
@@ -8,9 +8,8 @@ use Rattle.std.specs.Str.{bytes_eq}
 use Rattle.std.proofs.lemmas.Bool.{ne_eqb}
 use Rattle.std.proofs.lemmas.Iterator.{YieldsList}
 use Rattle.std.proofs.lemmas.Iterator.Consumers.{YieldsList-end, YieldsList-so_far, YieldsList-turn}
-use Rattle.std.proofs.lemmas.List.{append_cancel_left, get_or_default, get_or-map, length-map, length-take-le, take_more}
-use Rattle.std.proofs.lemmas.List.Elements.{All-from_recursion, All-get_or, All-head, All-nil, All-tail, All-take}
-use Rattle.std.proofs.lemmas.List.Splits.{join_with_byte-slice_split}
+use Rattle.std.proofs.lemmas.List.{append_cancel_left, get_or-map, length-map, take_more}
+use Rattle.std.proofs.lemmas.List.Elements.{All-head, All-tail, All-take}
 use Rattle.std.proofs.lemmas.Slice.Eq.{bytes_eq-Decides}
 use Rattle.market_units.specs.Names.{IsName, is_name_byte}
 use Rattle.bundle_rules.specs.Sets.{AllAbove, IsAscending}
@@ -79,8 +78,8 @@ same_joined names [] (y ∷ b) are below below' e = absurd (some_text names y b 
 same_joined names (x ∷ a) b are below below' e =
     let some = some_text names x a are (All-head (λ s. s < length names) x a below) in
     same_sections names (x ∷ a) b are below below' (
-      sym (parts_are names (x ∷ a) (join_with_byte 44 (map (name_at names) (x ∷ a))) are below some refl)
-      ∙ parts_are names b (join_with_byte 44 (map (name_at names) (x ∷ a))) are below' some e
+    sym (parts_are names (x ∷ a) (join_with_byte 44 (map (name_at names) (x ∷ a))) are below some refl)
+    ∙ parts_are names b (join_with_byte 44 (map (name_at names) (x ∷ a))) are below' some e
     )
 
 pub same_bundle : (names : List (List ℕ)) (a b : List ℕ) → AreNames names → IsBundleOf names a → IsBundleOf names b → bundle_text names a ≡ bundle_text names b → a ≡ b

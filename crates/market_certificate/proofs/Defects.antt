@@ -1,5 +1,5 @@
 -- The text of a publication has no defect.
-use Rattle.std.proofs.Common.{ℕ, suc, ◌≡◌, ◌≢◌, ◌<◌, ◌≤◌, ◌+◌, ◌++◌, ◌∷◌, [], List, length, length-append, ap, sym, subst, arith, refl, inl, inr, ◌∙◌, append_assoc}
+use Rattle.std.proofs.Common.{ℕ, ◌≡◌, ◌≢◌, ◌<◌, ◌++◌, ◌∷◌, [], List, length, length-append, ap, sym, subst, arith, refl, inl, inr, ◌∙◌, append_assoc}
 use Rattle.std.specs.List.{AllByRecursion}
 use Rattle.std.proofs.lemmas.List.{append-nil}
 use Rattle.market_certificate.specs.declared.amounts.Amount.TheVariants as kinds
@@ -7,14 +7,13 @@ use Rattle.market_certificate.specs.declared.refusals.LineFault.{LineFault}
 use Rattle.market_certificate.specs.declared.refusals.LineFault.TheVariants as faults
 use Rattle.market_certificate.specs.Lines.{Lacks, joined}
 use Rattle.market_certificate.specs.Tables.{Tables, AreTables}
-use Rattle.market_certificate.specs.Texts.{ArePublished, IsPublished}
-use Rattle.market_certificate.specs.Due.{AmountForm, AreDue, BundleForm, Due, EndForm, ErrorForm, FinalForm, Form, HeadForm, One, OrderForm, StartsTurn, Turns, TurnsThen, UsedForm, due_of, each_due, outcome_due, prices_due}
-use Rattle.market_certificate.specs.Finding.{Begins, Finds, GoesOn, IsOutOfForm, Stops}
+use Rattle.market_certificate.specs.Texts.{ArePublished}
+use Rattle.market_certificate.specs.Due.{AmountForm, AreDue, BundleForm, Due, EndForm, ErrorForm, FinalForm, Form, HeadForm, One, OrderForm, Turns, UsedForm, due_of, each_due, outcome_due, prices_due}
+use Rattle.market_certificate.specs.Finding.{Finds, IsOutOfForm, Stops}
 use Rattle.market_certificate.specs.Laws.{NoDefectInPublished}
 use Rattle.market_certificate.proofs.Cuts.{cut_once, lacks_not}
 use Rattle.market_certificate.proofs.DueLemmas.{published_from, published_to}
 use Rattle.market_certificate.proofs.OneText.{lines_lack}
-
 
 -- one language in two spellings
 stops_same : (P Q : List (List ℕ) → Type 0) (front : List (List ℕ)) (tail : List ℕ) (fault : LineFault) → ((lines : List (List ℕ)) → P lines → Q lines) → ((lines : List (List ℕ)) → Q lines → P lines) → Stops P front tail fault → Stops Q front tail fault
@@ -113,23 +112,23 @@ alone_behind tables [] (section ∷ sections) =
     alone_turns tables (UsedForm section) (each_due UsedForm sections ++ One EndForm ∷ []) (alone_each tables UsedForm (section ∷ sections) (One EndForm ∷ []) (alone_one tables EndForm [] (alone_none tables)))
 alone_behind tables (student ∷ students) sections =
     alone_turns tables (FinalForm student) (each_due FinalForm students ++ (each_due UsedForm sections ++ One EndForm ∷ [])) (
-      alone_each tables FinalForm (student ∷ students) (each_due UsedForm sections ++ One EndForm ∷ []) (alone_each tables UsedForm sections (One EndForm ∷ []) (alone_one tables EndForm [] (alone_none tables)))
+    alone_each tables FinalForm (student ∷ students) (each_due UsedForm sections ++ One EndForm ∷ []) (alone_each tables UsedForm sections (One EndForm ∷ []) (alone_one tables EndForm [] (alone_none tables)))
     )
 
 alone_all : (tables : Tables) → Alone tables (due_of tables)
 alone_all tables =
     alone_one tables HeadForm (One OrderForm ∷ prices_due tables (outcome_due tables)) (
-      alone_one tables OrderForm (prices_due tables (outcome_due tables)) (
-        alone_each tables (AmountForm kinds.Budget) tables.students (each_due (AmountForm kinds.Start) tables.sections ++ (One ErrorForm ∷ (each_due (AmountForm kinds.Price) tables.sections ++ outcome_due tables))) (
-          alone_each tables (AmountForm kinds.Start) tables.sections (One ErrorForm ∷ (each_due (AmountForm kinds.Price) tables.sections ++ outcome_due tables)) (
-            alone_one tables ErrorForm (each_due (AmountForm kinds.Price) tables.sections ++ outcome_due tables) (
-              alone_each tables (AmountForm kinds.Price) tables.sections (outcome_due tables) (
-                alone_each tables BundleForm tables.students (Turns ∷ (each_due FinalForm tables.students ++ (each_due UsedForm tables.sections ++ One EndForm ∷ []))) (alone_behind tables tables.students tables.sections)
-              )
-            )
-          )
-        )
-      )
+    alone_one tables OrderForm (prices_due tables (outcome_due tables)) (
+    alone_each tables (AmountForm kinds.Budget) tables.students (each_due (AmountForm kinds.Start) tables.sections ++ (One ErrorForm ∷ (each_due (AmountForm kinds.Price) tables.sections ++ outcome_due tables))) (
+    alone_each tables (AmountForm kinds.Start) tables.sections (One ErrorForm ∷ (each_due (AmountForm kinds.Price) tables.sections ++ outcome_due tables)) (
+    alone_one tables ErrorForm (each_due (AmountForm kinds.Price) tables.sections ++ outcome_due tables) (
+    alone_each tables (AmountForm kinds.Price) tables.sections (outcome_due tables) (
+    alone_each tables BundleForm tables.students (Turns ∷ (each_due FinalForm tables.students ++ (each_due UsedForm tables.sections ++ One EndForm ∷ []))) (alone_behind tables tables.students tables.sections)
+    )
+    )
+    )
+    )
+    )
     )
 
 plain : (tables : Tables) → AreTables tables → IsPlain (ArePublished tables)

@@ -1,15 +1,13 @@
 -- The lines that are due are those of a publication.
-use Rattle.std.proofs.Common.{ℕ, suc, ◌≡◌, ◌+◌, ◌≤◌, List, [], ◌∷◌, ◌++◌, length, map, ap, sym, refl, subst, ◌∙◌, inl, inr, arith}
+use Rattle.std.proofs.Common.{ℕ, suc, ◌≡◌, ◌≤◌, List, [], ◌∷◌, ◌++◌, map, ap, sym, refl, subst, ◌∙◌, inl, inr}
 use Rattle.std.specs.Prelude.{All}
-use Rattle.std.proofs.lemmas.List.Elements.{All-cons, All-head, All-nil, All-tail}
+use Rattle.std.proofs.lemmas.List.Elements.{All-cons, All-nil}
 use Rattle.market_certificate.specs.declared.amounts.Amount.TheVariants as kinds
 use Rattle.market_certificate.specs.Tables.{Tables}
-use Rattle.market_certificate.specs.Publications.{Publication, ProvedTurn, AreFor, IsBundleOf, IsProved, IsPublication, IsTurn, IsUsed}
-use Rattle.market_certificate.specs.Texts.{ArePublished, amount_line, bundle_line, each_line, end_line, error_line, final_line, head_line, lines_of, most_of, order_line, turn_line, used_line}
-use Rattle.market_certificate.specs.Due.{AmountForm, AreDue, BundleForm, Due, EndForm, ErrorForm, FinalForm, Form, HasForm, HeadForm, OrderForm, IsTurnLine, One, Then, Turns, TurnsThen, UsedForm, due_of, each_due, outcome_due, outcome_lines, prices_due, prices_lines}
-use Rattle.market_certificate.proofs.Forms.{no_form_is_turn}
-use Rattle.market_certificate.proofs.Steps.{IsBehind, behind_each, behind_turns, into_turns}
-
+use Rattle.market_certificate.specs.Publications.{ProvedTurn, AreFor, IsBundleOf, IsProved, IsTurn, IsUsed}
+use Rattle.market_certificate.specs.Texts.{ArePublished, amount_line, bundle_line, each_line, end_line, error_line, final_line, head_line, most_of, order_line, turn_line, used_line}
+use Rattle.market_certificate.specs.Due.{AmountForm, AreDue, BundleForm, Due, EndForm, ErrorForm, FinalForm, Form, HasForm, HeadForm, OrderForm, One, Turns, TurnsThen, UsedForm, due_of, each_due, outcome_due, prices_due}
+use Rattle.market_certificate.proofs.Steps.{behind_each, behind_turns, into_turns}
 
 -- values at the front, and what stands behind their lines
 record EachThen {V : Type 0} (tables : Tables) (line : List ℕ → V → List ℕ) (P : V → Type 0) (names : List (List ℕ)) (more : List Due) (lines : List (List ℕ)) : Type 0 where
@@ -101,36 +99,36 @@ published_from tables lines due =
         used = used.range;
       },
       head.ahead
-      ∙ ap (λ l. l ∷ head.tail) head.has
-      ∙ ap (λ ls. head_line tables ∷ ls) (
-        order.ahead
-        ∙ ap (λ l. l ∷ order.tail) order.has.2
-        ∙ ap (λ ls. order_line order.has.0 ∷ ls) (
+          ∙ ap (λ l. l ∷ head.tail) head.has
+          ∙ ap (λ ls. head_line tables ∷ ls) (
+          order.ahead
+          ∙ ap (λ l. l ∷ order.tail) order.has.2
+          ∙ ap (λ ls. order_line order.has.0 ∷ ls) (
           budgets.ahead
           ∙ ap (λ ls. each_line (amount_line kinds.Budget) tables.students budgets.values ++ ls) (
-            start.ahead
-            ∙ ap (λ ls. each_line (amount_line kinds.Start) tables.sections start.values ++ ls) (
-              error.ahead
-              ∙ ap (λ l. l ∷ error.tail) error.has.2
-              ∙ ap (λ ls. error_line error.has.0 ∷ ls) (
-                prices.ahead
-                ∙ ap (λ ls. each_line (amount_line kinds.Price) tables.sections prices.values ++ ls) (
-                  bundles.ahead
-                  ∙ ap (λ ls. each_line (bundle_line tables.sections) tables.students bundles.values ++ ls) (
-                    turns.ahead
-                    ∙ ap (λ ls. map (turn_line tables.students tables.sections) turns.turns ++ ls) (
-                      finals.ahead
-                      ∙ ap (λ ls. each_line (final_line tables.sections) tables.students finals.values ++ ls) (
-                        used.ahead ∙ ap (λ ls. each_line used_line tables.sections used.values ++ ls) (last.ahead ∙ ap (λ l. l ∷ last.tail) last.has ∙ ap (λ ls. end_line ∷ ls) last.then)
-                      )
-                    )
-                  )
-                )
-              )
-            )
+          start.ahead
+          ∙ ap (λ ls. each_line (amount_line kinds.Start) tables.sections start.values ++ ls) (
+          error.ahead
+          ∙ ap (λ l. l ∷ error.tail) error.has.2
+          ∙ ap (λ ls. error_line error.has.0 ∷ ls) (
+          prices.ahead
+          ∙ ap (λ ls. each_line (amount_line kinds.Price) tables.sections prices.values ++ ls) (
+          bundles.ahead
+          ∙ ap (λ ls. each_line (bundle_line tables.sections) tables.students bundles.values ++ ls) (
+          turns.ahead
+          ∙ ap (λ ls. map (turn_line tables.students tables.sections) turns.turns ++ ls) (
+          finals.ahead
+          ∙ ap (λ ls. each_line (final_line tables.sections) tables.students finals.values ++ ls) (
+          used.ahead ∙ ap (λ ls. each_line used_line tables.sections used.values ++ ls) (last.ahead ∙ ap (λ l. l ∷ last.tail) last.has ∙ ap (λ ls. end_line ∷ ls) last.then)
           )
-        )
-      ),
+          )
+          )
+          )
+          )
+          )
+          )
+          )
+          ),
     )
 
 pub each_to : {V : Type 0} (tables : Tables) (form : List ℕ → Form) (line : List ℕ → V → List ℕ) (P : V → Type 0) → ((name : List ℕ) (value : V) → P value → HasForm tables (form name) (line name value))
@@ -159,18 +157,18 @@ published_to tables lines published =
       (
         (p.order, is.order, refl),
         each_to tables (AmountForm kinds.Budget) (amount_line kinds.Budget) (λ tokens. tokens ≤ most_of kinds.Budget) (λ name value is. (value, is, refl)) tables.students p.budgets _ _ is.budgets (
-          each_to tables (AmountForm kinds.Start) (amount_line kinds.Start) (λ tokens. tokens ≤ most_of kinds.Start) (λ name value is. (value, is, refl)) tables.sections p.start _ _ is.start (
-            (p.error, is.error, refl),
-            each_to tables (AmountForm kinds.Price) (amount_line kinds.Price) (λ tokens. tokens ≤ most_of kinds.Price) (λ name value is. (value, is, refl)) tables.sections p.prices _ _ is.prices (
-              each_to tables BundleForm (bundle_line tables.sections) (IsProved tables.sections) (λ name value is. (value, is, refl)) tables.students p.bundles _ _ is.bundles (
-                turns_to tables p.turns _ is.turns (
+            each_to tables (AmountForm kinds.Start) (amount_line kinds.Start) (λ tokens. tokens ≤ most_of kinds.Start) (λ name value is. (value, is, refl)) tables.sections p.start _ _ is.start (
+              (p.error, is.error, refl),
+              each_to tables (AmountForm kinds.Price) (amount_line kinds.Price) (λ tokens. tokens ≤ most_of kinds.Price) (λ name value is. (value, is, refl)) tables.sections p.prices _ _ is.prices (
+                  each_to tables BundleForm (bundle_line tables.sections) (IsProved tables.sections) (λ name value is. (value, is, refl)) tables.students p.bundles _ _ is.bundles (
+                  turns_to tables p.turns _ is.turns (
                   each_to tables FinalForm (final_line tables.sections) (IsBundleOf tables.sections) (λ name value is. (value, is, refl)) tables.students p.allocation _ _ is.allocation (
-                    each_to tables UsedForm used_line IsUsed (λ name value is. (value, is, refl)) tables.sections p.used (One EndForm ∷ []) (end_line ∷ []) is.used (refl, refl)
+                  each_to tables UsedForm used_line IsUsed (λ name value is. (value, is, refl)) tables.sections p.used (One EndForm ∷ []) (end_line ∷ []) is.used (refl, refl)
                   )
-                )
-              )
+                  )
+                  )
+                  ),
             )
-          )
-        )
-      )
+            ),
+      ),
     )

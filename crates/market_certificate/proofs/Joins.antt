@@ -1,5 +1,5 @@
 -- Lines and fields in a row, one more of them.
-use Rattle.std.proofs.Common.{ℕ, zero, suc, ◌≡◌, ◌==◌, ◌+◌, ◌<◌, ◌≤◌, List, [], ◌∷◌, ◌++◌, cond, length, length-append, map, take, get_or, ap, sym, refl, subst, arith, ◌∙◌, append_assoc, Bor}
+use Rattle.std.proofs.Common.{ℕ, ◌≡◌, ◌==◌, ◌+◌, ◌<◌, List, [], ◌∷◌, ◌++◌, cond, length, length-append, map, take, get_or, ap, sym, refl, subst, arith, ◌∙◌, append_assoc, Bor}
 use Rattle.std.specs.Prelude.{All, codes, Option, Some}
 use Rattle.std.specs.List.{flat_map, join_with_byte}
 use Rattle.std.specs.Fmt.{decimal}
@@ -75,9 +75,9 @@ pub names_more : {V : Type 0} (line : List ℕ → V → List ℕ) (names : List
 names_more line names values k next name value begun text new e inside inside' named valued so is =
     let here : name_bytes name ≡ get_or (map name_bytes names) k [] = ap name_bytes (named name) ∙ sym (get_or-map name_bytes names k name [] inside) in
     subst (λ (n : ℕ). new ≡ begun ++ joined (each_line line (take n (map name_bytes names)) (take n values))) (sym e) (
-      text_more begun text new (line (name_bytes name) value) (each_line line (take k (map name_bytes names)) (take k values)) _
-      (each_more line (map name_bytes names) values k (name_bytes name) value (omega (arith, length-map names name_bytes)) inside' here valued)
-      so is
+    text_more begun text new (line (name_bytes name) value) (each_line line (take k (map name_bytes names)) (take k values)) _
+    (each_more line (map name_bytes names) values k (name_bytes name) value (omega (arith, length-map names name_bytes)) inside' here valued)
+    so is
     )
 
 -- the element of a list that was mapped
@@ -148,8 +148,8 @@ pub turn_more : (line : ProvedTurn → List ℕ) (turns : List ProvedTurn) (k ne
     → new ≡ (text ++ line turn) ++ 10 ∷ [] → new ≡ begun ++ joined (map line (take next turns))
 turn_more line turns k next turn begun text new e inside here so is =
     subst (λ (n : ℕ). new ≡ begun ++ joined (map line (take n turns))) (sym e) (
-      text_more begun text new (line turn) (map line (take k turns)) (map line (take (k + 1) turns))
-      (ap (map line) (take_more turns k turn inside ∙ ap (λ t. take k turns ++ t ∷ []) (sym here)) ∙ map_last line (take k turns) turn) so is
+    text_more begun text new (line turn) (map line (take k turns)) (map line (take (k + 1) turns))
+    (ap (map line) (take_more turns k turn inside ∙ ap (λ t. take k turns ++ t ∷ []) (sym here)) ∙ map_last line (take k turns) turn) so is
     )
 
 -- the same for the element of a loop over a slice

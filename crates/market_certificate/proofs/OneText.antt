@@ -1,5 +1,5 @@
 -- Two publications of one text are one.
-use Rattle.std.proofs.Common.{ℕ, zero, suc, ◌≡◌, ◌≢◌, ◌+◌, ◌<◌, ◌≤◌, ◌^◌, ◌==◌, true, false, List, [], ◌∷◌, ◌++◌, length, map, get_or, ap, sym, refl, subst, ◌∙◌, arith, length-append}
+use Rattle.std.proofs.Common.{ℕ, ◌≡◌, ◌<◌, ◌≤◌, ◌^◌, ◌==◌, false, List, [], ◌∷◌, ◌++◌, length, map, get_or, ap, sym, refl, subst, ◌∙◌, arith, length-append}
 use Rattle.std.specs.Prelude.{All, IsTrue, codes}
 use Rattle.std.specs.List.{AllByRecursion, join_with_byte}
 use Rattle.std.specs.Fmt.{decimal}
@@ -9,10 +9,10 @@ use Rattle.std.proofs.lemmas.List.Elements.{All-from_recursion, All-head, All-ta
 use Rattle.market_units.specs.Names.{IsName}
 use Rattle.market_certificate.specs.declared.amounts.Amount.{Amount}
 use Rattle.market_certificate.specs.declared.amounts.Amount.TheVariants as kinds
-use Rattle.market_certificate.specs.Lines.{Lacks, joined, spaced}
+use Rattle.market_certificate.specs.Lines.{Lacks, joined}
 use Rattle.market_certificate.specs.Tables.{Tables, AreNames, AreTables, name_at}
-use Rattle.market_certificate.specs.Publications.{Proved, ProvedTurn, Publication, AreFor, IsBundleOf, IsProved, IsPublication, IsSession, IsTree, IsTurn, IsUsed, is_tree_byte}
-use Rattle.market_certificate.specs.Texts.{amount_line, bundle_line, bundle_text, each_line, end_line, error_line, final_line, head_line, lines_of, most_of, order_line, proved_text, text_of, turn_line, used_line, word_of}
+use Rattle.market_certificate.specs.Publications.{Proved, ProvedTurn, Publication, AreFor, IsBundleOf, IsProved, IsPublication, IsSession, HasTreeBytes, IsTurn, IsUsed, is_tree_byte}
+use Rattle.market_certificate.specs.Texts.{amount_line, bundle_line, bundle_text, each_line, end_line, error_line, final_line, head_line, lines_of, most_of, order_line, proved_text, turn_line, used_line, word_of}
 use Rattle.market_certificate.specs.Due.{AreDue, EndForm, FinalForm, One, StartsTurn, Then, UsedForm, each_due}
 use Rattle.market_certificate.specs.Laws.{OnePublicationAText}
 use Rattle.market_certificate.proofs.Bundles.{different, name_lacks, named, same_bundle}
@@ -31,7 +31,7 @@ digits n small = digits_lack 10 n (omega arith) small
 no_feed : (name : List ℕ) → IsName name → Lacks 10 name
 no_feed name is = name_lacks 10 name refl is
 
-tree_lacks : (tree : List ℕ) → IsTree tree → Lacks 10 tree
+tree_lacks : (tree : List ℕ) → HasTreeBytes tree → Lacks 10 tree
 tree_lacks tree is k d inside =
     ne_eqb (get_or tree k d) 10 (λ e. let byte : IsTrue (is_tree_byte 10) = subst (λ (b : ℕ). IsTrue (is_tree_byte b)) e (is.each k d inside) in absurd (cc byte))
 
@@ -102,19 +102,19 @@ lines_lack tables are p is = (
   (
     order_line_lacks p.order is.order,
     both_lack (each_line (amount_line kinds.Budget) tables.students p.budgets) _ (each_lack (amount_line kinds.Budget) (λ tokens. tokens ≤ most_of kinds.Budget) (amount_lacks kinds.Budget) tables.students p.budgets are.students.each is.budgets.each) (
-      both_lack (each_line (amount_line kinds.Start) tables.sections p.start) _ (each_lack (amount_line kinds.Start) (λ tokens. tokens ≤ most_of kinds.Start) (amount_lacks kinds.Start) tables.sections p.start are.sections.each is.start.each) (
-        error_lacks p.error is.error,
-        both_lack (each_line (amount_line kinds.Price) tables.sections p.prices) _ (each_lack (amount_line kinds.Price) (λ tokens. tokens ≤ most_of kinds.Price) (amount_lacks kinds.Price) tables.sections p.prices are.sections.each is.prices.each) (
-          both_lack (each_line (bundle_line tables.sections) tables.students p.bundles) _ (each_lack (bundle_line tables.sections) (IsProved tables.sections) (bundle_line_lacks tables.sections are.sections) tables.students p.bundles are.students.each is.bundles.each) (
-            both_lack (map (turn_line tables.students tables.sections) p.turns) _ (turns_lack tables.students tables.sections are.students are.sections p.turns is.turns) (
+        both_lack (each_line (amount_line kinds.Start) tables.sections p.start) _ (each_lack (amount_line kinds.Start) (λ tokens. tokens ≤ most_of kinds.Start) (amount_lacks kinds.Start) tables.sections p.start are.sections.each is.start.each) (
+          error_lacks p.error is.error,
+          both_lack (each_line (amount_line kinds.Price) tables.sections p.prices) _ (each_lack (amount_line kinds.Price) (λ tokens. tokens ≤ most_of kinds.Price) (amount_lacks kinds.Price) tables.sections p.prices are.sections.each is.prices.each) (
+              both_lack (each_line (bundle_line tables.sections) tables.students p.bundles) _ (each_lack (bundle_line tables.sections) (IsProved tables.sections) (bundle_line_lacks tables.sections are.sections) tables.students p.bundles are.students.each is.bundles.each) (
+              both_lack (map (turn_line tables.students tables.sections) p.turns) _ (turns_lack tables.students tables.sections are.students are.sections p.turns is.turns) (
               both_lack (each_line (final_line tables.sections) tables.students p.allocation) _ (each_lack (final_line tables.sections) (IsBundleOf tables.sections) (final_lacks tables.sections are.sections) tables.students p.allocation are.students.each is.allocation.each) (
-                both_lack (each_line used_line tables.sections p.used) (end_line ∷ []) (each_lack used_line IsUsed used_lacks tables.sections p.used are.sections.each is.used.each) (word_lacks (codes "end") (refl, (refl, (refl, tt))), tt)
+              both_lack (each_line used_line tables.sections p.used) (end_line ∷ []) (each_lack used_line IsUsed used_lacks tables.sections p.used are.sections.each is.used.each) (word_lacks (codes "end") (refl, (refl, (refl, tt))), tt)
               )
-            )
-          )
+              )
+              )
+              ),
         )
-      )
-    ),
+        ),
   ),
 )
 
@@ -241,9 +241,9 @@ same_turns tables are (t ∷ ts) (u ∷ us) y z none none' each each' e =
 last_lines : (tables : Tables) (p : Publication) → IsPublication tables p → NoTurnFirst (each_line (final_line tables.sections) tables.students p.allocation ++ (each_line used_line tables.sections p.used ++ end_line ∷ []))
 last_lines tables p is =
     no_turn_first tables tables.students tables.sections _ (
-      each_to tables FinalForm (final_line tables.sections) (IsBundleOf tables.sections) (λ name value is. (value, is, refl)) tables.students p.allocation _ _ is.allocation (
-        each_to tables UsedForm used_line IsUsed (λ name value is. (value, is, refl)) tables.sections p.used (One EndForm ∷ []) (end_line ∷ []) is.used (refl, refl)
-      )
+    each_to tables FinalForm (final_line tables.sections) (IsBundleOf tables.sections) (λ name value is. (value, is, refl)) tables.students p.allocation _ _ is.allocation (
+    each_to tables UsedForm used_line IsUsed (λ name value is. (value, is, refl)) tables.sections p.used (One EndForm ∷ []) (end_line ∷ []) is.used (refl, refl)
+    )
     )
 
 -- what stands behind the first lines

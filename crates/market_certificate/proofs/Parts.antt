@@ -1,16 +1,16 @@
 -- The parts of a text behind its order, put together.
-use Rattle.std.proofs.Common.{ℕ, zero, suc, ◌≡◌, ◌<◌, ◌≤◌, ◌+◌, ◌^◌, List, [], ◌∷◌, ◌++◌, length, map, ap, sym, refl, subst, arith, ◌∙◌, append_assoc}
+use Rattle.std.proofs.Common.{ℕ, ◌≡◌, ◌<◌, ◌≤◌, ◌^◌, List, [], ◌∷◌, ◌++◌, length, map, ap, sym, refl, subst, ◌∙◌}
 use Rattle.std.specs.Prelude.{All}
 use Rattle.market_certificate.specs.declared.amounts.Amount.{Amount}
 use Rattle.market_certificate.specs.declared.amounts.Amount.TheVariants as kinds
 use Rattle.market_certificate.specs.declared.refusals.LineFault.{LineFault}
 use Rattle.market_certificate.specs.declared.refusals.LineFault.TheVariants as faults
 use Rattle.market_certificate.specs.Finding.{Finds}
-use Rattle.market_certificate.specs.Lines.{Lacks, joined}
+use Rattle.market_certificate.specs.Lines.{joined}
 use Rattle.market_certificate.specs.Tables.{Tables}
 use Rattle.market_certificate.specs.Publications.{Proved, ProvedTurn, AreFor, IsBundleOf, IsProved, IsTurn, IsUsed}
 use Rattle.market_certificate.specs.Texts.{amount_line, bundle_line, each_line, end_line, error_line, final_line, most_of, turn_line, used_line}
-use Rattle.market_certificate.specs.Due.{AmountForm, ArePrices, AreOutcome, AreDue, BundleForm, Due, EndForm, ErrorForm, FinalForm, Form, NoTurnNext, One, Takes, Turns, UsedForm, each_due, outcome_due, outcome_lines, prices_due, prices_lines}
+use Rattle.market_certificate.specs.Due.{AmountForm, ArePrices, AreOutcome, AreDue, BundleForm, Due, EndForm, ErrorForm, FinalForm, Form, NoTurnNext, One, Takes, Turns, UsedForm, each_due}
 use Rattle.market_certificate.proofs.Blocks.{passes_each}
 use Rattle.market_certificate.proofs.Joins.{joined_append}
 use Rattle.market_certificate.proofs.Steps.{behind_one, behind_turns, finds_behind, finds_behind_turns, rest_behind}
@@ -41,17 +41,17 @@ prices_read tables budgets start error prices n1 n2 n3 n4 n5 t1 t2 t3 t4 t5 r1 k
   small_error = small;
   each_price = r4;
   whole = λ more e.
-  both_are (each_line (amount_line kinds.Budget) tables.students budgets) _ t1 t2 k1.ahead (
-    both_are (each_line (amount_line kinds.Start) tables.sections start) _ t2 t3 k2.ahead (
+      both_are (each_line (amount_line kinds.Budget) tables.students budgets) _ t1 t2 k1.ahead (
+      both_are (each_line (amount_line kinds.Start) tables.sections start) _ t2 t3 k2.ahead (
       both_are (error_line error ∷ []) _ t3 t4 k3.ahead (both_are (each_line (amount_line kinds.Price) tables.sections prices) more t4 t5 k4.ahead e)
-    )
-  );
+      )
+      );
   passed = λ more at fault finds.
-  passes_amounts tables kinds.Budget tables.students budgets n1 t1 n2 t2 r1 k1 _ at fault (
-    passes_amounts tables kinds.Start tables.sections start n2 t2 n3 t3 r2 k2 _ at fault (
+      passes_amounts tables kinds.Budget tables.students budgets n1 t1 n2 t2 r1 k1 _ at fault (
+      passes_amounts tables kinds.Start tables.sections start n2 t2 n3 t3 r2 k2 _ at fault (
       passes_error tables error n3 t3 n4 t4 small k3 _ at fault (passes_amounts tables kinds.Price tables.sections prices n4 t4 n5 t5 r4 k4 more at fault finds)
-    )
-  );
+      )
+      );
 }
 
 pub passes_bundles : (tables : Tables) (values : List Proved) (number : ℕ) (text : List ℕ) (next : ℕ) (rest : List ℕ) → AreFor tables.students (IsProved tables.sections) values
@@ -95,9 +95,9 @@ pub passes_turns : (tables : Tables) (turns : List ProvedTurn) (number : ℕ) (t
 passes_turns tables turns number text next rest range takes none at fault finds =
     let begun = begins_with tables.students tables.sections in
     subst (λ due. Finds (AreDue tables (Turns ∷ due)) number text at fault) (sym begun.is) (
-      finds_behind (AreDue tables (Turns ∷ One begun.form ∷ begun.more)) (AreDue tables (Turns ∷ One begun.form ∷ begun.more)) (map (turn_line tables.students tables.sections) turns) number text next rest at fault
-      (behind_turns tables turns (One begun.form ∷ begun.more) range) takes
-      (finds_behind_turns tables begun.form begun.more next rest at fault none (subst (λ due. Finds (AreDue tables due) next rest at fault) begun.is finds))
+    finds_behind (AreDue tables (Turns ∷ One begun.form ∷ begun.more)) (AreDue tables (Turns ∷ One begun.form ∷ begun.more)) (map (turn_line tables.students tables.sections) turns) number text next rest at fault
+    (behind_turns tables turns (One begun.form ∷ begun.more) range) takes
+    (finds_behind_turns tables begun.form begun.more next rest at fault none (subst (λ due. Finds (AreDue tables due) next rest at fault) begun.is finds))
     )
 
 -- bytes behind the last line
@@ -116,11 +116,11 @@ outcome_read tables bundles turns allocation used n1 n2 n3 n4 n5 n6 t1 t2 t3 t4 
   each_final = r3;
   each_seats = r4;
   whole =
-  both_are (each_line (bundle_line tables.sections) tables.students bundles) _ t1 t2 k1.ahead (
-    both_are (map (turn_line tables.students tables.sections) turns) _ t2 t3 k2.ahead (
+      both_are (each_line (bundle_line tables.sections) tables.students bundles) _ t1 t2 k1.ahead (
+      both_are (map (turn_line tables.students tables.sections) turns) _ t2 t3 k2.ahead (
       both_are (each_line (final_line tables.sections) tables.students allocation) _ t3 t4 k3.ahead (
-        both_are (each_line used_line tables.sections used) _ t4 t5 k4.ahead (both_are (end_line ∷ []) [] t5 t6 k5.ahead none)
+      both_are (each_line used_line tables.sections used) _ t4 t5 k4.ahead (both_are (end_line ∷ []) [] t5 t6 k5.ahead none)
       )
-    )
-  );
+      )
+      );
 }

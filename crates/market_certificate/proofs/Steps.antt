@@ -1,7 +1,6 @@
 -- The first defect of a text, line by line.
-use Rattle.std.proofs.Common.{ℕ, zero, suc, map, ◌<◌, ◌+◌, ◌≡◌, ◌≢◌, ◌≤◌, List, [], ◌∷◌, ◌++◌, length, take, drop, get_or, refl, ap, sym, ◌∙◌, inl, inr, arith, append_assoc, subst, ◌⊎◌}
+use Rattle.std.proofs.Common.{ℕ, map, ◌<◌, ◌+◌, ◌≡◌, List, [], ◌∷◌, ◌++◌, length, refl, ap, sym, ◌∙◌, inl, inr, arith, append_assoc, subst}
 use Rattle.std.specs.Prelude.{All}
-use Rattle.std.proofs.lemmas.List.{append-nil}
 use Rattle.std.proofs.lemmas.List.Elements.{All-head, All-tail}
 use Rattle.market_certificate.specs.declared.refusals.TextRefusal.{TextRefusal}
 use Rattle.market_certificate.specs.declared.refusals.TextRefusal.TheVariants as refusals
@@ -11,8 +10,8 @@ use Rattle.market_certificate.specs.Lines.{Lacks, joined}
 use Rattle.market_certificate.specs.Tables.{Tables}
 use Rattle.market_certificate.specs.Publications.{ProvedTurn, AreFor, IsTurn}
 use Rattle.market_certificate.specs.Texts.{each_line, turn_line}
-use Rattle.market_certificate.specs.Due.{Form, Due, One, Turns, HasForm, IsTurnLine, StartsTurn, Then, TurnsThen, AreDue, NoTurnNext, Takes, each_due}
-use Rattle.market_certificate.specs.Finding.{GoesOn, Begins, IsOutOfForm, IsOtherLine, Stops, StopsAt, Finds, OnDefect}
+use Rattle.market_certificate.specs.Due.{Form, Due, One, Turns, HasForm, IsTurnLine, StartsTurn, AreDue, NoTurnNext, Takes, each_due}
+use Rattle.market_certificate.specs.Finding.{GoesOn, IsOtherLine, Stops, StopsAt, Finds, OnDefect}
 use Rattle.market_certificate.proofs.Cuts.{cut_once, lacks_not}
 use Rattle.market_certificate.proofs.Forms.{no_form_is_turn, some_line, some_lines}
 
@@ -53,12 +52,12 @@ stop_behind Is Behind lines front tail faults.Form is stop =
         next = out.next;
         whole = out.whole;
         form = λ begins.
-        out.form (
-          begins.0,
-          is.from ((front ++ out.line ∷ []) ++ begins.0) (
-            subst Is (ap (λ (ls : List (List ℕ)). ls ++ begins.0) (append_assoc lines front (out.line ∷ [])) ∙ append_assoc lines (front ++ out.line ∷ []) begins.0) begins.1
-          ),
-        );
+            out.form (
+              begins.0,
+              is.from ((front ++ out.line ∷ []) ++ begins.0) (
+                  subst Is (ap (λ (ls : List (List ℕ)). ls ++ begins.0) (append_assoc lines front (out.line ∷ [])) ∙ append_assoc lines (front ++ out.line ∷ []) begins.0) begins.1
+                  ),
+            );
       },
     )
 stop_behind Is Behind lines front tail faults.Rest is stop = (is.to front stop.0, stop.1)

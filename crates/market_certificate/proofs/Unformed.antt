@@ -1,9 +1,8 @@
 -- Parts of a line of a form.
-use Rattle.std.proofs.Common.{ℕ, zero, suc, ◌≡◌, ◌≢◌, ◌==◌, ◌<◌, ◌≤◌, ◌+◌, ◌^◌, false, List, [], ◌∷◌, ◌++◌, length, map, get_or, ap, sym, refl, subst, arith, ◌∙◌}
+use Rattle.std.proofs.Common.{ℕ, ◌≡◌, ◌≢◌, ◌==◌, ◌<◌, false, List, [], ◌∷◌, ◌++◌, length, map, get_or, ap, sym, refl, subst, arith, ◌∙◌}
 use Rattle.std.specs.Prelude.{All, IfNone, None, Option, Some, codes}
 use Rattle.std.specs.List.{AllByRecursion, join_with_byte, slice_split}
 use Rattle.std.specs.Fmt.{decimal}
-use Rattle.std.proofs.lemmas.Fmt.{decimal_injective}
 use Rattle.std.proofs.lemmas.List.{append_cancel_left, get_or-map, length-map}
 use Rattle.std.proofs.lemmas.List.Elements.{All-cons, All-head, All-nil, All-tail}
 use Rattle.market_units.specs.Names.{is_name_byte}
@@ -27,7 +26,7 @@ pub bundle_lacks : (stop : ℕ) (names : List (List ℕ)) (bundle : List ℕ) �
 bundle_lacks stop names bundle other begin comma close are is =
     let P : ℕ → Type 0 = λ byte. (byte == stop) ≡ false in
     All-cons P 91 (join_with_byte 44 (map (name_at names) bundle) ++ 93 ∷ []) begin (
-      lacks_more stop (join_with_byte 44 (map (name_at names) bundle)) [] 93 close (joined_lack 44 stop (map (name_at names) bundle) comma (names_lack stop names bundle other are is.of_catalog)) (All-nil P)
+    lacks_more stop (join_with_byte 44 (map (name_at names) bundle)) [] 93 close (joined_lack 44 stop (map (name_at names) bundle) comma (names_lack stop names bundle other are is.of_catalog)) (All-nil P)
     )
 
 pub no_proved : (names : List (List ℕ)) (bytes : List ℕ) → Lacks 32 bytes → (proved : Proved) → bytes ≢ proved_text names proved

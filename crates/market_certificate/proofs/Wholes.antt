@@ -1,9 +1,8 @@
 -- A whole text: its first defect, and that it is a publication's.
-use Rattle.std.proofs.Common.{ℕ, ◌≡◌, ◌<◌, ◌^◌, ◌++◌, ◌∷◌, [], List, ap, sym, subst, refl, ◌∙◌, append_assoc}
+use Rattle.std.proofs.Common.{ℕ, ◌≡◌, ◌++◌, ◌∷◌, [], List, ap, subst, refl, ◌∙◌, append_assoc}
 use Rattle.std.specs.Prelude.{All}
 use Rattle.market_certificate.specs.declared.refusals.LineFault.{LineFault}
 use Rattle.market_certificate.specs.declared.refusals.TextRefusal.{TextRefusal}
-use Rattle.market_certificate.specs.Lines.{joined}
 use Rattle.market_certificate.specs.Tables.{Tables, AreTables}
 use Rattle.market_certificate.specs.Publications.{Publication, IsSession}
 use Rattle.market_certificate.specs.Texts.{ArePublished, IsPublished, head_line, order_line, text_of}
@@ -17,8 +16,8 @@ behind_head : (tables : Tables) (number : ℕ) (text : List ℕ) (next : ℕ) (r
     → Finds (AreDue tables (One OrderForm ∷ prices_due tables (outcome_due tables))) next rest at fault → Finds (ArePublished tables) number text at fault
 behind_head tables number text next rest takes at fault finds =
     finds_published tables number text at fault (
-      finds_behind (AreDue tables (due_of tables)) (AreDue tables (One OrderForm ∷ prices_due tables (outcome_due tables))) (head_line tables ∷ []) number text next rest at fault
-      (behind_one tables HeadForm (One OrderForm ∷ prices_due tables (outcome_due tables)) (head_line tables) refl) takes finds
+    finds_behind (AreDue tables (due_of tables)) (AreDue tables (One OrderForm ∷ prices_due tables (outcome_due tables))) (head_line tables ∷ []) number text next rest at fault
+    (behind_one tables HeadForm (One OrderForm ∷ prices_due tables (outcome_due tables)) (head_line tables) refl) takes finds
     )
 
 behind_order : (tables : Tables) (order : List ℕ) (number : ℕ) (text : List ℕ) (next : ℕ) (rest : List ℕ) → All IsSession order → Takes (order_line order ∷ []) number text next rest → (at : ℕ) (fault : LineFault)

@@ -1,7 +1,5 @@
 -- The parts of a text, written one behind another.
-use Rattle.std.proofs.Common.{ℕ, ◌≡◌, List, [], ◌∷◌, ◌++◌, map, ap, sym, refl, ◌∙◌, append_assoc}
-use Rattle.std.specs.Prelude.{codes}
-use Rattle.std.specs.Fmt.{decimal}
+use Rattle.std.proofs.Common.{ℕ, ◌≡◌, List, [], ◌∷◌, ◌++◌, map, ap, sym, ◌∙◌, append_assoc}
 use Rattle.market_certificate.specs.declared.amounts.Amount.TheVariants as kinds
 use Rattle.market_certificate.specs.Lines.{joined}
 use Rattle.market_certificate.specs.Tables.{Tables}

@@ -36,6 +36,7 @@ HasForm tables (FinalForm name) line = (bundle : List ℕ) × IsBundleOf tables.
 HasForm tables (UsedForm name) line = (seats : ℕ × ℕ) × IsUsed seats × (line ≡ used_line name seats)
 HasForm tables EndForm line = line ≡ end_line
 
+-- the line is that of a turn
 abbrev pub IsTurnLine : Tables → List ℕ → Type 0
 IsTurnLine tables line = (turn : ProvedTurn) × IsTurn tables.students tables.sections turn × (line ≡ turn_line tables.students tables.sections turn)
 
@@ -63,7 +64,7 @@ AreDue tables (Turns ∷ due) lines = TurnsThen tables (AreDue tables due) lines
 abbrev pub each_due : (List ℕ → Form) → List (List ℕ) → List Due
 each_due form names = map (λ name. One (form name)) names
 
--- what is due of a publication: prices behind the order, and what came of them
+-- what is due behind the prices, to the last line
 abbrev pub outcome_due : Tables → List Due
 outcome_due tables =
     each_due BundleForm tables.students
@@ -72,6 +73,7 @@ outcome_due tables =
     ++ (each_due UsedForm tables.sections
     ++ One EndForm ∷ [])))
 
+-- what is due behind the order: the budgets, the prices and the error, and more behind them
 abbrev pub prices_due : Tables → List Due → List Due
 prices_due tables more =
     each_due (AmountForm amount.Budget) tables.students
@@ -80,6 +82,7 @@ prices_due tables more =
     ∷ (each_due (AmountForm amount.Price) tables.sections
     ++ more)))
 
+-- what is due of a publication
 abbrev pub due_of : Tables → List Due
 due_of tables = One HeadForm ∷ One OrderForm ∷ prices_due tables (outcome_due tables)
 
@@ -101,6 +104,7 @@ prices_lines tables budgets start error prices more =
     ∷ (each_line (amount_line amount.Price) tables.sections prices
     ++ more)))
 
+-- the lines of these values, to the last line
 abbrev pub outcome_lines : Tables → List Proved → List ProvedTurn → List (List ℕ) → List (ℕ × ℕ) → List (List ℕ)
 outcome_lines tables bundles turns allocation used =
     each_line (bundle_line tables.sections) tables.students bundles

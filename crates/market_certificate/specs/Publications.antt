@@ -44,21 +44,23 @@ pub record IsBundleOf (sections : List (List ℕ)) (bundle : List ℕ) : Type 0 
 abbrev pub is_tree_byte : ℕ → Bool
 is_tree_byte byte = is_ascii_digit byte || byte == 42 || byte == 110 || byte == 98 || byte == 99 || byte == 109 || byte == 43 || byte == 45
 
--- one such byte or more
-pub record IsTree (tree : List ℕ) : Type 0 where
+-- one such byte or more: the form of a tree, whatever it proves
+pub record HasTreeBytes (tree : List ℕ) : Type 0 where
   pub some : 0 < length tree
   pub each : All (λ byte. IsTrue (is_tree_byte byte)) tree
 
+-- a bundle of the catalogue, and a tree of such bytes
 pub record IsProved (sections : List (List ℕ)) (proved : Proved) : Type 0 where
   pub bundle : IsBundleOf sections proved.bundle
-  pub tree : IsTree proved.tree
+  pub tree : HasTreeBytes proved.tree
 
+-- a turn of a pass from 1, of a student of the roll, with such a bundle and tree
 pub record IsTurn (students sections : List (List ℕ)) (turn : ProvedTurn) : Type 0 where
   pub least : 1 ≤ turn.pass
   pub most : turn.pass < 2 ^ 64
   pub student : turn.student < length students
   pub bundle : IsBundleOf sections turn.bundle
-  pub tree : IsTree turn.tree
+  pub tree : HasTreeBytes turn.tree
 
 -- seats that are used, and seats
 pub record IsUsed (seats : ℕ × ℕ) : Type 0 where

@@ -16,18 +16,21 @@ bundle_text sections bundle = 91 ∷ (join_with_byte 44 (map (name_at sections) 
 abbrev pub proved_text : List (List ℕ) → Proved → List ℕ
 proved_text sections proved = spaced (bundle_text sections proved.bundle ∷ proved.tree ∷ [])
 
+-- the first line: the version of the tables
 abbrev pub head_line : Tables → List ℕ
 head_line tables = spaced (codes "course-match" ∷ decimal tables.version ∷ [])
 
+-- the line of the journal: the session of each entry
 abbrev pub order_line : List ℕ → List ℕ
 order_line order = spaced (codes "order" ∷ map decimal order)
 
--- the word in front of an amount, and the greatest amount
+-- the word in front of an amount
 abbrev pub word_of : Amount → List ℕ
 word_of amount.Budget = codes "budget"
 word_of amount.Start = codes "start"
 word_of amount.Price = codes "price"
 
+-- the greatest amount of each kind
 abbrev pub most_of : Amount → ℕ
 most_of amount.Budget = 1000000
 most_of amount.Start = 1000001
@@ -37,21 +40,27 @@ most_of amount.Price = 1000001
 abbrev pub amount_line : Amount → List ℕ → ℕ → List ℕ
 amount_line kind name tokens = spaced (word_of kind ∷ name ∷ decimal tokens ∷ [])
 
+-- the line of the clearing error
 abbrev pub error_line : ℕ → List ℕ
 error_line error = spaced (codes "error" ∷ decimal error ∷ [])
 
+-- the line of a student's bundle at the prices of stage two, with its tree
 abbrev pub bundle_line : List (List ℕ) → List ℕ → Proved → List ℕ
 bundle_line sections name proved = spaced (codes "bundle" ∷ name ∷ bundle_text sections proved.bundle ∷ proved.tree ∷ [])
 
+-- the line of a turn of the aftermarket
 abbrev pub turn_line : List (List ℕ) → List (List ℕ) → ProvedTurn → List ℕ
 turn_line students sections turn = spaced (codes "turn" ∷ decimal turn.pass ∷ name_at students turn.student ∷ bundle_text sections turn.bundle ∷ turn.tree ∷ [])
 
+-- the line of a student's bundle after all turns
 abbrev pub final_line : List (List ℕ) → List ℕ → List ℕ → List ℕ
 final_line sections name bundle = spaced (codes "final" ∷ name ∷ bundle_text sections bundle ∷ [])
 
+-- the line of a section's seats: those that are used, and all
 abbrev pub used_line : List ℕ → ℕ × ℕ → List ℕ
 used_line name seats = spaced (codes "used" ∷ name ∷ decimal seats.0 ∷ decimal seats.1 ∷ [])
 
+-- the last line
 abbrev pub end_line : List ℕ
 end_line = codes "end"
 

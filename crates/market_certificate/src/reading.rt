@@ -20,15 +20,14 @@ mod values;
 use crate::amounts::Amount;
 use crate::tables::TableNames;
 use crate::{LineFault, Proved, ProvedTurn, Publication, TextRefusal};
+use blocks::{read_allocation, read_amounts, read_bundles, read_seats};
 use bundle_rules::Bundle;
 use course_catalog::Catalog;
+use lines::Lines;
 use market_units::Tokens;
+use single::{read_end, read_error, read_head, read_order};
 use std::alloc::Global;
 use student_roll::Roll;
-
-use blocks::{read_allocation, read_amounts, read_bundles, read_seats};
-use lines::Lines;
-use single::{read_end, read_error, read_head, read_order};
 use turns::read_turns;
 
 /// The publication of this catalogue and this roll whose text this is; else the text's first defect. The text has fewer than

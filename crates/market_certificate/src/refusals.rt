@@ -19,10 +19,7 @@ pub enum LineFault {
 #[derive(Clone, Copy, Debug, PartialEq, Eq)]
 pub enum TextRefusal {
     /// The first defect, with the number of its line.
-    Defect {
-        line: u32,
-        kind: LineFault,
-    },
+    Defect { line: u32, kind: LineFault },
     /// Memory was wanted and not given.
     NoMemory,
 }

@@ -12,16 +12,15 @@ mod lines;
 use crate::Publication;
 use crate::amounts::Amount;
 use crate::tables::TableNames;
+use blocks::{put_allocation, put_amounts, put_bundles, put_seats, put_turns};
 use course_catalog::Catalog;
+use lines::{put_error, put_head, put_order};
 use market_units::NoMemory;
 use std::alloc::Global;
 use student_roll::Roll;
 
-use blocks::{put_allocation, put_amounts, put_bundles, put_seats, put_turns};
-use lines::{put_error, put_head, put_order};
-
 /// The text of a publication of this catalogue and this roll: there is one value for each student or each section, and each
-/// is in the ranges of the text.
+/// is in the ranges of the text. `NoMemory` comes where memory is wanted, and has no other cause.
 pub fn put_publication(
     alloc: Global,
     catalog: &Catalog,

@@ -22,10 +22,7 @@ use std::alloc::Global;
 
 // What is left behind the line of the version.
 #[tactic(auto, using(crate::proofs::Steps::other_line))]
-pub(crate) fn read_head<'t>(
-    lines: Lines<'t>,
-    tables: &TableNames,
-) -> Result<Lines<'t>, TextRefusal>
+pub(crate) fn read_head<'t>(lines: Lines<'t>, tables: &TableNames) -> Result<Lines<'t>, TextRefusal>
     ensures line { IfOk result (λ left. Takes (head_line (seen tables.now) ∷ []) lines.entry.number lines.entry.rest.now left.number left.rest.now) }
     ensures defect { IfErr result (λ refusal. OnDefect refusal (StopsAt (HasForm (seen tables.now) HeadForm) lines.entry.number lines.entry.rest.now)) }
 {

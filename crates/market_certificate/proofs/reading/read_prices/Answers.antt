@@ -1,10 +1,8 @@
-use Rattle.std.proofs.Common.{ℕ, ◌≡◌, ◌<◌, ◌≤◌, ◌++◌, ◌∷◌, [], List, length, map, subst, arith, refl, rules}
+use Rattle.std.proofs.Common.{◌≤◌, ◌++◌, ◌∷◌, List, map, subst}
 use Rattle.std.proofs.lemmas.Result.{err_from_is_err_and}
-use Rattle.bundle_rules.specs.Bundles.{sections_of}
 use Rattle.market_units.specs.declared.names.Name.{Name}
 use Rattle.market_units.specs.Name.{name_bytes}
 use Rattle.market_certificate.specs.declared.amounts.Amount.TheVariants as kinds
-use Rattle.market_certificate.specs.declared.refusals.LineFault.TheVariants.{Rest}
 use Rattle.market_certificate.specs.Texts.{amount_line, most_of}
 use Rattle.market_certificate.specs.Due.{AmountForm, AreDue, ErrorForm, One, each_due}
 use Rattle.market_certificate.specs.Finding.{Finds, OnDefect}

@@ -1,4 +1,4 @@
-use Rattle.std.proofs.Common.{◌≡◌, List, ℕ, map, subst, sym, ◌∙◌}
+use Rattle.std.proofs.Common.{◌≡◌, map, subst, sym, ◌∙◌}
 use Rattle.std.proofs.lemmas.Result.{err_from_is_err_and}
 use Rattle.market_certificate.specs.Tables.{Tables, tables_of}
 use Rattle.market_certificate.specs.Texts.{text_of}
@@ -63,5 +63,5 @@ returns-clause-text c =
       used = c.in_ok-outcome.outcome.used.items;
     } in
     subst (λ (tables : Tables). c.args.text.now ≡ text_of tables p) c.in_ok-tables.ensures (
-      sym c.of-2.ensures.text ∙ whole (seen c.in_ok-tables.tables) p c.of-2.result.number c.in_ok-left.left.number c.in_ok-order.left.number c.in_ok-prices.left.number c.of-2.result.rest.now c.in_ok-left.left.rest.now c.in_ok-order.left.rest.now c.in_ok-prices.left.rest.now c.in_ok-left.ensures.line c.in_ok-order.ensures.line c.in_ok-prices.ensures.prices c.in_ok-outcome.ensures.outcome
+    sym c.of-2.ensures.text ∙ whole (seen c.in_ok-tables.tables) p c.of-2.result.number c.in_ok-left.left.number c.in_ok-order.left.number c.in_ok-prices.left.number c.of-2.result.rest.now c.in_ok-left.left.rest.now c.in_ok-order.left.rest.now c.in_ok-prices.left.rest.now c.in_ok-left.ensures.line c.in_ok-order.ensures.line c.in_ok-prices.ensures.prices c.in_ok-outcome.ensures.outcome
     )

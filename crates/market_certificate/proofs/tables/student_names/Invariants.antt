@@ -1,7 +1,6 @@
 use Rattle.std.proofs.Common.{◌≡◌, map, take}
 use Rattle.market_units.specs.Name.{name_bytes}
 use Rattle.student_roll.specs.Students.{names_of}
-use Rattle.market_certificate.specs.Tables.{section_names}
 use Rattle.market_certificate.proofs.tables.student_names.Given as goal
 
 abbrev pub invariant-loop-student : goal.invariant-loop-student

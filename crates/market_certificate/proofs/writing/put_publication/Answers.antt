@@ -1,4 +1,4 @@
-use Rattle.std.proofs.Common.{◌≡◌, List, ℕ, map, subst}
+use Rattle.std.proofs.Common.{◌≡◌, map, subst}
 use Rattle.bundle_rules.specs.Bundles.{sections_of}
 use Rattle.market_units.specs.Name.{name_bytes}
 use Rattle.market_certificate.specs.Lines.{joined}

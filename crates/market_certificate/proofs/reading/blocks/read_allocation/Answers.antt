@@ -1,12 +1,12 @@
-use Rattle.std.proofs.Common.{ℕ, ◌≡◌, ◌<◌, ◌≤◌, ◌+◌, List, [], length, map, ap, sym, subst, refl, arith}
+use Rattle.std.proofs.Common.{ℕ, ◌<◌, ◌+◌, List, [], length, map, ap, sym, subst, refl, arith}
 use Rattle.std.proofs.lemmas.List.{length-map}
 use Rattle.std.proofs.lemmas.Result.{err_from_is_err_and}
 use Rattle.bundle_rules.specs.Bundles.{sections_of}
 use Rattle.market_units.specs.Name.{name_bytes}
 use Rattle.market_certificate.specs.Due.{FinalForm}
-use Rattle.market_certificate.specs.Publications.{Proved, IsBundleOf, IsProved, IsUsed}
-use Rattle.market_certificate.specs.Texts.{amount_line, bundle_line, final_line, most_of, used_line}
-use Rattle.market_certificate.specs.Views.{proved_of, seen}
+use Rattle.market_certificate.specs.Publications.{IsBundleOf}
+use Rattle.market_certificate.specs.Texts.{final_line}
+use Rattle.market_certificate.specs.Views.{seen}
 use Rattle.market_certificate.proofs.Blocks.{all_read, none_read, read_defect, read_more}
 use Rattle.market_certificate.proofs.Joins.{mapped_push, name_here}
 use Rattle.market_certificate.proofs.Steps.{AreRead}
@@ -22,7 +22,7 @@ returns-in_err-bundle-clause-defect c =
     let named = name_here c.deref-name-items.result.now c.args.tables.now.students.items c.names.name-index _ c.name-item.result c.deref-name-items.ensures.value inside c.name-item.is in
     let within : c.names.name-index < length (map name_bytes c.args.tables.now.students.items) = omega (arith, inside, length-map c.args.tables.now.students.items name_bytes, ap length c.deref-name-items.ensures.value) in
     rw (p.1, p.2) (λ more. read_defect (seen c.args.tables.now) FinalForm (final_line (seen c.args.tables.now).sections) (IsBundleOf (seen c.args.tables.now).sections) (λ name value is. (value, is, refl)) (map name_bytes c.args.tables.now.students.items) (map sections_of c.names.bundles.items) c.names.name-index (name_bytes c.name-item.result) c.args.lines.number c.args.lines.rest.now c.names.left.number c.names.left.rest.now
-      c.in_err-bundle.field-0.0 c.names.invariant within named c.in_err-bundle.ensures.defect more)
+    c.in_err-bundle.field-0.0 c.names.invariant within named c.in_err-bundle.ensures.defect more)
 
 pub names-preserved : goal.names-preserved
 names-preserved c =

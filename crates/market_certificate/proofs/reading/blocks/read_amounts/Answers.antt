@@ -1,12 +1,9 @@
-use Rattle.std.proofs.Common.{ℕ, ◌≡◌, ◌<◌, ◌≤◌, ◌+◌, List, [], length, map, ap, sym, subst, refl, arith}
+use Rattle.std.proofs.Common.{ℕ, ◌<◌, ◌≤◌, ◌+◌, List, [], length, map, ap, sym, subst, refl, arith}
 use Rattle.std.proofs.lemmas.List.{length-map}
 use Rattle.std.proofs.lemmas.Result.{err_from_is_err_and}
-use Rattle.bundle_rules.specs.Bundles.{sections_of}
 use Rattle.market_units.specs.Name.{name_bytes}
 use Rattle.market_certificate.specs.Due.{AmountForm}
-use Rattle.market_certificate.specs.Publications.{Proved, IsBundleOf, IsProved, IsUsed}
-use Rattle.market_certificate.specs.Texts.{amount_line, bundle_line, final_line, most_of, used_line}
-use Rattle.market_certificate.specs.Views.{proved_of, seen}
+use Rattle.market_certificate.specs.Texts.{amount_line, most_of}
 use Rattle.market_certificate.proofs.Blocks.{all_read, none_read, read_defect, read_more}
 use Rattle.market_certificate.proofs.Joins.{mapped_push, name_here}
 use Rattle.market_certificate.proofs.Steps.{AreRead}
@@ -22,7 +19,7 @@ returns-in_err-tokens-clause-defect c =
     let named = name_here c.args.names.now c.args.names.now c.names.name-index _ c.name-item.result refl inside c.name-item.is in
     let within : c.names.name-index < length (map name_bytes c.args.names.now) = omega (arith, inside, length-map c.args.names.now name_bytes) in
     rw (p.1, p.2) (λ tables more. read_defect tables (AmountForm c.args.kind) (amount_line c.args.kind) (λ tokens. tokens ≤ most_of c.args.kind) (λ name value is. (value, is, refl)) (map name_bytes c.args.names.now) (map (λ tokens. tokens.0) c.names.amounts.items) c.names.name-index (name_bytes c.name-item.result) c.args.lines.number c.args.lines.rest.now c.names.left.number c.names.left.rest.now
-      c.in_err-tokens.field-0.0 c.names.invariant within named (c.in_err-tokens.ensures.defect tables) more)
+    c.in_err-tokens.field-0.0 c.names.invariant within named (c.in_err-tokens.ensures.defect tables) more)
 
 pub names-preserved : goal.names-preserved
 names-preserved c =

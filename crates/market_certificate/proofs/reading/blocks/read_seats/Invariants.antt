@@ -1,9 +1,7 @@
-use Rattle.std.proofs.Common.{◌≤◌, map, take}
-use Rattle.bundle_rules.specs.Bundles.{sections_of}
+use Rattle.std.proofs.Common.{map, take}
 use Rattle.market_units.specs.Name.{name_bytes}
-use Rattle.market_certificate.specs.Publications.{IsBundleOf, IsProved, IsUsed}
-use Rattle.market_certificate.specs.Texts.{amount_line, bundle_line, final_line, most_of, used_line}
-use Rattle.market_certificate.specs.Views.{proved_of, seen}
+use Rattle.market_certificate.specs.Publications.{IsUsed}
+use Rattle.market_certificate.specs.Texts.{used_line}
 use Rattle.market_certificate.proofs.Steps.{AreRead}
 use Rattle.market_certificate.proofs.reading.blocks.read_seats.Given as goal
 

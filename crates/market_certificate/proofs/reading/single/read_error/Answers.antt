@@ -1,8 +1,5 @@
-use Rattle.std.proofs.Common.{sym, ◌∙◌}
 use Rattle.std.proofs.lemmas.Result.{err_from_is_err_and}
-use Rattle.market_units.specs.Name.{name_bytes}
 use Rattle.market_certificate.specs.Due.{ErrorForm, HasForm}
-use Rattle.market_certificate.specs.Views.{seen}
 use Rattle.market_certificate.proofs.Steps.{defect_form}
 use Rattle.market_certificate.proofs.reading.single.read_error.Goals as goal
 

@@ -1,4 +1,3 @@
-use Rattle.std.proofs.Common.{sym, ◌∙◌}
 use Rattle.std.proofs.lemmas.Result.{err_from_is_err_and}
 use Rattle.market_units.specs.Name.{name_bytes}
 use Rattle.market_certificate.specs.Due.{FinalForm, HasForm}

@@ -1,9 +1,7 @@
-use Rattle.std.proofs.Common.{sym, ◌∙◌}
 use Rattle.std.proofs.lemmas.Result.{err_from_is_err_and}
 use Rattle.market_units.specs.Name.{name_bytes}
-use Rattle.market_certificate.specs.Due.{BundleForm, HasForm}
+use Rattle.market_certificate.specs.Due.{BundleForm}
 use Rattle.market_certificate.specs.Views.{seen}
-use Rattle.market_certificate.proofs.Steps.{defect_form}
 use Rattle.market_certificate.proofs.reading.single.read_proved.Goals as goal
 
 pub returns-in_err-line-clause-defect : goal.returns-in_err-line-clause-defect

@@ -17,8 +17,8 @@ loop-line-init c = subst (λ (turns : List ProvedTurn). AreTurnsRead (seen c.arg
 pub returns-in_default-turn_in-clause-defect : goal.returns-in_default-turn_in-clause-defect
 returns-in_default-turn_in-clause-defect c = λ form more.
     subst (λ (refusal : TextRefusal). OnDefect refusal (Finds (AreDue (seen c.args.tables.now) (Turns ∷ One form ∷ more)) c.args.lines.number c.args.lines.rest.now)) (sym c.out_of_form.ensures) (
-      turns_defect (seen c.args.tables.now) (map turn_of c.loop-line.turns.items) c.args.lines.number c.args.lines.rest.now c.loop-line.left.number c.loop-line.left.rest.now c.in-Some.line.now c.in-Some.behind.number c.in-Some.behind.rest.now c.loop-line.invariant c.in-Some.ensures.takes
-      c.in-Some.ensures.whole c.in-Some.ensures.begun c.in_default-turn_in.ensures.none form more
+    turns_defect (seen c.args.tables.now) (map turn_of c.loop-line.turns.items) c.args.lines.number c.args.lines.rest.now c.loop-line.left.number c.loop-line.left.rest.now c.in-Some.line.now c.in-Some.behind.number c.in-Some.behind.rest.now c.loop-line.invariant c.in-Some.ensures.takes
+    c.in-Some.ensures.whole c.in-Some.ensures.begun c.in_default-turn_in.ensures.none form more
     )
 
 pub loop-line-smaller : goal.loop-line-smaller

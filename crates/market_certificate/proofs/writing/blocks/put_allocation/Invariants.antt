@@ -2,8 +2,7 @@ use Rattle.std.proofs.Common.{◌≡◌, ◌++◌, length, map, take}
 use Rattle.bundle_rules.specs.Bundles.{sections_of}
 use Rattle.market_units.specs.Name.{name_bytes}
 use Rattle.market_certificate.specs.Lines.{joined}
-use Rattle.market_certificate.specs.Texts.{amount_line, bundle_line, each_line, final_line, used_line}
-use Rattle.market_certificate.specs.Views.{proved_of}
+use Rattle.market_certificate.specs.Texts.{each_line, final_line}
 use Rattle.market_certificate.proofs.writing.blocks.put_allocation.Given as goal
 
 abbrev pub invariant-names : goal.invariant-names

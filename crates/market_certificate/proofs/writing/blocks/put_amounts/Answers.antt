@@ -1,12 +1,7 @@
-use Rattle.std.proofs.Common.{ℕ, length, map, arith, rules}
-use Rattle.std.specs.Prelude.{All}
+use Rattle.std.proofs.Common.{length, map, arith, rules}
 use Rattle.std.proofs.lemmas.List.{length-map}
-use Rattle.bundle_rules.specs.Bundles.{sections_of}
-use Rattle.market_units.specs.Name.{name_bytes}
-use Rattle.market_certificate.specs.Publications.{IsBundleOf, IsProved}
-use Rattle.market_certificate.specs.Texts.{amount_line, bundle_line, final_line, used_line}
-use Rattle.market_certificate.specs.Views.{proved_of}
-use Rattle.market_certificate.proofs.Joins.{below_names, names_more, one_longer, pair_of_turn, value_at, value_each}
+use Rattle.market_certificate.specs.Texts.{amount_line}
+use Rattle.market_certificate.proofs.Joins.{names_more, one_longer, pair_of_turn, value_at}
 use Rattle.market_certificate.proofs.writing.blocks.put_amounts.Goals as goal
 
 pub names-preserved : goal.names-preserved

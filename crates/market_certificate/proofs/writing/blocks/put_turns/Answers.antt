@@ -1,4 +1,4 @@
-use Rattle.std.proofs.Common.{ℕ, ◌+◌, ◌<◌, length, map, refl, arith}
+use Rattle.std.proofs.Common.{◌+◌, ◌<◌, length, map, refl, arith}
 use Rattle.std.proofs.lemmas.List.{length-map}
 use Rattle.bundle_rules.specs.Bundles.{sections_of}
 use Rattle.market_units.specs.Name.{name_bytes}
