@@ -161,8 +161,10 @@ mod tests {
         assert_eq!(rt; held.prices(), [Tokens(103)].as_slice());
         assert_eq!(rt; held.count(SectionNo(0)), 1);
         let wanted = [false, false, false, true];
+        let bundles = held.bundles();
+        assert_eq!(rt; bundles.len(), 4);
         for student in 0..4 {
-            assert_eq!(rt; held.bundles()[student].has(SectionNo(0)), wanted[student]);
+            assert_eq!(rt; bundles[student].has(SectionNo(0)), wanted[student]);
         }
         Ok(())
     }

@@ -1,0 +1,5 @@
+pub mod Catalogs
+pub mod Lines
+pub mod Rolls
+pub mod Sessions
+pub mod Settings

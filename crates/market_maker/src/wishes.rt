@@ -1,0 +1,118 @@
+// The lines of a student's ratings and adjustment.
+ghost use Rattle.std.specs.Prelude.{◌≡◌, ◌≤◌, ◌<◌, [], ◌∷◌, ◌++◌, OnOk, codes, map};
+ghost use Rattle.std.specs.List.{range_with_len};
+ghost use Rattle.market_maker.specs.Catalogs.{section_name};
+ghost use Rattle.market_maker.specs.Lines.{command_of, ended, text_of};
+ghost use Rattle.market_maker.specs.Rolls.{student_name};
+ghost use Rattle.market_maker.specs.Sessions.{adjustment_line, adjustment_lines, adjustment_of, rated_count, rated_section, rating_behind, rating_line, rating_of};
+
+use crate::lines::{put_decimal, put_name_word, put_signed};
+use market_units::NoMemory;
+
+// A student rates at most so many sections.
+const MOST_RATED: u16 = 20;
+
+// Puts the lines of the student's ratings behind the text.
+pub(crate) fn put_ratings(
+    text: &mut Vec<u8>,
+    seed: u64,
+    sections: u16,
+    student: u16,
+) -> Result<(), NoMemory>
+    requires { 1 ≤ sections }
+    ensures { OnOk result (text.new.items ≡ text.old.items ++ text_of (map (rating_behind seed sections student) (range_with_len 0 (rated_count sections)))) }
+{
+    'ratings: for others in 0..sections.min(MOST_RATED) {
+        put_rating(
+            text,
+            seed,
+            student,
+            section_behind(sections, student, others),
+        )?;
+    }
+    Ok(())
+}
+
+// Puts the line of the student's adjustment behind the text, where at least two sections are rated.
+pub(crate) fn put_adjustment(
+    text: &mut Vec<u8>,
+    seed: u64,
+    sections: u16,
+    student: u16,
+) -> Result<(), NoMemory>
+    requires { 1 ≤ sections }
+    ensures { OnOk result (text.new.items ≡ text.old.items ++ text_of (adjustment_lines seed sections student)) }
+{
+    if sections.min(MOST_RATED) < 2 {
+        return Ok(());
+    }
+    put_adjustment_line(text, seed, sections, student)
+}
+
+// Puts the line of the student's rating of the section behind the text.
+fn put_rating(text: &mut Vec<u8>, seed: u64, student: u16, section: u16) -> Result<(), NoMemory>
+    ensures { OnOk result (text.new.items ≡ text.old.items ++ ended (rating_line seed student section)) }
+{
+    text.extend_from_slice(b"rate")?;
+    put_name_word(text, b'S', student)?;
+    put_name_word(text, b'C', section)?;
+    text.push(b' ')?;
+    put_decimal(text, rating(seed, student, section))?;
+    text.push(b'\n')?;
+    Ok(())
+}
+
+// Puts the line of the student's adjustment behind the text.
+fn put_adjustment_line(
+    text: &mut Vec<u8>,
+    seed: u64,
+    sections: u16,
+    student: u16,
+) -> Result<(), NoMemory>
+    requires { 1 ≤ sections }
+    ensures { OnOk result (text.new.items ≡ text.old.items ++ ended (adjustment_line seed sections student)) }
+{
+    let first = section_behind(sections, student, 0);
+    let second = section_behind(sections, student, 1);
+    put_pair(text, student, first, second)?;
+    text.push(b' ')?;
+    put_signed(text, adjustment(seed, student))?;
+    text.push(b'\n')?;
+    Ok(())
+}
+
+// Puts the words of the student's adjustment of these sections behind the text, without its number.
+fn put_pair(text: &mut Vec<u8>, student: u16, first: u16, second: u16) -> Result<(), NoMemory>
+    ensures { OnOk result (text.new.items ≡ text.old.items ++ command_of (codes "pair" ∷ student_name student ∷ section_name first ∷ section_name second ∷ [])) }
+{
+    text.extend_from_slice(b"pair")?;
+    put_name_word(text, b'S', student)?;
+    put_name_word(text, b'C', first)?;
+    put_name_word(text, b'C', second)
+}
+
+// The section that the student rates behind that many others.
+fn section_behind(sections: u16, student: u16, others: u16) -> u16
+    requires { 1 ≤ sections }
+    ensures { result ≡ rated_section sections student others }
+{
+    let place = (7 * u32::from(student) + u32::from(others)) % u32::from(sections);
+    place as u16 + 1
+}
+
+// How the student rates the section.
+fn rating(seed: u64, student: u16, section: u16) -> u64
+    ensures { result ≡ rating_of seed student section }
+{
+    let student = u64::from(student);
+    let section = u64::from(section);
+    1 + (seed % 100 + 17 * student + 29 * section + 7 * student * section) % 100
+}
+
+// What the student adds for the first two of the rated sections together.
+fn adjustment(seed: u64, student: u16) -> i8
+    ensures { result ≡ adjustment_of seed student }
+{
+    let sum = (seed % 41 + u64::from(student)) % 41;
+    sum as i8 - 20
+}
