@@ -1,18 +1,15 @@
 -- The first closing bound as a value.
-use Rattle.std.proofs.Common.{◌≡◌, ◌<◌, ℕ, true, false, List, [], ◌∷◌, Option, None, Some, refl, sym, ◌∙◌, ap, subst, inl, inr, arith}
-use Rattle.std.specs.Prelude.{ℤ, ◌<ℤ◌, int_lt, IfSome, IfNone, if◌then◌else◌}
+use Rattle.std.proofs.Common.{◌≡◌, ◌<◌, ℕ, true, false, List, [], ◌∷◌, Option, None, Some, refl, sym, ap, inl, inr, arith}
+use Rattle.std.specs.Prelude.{ℤ, ◌<ℤ◌, int_lt, IfSome, IfNone}
 use Rattle.std.proofs.lemmas.Int.{ints}
 use Rattle.std.proofs.lemmas.Bool.{cases_Bool}
 use Rattle.bundle_rules.specs.Sets.{has, IsAscending}
-use Rattle.bundle_rules.specs.Wishes.{IsFeasible}
-use Rattle.bundle_rules.specs.Menus.{IsMenu, wishes_of}
 use Rattle.bundle_rules.proofs.Feasibility.{place_of_rated}
 use Rattle.bundle_bounds.specs.declared.nodes.Leaf.{Leaf}
 use Rattle.bundle_bounds.specs.Offers.{Offer, places_of}
-use Rattle.bundle_bounds.specs.Bounds.{bounds, Closes, IsFirstClosing, NoneCloses}
+use Rattle.bundle_bounds.specs.Bounds.{bounds, IsFirstClosing, NoneCloses}
 use Rattle.bundle_bounds.specs.Limits.{NoneBelow, IsFirstBelow, first_below}
 use Rattle.bundle_bounds.specs.Ahead.{first_closing}
-use Rattle.bundle_bounds.specs.Laws.{IsNode}
 use Rattle.bundle_bounds.specs.ClosingLaws.{IsFirstOrNone, FirstClosingIsTheFirst}
 use Rattle.bundle_bounds.proofs.ByPlace.{ascending_places, has-places}
 use Rattle.bundle_bounds.proofs.BelowLimit.{limit, below_closes, closes_below, first_to, none_to}

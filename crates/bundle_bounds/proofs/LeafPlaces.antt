@@ -1,5 +1,5 @@
 -- The place of a leaf on the menu of bounds is on the menu.
-use Rattle.std.proofs.Common.{◌≡◌, ◌<◌, ◌≤◌, ◌+◌, ◌-◌, ◌++◌, ◌&&◌, ℕ, zero, suc, List, [], ◌∷◌, length, subst, inl, inr, arith}
+use Rattle.std.proofs.Common.{◌<◌, ◌≤◌, ◌+◌, ◌-◌, ◌++◌, ◌&&◌, ℕ, zero, suc, List, [], ◌∷◌, length, subst, inl, inr, arith}
 use Rattle.std.specs.Prelude.{ℤ, nat_lt, ⊤}
 use Rattle.std.proofs.lemmas.Bool.{cases_Bool}
 use Rattle.bundle_bounds.specs.declared.nodes.Leaf.{Leaf}

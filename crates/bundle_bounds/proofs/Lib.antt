@@ -15,3 +15,4 @@ pub mod FirstClosing
 pub mod Openings
 pub mod Lines
 pub mod LeafPlaces
+pub mod Knowing

@@ -1,6 +1,7 @@
 -- The first bound below a limit.
-use Rattle.std.proofs.Common.{◌≡◌, ℕ, ◌*◌, ◌/◌, true, ◌&&◌, List, [], ◌∷◌, ◌++◌, Option, Some, None, refl, inl, inr}
-use Rattle.std.specs.Prelude.{ℤ, pos, ◌+ℤ◌, ◌<ℤ◌, nat_lt, IfSome, IfNone}
+use Rattle.std.proofs.Common.{◌≡◌, ◌≤◌, ◌-◌, ℕ, suc, ◌*◌, ◌/◌, true, ◌&&◌, List, [], ◌∷◌, ◌++◌, length, take, drop, Option, Some, None, refl, sym, ◌∙◌, ap, subst, arith, inl, inr}
+use Rattle.std.proofs.Math.Seq.{take-length}
+use Rattle.std.specs.Prelude.{ℤ, pos, ◌+ℤ◌, ◌<ℤ◌, nat_lt, IfSome, IfNone, All}
 use Rattle.std.proofs.lemmas.Bool.{cases_Bool}
 use Rattle.bundle_bounds.specs.declared.nodes.Leaf.{Leaf}
 use Rattle.bundle_bounds.specs.declared.prospects.Prospect.{Prospect}
@@ -67,3 +68,11 @@ if_first-next limit b bs (Some leaf) above h = inr (above, h)
 pub if_none-next : (limit : ℤ) (b : Leaf × ℤ) (bs : List (Leaf × ℤ)) (r : Option Leaf) → ¬ (b.1 <ℤ limit) → IfNone r (NoneBelow limit bs) → IfNone r (NoneBelow limit (b ∷ bs))
 if_none-next limit b bs None above h = (above, h)
 if_none-next limit b bs (Some leaf) above h = h
+
+all_tail : (P : Prospect → Type 0) (x : Prospect) (xs : List Prospect) → All P (x ∷ xs) → All P xs
+all_tail P x xs all = λ k d low. all (suc k) d (omega arith)
+
+-- what holds of each holds of each but the first
+pub all_rest : (P : Prospect → Type 0) (xs : List Prospect) → 1 ≤ length xs → All P xs → All P (take (length xs - 1) (drop 1 xs))
+all_rest P [] some all = absurd (omega arith)
+all_rest P (x ∷ xs) some all = let size : length xs ≡ suc (length xs) - 1 = omega arith in subst (All P) (sym (take-length xs) ∙ ap (λ n. take n xs) size) (all_tail P x xs all)

@@ -9,3 +9,4 @@ pub mod Ahead
 pub mod Closings
 pub mod ClosingLaws
 pub mod Lines
+pub mod Known

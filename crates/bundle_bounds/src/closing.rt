@@ -3,9 +3,11 @@ ghost use Rattle.std.specs.Prelude.{◌≡◌, ◌<◌, ◌≤◌, ◌≤ℤ◌,
 ghost use Rattle.bundle_bounds.specs.Bounds.{leaf_of, at_price, resource_bounds, all_bounds, HasBound};
 ghost use Rattle.bundle_bounds.specs.Courses.{takes_of, by_course};
 ghost use Rattle.bundle_bounds.specs.Limits.{NoneBelow, IsFirstBelow};
+ghost use Rattle.bundle_bounds.specs.Known.{IsKnown};
 ghost use Rattle.bundle_bounds.specs.Modest.{IsModest};
 
 use crate::Leaf;
+use crate::known::Known;
 use crate::opens::Rests;
 use crate::prospects::{Prospect, Resource, at_price, takes};
 
@@ -20,7 +22,20 @@ fn leaf_of(resource: Resource, place: u8) -> Leaf
     }
 }
 
-// Whether a prospect has a bound, and that is below the limit.
+// By how much a bound of so much above the base is above the limit at least.
+fn margin(base: i64, limit: i64, sum: u64) -> u64
+    requires low { neg_ℤ (pos 3000000000000) ≤ℤ base }
+    requires above { limit ≤ℤ (base +ℤ pos sum) }
+    requires high { sum ≤ 1000000000000000000 }
+    ensures { (limit +ℤ pos result) ≤ℤ (base +ℤ pos sum) }
+{
+    if limit < base {
+        return sum;
+    }
+    sum - (limit - base) as u64
+}
+
+// Whether a prospect has a bound, and that is below the limit. What is known of the bounds grows where it is not.
 fn is_below(
     base: i64,
     limit: i64,
@@ -28,22 +43,66 @@ fn is_below(
     resource: Resource,
     all: &[Prospect],
     prospect: &Prospect,
+    known: &mut Known,
 ) -> bool
     requires low { neg_ℤ (pos 3000000000000) ≤ℤ base }
     requires high { base ≤ℤ pos 3000000000000 }
     requires modest { All IsModest all.now }
     requires few { length all.now ≤ 60 }
     requires one_modest { IsModest prospect.now }
-    ensures { IsTrue result ↔ (((nat_lt 0 prospect.now.worth && nat_lt 0 (takes_of resource prospect.now)) ≡ true)
+    requires known { IsKnown base limit rest resource all.now known.old }
+    ensures below { IsTrue result ↔ (((nat_lt 0 prospect.now.worth && nat_lt 0 (takes_of resource prospect.now)) ≡ true)
         × ((base +ℤ pos (at_price resource rest (1000 * prospect.now.worth / takes_of resource prospect.now) all.now)) <ℤ limit)) }
+    ensures known { IsKnown base limit rest resource all.now known.new }
 {
     let taken = takes(prospect, resource);
     if prospect.worth == 0 || taken == 0 {
         return false;
     }
     let price = 1000 * u64::from(prospect.worth) / taken;
-    let bound = base + at_price(all, resource, rest, price) as i64;
-    bound < limit
+    if known.has(price) {
+        return false;
+    }
+    let sum = at_price(all, resource, rest, price);
+    let bound = base + sum as i64;
+    if bound < limit {
+        return true;
+    }
+    if price < 20_000_000 {
+        let next = at_price(all, resource, rest, price + 1);
+        known.learn(price, sum, next, margin(base, limit, sum));
+    }
+    false
+}
+
+// The leaf of the first of these that has a bound below the limit, where so much is known of the bounds.
+fn first_among(
+    base: i64,
+    limit: i64,
+    rest: u32,
+    resource: Resource,
+    all: &[Prospect],
+    some: &[Prospect],
+    known: &mut Known,
+) -> Option<Leaf>
+    requires low { neg_ℤ (pos 3000000000000) ≤ℤ base }
+    requires high { base ≤ℤ pos 3000000000000 }
+    requires modest { All IsModest all.now }
+    requires few { length all.now ≤ 60 }
+    requires some_modest { All IsModest some.now }
+    requires known { IsKnown base limit rest resource all.now known.old }
+    ensures first { IfSome result (IsFirstBelow limit (resource_bounds base rest resource all.now some.now)) }
+    ensures none { IfNone result (NoneBelow limit (resource_bounds base rest resource all.now some.now)) }
+{
+    match some {
+        [] => None,
+        [prospect, more @ ..] => {
+            if is_below(base, limit, rest, resource, all, prospect, known) {
+                return Some(leaf_of(resource, prospect.place));
+            }
+            first_among(base, limit, rest, resource, all, more, known)
+        }
+    }
 }
 
 // The leaf of the first of these that has a bound below the limit.
@@ -63,15 +122,8 @@ fn first_of_resource(
     ensures first { IfSome result (IsFirstBelow limit (resource_bounds base rest resource all.now some.now)) }
     ensures none { IfNone result (NoneBelow limit (resource_bounds base rest resource all.now some.now)) }
 {
-    match some {
-        [] => None,
-        [prospect, more @ ..] => {
-            if is_below(base, limit, rest, resource, all, prospect) {
-                return Some(leaf_of(resource, prospect.place));
-            }
-            first_of_resource(base, limit, rest, resource, all, more)
-        }
-    }
+    let mut known = Known::nothing();
+    first_among(base, limit, rest, resource, all, some, &mut known)
 }
 
 // The leaf of the first bound below the limit, of all bounds in their order.

@@ -1,7 +1,7 @@
 //! What holds of bounds, of closing and of open places: each call here does nothing, and its contract is a law.
 ghost use Rattle.bundle_bounds.specs.ClosingLaws.{BoundsCloseSoundly, FirstClosingIsTheFirst, OpensWhereTakable};
 ghost use Rattle.bundle_bounds.specs.Laws.{BoundSoundness};
-ghost use Rattle.bundle_bounds.specs.Lines.{BoundsAreConvex, NoneIsBelowBesideTheLeast, OneBoundTellsAside};
+ghost use Rattle.bundle_bounds.specs.Lines.{BoundsAreConvex};
 
 /// Each bound at a node is at least 1000 times the utility of each feasible, affordable, allowed bundle
 /// whose sections at decided places are the chosen ones.
@@ -29,14 +29,4 @@ pub fn opens_where_takable()
 /// As a function of its price, a resource's bound is on or above each line through one of its points.
 pub fn bounds_are_convex()
     ensures { BoundsAreConvex }
-{}
-
-/// Two bounds of a resource next to each other, on either side of the least, tell of all others.
-pub fn none_is_below_beside_the_least()
-    ensures { NoneIsBelowBesideTheLeast }
-{}
-
-/// One bound of a resource tells of all prices on one side of its own, and of some on the other.
-pub fn one_bound_tells_aside()
-    ensures { OneBoundTellsAside }
 {}

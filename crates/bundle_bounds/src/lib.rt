@@ -2,6 +2,7 @@
 #![tactic(auto)]
 
 mod closing;
+mod known;
 pub mod laws;
 mod nodes;
 mod opens;

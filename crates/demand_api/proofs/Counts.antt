@@ -1,6 +1,6 @@
 -- How many students take a section.
 use Rattle.std.proofs.Common.{ℕ, zero, suc, Bool, ◌≡◌, ◌<◌, ◌≤◌, min, true, if◌then◌else◌, List, [], ◌∷◌, All, length, arith, refl, ◌∙◌, ap, inl, inr}
-use Rattle.std.specs.Prelude.{nat_lt, map, max}
+use Rattle.std.specs.Prelude.{nat_lt, map}
 use Rattle.std.proofs.lemmas.Bool.{cases_Bool, false≢true}
 use Rattle.std.proofs.lemmas.List.Elements.{All-cons}
 use Rattle.market_units.specs.declared.units.Tokens.{Tokens}

@@ -1,5 +1,5 @@
 -- Prices tried by halving.
-use Rattle.std.proofs.Common.{ℕ, zero, suc, ◌≡◌, ◌≢◌, ◌<◌, ◌≤◌, ◌+◌, ◌-◌, ◌/◌, ◌*◌, ◌^◌, ◌==◌, true, false, List, length, arith, refl, sym, ◌∙◌}
+use Rattle.std.proofs.Common.{ℕ, zero, suc, ◌≡◌, ◌≢◌, ◌<◌, ◌≤◌, ◌+◌, ◌-◌, ◌/◌, ◌*◌, ◌^◌, ◌==◌, true, false, List, length, arith, refl, sym, ◌∙◌, min}
 use Rattle.std.specs.Prelude.{map, slice_index, slice_index_or, slice_set}
 use Rattle.std.proofs.Common.{ap, subst, inl, inr}
 use Rattle.std.proofs.lemmas.Bool.{cases_Bool, cases_lt, ne_eqb}
@@ -28,6 +28,7 @@ pub record IsHalving (crowd : CrowdData) (prices trial : List Tokens) (s limit l
   pub below_top : high ≤ top crowd
   pub lower : (p : ℕ) → price_in prices s ≤ p → p < low → limit < count crowd (with_price (price_in prices) s p) s
   pub within : count crowd (with_price (price_in prices) s high) s ≤ limit
+  pub kept : min before (2 ^ 64 - 1) ≤ now
   pub asked : (digits : ℕ) → top crowd < 2 ^ digits → (left : ℕ) × (high - low < 2 ^ left) × (now + left ≤ before + digits)
 
 -- the price at a section, as a list is read
@@ -85,6 +86,7 @@ halving_begins crowd prices trial s limit low high before are is in_range at at_
       within =
           let none : count crowd (with_price (price_in prices) s high) s ≡ 0 = none_at_top crowd s (with_price (price_in prices) s high) (rw (with_here (price_in prices) s high) (omega arith)) in
           omega arith;
+      kept = omega arith;
       asked = λ digits fits. (digits, omega arith, omega arith);
     }
 
@@ -132,6 +134,7 @@ module _ (crowd : CrowdData) (prices trial : List Tokens) (s limit low high befo
             let same : count crowd (price_in (slice_set trial s (record { 0 = middle }))) s ≡ count crowd (with_price (price_in prices) s middle) s = count_then in
             omega arith;
         within = is.within;
+        kept = let so_far : min before (2 ^ 64 - 1) ≤ now = is.kept in omega arith;
         asked = λ digits fits. asked_up digits (is.asked digits fits);
       }
     where
@@ -157,6 +160,7 @@ module _ (crowd : CrowdData) (prices trial : List Tokens) (s limit low high befo
               | inl more ↦ absurd (few_enough more)
               | inr within ↦ omega arith
             ];
+        kept = let so_far : min before (2 ^ 64 - 1) ≤ now = is.kept in omega arith;
         asked = λ digits fits. asked_down digits (is.asked digits fits);
       }
     where

@@ -2,13 +2,12 @@
 use Rattle.std.proofs.Common.{ℕ, zero, suc, ◌≡◌, ◌<◌, ◌≤◌, ◌+◌, ◌∙◌, Bool, List, [], ◌∷◌, ◌++◌, length, take, All, arith, sym, refl, ap, map, true, drop, inl, inr}
 use Rattle.std.proofs.lemmas.Bool.{cases_Bool, false≢true}
 use Rattle.std.proofs.lemmas.Bool.Decides.{nat_tests}
-use Rattle.std.specs.Prelude.{IsTrue, ◌↔◌, slice_index, slice_index_or, nat_lt, if◌then◌else◌}
+use Rattle.std.specs.Prelude.{slice_index, slice_index_or, nat_lt, if◌then◌else◌}
 use Rattle.std.proofs.lemmas.List.{take_more, take_all, length-take, map-append, get_or-map}
 use Rattle.std.proofs.lemmas.List.Elements.{All-cons}
 use Rattle.std.proofs.Math.Seq.{take-append_seam}
 use Rattle.market_units.specs.declared.units.SectionNo.{SectionNo}
 use Rattle.market_units.specs.declared.units.Tokens.{Tokens}
-use Rattle.market_lists.specs.Totals.{total}
 use Rattle.market_lists.proofs.Sums.{total-append}
 use Rattle.bundle_rules.specs.Sets.{has}
 use Rattle.bundle_rules.specs.Menus.{MenuData, wishes_of}

@@ -1,5 +1,5 @@
 -- The crowd of given menus and budgets.
-use Rattle.std.specs.Prelude.{ℕ, ◌<◌, ◌≤◌, ◌≡◌, List, [], ◌∷◌, All, length, max}
+use Rattle.std.specs.Prelude.{ℕ, ◌≤◌, ◌≡◌, List, [], ◌∷◌, All, length, max}
 use Rattle.market_units.specs.declared.units.Tokens.{Tokens}
 use Rattle.bundle_rules.specs.Menus.{MenuData}
 use Rattle.demand_api.specs.Crowds.{Student, CrowdData, IsWithin}

@@ -77,9 +77,9 @@ pub trait Demands {
         ensures value { IfOk result (λ more. IsTrue more ↔ (limit < count (crowd self.old) (price_in prices.now) section.0)) };
 
     /// For each of at most 400 pairs of a section and a limit the least price of the section, from its present one
-    /// up, at which at most that many students take it, the other prices as given. It asks at most as often as the
-    /// top has binary digits, and once more, for each pair. The provided body halves; who knows the students' other
-    /// choices can answer from them.
+    /// up, at which at most that many students take it, the other prices as given. The number of calls made does not
+    /// fall, and rises at most by the binary digits of the top, and one more, for each pair. The provided body halves;
+    /// who knows the students' other choices can answer from them.
     fn least_prices<R: Threads + Wait + Sync>(
         &mut self,
         rt: &R,

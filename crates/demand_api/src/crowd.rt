@@ -14,8 +14,11 @@ use std::alloc::Global;
 /// of the menus.
 #[derive(Drop)]
 pub struct Crowd {
+    /// What each student may choose from, in file order: at most 2,000.
     pub menus: Vec<Menu>,
+    /// The budget of each student, in the same order: at most 1,000,000.
     pub budgets: Vec<Tokens>,
+    /// The number of sections, at most 400.
     pub sections: u16,
 }
 
@@ -56,6 +59,7 @@ impl Crowd {
     }
 
     /// The crowd of at most 2,000 listed students, in this order. A student that is listed twice is there twice.
+    /// The one error is the want of memory.
     pub fn choose(&self, alloc: Global, students: &[StudentNo]) -> Result<Crowd, NoMemory>
         requires crowd { MakeCrowd self.now.menus.items self.now.budgets.items self.now.sections }
         requires few { length students.now ≤ 2000 }

@@ -1,6 +1,10 @@
 //! What a crowd of students demands at given prices, and who can be asked for it.
 #![tactic(auto)]
 
+ghost use Rattle.std.specs.Prelude.{◌≤◌, IsTrue, All, length};
+ghost use Rattle.demand_api.specs.Made.{MakeCrowd, crowd_of};
+ghost use Rattle.demand_api.specs.Asking.{ArePricesFor};
+
 mod asking;
 mod counting;
 mod crowd;
@@ -63,8 +67,36 @@ mod tests {
         }
     }
 
+    // Whether each of these vectors has prices that can be asked of the crowd.
+    fn all_have_prices(crowd: &Crowd, batch: &[Vec<Tokens>]) -> bool
+        requires { MakeCrowd crowd.now.menus.items crowd.now.budgets.items crowd.now.sections }
+        ensures { IsTrue result → All (λ prices. ArePricesFor (crowd_of crowd.now.menus.items crowd.now.budgets.items crowd.now.sections) prices.items) batch.now }
+    {
+        match batch {
+            [] => true,
+            [prices, more @ ..] => crowd.has_prices(prices) && all_have_prices(crowd, more),
+        }
+    }
+
     fn at<R: Abort>(rt: &R, alloc: Global, price: u32) -> Vec<Tokens> {
         vec![in alloc; Tokens(price); 1].expect(rt, "memory")
+    }
+
+    // How many students take each section at each of these vectors.
+    fn counts_of<R: Abort + Threads + Wait + Sync>(
+        rt: &R,
+        alloc: Global,
+        crowd: Crowd,
+        batch: &[Vec<Tokens>],
+    ) -> Vec<Vec<u32>>
+        requires crowd { MakeCrowd crowd.menus.items crowd.budgets.items crowd.sections }
+        requires some { 1 ≤ length batch.now }
+        requires few { length batch.now ≤ 16 }
+    {
+        assert!(rt; all_have_prices(&crowd, batch));
+        let crowd = Arc::new(alloc, crowd).expect(rt, "memory");
+        let mut demands = PlainDemands::make(crowd);
+        demands.counts(rt, alloc, batch).expect(rt, "memory")
     }
 
     #[test]
@@ -72,20 +104,14 @@ mod tests {
         let alloc = rt.alloc();
         let crowd = four_students(&rt, alloc);
         assert!(rt; crowd.is_whole());
+        assert_eq!(rt; crowd.top(), Tokens(104));
         let batch = [
             at(&rt, alloc, 104),
             at(&rt, alloc, 102),
             at(&rt, alloc, 103),
             at(&rt, alloc, 0),
         ];
-        for prices in batch.iter() {
-            assert!(rt; crowd.has_prices(prices));
-        }
-        let crowd = Arc::new(alloc, crowd).expect(&rt, "memory");
-        let mut demands = PlainDemands::make(crowd);
-        assert_eq!(rt; demands.top(), Tokens(104));
-        assert_eq!(rt; demands.students(), 4);
-        let found = demands.counts(&rt, alloc, &batch).expect(&rt, "memory");
+        let found = counts_of(&rt, alloc, crowd, &batch);
         let wanted = [0, 2, 1, 4];
         assert_eq!(rt; found.len(), 4);
         for place in 0..4 {
@@ -114,11 +140,11 @@ mod tests {
         for place in 0..4 {
             assert_eq!(rt; found[place].has(SectionNo(0)), wanted[place]);
         }
-        let more_than = [(0, true), (1, true), (2, false), (3, false)];
-        for (limit, wanted) in more_than.iter() {
-            let exceeds = demands.exceeds(&rt, alloc, &prices, SectionNo(0), *limit);
-            assert_eq!(rt; exceeds.expect(&rt, "memory"), *wanted);
-        }
+        // Two students take the section: more than one, and not more than two.
+        let above_one = demands.exceeds(&rt, alloc, &prices, SectionNo(0), 1);
+        assert!(rt; above_one.expect(&rt, "memory"));
+        let above_two = demands.exceeds(&rt, alloc, &prices, SectionNo(0), 2);
+        assert!(rt; !above_two.expect(&rt, "memory"));
         Ok(())
     }
 

@@ -4,3 +4,6 @@ pub mod MemoryFiles
 pub mod MemoryShelves
 pub mod MemorySinks
 pub mod Sinks
+pub mod SureFiles
+pub mod SureShelves
+pub mod SureSinks

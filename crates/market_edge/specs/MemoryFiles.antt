@@ -6,7 +6,7 @@ use Rattle.std.specs.Option.{option_map_or}
 use Rattle.std.specs.Str.{bytes_eq}
 use Rattle.std.specs.String.{string_bytes}
 use Rattle.std.specs.FinMap.{from_entries}
-use Rattle.market_edge.specs.declared.memory_shelf.Place.{Place}
+use Rattle.market_edge.specs.declared.memory_files.Place.{Place}
 use Rattle.market_edge.specs.Faults.{raised}
 use Rattle.market_edge.specs.Holdings.{Holding}
 

@@ -4,11 +4,14 @@
 
 mod file_shelf;
 mod gate;
+mod memory_files;
 mod memory_shelf;
 mod memory_sink;
 mod shelf;
 mod sink;
 mod stdout_sink;
+mod sure_shelf;
+mod sure_sink;
 mod whole_text;
 
 pub use file_shelf::FileShelf;
@@ -18,6 +21,8 @@ pub use memory_sink::MemorySink;
 pub use shelf::{Failed, Shelf};
 pub use sink::Sink;
 pub use stdout_sink::StdoutSink;
+pub use sure_shelf::SureShelf;
+pub use sure_sink::SureSink;
 pub use whole_text::{SinkFault, Taking, read_whole, write_whole};
 
 #[cfg(test)]

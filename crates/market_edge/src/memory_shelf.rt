@@ -6,15 +6,10 @@ ghost use Rattle.market_edge.specs.Faults.{Rose, raised};
 ghost use Rattle.market_edge.specs.Holdings.{Begins};
 ghost use Rattle.market_edge.specs.MemoryFiles.{IsPlace, Raises, Same, count_of, has_place_of, holding_of, left_of, place_of, serves_name};
 
+use crate::memory_files::{Place, find, put_rest};
 use crate::{Failed, Shelf};
 use market_units::NoMemory;
 use std::alloc::Global;
-
-#[derive(Clone, Copy, Debug)]
-struct Place {
-    file: usize,
-    at: usize,
-}
 
 /// A shelf of files in memory, whose calls of certain numbers fail. Begins and reads together are numbered from 1. Of
 /// two files of one name the first counts.
@@ -150,24 +145,4 @@ fn next_fails(calls: &mut u64, failing: &[u64]) -> bool
 {
     *calls = calls.saturating_add(1);
     failing.contains(calls)
-}
-
-// Puts the bytes from a place on at the front of the room, as many as fit.
-fn put_rest(text: &[u8], at: usize, room: &mut [u8]) -> usize
-    requires { at ≤ length text.now }
-    ensures bound { result ≤ length room.new }
-    ensures within { at + result ≤ length text.now }
-    ensures bytes { drop at text.now ≡ take result room.new ++ drop (at + result) text.now }
-    ensures end { result ≡ 0 → 0 < length room.new → at ≡ length text.now }
-{
-    let rest = &text[at..];
-    let count = rest.len().min(room.len());
-    room[..count].copy_from_slice(&rest[..count]);
-    count
-}
-
-fn find(files: &[(String, Vec<u8>)], name: &str) -> Option<usize>
-    ensures { result ≡ place_of files.now name.now }
-{
-    files.iter().position(|file| file.0.as_str() == name)
 }

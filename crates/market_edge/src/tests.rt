@@ -70,6 +70,49 @@ fn a_sink_takes_what_fits(rt: HostRuntime) -> Result<(), Fail> {
 }
 
 #[test]
+fn a_sure_shelf_holds_every_name(rt: HostRuntime) -> Result<(), Fail> {
+    let alloc = rt.alloc();
+    let mut files = Vec::new(alloc);
+    files.push((String::from_str(alloc, "CAT")?, b"first".to_vec(alloc)?))?;
+    files.push((String::from_str(alloc, "CAT")?, b"second".to_vec(alloc)?))?;
+    let mut shelf = SureShelf::make(files);
+    // A name, a limit, and what is read.
+    let cases: [(&str, usize, Result<&str, Taking>); 4] = [
+        ("CAT", 5, Ok("first")),
+        ("CAT", 4, Err(Taking::TooLong)),
+        ("Q", 0, Ok("")),
+        ("CAT", 5, Ok("first")),
+    ];
+    for (name, limit, want) in cases {
+        match read_whole(alloc, &mut shelf, name, limit) {
+            Ok(text) => {
+                assert_eq!(rt; Ok(text.as_slice()), want.map(str::as_bytes), "{name}");
+            }
+            Err(taking) => {
+                assert_eq!(rt; Err(taking), want, "{name}");
+            }
+        }
+    }
+    Ok(())
+}
+
+#[test]
+fn a_sure_sink_tells_up_to_its_size(rt: HostRuntime) {
+    // What is written to a sink that tells at most eight bytes, and what it tells then.
+    let cases: [(&str, Option<&str>); 4] = [
+        ("bundle", Some("bundle")),
+        (" a", Some("bundle a")),
+        ("n", None),
+        ("n", None),
+    ];
+    let mut sink = SureSink::make(rt.alloc(), 8).expect(&rt, "memory");
+    for (piece, want) in cases {
+        assert_eq!(rt; sink.write(piece.as_bytes()), Ok(piece.len()));
+        assert_eq!(rt; sink.taken(), want.map(str::as_bytes), "{piece}");
+    }
+}
+
+#[test]
 fn files_are_read(rt: HostRuntime) -> Result<(), Fail> {
     let alloc = rt.alloc();
     let path = format!(in alloc; "/tmp/course_match_shelf_{}", process::id(rt.process()))?;

@@ -1,12 +1,13 @@
 pub mod Completions
-pub mod Ends
 pub mod InputTroubles
 pub mod LineTexts
 pub mod ListedSections
 pub mod PreferFacts
 pub mod QuoteFacts
 pub mod QuoteWords
+pub mod ReadOut
 pub mod SessionsRead
+pub mod Shelves
 pub mod Stops
 pub mod StreamFacts
 pub mod ZeroPrices

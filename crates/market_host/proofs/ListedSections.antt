@@ -1,5 +1,5 @@
 -- The sections of a bundle that a menu allows are sections of the catalogue.
-use Rattle.std.proofs.Common.{ℕ, zero, suc, ◌≡◌, ◌<◌, true, List, [], ◌∷◌, All, length, get_or, map, arith, subst, sym, ap, ◌∙◌}
+use Rattle.std.proofs.Common.{ℕ, zero, suc, ◌≡◌, ◌<◌, true, List, [], ◌∷◌, All, length, get_or, map, arith, subst, sym}
 use Rattle.std.proofs.lemmas.List.Elements.{All-cons, All-head, All-nil, All-tail}
 use Rattle.std.specs.FinMap.{entries}
 use Rattle.std.specs.Prelude.{slice_index_or}

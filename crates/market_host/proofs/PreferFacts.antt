@@ -1,14 +1,13 @@
 -- The inputs of `prefer`, and what it prints.
-use Rattle.std.proofs.Common.{ℕ, ◌≡◌, ◌≤◌, ◌+◌, ◌-◌, List, [], ◌∷◌, ◌++◌, length, take, drop, get_or, map, arith, ap, sym, subst, ◌∙◌, refl, Global}
+use Rattle.std.proofs.Common.{ℕ, ◌≡◌, ◌≤◌, ◌+◌, ◌-◌, List, [], ◌∷◌, length, take, drop, get_or, map, arith, ap, sym, subst, ◌∙◌, refl, Global}
 use Rattle.std.specs.Prelude.{Option, Ok, String, Vec}
 use Rattle.std.specs.String.{string_bytes}
 use Rattle.std.proofs.lemmas.List.{length-drop, length-map, length-take-le, take_all}
 use Rattle.course_catalog.specs.Reading.{catalog_of}
-use Rattle.course_catalog.specs.Sections.{Section}
+use Rattle.course_catalog.specs.Catalog.{CatalogData}
 use Rattle.student_roll.specs.Rolls.{roll_of}
-use Rattle.student_roll.specs.Students.{Student}
+use Rattle.student_roll.specs.Students.{RollData}
 use Rattle.market_edge.specs.Holdings.{Holding}
-use Rattle.market_words.specs.declared.words.Form.{Form}
 use Rattle.market_words.specs.declared.words.Form.TheVariants.{Prefer}
 use Rattle.market_words.specs.Forms.{HasForm, inputs_of}
 use Rattle.preference_desk.specs.declared.entry.Entry.{Entry}
@@ -17,15 +16,16 @@ use Rattle.preference_desk.specs.MarketNames.{market_names}
 use Rattle.preference_text.specs.Texts.{preferences_text}
 use Rattle.session_hall.specs.Streams.{command_lists}
 use Rattle.utility_language.specs.declared.commands.Command.{Command}
-use Rattle.market_host.specs.Causes.{HasCause}
 use Rattle.market_host.specs.Inputs.{AreRead}
-use Rattle.market_host.specs.Kinds.{Catalogue, Roll}
-use Rattle.market_host.specs.Lines.{Writes}
+use Rattle.market_host.specs.Kinds.{Catalog, Roll}
+use Rattle.market_host.specs.Outcomes.{IsDone, IsLastAtEnd}
 use Rattle.market_host.specs.Preferences.{IsHeld}
 use Rattle.market_host.specs.Reading.{AreReadSessions, IsRead}
-use Rattle.market_host.specs.declared.status.Status.TheVariants.{Done}
-use Rattle.market_host.proofs.InputTroubles.{catalogue_first, roll_second}
+use Rattle.market_host.specs.Sights.{Sight}
+use Rattle.market_host.proofs.InputTroubles.{roll_second}
+use Rattle.market_host.proofs.ReadOut.{behind_at_end}
 use Rattle.market_host.proofs.SessionsRead.{sessions_read}
+use Rattle.market_host.proofs.Shelves.{seen_from}
 
 -- the words of `prefer`: the verb, a catalogue, a roll, and 1 to 64 sessions
 pub length-prefer : (words : List (String Global)) → HasForm (map string_bytes words) Prefer → (4 ≤ length words) × (length words ≤ 67)
@@ -57,18 +57,18 @@ inputs-prefer (w ∷ x ∷ y ∷ more) a b some p q =
     let all : take (length (w ∷ x ∷ y ∷ more) - 3) more ≡ more = take_all (length (w ∷ x ∷ y ∷ more) - 3) more (omega arith) in
     cc
 
--- what is printed is told of what was read
-pub prints_preferences : (words : List (List ℕ)) (held : Option Holding) (before after : List ℕ → ℕ) (a b : List ℕ) (names sessions : List (List ℕ)) (room : ℕ) (sections : List Section) (students : List Student)
-    (streams : List (Vec Command Global)) (text : List ℕ) → HasForm words Prefer → inputs_of Prefer words ≡ a ∷ b ∷ names → IsRead Catalogue held a (λ bytes. catalog_of bytes ≡ Ok sections)
-    → IsRead Roll held b (λ bytes. roll_of bytes ≡ Ok students) → AreReadSessions held names sessions streams room
-    → ((journal : List Entry) × IsLegalJournal (market_names sections students) journal × MergesStreams (command_lists streams) journal × (text ≡ preferences_text sections students journal))
-    → HasCause words held before after Done × Writes words held Done text
-prints_preferences words held before after a b names sessions room sections students streams text has inputs first second are (journal, legal, merges, printed) =
-    let front : AreRead Prefer held (a ∷ b ∷ []) (first.0 ∷ second.0 ∷ []) = roll_second Prefer held a b sections students refl (omega arith) refl first second in
+-- the journal and the preferences of what was read were printed
+pub prefer_done : (words : List (List ℕ)) (before : List ℕ → ℕ) (seen : Sight) (held : Option Holding) (a b : List ℕ) (names sessions : List (List ℕ)) (room : ℕ) (offered : CatalogData) (enrolled : RollData)
+    (streams : List (Vec Command Global)) (text : List ℕ) → HasForm words Prefer → inputs_of Prefer words ≡ a ∷ b ∷ names → 1 ≤ length names
+    → IsRead Catalog held a (λ bytes. catalog_of bytes ≡ Ok offered) → IsRead Roll held b (λ bytes. roll_of bytes ≡ Ok enrolled) → seen.held ≡ held → AreReadSessions held names sessions streams room
+    → IsLastAtEnd seen names
+    → ((journal : List Entry) × IsLegalJournal (market_names offered.sections enrolled.students) journal × MergesStreams (command_lists streams) journal × (text ≡ preferences_text offered.sections enrolled.students journal))
+    → IsDone words (seen_from held before seen) text
+prefer_done words before seen held a b names sessions room offered enrolled streams text has inputs some first second same are ended (journal, legal, merges, printed) =
+    let front : AreRead Prefer held (a ∷ b ∷ []) (first.0 ∷ second.0 ∷ []) = roll_second Prefer held a b offered enrolled refl (omega arith) refl first second in
     let all : AreRead Prefer held (a ∷ b ∷ names) (first.0 ∷ second.0 ∷ sessions) =
-    sessions_read Prefer held (a ∷ b ∷ []) (first.0 ∷ second.0 ∷ []) names sessions front (omega arith) are.each (omega (arith, are.count)) in
-    let market : IsHeld first.0 second.0 sessions sections students journal = record { offered = first.3; enrolled = second.3; legal = legal; merged = (command_lists streams, are.commands, merges) } in
-    let read : AreRead Prefer held (inputs_of Prefer words) (first.0 ∷ second.0 ∷ sessions) = subst (λ names. AreRead Prefer held names (first.0 ∷ second.0 ∷ sessions)) (sym inputs) all in (
-      (Prefer, has, first.0 ∷ second.0 ∷ sessions, read),
-      (Prefer, has, first.0 ∷ second.0 ∷ sessions, read.each, (sections, students, journal, market, printed)),
-    )
+    sessions_read Prefer held (a ∷ b ∷ []) (first.0 ∷ second.0 ∷ []) names sessions front refl (omega arith) are.each (omega (arith, are.count)) in
+    let market : IsHeld first.0 second.0 sessions offered enrolled journal = record { catalog_says = first.3; roll_says = second.3; legal = legal; merged = (command_lists streams, are.commands, merges) } in
+    let read : AreRead Prefer held (inputs_of Prefer words) (first.0 ∷ second.0 ∷ sessions) = subst (λ names. AreRead Prefer held names (first.0 ∷ second.0 ∷ sessions)) (sym inputs) all in
+    let last : IsLastAtEnd (seen_from held before seen) names = subst (λ h. IsLastAtEnd (seen_from h before seen) names) same ended in
+    (Prefer, has, first.0 ∷ second.0 ∷ sessions, read, behind_at_end (seen_from held before seen) (inputs_of Prefer words) (a ∷ b ∷ []) names inputs some last, (offered, enrolled, journal, market, printed))

@@ -1,6 +1,6 @@
 -- Sessions that were read, one by one and all together.
-use Rattle.std.proofs.Common.{ℕ, zero, suc, ◌≡◌, ◌<◌, ◌≤◌, ◌+◌, List, [], ◌∷◌, ◌++◌, length, take, drop, get_or, map, arith, ap, sym, subst, ◌∙◌, refl, append_assoc, inl, inr, Global}
-use Rattle.std.specs.Prelude.{Option, String, Vec, ⊤}
+use Rattle.std.proofs.Common.{ℕ, zero, suc, ◌≡◌, ◌<◌, ◌≤◌, ◌+◌, List, [], ◌∷◌, ◌++◌, length, take, drop, get_or, map, arith, ap, sym, subst, ◌∙◌, refl, append_assoc, inr, Global}
+use Rattle.std.specs.Prelude.{◌⊎◌, Option, String, Vec}
 use Rattle.std.specs.List.{AllZip}
 use Rattle.std.specs.String.{string_bytes}
 use Rattle.std.proofs.Math.ListN.{drop_of_length-le}
@@ -14,77 +14,84 @@ use Rattle.market_lists.proofs.Sums.{total-append}
 use Rattle.market_words.specs.declared.words.Form.{Form}
 use Rattle.utility_language.specs.declared.commands.Command.{Command}
 use Rattle.utility_language.specs.Commands.{AreCommands}
-use Rattle.market_host.specs.Causes.{HasTrouble}
-use Rattle.market_host.specs.Inputs.{AreRead, IsInOrder, IsOfGrammar, IsTooLong, commands_among}
-use Rattle.market_host.specs.Kinds.{Kind, Session, front_of, kind_behind, kind_of, limit_of}
+use Rattle.market_host.specs.declared.trouble.Trouble.{Trouble}
+use Rattle.market_host.specs.declared.trouble.Trouble.TheVariants.{ShelfFault, Refused, TooLong, OutOfMemory}
+use Rattle.market_host.specs.Inputs.{AreRead, IsInOrder, IsOfGrammar, commands_among, commands_in}
+use Rattle.market_host.specs.Kinds.{Kind, Session, front_of, kind_behind, kind_of, limit_of, streams_of}
 use Rattle.market_host.specs.Reading.{AreReadSessions, IsRead, IsSurplus, IsTroubleOfSession, IsTroubleOfSessions}
 use Rattle.market_host.specs.Sessions.{command_count, session_text}
-use Rattle.market_host.specs.declared.status.Status.{Status}
-use Rattle.market_host.specs.declared.status.Status.TheVariants.{Done, Usage, ShelfFault, Refused, TooLong, SinkFault, OutOfMemory}
+use Rattle.market_host.specs.Sights.{Sight}
+use Rattle.market_host.specs.Troubles.{HasSurplus, HasTrouble, IsAtEnd, IsPastLimit}
 use Rattle.market_host.proofs.InputTroubles.{at_input, read_more, texts_long, trouble_before}
+use Rattle.market_host.proofs.Shelves.{seen_from}
 use Rattle.market_host.proofs.StreamFacts.{as_many_streams, count_of_session, streams_more}
 
-session_behind : (kinds : List Kind) (count : ℕ) → length kinds ≤ count → kind_behind kinds count ≡ Session
-session_behind [] count behind = refl
-session_behind (kind ∷ kinds) zero behind = absurd (omega arith)
-session_behind (kind ∷ kinds) (suc count) behind = session_behind kinds count (omega arith)
+stream_behind : (kinds : List Kind) (streams : Kind) (count : ℕ) → length kinds ≤ count → kind_behind kinds streams count ≡ streams
+stream_behind [] streams count behind = refl
+stream_behind (kind ∷ kinds) streams zero behind = absurd (omega arith)
+stream_behind (kind ∷ kinds) streams (suc count) behind = stream_behind kinds streams count (omega arith)
 
 -- behind the inputs in front of the sessions, each input is a session
-pub is_session : (form : Form) (count : ℕ) → length (front_of form) ≤ count → kind_of form count ≡ Session
-is_session form count behind = session_behind (front_of form) count behind
+pub is_session : (form : Form) (count : ℕ) → streams_of form ≡ Session → length (front_of form) ≤ count → kind_of form count ≡ Session
+is_session form count streams behind = stream_behind (front_of form) (streams_of form) count behind ∙ streams
+
+-- the commands of the texts behind the front are those of sessions
+among_sessions : (form : Form) (texts : List (List ℕ)) → streams_of form ≡ Session → commands_among form texts ≡ total command_count (drop (length (front_of form)) texts)
+among_sessions form texts streams = ap (λ kind. total (commands_in kind) (drop (length (front_of form)) texts)) streams
 
 -- the commands of the sessions, with more sessions behind them
-commands_behind : (form : Form) (texts sessions : List (List ℕ)) → length (front_of form) ≤ length texts → commands_among form (texts ++ sessions) ≡ commands_among form texts + total command_count sessions
-commands_behind form texts sessions behind =
-    ap (total command_count) (drop-append-le (length (front_of form)) texts sessions behind) ∙ total-append command_count (drop (length (front_of form)) texts) sessions
+commands_behind : (form : Form) (texts sessions : List (List ℕ)) → streams_of form ≡ Session → length (front_of form) ≤ length texts
+    → commands_among form (texts ++ sessions) ≡ commands_among form texts + total command_count sessions
+commands_behind form texts sessions streams behind =
+    among_sessions form (texts ++ sessions) streams ∙ ap (total command_count) (drop-append-le (length (front_of form)) texts sessions behind)
+    ∙ total-append command_count (drop (length (front_of form)) texts) sessions ∙ ap (λ n. n + total command_count sessions) (sym (among_sessions form texts streams))
 
 -- the same with one session more
-commands_more : (form : Form) (texts : List (List ℕ)) (text : List ℕ) → length (front_of form) ≤ length texts → commands_among form (texts ++ text ∷ []) ≡ commands_among form texts + command_count text
-commands_more form texts text behind = commands_behind form texts (text ∷ []) behind ∙ omega arith
+commands_more : (form : Form) (texts : List (List ℕ)) (text : List ℕ) → streams_of form ≡ Session → length (front_of form) ≤ length texts
+    → commands_among form (texts ++ text ∷ []) ≡ commands_among form texts + command_count text
+commands_more form texts text streams behind = commands_behind form texts (text ∷ []) streams behind ∙ omega arith
 
 -- where no session was read yet, there is no command
 pub no_commands : (form : Form) (texts : List (List ℕ)) → length texts ≡ length (front_of form) → commands_among form texts ≡ 0
-no_commands form texts all = ap (total command_count) (drop_of_length-le texts (omega arith))
+no_commands form texts all = ap (total (commands_in (streams_of form))) (drop_of_length-le texts (omega arith))
 
 -- a session that is within the limits is in order
-session_in_order : (form : Form) (texts : List (List ℕ)) (text : List ℕ) → length (front_of form) ≤ length texts → length text ≤ 16777216 → commands_among form texts + command_count text ≤ 200000
-    → IsInOrder form texts text
-session_in_order form texts text behind within room =
-    let of = sym (is_session form (length texts) behind) in
+session_in_order : (form : Form) (texts : List (List ℕ)) (text : List ℕ) → streams_of form ≡ Session → length (front_of form) ≤ length texts → length text ≤ 16777216
+    → commands_among form texts + command_count text ≤ 200000 → IsInOrder form texts text
+session_in_order form texts text streams behind within room =
+    let of = sym (is_session form (length texts) streams behind) in
     record {
       within = subst (λ kind. length text ≤ limit_of kind) of within;
-      room = omega (arith, commands_more form texts text behind);
+      room = omega (arith, commands_more form texts text streams behind);
       grammar = subst (λ kind. IsOfGrammar kind texts text) of tt;
     }
 
 -- sessions that are within the limits were read behind the other inputs
-pub sessions_read : (form : Form) (held : Option Holding) (earlier texts names sessions : List (List ℕ)) → AreRead form held earlier texts → length (front_of form) ≤ length texts
+pub sessions_read : (form : Form) (held : Option Holding) (earlier texts names sessions : List (List ℕ)) → AreRead form held earlier texts → streams_of form ≡ Session → length (front_of form) ≤ length texts
     → AllZip (λ name text. IsTextOf held name text × (length text ≤ limit_of Session)) names sessions → commands_among form texts + total command_count sessions ≤ 200000
     → AreRead form held (earlier ++ names) (texts ++ sessions)
-sessions_read form held earlier texts [] [] read behind each room = rw (append-nil earlier, append-nil texts) read
-sessions_read form held earlier texts [] (text ∷ sessions) read behind each room = absurd each
-sessions_read form held earlier texts (name ∷ names) [] read behind each room = absurd each
-sessions_read form held earlier texts (name ∷ names) (text ∷ sessions) read behind each room =
+sessions_read form held earlier texts [] [] read streams behind each room = rw (append-nil earlier, append-nil texts) read
+sessions_read form held earlier texts [] (text ∷ sessions) read streams behind each room = absurd each
+sessions_read form held earlier texts (name ∷ names) [] read streams behind each room = absurd each
+sessions_read form held earlier texts (name ∷ names) (text ∷ sessions) read streams behind each room =
     let more : AreRead form held (earlier ++ name ∷ []) (texts ++ text ∷ []) =
-    read_more form held earlier texts name text read each.0.0 (session_in_order form texts text behind each.0.1 (omega arith)) in
-    let rest = sessions_read form held (earlier ++ name ∷ []) (texts ++ text ∷ []) names sessions more (omega (arith, length-append texts (text ∷ []))) each.1
-    (omega (arith, commands_more form texts text behind)) in
+    read_more form held earlier texts name text read each.0.0 (session_in_order form texts text streams behind each.0.1 (omega arith)) in
+    let rest = sessions_read form held (earlier ++ name ∷ []) (texts ++ text ∷ []) names sessions more streams (omega (arith, length-append texts (text ∷ []))) each.1
+    (omega (arith, commands_more form texts text streams behind)) in
     rw (append_assoc earlier (name ∷ []) names, append_assoc texts (text ∷ []) sessions) at rest
 
--- a session that brings the commands above what there is room for
-pub trouble_of_session : (form : Form) (held : Option Holding) (before after : List ℕ → ℕ) (earlier texts later : List (List ℕ)) (name text : List ℕ) (number room : ℕ) (status : Status)
-    → AreRead form held earlier texts → number ≡ length earlier + 1 → length (front_of form) ≤ length earlier → commands_among form texts + room ≡ 200000 → IsTextOf held name text
-    → IsSurplus text room number status → HasTrouble form held before after (earlier ++ name ∷ later) status
-trouble_of_session form held before after earlier texts later name text number room (TooLong n) read is behind left whole surplus =
-    let long : length texts ≡ length earlier = texts_long form held earlier texts read in
-    at_input form held earlier texts later name n number (λ all input. (bytes : List ℕ) × IsTextOf held input bytes × IsTooLong form all bytes) read surplus.0 is
-    (text, whole, inr (omega (arith, commands_more form texts text (omega arith), surplus.1)))
-trouble_of_session form held before after earlier texts later name text number room OutOfMemory read is behind left whole surplus = tt
-trouble_of_session form held before after earlier texts later name text number room Done read is behind left whole surplus = absurd surplus
-trouble_of_session form held before after earlier texts later name text number room Usage read is behind left whole surplus = absurd surplus
-trouble_of_session form held before after earlier texts later name text number room (ShelfFault n) read is behind left whole surplus = absurd surplus
-trouble_of_session form held before after earlier texts later name text number room (Refused n row cause) read is behind left whole surplus = absurd surplus
-trouble_of_session form held before after earlier texts later name text number room SinkFault read is behind left whole surplus = absurd surplus
+-- a session that was read to its end, and brings the commands above what there is room for
+pub trouble_of_session : (form : Form) (seen : Sight) (earlier texts later : List (List ℕ)) (name text : List ℕ) (number room : ℕ) (trouble : Trouble)
+    → AreRead form seen.held earlier texts → number ≡ length earlier + 1 → streams_of form ≡ Session → length (front_of form) ≤ length earlier → commands_among form texts + room ≡ 200000 → IsAtEnd seen name
+    → IsTextOf seen.held name text → length text ≤ 16777216 → IsSurplus text room number trouble → HasTrouble form seen (earlier ++ name ∷ later) trouble
+trouble_of_session form seen earlier texts later name text number room (TooLong n) read is streams behind left ended whole within surplus =
+    let long : length texts ≡ length earlier = texts_long form seen.held earlier texts read in
+    let of = sym (is_session form (length texts) streams (omega arith)) in
+    at_input form seen earlier texts later name number read is n (λ all input. IsPastLimit form seen all input ⊎ HasSurplus form seen all input) surplus.0
+    (inr (ended, text, whole, subst (λ kind. length text ≤ limit_of kind) of within, omega (arith, commands_more form texts text streams (omega arith), surplus.1)))
+trouble_of_session form seen earlier texts later name text number room OutOfMemory read is streams behind left ended whole within surplus = tt
+trouble_of_session form seen earlier texts later name text number room (ShelfFault n) read is streams behind left ended whole within surplus = absurd surplus
+trouble_of_session form seen earlier texts later name text number room (Refused n row cause) read is streams behind left ended whole within surplus = absurd surplus
 
 names_split : (names : List (String Global)) (k : ℕ) (name : String Global) → k < length names → name ≡ get_or names k name
     → map string_bytes names ≡ map string_bytes (take k names) ++ string_bytes name ∷ map string_bytes (drop (suc k) names)
@@ -119,19 +126,20 @@ streams_of_names held names sessions streams room are =
     as_many_streams sessions streams are.commands ∙ AllZip-long (λ name text. IsTextOf held name text × (length text ≤ 16777216)) names sessions are.each
 
 -- the trouble of one session is the trouble of all
-pub trouble_among : (held : Option Holding) (before middle after : List ℕ → ℕ) (names : List (String Global)) (k : ℕ) (name : String Global) (first input room : ℕ) (sessions : List (List ℕ))
-    (streams : List (Vec Command Global)) (status : Status) → k < length names → name ≡ get_or names k name → input ≡ first + k → ((other : List ℕ) → before other ≤ middle other)
-    → AreReadSessions held (map string_bytes (take k names)) sessions streams room → IsTroubleOfSession held middle after room (string_bytes name) input status
-    → IsTroubleOfSessions held before after (map string_bytes names) first status
-trouble_among held before middle after names k name first input room sessions streams status below is number later are trouble = λ form earlier texts read behind counted.
+pub trouble_among : (held : Option Holding) (before : List ℕ → ℕ) (seen : Sight) (names : List (String Global)) (k : ℕ) (name : String Global) (first input room : ℕ) (sessions : List (List ℕ))
+    (streams : List (Vec Command Global)) (trouble : Trouble) → k < length names → name ≡ get_or names k name → input ≡ first + k → seen.held ≡ held → ((other : List ℕ) → before other ≤ seen.before other)
+    → AreReadSessions held (map string_bytes (take k names)) sessions streams room → IsTroubleOfSession seen room (string_bytes name) input trouble
+    → IsTroubleOfSessions (seen_from held before seen) (map string_bytes names) first trouble
+trouble_among held before seen names k name first input room sessions streams trouble below is number same later are stops = λ form earlier texts read of behind counted.
     let done = map string_bytes (take k names) in
     let long : length texts ≡ length earlier = texts_long form held earlier texts read in
     let none : commands_among form texts ≡ 0 = no_commands form texts (omega arith) in
-    let all : commands_among form (texts ++ sessions) ≡ commands_among form texts + total command_count sessions = commands_behind form texts sessions (omega arith) in
-    let so_far : AreRead form held (earlier ++ done) (texts ++ sessions) = sessions_read form held earlier texts done sessions read (omega arith) are.each (omega (arith, are.count)) in
+    let all : commands_among form (texts ++ sessions) ≡ commands_among form texts + total command_count sessions = commands_behind form texts sessions of (omega arith) in
+    let so_far : AreRead form held (earlier ++ done) (texts ++ sessions) = sessions_read form held earlier texts done sessions read of (omega arith) are.each (omega (arith, are.count)) in
     let count : length (earlier ++ done) ≡ length earlier + k =
     length-append earlier done ∙ ap (λ n. length earlier + n) (length-map (take k names) string_bytes ∙ length-take-le k names (omega arith)) in
-    let found = trouble form (earlier ++ done) (texts ++ sessions) (map string_bytes (drop (suc k) names)) so_far (omega arith) (omega arith) (omega (arith, are.count)) in
+    let found = stops form (earlier ++ done) (texts ++ sessions) (map string_bytes (drop (suc k) names)) (subst (λ h. AreRead form h (earlier ++ done) (texts ++ sessions)) (sym same) so_far) of (omega arith) (omega arith)
+    (omega (arith, are.count)) in
     let split : (earlier ++ done) ++ string_bytes name ∷ map string_bytes (drop (suc k) names) ≡ earlier ++ map string_bytes names =
     append_assoc earlier done (string_bytes name ∷ map string_bytes (drop (suc k) names)) ∙ ap (λ rest. earlier ++ rest) (sym (names_split names k name below is)) in
-    trouble_before form held before middle after (earlier ++ map string_bytes names) status later (subst (λ inputs. HasTrouble form held middle after inputs status) split found)
+    trouble_before form held before seen (earlier ++ map string_bytes names) trouble same later (subst (λ inputs. HasTrouble form seen inputs trouble) split found)

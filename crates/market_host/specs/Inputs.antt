@@ -1,40 +1,42 @@
 -- What the inputs of a call may say. A text is judged behind the texts of the inputs before it.
-use Rattle.std.specs.Prelude.{ℕ, ◌≡◌, ◌<◌, ◌≤◌, ◌⊎◌, List, [], ◌∷◌, ◌++◌, length, drop, Option, Some, Ok, ⊤}
+use Rattle.std.specs.Prelude.{ℕ, ◌≡◌, ◌≤◌, List, [], ◌∷◌, ◌++◌, length, drop, Option, Some, Ok, ⊤}
 use Rattle.std.specs.List.{AllZip}
+use Rattle.course_catalog.specs.Catalog.{CatalogData}
 use Rattle.course_catalog.specs.Reading.{catalog_of}
-use Rattle.course_catalog.specs.Sections.{Section}
 use Rattle.student_roll.specs.Rolls.{roll_of}
-use Rattle.student_roll.specs.Students.{Student}
+use Rattle.student_roll.specs.Students.{RollData}
 use Rattle.market_edge.specs.Holdings.{Holding, IsTextOf, told_text}
 use Rattle.market_lists.specs.Totals.{total}
 use Rattle.market_words.specs.declared.words.Form.{Form}
 use Rattle.market_host.specs.declared.cause.Cause.{Cause}
-use Rattle.market_host.specs.Kinds.{Kind, Catalogue, Roll, Session, front_of, kind_of, limit_of}
+use Rattle.market_host.specs.Kinds.{Kind, Catalog, Roll, Session, front_of, kind_of, limit_of, streams_of}
 use Rattle.market_host.specs.Refusals.{IsNoCatalog, IsNoRoll}
 use Rattle.market_host.specs.Sessions.{command_count}
 
--- the texts of the sessions among the texts of a form's first inputs
-abbrev pub sessions_among : Form → List (List ℕ) → List (List ℕ)
-sessions_among form texts = drop (length (front_of form)) texts
+-- how many commands a text of this kind has, where it is a stream of them
+abbrev pub commands_in : Kind → List ℕ → ℕ
+commands_in Catalog text = 0
+commands_in Roll text = 0
+commands_in Session text = command_count text
 
--- how many commands these sessions have together
+-- how many commands the streams among the texts of a form's first inputs have together
 abbrev pub commands_among : Form → List (List ℕ) → ℕ
-commands_among form texts = total command_count (sessions_among form texts)
+commands_among form texts = total (commands_in (streams_of form)) (drop (length (front_of form)) texts)
 
 -- a text of this kind, behind these others, is of its grammar; a session always is
 abbrev pub IsOfGrammar : Kind → List (List ℕ) → List ℕ → Type 0
-IsOfGrammar Catalogue earlier text = (sections : List Section) × (catalog_of text ≡ Ok sections)
-IsOfGrammar Roll earlier text = (students : List Student) × (roll_of text ≡ Ok students)
+IsOfGrammar Catalog earlier text = (catalog : CatalogData) × (catalog_of text ≡ Ok catalog)
+IsOfGrammar Roll earlier text = (roll : RollData) × (roll_of text ≡ Ok roll)
 IsOfGrammar Session earlier text = ⊤
 
 -- a text of this kind, behind these others, is not of its grammar, and its first fault has this row and this cause; a session has none
 abbrev pub HasFault : Kind → List (List ℕ) → ℕ → Cause → List ℕ → Type 0
-HasFault Catalogue earlier row cause text = IsNoCatalog text row cause
+HasFault Catalog earlier row cause text = IsNoCatalog text row cause
 HasFault Roll earlier row cause text = IsNoRoll text row cause
 HasFault Session earlier row cause text = ⊥
 
--- The text of a form's next input, behind these others, is within its limits and of its grammar: its bytes, the commands of all sessions
--- up to and with it, and what it says.
+-- The text of a form's next input, behind these others, is within its limits and of its grammar: its bytes, the commands of all streams up
+-- to and with it, and what it says.
 pub record IsInOrder (form : Form) (earlier : List (List ℕ)) (text : List ℕ) : Type 0 where
   pub within : length text ≤ limit_of (kind_of form (length earlier))
   pub room : commands_among form (earlier ++ text ∷ []) ≤ 200000
@@ -45,21 +47,9 @@ abbrev pub AreInOrder : Form → List (List ℕ) → List (List ℕ) → Type 0
 AreInOrder form earlier [] = ⊤
 AreInOrder form earlier (text ∷ more) = IsInOrder form earlier text × AreInOrder form (earlier ++ text ∷ []) more
 
--- the text of a form's next input, behind these others, has more bytes than its limit, or brings the commands of the sessions above 200,000
-abbrev pub IsTooLong : Form → List (List ℕ) → List ℕ → Type 0
-IsTooLong form earlier text = (limit_of (kind_of form (length earlier)) < length text) ⊎ (200000 < commands_among form (earlier ++ text ∷ []))
-
--- the text of a form's next input, behind these others, is within its limit of bytes, and has this fault
-abbrev pub IsFaulty : Form → ℕ → Cause → List (List ℕ) → List ℕ → Type 0
-IsFaulty form row cause earlier text = (length text ≤ limit_of (kind_of form (length earlier))) × HasFault (kind_of form (length earlier)) earlier row cause text
-
--- these may be the texts of the inputs of these names; where the shelf tells, they are
-abbrev pub AreTextsOf : Option Holding → List (List ℕ) → List (List ℕ) → Type 0
-AreTextsOf held names texts = AllZip (IsTextOf held) names texts
-
--- these may be the texts of a form's first inputs, which have these names, and they are in order
+-- these may be the texts of a form's first inputs, which have these names, and they are in order; where the shelf tells, they are their texts
 pub record AreRead (form : Form) (held : Option Holding) (names texts : List (List ℕ)) : Type 0 where
-  pub each : AreTextsOf held names texts
+  pub each : AllZip (IsTextOf held) names texts
   pub order : AreInOrder form [] texts
 
 -- the shelf tells that the inputs of these names have these texts

@@ -4,27 +4,32 @@ use Rattle.market_words.specs.declared.words.Form.{Form}
 use Rattle.market_words.specs.declared.words.Form.TheVariants.{Prefer, Quote}
 
 pub data Kind : Type 0 where
-  Catalogue : Kind
+  Catalog : Kind
   Roll : Kind
   Session : Kind
 
--- the kinds of a form's inputs in front of its sessions
+-- the kinds of a form's inputs in front of its streams of commands
 abbrev pub front_of : Form → List Kind
-front_of (Quote name credits courses) = Catalogue ∷ []
-front_of Prefer = Catalogue ∷ Roll ∷ []
+front_of (Quote name credits courses) = Catalog ∷ []
+front_of Prefer = Catalog ∷ Roll ∷ []
 
--- the kind of the input that stands behind so many others, where these kinds stand in front of the sessions
-abbrev pub kind_behind : List Kind → ℕ → Kind
-kind_behind [] count = Session
-kind_behind (kind ∷ kinds) zero = kind
-kind_behind (kind ∷ kinds) (suc count) = kind_behind kinds count
+-- the kind of a form's streams of commands
+abbrev pub streams_of : Form → Kind
+streams_of (Quote name credits courses) = Session
+streams_of Prefer = Session
+
+-- the kind of the input that stands behind so many others, where these kinds stand in front of streams of that kind
+abbrev pub kind_behind : List Kind → Kind → ℕ → Kind
+kind_behind [] streams count = streams
+kind_behind (kind ∷ kinds) streams zero = kind
+kind_behind (kind ∷ kinds) streams (suc count) = kind_behind kinds streams count
 
 -- the kind of a form's input that stands behind so many others
 abbrev pub kind_of : Form → ℕ → Kind
-kind_of form count = kind_behind (front_of form) count
+kind_of form count = kind_behind (front_of form) (streams_of form) count
 
 -- the most bytes that an input of this kind may have
 abbrev pub limit_of : Kind → ℕ
-limit_of Catalogue = 16777216
+limit_of Catalog = 16777216
 limit_of Roll = 16777216
 limit_of Session = 16777216

@@ -1,11 +1,14 @@
-pub mod Causes
 pub mod Completeness
+pub mod Ends
 pub mod Inputs
 pub mod Kinds
 pub mod Lines
-pub mod Numbers
+pub mod Outcomes
 pub mod Preferences
 pub mod Quotes
 pub mod Reading
 pub mod Refusals
 pub mod Sessions
+pub mod Sights
+pub mod Statuses
+pub mod Troubles

@@ -5,6 +5,7 @@ use Rattle.std.specs.Fmt.{signed_decimal}
 use Rattle.bundle_rules.specs.Demand.{IsBest}
 use Rattle.bundle_rules.specs.Menus.{MenuData, wishes_of}
 use Rattle.bundle_rules.specs.Wishes.{utility}
+use Rattle.course_catalog.specs.Catalog.{CatalogData}
 use Rattle.course_catalog.specs.Reading.{catalog_of}
 use Rattle.course_catalog.specs.Sections.{Section, section_at}
 use Rattle.market_menus.specs.MenusOf.{IsMenuOf}
@@ -50,6 +51,11 @@ IsQuote sections student commands text =
 -- the text is what is told of the catalogue and the commands that these inputs stand for
 abbrev pub IsQuoteOf : List ℕ → ℕ → ℕ → List ℕ → List ℕ → List ℕ → Type 0
 IsQuoteOf name credits courses catalog session text =
-    (sections : List Section) × (catalog_of catalog ≡ Ok sections)
+    (offered : CatalogData) × (catalog_of catalog ≡ Ok offered)
     × (commands : List Command) × AreCommands (session_text session) commands
-    × IsQuote sections (single_student name credits courses) commands text
+    × IsQuote offered.sections (single_student name credits courses) commands text
+
+-- what is printed for the texts of a catalogue and a session
+abbrev pub PrintsQuote : List ℕ → ℕ → ℕ → List (List ℕ) → List ℕ → Type 0
+PrintsQuote name credits courses (catalog ∷ session ∷ []) text = IsQuoteOf name credits courses catalog session text
+PrintsQuote name credits courses texts text = ⊥

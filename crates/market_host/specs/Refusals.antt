@@ -1,5 +1,5 @@
 -- The row and the cause that are told of a refused catalogue or roll.
-use Rattle.std.specs.Prelude.{ℕ, ◌≡◌, List, Err, ⊤}
+use Rattle.std.specs.Prelude.{ℕ, ◌≡◌, List, Err}
 use Rattle.course_catalog.specs.declared.refusal.CatalogRefusal.{CatalogRefusal}
 use Rattle.course_catalog.specs.declared.refusal.CatalogRefusal.TheVariants as of_catalog
 use Rattle.course_catalog.specs.Reading.{catalog_of}
@@ -17,6 +17,7 @@ IsTold (of_catalog.Name at column) row told = (row ≡ at) × (told ≡ cause.Na
 IsTold (of_catalog.Repeated at earlier) row told = (row ≡ at) × (told ≡ cause.Repeated earlier)
 IsTold (of_catalog.Number at column) row told = (row ≡ at) × (told ≡ cause.Number column)
 IsTold (of_catalog.Meetings at) row told = (row ≡ at) × (told ≡ cause.Meetings)
+IsTold (of_catalog.Parts at) row told = (row ≡ at) × (told ≡ cause.Parts)
 IsTold of_catalog.TooMany row told = (row ≡ 402) × (told ≡ cause.TooMany)
 IsTold of_catalog.NoMemory row told = ⊥
 

@@ -17,6 +17,8 @@ pub enum Cause {
     Number { column: u8 },
     /// A field is no list of meetings.
     Meetings,
+    /// A field does not say in which parts of the term a section runs.
+    Parts,
     /// A table has too many rows.
     TooMany,
     /// The settings are not JSON.

@@ -1,16 +1,21 @@
 // From the words to the status, and from the inputs to the output.
-ghost use Rattle.std.specs.Prelude.{◌≡◌, ◌≢◌, ◌⊎◌, List, ℕ, map, MatchResult};
+ghost use Rattle.std.specs.Prelude.{◌≡◌, ◌≢◌, ◌≤◌, List, ℕ, map, MatchResult};
 ghost use Rattle.std.specs.String.{string_bytes};
 ghost use Rattle.market_edge.specs.Faults.{Rose};
 ghost use Rattle.market_edge.specs.Sinks.{Takes, TakesFront};
-ghost use Rattle.market_host.specs.Causes.{Fails, HasCause, IsReadOutAt};
-ghost use Rattle.market_host.specs.Completeness.{CanBeDone};
-ghost use Rattle.market_host.specs.Lines.{Writes};
+ghost use Rattle.market_words.specs.Forms.{HasForm};
+ghost use Rattle.market_host.specs.Completeness.{CanBeDone, EndsWork};
+ghost use Rattle.market_host.specs.Ends.{IsReadOutAt};
+ghost use Rattle.market_host.specs.Lines.{line_of};
+ghost use Rattle.market_host.specs.Outcomes.{IsDone, IsOutcome, IsStopped};
+ghost use Rattle.market_host.specs.Sights.{sight};
+ghost use Rattle.market_host.specs.declared.trouble.Trouble.TheVariants as trouble;
 
 use crate::Status;
-use crate::line::line_for;
+use crate::line::{line_for, usage};
 use crate::prefer::prefer;
 use crate::quote::quote;
+use crate::trouble::Trouble;
 use market_edge::{Gate, Shelf, Sink, SinkFault, write_whole};
 use market_words::{Form, read_words};
 use std::alloc::Global;
@@ -28,29 +33,47 @@ pub fn course_match<R: Threads + Wait + Sync, H: Shelf, K: Sink, G: Gate + Sync>
     sink: &mut K,
     gate: &G,
 ) -> Status
-    // Each status but a sink fault has its cause.
-    ensures cause { result ≢ Status.SinkFault → HasCause (map string_bytes words.now) (H.holds shelf.old) (H.faults shelf.old) (H.faults shelf.new) result }
+    // The status and its text are the outcome of the call, and the sink took that text, all of it unless it fails.
+    ensures written { result ≢ Status.SinkFault → (text : List ℕ)
+        × IsOutcome (map string_bytes words.now) (sight H.Shelf shelf.old shelf.new) result text × Takes (K.taken sink.old) (K.taken sink.new) text }
 
-    // What is written is the status's text, all of it unless the sink fails.
-    ensures written { result ≢ Status.SinkFault → (text : List ℕ) × Writes (map string_bytes words.now) (H.holds shelf.old) result text × Takes (K.taken sink.old) (K.taken sink.new) text }
+    // A sink fault stands for the outcome of the call, and some of its text was not taken.
     ensures sink_fault { result ≡ Status.SinkFault → Rose (K.faults sink.old) (K.faults sink.new) }
-
-    // A sink fault stands for a status that had its cause, and some of its text was not taken.
     ensures replaced { result ≡ Status.SinkFault → (instead : _) × (text : List ℕ)
-        × HasCause (map string_bytes words.now) (H.holds shelf.old) (H.faults shelf.old) (H.faults shelf.new) instead
-        × Writes (map string_bytes words.now) (H.holds shelf.old) instead text × TakesFront (K.taken sink.old) (K.taken sink.new) text }
+        × IsOutcome (map string_bytes words.now) (sight H.Shelf shelf.old shelf.new) instead text × TakesFront (K.taken sink.old) (K.taken sink.new) text }
 
-    // Where every input is held and in order and no fault is counted, the work is done, or memory is wanted.
-    ensures complete { CanBeDone (map string_bytes words.now) (H.holds shelf.old) (H.faults shelf.old) (H.faults shelf.new)
-        → ¬ Rose (K.faults sink.old) (K.faults sink.new) → (result ≡ Status.Done) ⊎ (result ≡ Status.OutOfMemory) }
+    // Where every input is held and in order and no fault is counted, the work is ended, or memory is wanted.
+    ensures complete { CanBeDone (map string_bytes words.now) (sight H.Shelf shelf.old shelf.new) → ¬ Rose (K.faults sink.old) (K.faults sink.new) → EndsWork result }
 
     // Where the work is done, the last input was read to its end, and where an input is refused, that one.
-    ensures read_out { IsReadOutAt (map string_bytes words.now) (H.holds shelf.old) (H.serves shelf.new) (H.left shelf.new) result }
+    ensures read_out { IsReadOutAt (map string_bytes words.now) (sight H.Shelf shelf.old shelf.new) result }
+
+    // What the shelf holds stays, and no count of faults falls.
+    ensures holds { H.holds shelf.new ≡ H.holds shelf.old }
+    ensures later { (other : List ℕ) → H.faults shelf.old other ≤ H.faults shelf.new other }
+    ensures sink_later { K.faults sink.old ≤ K.faults sink.new }
 {
-    match answer(rt, alloc, words, shelf, gate) {
+    let Some(form) = read_words(words) else {
+        return finish(sink, usage().as_bytes(), Status::Usage);
+    };
+    match answer(rt, alloc, words, form, shelf, gate) {
         Ok(text) => finish(sink, &text, Status::Done),
-        Err(status) => finish(sink, line_for(status).as_bytes(), status),
+        Err(trouble) => finish(sink, line_for(trouble).as_bytes(), trouble.status()),
     }
+}
+
+/// What is answered where there is no memory for the words themselves: that memory is wanted, unless the sink fails.
+pub fn no_memory_for_words<K: Sink>(sink: &mut K) -> Status
+    ensures written { result ≢ Status.SinkFault → (result ≡ Status.OutOfMemory) × Takes (K.taken sink.old) (K.taken sink.new) (line_of trouble.OutOfMemory) }
+    ensures sink_fault { result ≡ Status.SinkFault → Rose (K.faults sink.old) (K.faults sink.new) }
+    ensures replaced { result ≡ Status.SinkFault → TakesFront (K.taken sink.old) (K.taken sink.new) (line_of trouble.OutOfMemory) }
+    ensures sink_later { K.faults sink.old ≤ K.faults sink.new }
+{
+    finish(
+        sink,
+        line_for(Trouble::OutOfMemory).as_bytes(),
+        Status::OutOfMemory,
+    )
 }
 
 // Writes the text of a status, and answers the status where the sink takes it whole.
@@ -60,6 +83,7 @@ fn finish<K: Sink>(sink: &mut K, text: &[u8], status: Status) -> Status
     ensures written { result ≢ Status.SinkFault → Takes (K.taken sink.old) (K.taken sink.new) text.now }
     ensures cause { result ≡ Status.SinkFault → Rose (K.faults sink.old) (K.faults sink.new) }
     ensures front { result ≡ Status.SinkFault → TakesFront (K.taken sink.old) (K.taken sink.new) text.now }
+    ensures later { K.faults sink.old ≤ K.faults sink.new }
 {
     match write_whole(sink, text) {
         Ok(()) => status,
@@ -67,29 +91,27 @@ fn finish<K: Sink>(sink: &mut K, text: &[u8], status: Status) -> Status
     }
 }
 
-// The text to write, or the status that says why there is none.
+// The text to write, or what stops the call.
 fn answer<R: Threads + Wait + Sync, H: Shelf, G: Gate + Sync>(
     rt: &R,
     alloc: Global,
     words: &[String],
+    form: Form,
     shelf: &mut H,
     gate: &G,
-) -> Result<Vec<u8>, Status>
-    ensures answer { MatchResult result
-        (λ text. HasCause (map string_bytes words.now) (H.holds shelf.old) (H.faults shelf.old) (H.faults shelf.new) Status.Done
-        × Writes (map string_bytes words.now) (H.holds shelf.old) Status.Done text.items)
-        (Fails (map string_bytes words.now) (H.holds shelf.old) (H.faults shelf.old) (H.faults shelf.new)) }
-    ensures end { MatchResult result (λ _. IsReadOutAt (map string_bytes words.now) (H.holds shelf.old) (H.serves shelf.new) (H.left shelf.new) Status.Done) (IsReadOutAt (map string_bytes words.now) (H.holds shelf.old) (H.serves shelf.new) (H.left shelf.new)) }
+) -> Result<Vec<u8>, Trouble>
+    requires { HasForm (map string_bytes words.now) form }
+    ensures answer { MatchResult result (λ text. IsDone (map string_bytes words.now) (sight H.Shelf shelf.old shelf.new) text.items)
+        (λ stop. IsStopped (map string_bytes words.now) (sight H.Shelf shelf.old shelf.new) stop (line_of stop)) }
+    ensures holds { H.holds shelf.new ≡ H.holds shelf.old }
+    ensures later { (other : List ℕ) → H.faults shelf.old other ≤ H.faults shelf.new other }
 {
-    match read_words(words) {
-        Some(
-            Form::Quote {
-                name,
-                credits,
-                courses,
-            },
-        ) => quote(alloc, words, shelf, name, credits, courses),
-        Some(Form::Prefer) => prefer(rt, alloc, words, shelf, gate),
-        None => Err(Status::Usage),
+    match form {
+        Form::Quote {
+            name,
+            credits,
+            courses,
+        } => quote(alloc, words, shelf, name, credits, courses),
+        Form::Prefer => prefer(rt, alloc, words, shelf, gate),
     }
 }

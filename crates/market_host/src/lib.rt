@@ -2,7 +2,7 @@
 //! status, and from the bytes of the inputs to the bytes of the output.
 #![tactic(auto)]
 
-mod catalogue;
+mod catalog;
 mod cause;
 mod host;
 mod inputs;
@@ -14,11 +14,9 @@ mod session;
 mod sessions;
 mod status;
 mod text;
+mod trouble;
 
 pub use cause::Cause;
-pub use host::course_match;
+pub use host::{course_match, no_memory_for_words};
 pub use market_settings::Key;
 pub use status::Status;
-
-#[cfg(test)]
-mod tests;

@@ -1,10 +1,11 @@
-// The line of a status, made without memory.
+// The lines of calls that are stopped, made without memory.
 ghost use Rattle.std.specs.Prelude.{◌≡◌, ◌≤◌, ◌+◌, ◌++◌, [], List, ℕ, length, take, codes};
 ghost use Rattle.std.specs.Fmt.{decimal};
 ghost use Rattle.market_settings.specs.Keys.{key_name};
-ghost use Rattle.market_host.specs.Lines.{cause_words, line_of};
+ghost use Rattle.market_host.specs.Lines.{cause_words, line_of, usage_line};
 
-use crate::{Cause, Status};
+use crate::Cause;
+use crate::trouble::Trouble;
 use market_settings::Key;
 use market_units::put_number;
 use std::marker::Model;
@@ -68,23 +69,28 @@ impl Line {
     }
 }
 
-/// The line that a status writes; none where the work is done or the sink fails.
-pub fn line_for(status: Status) -> Line
-    ensures { result ≡ line_of status }
+/// The line of words that have no form.
+pub fn usage() -> Line
+    ensures { result ≡ usage_line }
 {
-    match status {
-        Status::Done | Status::SinkFault => Line::empty(),
-        Status::Usage => { Line::empty().with(b"usage: run, check, prefer, demand, quote, make\n") }
-        Status::ShelfFault { input } => numbered(input).with(b" can not be read\n"),
-        Status::Refused { input, row, cause } => {
+    Line::empty().with(b"usage: run, check, prefer, demand, quote, make\n")
+}
+
+/// The line that says what stops a call.
+pub fn line_for(trouble: Trouble) -> Line
+    ensures { result ≡ line_of trouble }
+{
+    match trouble {
+        Trouble::ShelfFault { input } => numbered(input).with(b" can not be read\n"),
+        Trouble::Refused { input, row, cause } => {
             let line = numbered(input)
                 .with(b" row ")
                 .with_number(u64::from(row))
                 .with(b": ");
             with_cause(line, cause).with(b"\n")
         }
-        Status::TooLong { input } => numbered(input).with(b" is too long\n"),
-        Status::OutOfMemory => Line::empty().with(b"out of memory\n"),
+        Trouble::TooLong { input } => numbered(input).with(b" is too long\n"),
+        Trouble::OutOfMemory => Line::empty().with(b"out of memory\n"),
     }
 }
 
@@ -111,6 +117,7 @@ fn with_cause(line: Line, cause: Cause) -> Line
             .with(b"number in column ")
             .with_number(u64::from(column)),
         Cause::Meetings => line.with(b"meetings"),
+        Cause::Parts => line.with(b"parts"),
         Cause::TooMany => line.with(b"too many rows"),
         Cause::NotJson => line.with(b"not json"),
         Cause::NotObject => line.with(b"not an object"),

@@ -1,8 +1,9 @@
 // The journal of the sessions, and the preferences that it closes with.
 ghost use Rattle.std.specs.Prelude.{◌≡◌, ◌≤◌, List, ℕ, length, map, MatchResult, IfOk};
 ghost use Rattle.std.specs.String.{string_bytes};
-ghost use Rattle.market_host.specs.Causes.{Fails, HasCause, IsReadOutAt};
-ghost use Rattle.market_host.specs.Lines.{Writes};
+ghost use Rattle.market_host.specs.Lines.{line_of};
+ghost use Rattle.market_host.specs.Outcomes.{IsDone, IsStopped};
+ghost use Rattle.market_host.specs.Sights.{sight};
 ghost use Rattle.market_host.specs.Preferences.{AreStreams};
 ghost use Rattle.market_words.specs.Forms.{HasForm};
 ghost use Rattle.preference_desk.specs.Journals.{IsLegalJournal, MergesStreams};
@@ -10,10 +11,10 @@ ghost use Rattle.preference_desk.specs.MarketNames.{market_names};
 ghost use Rattle.preference_text.specs.Texts as texts;
 ghost use Rattle.session_hall.specs.Streams.{command_count, command_lists};
 
-use crate::Status;
-use crate::catalogue::take_catalogue;
+use crate::catalog::take_catalog;
 use crate::roll::take_roll;
 use crate::sessions::take_sessions;
+use crate::trouble::Trouble;
 use course_catalog::Catalog;
 use market_edge::{Gate, Shelf};
 use market_units::NoMemory;
@@ -27,22 +28,21 @@ use std::thread::Threads;
 use student_roll::Roll;
 use utility_language::Command;
 
-/// The text of `prefer`, or the status that says why there is none.
+/// The text of `prefer`, or why there is none.
 pub fn prefer<R: Threads + Wait + Sync, H: Shelf, G: Gate + Sync>(
     rt: &R,
     alloc: Global,
     words: &[String],
     shelf: &mut H,
     gate: &G,
-) -> Result<Vec<u8>, Status>
+) -> Result<Vec<u8>, Trouble>
     requires { HasForm (map string_bytes words.now) Form.Prefer }
-    ensures answer { MatchResult result
-        (λ text. HasCause (map string_bytes words.now) (H.holds shelf.old) (H.faults shelf.old) (H.faults shelf.new) Status.Done
-        × Writes (map string_bytes words.now) (H.holds shelf.old) Status.Done text.items)
-        (Fails (map string_bytes words.now) (H.holds shelf.old) (H.faults shelf.old) (H.faults shelf.new)) }
-    ensures end { MatchResult result (λ _. IsReadOutAt (map string_bytes words.now) (H.holds shelf.old) (H.serves shelf.new) (H.left shelf.new) Status.Done) (IsReadOutAt (map string_bytes words.now) (H.holds shelf.old) (H.serves shelf.new) (H.left shelf.new)) }
+    ensures answer { MatchResult result (λ text. IsDone (map string_bytes words.now) (sight H.Shelf shelf.old shelf.new) text.items)
+        (λ stop. IsStopped (map string_bytes words.now) (sight H.Shelf shelf.old shelf.new) stop (line_of stop)) }
+    ensures holds { H.holds shelf.new ≡ H.holds shelf.old }
+    ensures later { (other : List ℕ) → H.faults shelf.old other ≤ H.faults shelf.new other }
 {
-    let catalog = take_catalogue(alloc, shelf, words[1].as_str(), 1)?;
+    let catalog = take_catalog(alloc, shelf, words[1].as_str(), 1)?;
     let roll = take_roll(alloc, shelf, words[2].as_str(), 2)?;
     let streams = take_sessions(alloc, shelf, &words[3..], 3)?;
     Ok(text_of(rt, alloc, &catalog, &roll, &streams, gate)?)
@@ -60,8 +60,8 @@ fn text_of<R: Threads + Wait + Sync, G: Gate + Sync>(
     requires sessions { (1 ≤ length streams.now) × (length streams.now ≤ 64) }
     requires commands { command_count streams.now ≤ 200000 }
     requires told { (sessions : List (List ℕ)) × AreStreams sessions (command_lists streams.now) }
-    ensures { IfOk result (λ text. (journal : List Entry) × IsLegalJournal (market_names catalog.now roll.now) journal
-        × MergesStreams (command_lists streams.now) journal × (text.items ≡ texts.preferences_text catalog.now roll.now journal)) }
+    ensures { IfOk result (λ text. (journal : List Entry) × IsLegalJournal (market_names catalog.now.sections roll.now.students) journal
+        × MergesStreams (command_lists streams.now) journal × (text.items ≡ texts.preferences_text catalog.now.sections roll.now.students journal)) }
 {
     let closed = hold(rt, alloc, catalog, roll, streams, gate)?;
     preferences_text(alloc, catalog, roll, &closed.desk)

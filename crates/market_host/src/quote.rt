@@ -4,8 +4,9 @@ ghost use Rattle.std.specs.String.{string_bytes};
 ghost use Rattle.bundle_rules.specs.Bundles.{sections_of};
 ghost use Rattle.bundle_rules.specs.Demand.{IsBest};
 ghost use Rattle.bundle_rules.specs.Menus.{wishes_of};
-ghost use Rattle.market_host.specs.Causes.{Fails, HasCause, IsReadOutAt};
-ghost use Rattle.market_host.specs.Lines.{Writes};
+ghost use Rattle.market_host.specs.Lines.{line_of};
+ghost use Rattle.market_host.specs.Outcomes.{IsDone, IsStopped};
+ghost use Rattle.market_host.specs.Sights.{sight};
 ghost use Rattle.market_host.specs.Quotes.{IsQuote, state_of_new_desk};
 ghost use Rattle.market_units.specs.Name.{name_bytes};
 ghost use Rattle.market_words.specs.Forms.{HasForm};
@@ -13,10 +14,10 @@ ghost use Rattle.preference_desk.specs.DeskView.{names_of, state_of};
 ghost use Rattle.preference_desk.specs.MarketNames.{market_names};
 ghost use Rattle.student_roll.specs.Students.{single_student};
 
-use crate::Status;
-use crate::catalogue::take_catalogue;
+use crate::catalog::take_catalog;
 use crate::session::take_session;
 use crate::text::text_of;
+use crate::trouble::Trouble;
 use bundle_rules::{Bundle, Menu, utility};
 use course_catalog::Catalog;
 use demand_oracle::{Workspace, demand};
@@ -29,7 +30,7 @@ use std::alloc::Global;
 use student_roll::Roll;
 use utility_language::Command;
 
-/// The text of `quote`, or the status that says why there is none.
+/// The text of `quote`, or why there is none.
 pub fn quote<H: Shelf>(
     alloc: Global,
     words: &[String],
@@ -37,15 +38,14 @@ pub fn quote<H: Shelf>(
     name: Name,
     credits: u16,
     courses: u8,
-) -> Result<Vec<u8>, Status>
+) -> Result<Vec<u8>, Trouble>
     requires { HasForm (map string_bytes words.now) (Form.Quote name credits courses) }
-    ensures answer { MatchResult result
-        (λ text. HasCause (map string_bytes words.now) (H.holds shelf.old) (H.faults shelf.old) (H.faults shelf.new) Status.Done
-        × Writes (map string_bytes words.now) (H.holds shelf.old) Status.Done text.items)
-        (Fails (map string_bytes words.now) (H.holds shelf.old) (H.faults shelf.old) (H.faults shelf.new)) }
-    ensures end { MatchResult result (λ _. IsReadOutAt (map string_bytes words.now) (H.holds shelf.old) (H.serves shelf.new) (H.left shelf.new) Status.Done) (IsReadOutAt (map string_bytes words.now) (H.holds shelf.old) (H.serves shelf.new) (H.left shelf.new)) }
+    ensures answer { MatchResult result (λ text. IsDone (map string_bytes words.now) (sight H.Shelf shelf.old shelf.new) text.items)
+        (λ stop. IsStopped (map string_bytes words.now) (sight H.Shelf shelf.old shelf.new) stop (line_of stop)) }
+    ensures holds { H.holds shelf.new ≡ H.holds shelf.old }
+    ensures later { (other : List ℕ) → H.faults shelf.old other ≤ H.faults shelf.new other }
 {
-    let catalog = take_catalogue(alloc, shelf, words[1].as_str(), 1)?;
+    let catalog = take_catalog(alloc, shelf, words[1].as_str(), 1)?;
     let commands = take_session(alloc, shelf, words[2].as_str(), 2, MAX_COMMANDS)?;
     Ok(best_text(alloc, &catalog, &commands, name, credits, courses)?)
 }
@@ -62,7 +62,7 @@ fn best_text(
     requires few { length commands.now ≤ 200000 }
     requires credits { credits ≤ 800 }
     requires courses { courses ≤ 8 }
-    ensures { IfOk result (λ text. IsQuote catalog.now (single_student (name_bytes name) credits courses) commands.now text.items) }
+    ensures { IfOk result (λ text. IsQuote catalog.now.sections (single_student (name_bytes name) credits courses) commands.now text.items) }
 {
     let roll = Roll::single(alloc, name, credits, courses)?;
     let desk = desk_after(alloc, catalog, &roll, commands)?;
@@ -92,8 +92,8 @@ fn desk_after(
     commands: &[Command],
 ) -> Result<Desk, NoMemory>
     requires { length commands.now ≤ 200000 }
-    ensures names { IfOk result (λ desk. names_of desk ≡ market_names catalog.now roll.now) }
-    ensures state { IfOk result (λ desk. state_of desk ≡ state_of_new_desk catalog.now roll.now commands.now) }
+    ensures names { IfOk result (λ desk. names_of desk ≡ market_names catalog.now.sections roll.now.students) }
+    ensures state { IfOk result (λ desk. state_of desk ≡ state_of_new_desk catalog.now.sections roll.now.students commands.now) }
 {
     let mut desk = Desk::prepare(alloc, catalog, roll, commands.len() as u32)?;
     'commands: for command in commands {

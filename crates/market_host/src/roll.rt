@@ -1,12 +1,14 @@
 // The roll of a call.
-ghost use Rattle.std.specs.Prelude.{◌≡◌, ◌≢◌, ◌<◌, ◌≤◌, ◌-◌, ◌^◌, List, ℕ, length, Ok, Err, IfOk, IfErr, MatchResult};
+ghost use Rattle.std.specs.Prelude.{◌≡◌, ◌≢◌, ◌<◌, ◌≤◌, ◌-◌, ◌^◌, List, ℕ, length, Ok, Err, IfOk, IfErr};
 ghost use Rattle.student_roll.specs.Rolls.{roll_of};
-ghost use Rattle.market_host.specs.Causes.{IsAtEnd};
 ghost use Rattle.market_host.specs.Kinds as kind;
-ghost use Rattle.market_host.specs.Reading.{IsAtEndIfRefused, IsRead, IsRefusalOfRoll, IsTroubleOf};
+ghost use Rattle.market_host.specs.Reading.{IsRead, IsRefusal, IsTroubleOf};
+ghost use Rattle.market_host.specs.Refusals.{IsNoRoll};
+ghost use Rattle.market_host.specs.Sights.{sight};
 
+use crate::Cause;
 use crate::inputs::read_input;
-use crate::{Cause, Status};
+use crate::trouble::Trouble;
 use market_edge::Shelf;
 use market_units::MAX_INPUT_BYTES;
 use std::alloc::Global;
@@ -17,16 +19,15 @@ const HEADER_ROW: u32 = 1;
 
 const SURPLUS_ROW: u32 = 2002;
 
-/// The roll that the input of this name and number is, or the status that says why there is none.
+/// The roll that the input of this name and number is, or why there is none.
 pub fn take_roll<H: Shelf>(
     alloc: Global,
     shelf: &mut H,
     name: &str,
     input: u16,
-) -> Result<Roll, Status>
+) -> Result<Roll, Trouble>
     ensures read { IfOk result (λ roll. IsRead kind.Roll (H.holds shelf.old) name.now (λ text. roll_of text ≡ Ok roll)) }
-    ensures trouble { IfErr result (IsTroubleOf (H.holds shelf.old) (H.faults shelf.old) (H.faults shelf.new) kind.Roll name.now input) }
-    ensures end { MatchResult result (λ _. IsAtEnd (H.holds shelf.old) (H.serves shelf.new) (H.left shelf.new) name.now) (IsAtEndIfRefused (H.holds shelf.old) (H.serves shelf.new) (H.left shelf.new) name.now input) }
+    ensures trouble { IfErr result (IsTroubleOf (sight H.Shelf shelf.old shelf.new) kind.Roll name.now input) }
     ensures holds { H.holds shelf.new ≡ H.holds shelf.old }
     ensures later { (other : List ℕ) → H.faults shelf.old other ≤ H.faults shelf.new other }
 {
@@ -34,22 +35,22 @@ pub fn take_roll<H: Shelf>(
     roll_in(alloc, &bytes, input)
 }
 
-// The roll that the text of this input stands for, or the status that tells its first fault.
-fn roll_in(alloc: Global, bytes: &[u8], input: u16) -> Result<Roll, Status>
+// The roll that the text of this input stands for, or its first fault.
+fn roll_in(alloc: Global, bytes: &[u8], input: u16) -> Result<Roll, Trouble>
     requires { length bytes.now < 2 ^ 32 - 1 }
     ensures read { IfOk result (λ roll. roll_of bytes.now ≡ Ok roll) }
-    ensures refused { IfErr result (IsRefusalOfRoll bytes.now input) }
+    ensures refused { IfErr result (IsRefusal (IsNoRoll bytes.now) input) }
 {
     match read_roll(alloc, bytes) {
         Ok(roll) => Ok(roll),
-        Err(refusal) => Err(status_of(bytes, input, refusal)),
+        Err(refusal) => Err(trouble_of(bytes, input, refusal)),
     }
 }
 
-// The status of a refusal of these bytes.
-fn status_of(_bytes: &[u8], input: u16, refusal: RollRefusal) -> Status
+// What is told of a refusal of these bytes.
+fn trouble_of(_bytes: &[u8], input: u16, refusal: RollRefusal) -> Trouble
     requires { refusal ≢ RollRefusal.NoMemory → roll_of _bytes.now ≡ Err refusal }
-    ensures { IsRefusalOfRoll _bytes.now input result }
+    ensures { IsRefusal (IsNoRoll _bytes.now) input result }
 {
     let (row, cause) = match refusal {
         RollRefusal::Header => (HEADER_ROW, Cause::Header),
@@ -58,7 +59,7 @@ fn status_of(_bytes: &[u8], input: u16, refusal: RollRefusal) -> Status
         RollRefusal::Repeated { row, earlier } => (row, Cause::Repeated { earlier }),
         RollRefusal::Number { row, column } => (row, Cause::Number { column }),
         RollRefusal::TooMany => (SURPLUS_ROW, Cause::TooMany),
-        RollRefusal::NoMemory => return Status::OutOfMemory,
+        RollRefusal::NoMemory => return Trouble::OutOfMemory,
     };
-    Status::Refused { input, row, cause }
+    Trouble::Refused { input, row, cause }
 }

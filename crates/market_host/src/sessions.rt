@@ -1,28 +1,30 @@
 // All sessions of a call.
-ghost use Rattle.std.specs.Prelude.{◌≡◌, ◌≤◌, ◌+◌, List, ℕ, length, map, IfOk, IfErr, MatchResult};
+ghost use Rattle.std.specs.Prelude.{◌≡◌, ◌≤◌, ◌+◌, List, ℕ, length, map, IfOk, IfErr, OnOk};
 ghost use Rattle.std.specs.String.{string_bytes};
-ghost use Rattle.market_host.specs.Reading.{AreReadSessions, IsLastAtEnd, IsNoRefusal, IsTroubleOfSessions};
+ghost use Rattle.market_host.specs.Outcomes.{IsLastAtEnd};
+ghost use Rattle.market_host.specs.Reading.{AreReadSessions, IsTroubleOfSessions};
+ghost use Rattle.market_host.specs.Sights.{sight};
 
-use crate::Status;
 use crate::session::take_session;
+use crate::trouble::Trouble;
 use market_edge::Shelf;
 use market_units::MAX_COMMANDS;
 use std::alloc::Global;
 use utility_language::Command;
 
 /// The commands of the sessions of these names, which are numbered from `first` on: a stream for each, at most 200,000
-/// commands together, or the status of the first session that stops the reading.
+/// commands together, or what the first session has that stops the reading.
 pub fn take_sessions<H: Shelf>(
     alloc: Global,
     shelf: &mut H,
     names: &[String],
     first: u16,
-) -> Result<Vec<Vec<Command>>, Status>
+) -> Result<Vec<Vec<Command>>, Trouble>
     requires count { (1 ≤ length names.now) × (length names.now ≤ 64) }
     requires first { first ≤ 100 }
     ensures read { IfOk result (λ streams. (texts : List (List ℕ)) × (room : ℕ) × AreReadSessions (H.holds shelf.old) (map string_bytes names.now) texts streams.items room) }
-    ensures trouble { IfErr result (IsTroubleOfSessions (H.holds shelf.old) (H.faults shelf.old) (H.faults shelf.new) (map string_bytes names.now) first) }
-    ensures end { MatchResult result (λ _. IsLastAtEnd (H.holds shelf.old) (H.serves shelf.new) (H.left shelf.new) (map string_bytes names.now)) IsNoRefusal }
+    ensures trouble { IfErr result (IsTroubleOfSessions (sight H.Shelf shelf.old shelf.new) (map string_bytes names.now) first) }
+    ensures end { OnOk result (IsLastAtEnd (sight H.Shelf shelf.old shelf.new) (map string_bytes names.now)) }
     ensures holds { H.holds shelf.new ≡ H.holds shelf.old }
     ensures later { (other : List ℕ) → H.faults shelf.old other ≤ H.faults shelf.new other }
 {

@@ -1,11 +1,8 @@
 // What the program answers.
 ghost use Rattle.std.specs.Prelude.{◌≡◌};
-ghost use Rattle.market_host.specs.Numbers.{number_of};
-ghost use Rattle.market_host.specs.declared.status.Status.TheVariants.{OutOfMemory};
+ghost use Rattle.market_host.specs.Statuses.{number_of};
 
 use crate::Cause;
-use market_units::NoMemory;
-use std::alloc::AllocFailed;
 
 /// How a call went. Inputs are the file words, numbered from 1 in word order.
 #[derive(Clone, Copy, Debug, PartialEq, Eq)]
@@ -18,7 +15,7 @@ pub enum Status {
     ShelfFault { input: u16 },
     /// This input, the first such one, is not of its grammar, at its first bad row.
     Refused { input: u16, row: u32, cause: Cause },
-    /// This input has more bytes than its limit.
+    /// This input has more bytes than its limit, or brings the commands of all sessions above 200,000.
     TooLong { input: u16 },
     /// The sink did not take the whole text of the status that was to be answered.
     SinkFault,
@@ -40,21 +37,5 @@ impl Status {
             Status::SinkFault => 6,
             Status::OutOfMemory => 7,
         }
-    }
-}
-
-impl From<NoMemory> for Status {
-    ghost from_gives = { λ _ status. status ≡ OutOfMemory };
-
-    fn from(_: NoMemory) -> Self {
-        Status::OutOfMemory
-    }
-}
-
-impl<T: Drop> From<AllocFailed<T>> for Status {
-    ghost from_gives = { λ _ status. status ≡ OutOfMemory };
-
-    fn from(_: AllocFailed<T>) -> Self {
-        Status::OutOfMemory
     }
 }

@@ -110,3 +110,14 @@ tally_done n bundles i counts few within past are = record {
   len = are.len;
   each = λ s in_range. are.each s in_range ∙ ap (holders s) (take_all i (map sections_of bundles) (rw (length-map bundles sections_of) past));
 }
+
+-- no count passes the number of bundles
+pub count_few : (n : ℕ) (bundles : List Bundle) (counts : List ℕ) (s d : ℕ) → IsTally n bundles counts → s < n → slice_index_or counts s d ≤ 2000
+count_few n bundles counts s d tally in_range =
+    let at_most : holders s (map sections_of bundles) ≤ length (map sections_of bundles) = holders_few s (map sections_of bundles) in
+    let few : length bundles ≤ 2000 = tally.few in
+    let mapped : length (map sections_of bundles) ≡ length bundles = length-map bundles sections_of in
+    let here : slice_index counts s ≡ holders s (map sections_of bundles) = tally.each s in_range in
+    let long : length counts ≡ n = tally.len in
+    let read : slice_index_or counts s d ≡ slice_index counts s = index_same counts s d (omega arith) in
+    omega arith

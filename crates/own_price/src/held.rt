@@ -2,7 +2,7 @@
 ghost use Rattle.std.specs.Prelude.{◌≡◌, ◌<◌, ◌≤◌, IfOk, IfErr, length, map, slice_set};
 ghost use Rattle.bundle_rules.specs.Bundles.{sections_of};
 ghost use Rattle.bundle_rules.specs.Demand.{price_in};
-ghost use Rattle.demand_api.specs.Crowds.{top, holders};
+ghost use Rattle.demand_api.specs.Crowds.{IsCrowd, top, holders};
 ghost use Rattle.demand_api.specs.Asking.{ArePricesFor};
 ghost use Rattle.own_price.specs.Holding.{Holds};
 
@@ -41,7 +41,8 @@ impl Model for Held {
 }
 
 impl Held {
-    /// What each student takes at these prices: one for each section, each at most the top.
+    /// What each student takes at these prices: one for each section, each at most the top. The one error is the want
+    /// of memory.
     pub fn take<R: Threads + Wait + Sync, D: Demands>(
         rt: &R,
         alloc: Global,
@@ -50,6 +51,7 @@ impl Held {
     ) -> Result<Held, NoMemory>
         requires { ArePricesFor (D.crowd demands.old) prices.now }
         ensures crowd { D.crowd demands.new ≡ D.crowd demands.old }
+        ensures known { IfOk result (λ held. IsCrowd (D.crowd demands.old)) }
         ensures prices { IfOk result (λ held. held.prices ≡ prices.now) }
         ensures bundles { IfOk result (λ held. Holds (D.crowd demands.old) held) }
     {
@@ -78,10 +80,11 @@ impl Held {
         &self.bundles
     }
 
-    /// How many students take the section, which is one of those that have a price.
+    /// How many students take the section, which is one of those that have a price: at most 2,000.
     pub fn count(&self, section: SectionNo) -> u32
         requires { section.0 < length self.now.prices }
-        ensures { result ≡ holders section.0 self.now.bundles }
+        ensures value { result ≡ holders section.0 self.now.bundles }
+        ensures few { result ≤ 2000 }
     {
         self.counts[usize::from(section.0)]
     }

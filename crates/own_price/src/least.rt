@@ -13,7 +13,7 @@ use std::thread::Threads;
 
 /// The least price of the section, of all prices from 0, at which at most `limit` students take it, the other prices
 /// as given. There is a price for each section, at most the top. It asks at most as often as the top has binary
-/// digits, and once more.
+/// digits, and once more. The one error is the want of memory.
 pub fn least_price<R: Threads + Wait + Sync, D: Demands>(
     rt: &R,
     alloc: Global,

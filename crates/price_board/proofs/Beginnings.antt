@@ -1,5 +1,5 @@
 -- The seats of a new board.
-use Rattle.std.proofs.Common.{ℕ, zero, suc, ◌≡◌, ◌≤◌, ◌<◌, ◌+◌, ◌*◌, ◌∙◌, List, [], ◌∷◌, Some, length, replicate, refl, ap, sym, subst, arith}
+use Rattle.std.proofs.Common.{ℕ, zero, suc, ◌≡◌, ◌≤◌, ◌+◌, ◌*◌, ◌∙◌, [], Some, replicate, refl, sym, subst, arith}
 use Rattle.std.proofs.Math.Nat.{suc-mul}
 use Rattle.chronicle.specs.declared.origin.Origin.{Origin}
 use Rattle.chronicle.specs.declared.standing.Standing.{Standing}
@@ -7,12 +7,12 @@ use Rattle.chronicle.specs.Seats.{standing}
 use Rattle.chronicle.specs.Views.{sum_of}
 use Rattle.price_board.specs.declared.calls.BoardCall.{BoardCall}
 use Rattle.price_board.specs.declared.calls.BoardReply.{BoardReply}
-use Rattle.price_board.specs.declared.place.Place.TheVariants.{Open, Held, Filled, Spent}
+use Rattle.price_board.specs.declared.place.Place.TheVariants.{Open, Held}
 use Rattle.price_board.specs.declared.shared.Terms.{Terms}
 use Rattle.price_board.specs.declared.shared.Progress.{Progress}
 use Rattle.price_board.specs.Openings.{IsOpening}
 use Rattle.price_board.specs.Places.{place_of}
-use Rattle.price_board.specs.Seats.{Holds, IsSeatOf, IsFree}
+use Rattle.price_board.specs.Seats.{IsFree}
 use Rattle.price_board.specs.Terms.{task_count}
 use Rattle.price_board.proofs.Histories.{opened_at}
 

@@ -1,9 +1,8 @@
 -- What a board keeps through draws and posts.
-use Rattle.std.proofs.Common.{◌≡◌, ◌≢◌, ◌<◌, ◌≤◌, ◌+◌, ◌-◌, ◌*◌, ◌==◌, ◌&&◌, ◌∙◌, ℕ, zero, suc, Bool, true, false, List, [], ◌∷◌, length, Option, Some, None, refl, sym, ap, subst, arith, slice_index_or, slice_set, replicate, inl, inr, nat_lt, nat_le, if◌then◌else◌}
+use Rattle.std.proofs.Common.{◌≡◌, ◌<◌, ◌≤◌, ◌+◌, ◌-◌, ◌*◌, ◌==◌, ◌&&◌, ◌∙◌, ℕ, zero, suc, Bool, true, false, List, [], ◌∷◌, length, Some, None, refl, sym, ap, subst, arith, slice_index_or, slice_set, replicate, inl, inr}
 use Rattle.std.specs.List.{All}
 use Rattle.std.proofs.Math.Nat.{mul-le-mul_right}
-use Rattle.std.proofs.lemmas.Bool.{cases_Bool, cases_eq, false≢true, true≢false}
-use Rattle.std.proofs.lemmas.Bool.Decides.{nat_tests}
+use Rattle.std.proofs.lemmas.Bool.{cases_Bool}
 use Rattle.std.proofs.lemmas.List.{length-set, length-replicate}
 use Rattle.std.proofs.lemmas.List.Elements.{All-replicate}
 use Rattle.bundle_rules.specs.declared.bundle.Bundle.{Bundle}
@@ -13,7 +12,7 @@ use Rattle.price_board.specs.declared.place.Place.TheVariants.{Open, Held, Fille
 use Rattle.price_board.specs.declared.round.Ask.{Ask}
 use Rattle.price_board.specs.declared.round.Ask.TheVariants.{Counts, Exceeds}
 use Rattle.price_board.specs.declared.calls.Draw.TheVariants.{Task as Drawn, Done}
-use Rattle.price_board.specs.declared.calls.Posted.TheVariants.{NotYours, Late, Taken}
+use Rattle.price_board.specs.declared.calls.Posted.TheVariants.{Late, Taken}
 use Rattle.price_board.specs.declared.shared.Terms.{Terms}
 use Rattle.price_board.specs.declared.tally.Tally.{Tally}
 use Rattle.price_board.specs.BoardStep.{task_of, draw_of, with_holder, draw_answer, rows_drawn, first_task, post_answer, rows_posted}
@@ -24,7 +23,7 @@ use Rattle.price_board.specs.Places.{row_of, place_of, with_place, is_open, is_h
 use Rattle.price_board.specs.Settling.{ask_of, is_settled, count_for, unfilled_in, one_for}
 use Rattle.price_board.specs.Tallies.{tally_of, tallies_of, settles}
 use Rattle.price_board.specs.Terms.{version_count, student_count, demand_of}
-use Rattle.price_board.proofs.PlaceChanges.{place-same, place-other, same_place, closed_below, row_below, row-length, rows-length, held_is, open_is, All-changed}
+use Rattle.price_board.proofs.PlaceChanges.{place-same, place-other, same_place, closed_below, row_below, rows-length, held_is, open_is, All-changed}
 use Rattle.price_board.proofs.Tallying.{tally-kept, tally-filled, tallies-set, tallies-at, tallies-length, set-kept, settles_is, tally_small, none_left}
 use Rattle.price_board.proofs.CursorMoves.{moves_on, draws_on, posts_on}
 

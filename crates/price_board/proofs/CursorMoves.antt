@@ -1,16 +1,16 @@
 -- The task that is drawn next as places change.
-use Rattle.std.proofs.Common.{◌≡◌, ◌≢◌, ◌<◌, ◌≤◌, ◌+◌, ◌==◌, ◌&&◌, ◌||◌, ◌∙◌, ℕ, zero, suc, Bool, true, false, List, [], ◌∷◌, length, Option, Some, None, refl, sym, ap, subst, arith, slice_index_or, slice_set, nat_lt, nat_le, inl, inr, if◌then◌else◌}
-use Rattle.std.proofs.lemmas.Bool.{cases_Bool, cases_eq, cases_order, false≢true, true≢false}
+use Rattle.std.proofs.Common.{◌≡◌, ◌≢◌, ◌<◌, ◌≤◌, ◌+◌, ◌==◌, ◌&&◌, ◌||◌, ◌∙◌, ℕ, zero, suc, Bool, true, false, List, [], ◌∷◌, length, Some, None, refl, sym, ap, subst, arith, slice_index_or, slice_set, nat_lt, nat_le, inl, inr}
+use Rattle.std.proofs.lemmas.Bool.{cases_Bool, cases_eq, false≢true, true≢false}
 use Rattle.std.proofs.lemmas.Bool.Decides.{nat_tests}
 use Rattle.std.proofs.lemmas.List.{length-set}
 use Rattle.price_board.specs.declared.place.Place.{Place}
-use Rattle.price_board.specs.declared.place.Place.TheVariants.{Open, Held, Filled, Spent}
+use Rattle.price_board.specs.declared.place.Place.TheVariants.{Open}
 use Rattle.price_board.specs.declared.round.Ask.{Ask}
 use Rattle.price_board.specs.BoardStep.{first_open, first_task}
 use Rattle.price_board.specs.Cursors.{is_over, IsCursor}
 use Rattle.price_board.specs.Places.{row_of, place_of, with_place, is_open, bundle_in}
 use Rattle.price_board.specs.Settling.{ask_of, is_settled}
-use Rattle.price_board.proofs.PlaceChanges.{place-same, place-other, same_place, closed_below, row_below, row-same, row-other, row-length, rows-length}
+use Rattle.price_board.proofs.PlaceChanges.{place-same, place-other, same_place, closed_below, row-same, row-other, row-length, rows-length}
 use Rattle.price_board.proofs.Tallying.{stays_settled}
 
 low_of : (v k : ℕ) → suc v < suc k → v < k

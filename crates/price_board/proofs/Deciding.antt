@@ -1,26 +1,24 @@
 -- What the posted bundles of settled versions decide.
-use Rattle.std.proofs.Common.{ℕ, zero, suc, ◌≡◌, ◌≤◌, ◌<◌, ◌+◌, ◌==◌, ◌||◌, ◌∙◌, Bool, true, false, List, [], ◌∷◌, Some, None, Option, length, map, refl, ap, sym, subst, arith, slice_index_or, nat_lt, nat_le, inl, inr, if◌then◌else◌}
+use Rattle.std.proofs.Common.{ℕ, zero, suc, ◌≡◌, ◌≤◌, ◌<◌, ◌+◌, ◌||◌, ◌∙◌, true, false, List, [], ◌∷◌, Some, None, Option, length, refl, ap, sym, subst, arith, slice_index_or, nat_lt, nat_le, inl, inr, if◌then◌else◌}
 use Rattle.std.specs.Prelude.{IsSome, IfSome}
-use Rattle.std.proofs.lemmas.Bool.{cases_Bool, false≢true}
+use Rattle.std.proofs.lemmas.Bool.{cases_Bool}
 use Rattle.std.proofs.lemmas.Bool.Decides.{nat_tests}
 use Rattle.std.proofs.lemmas.List.{length-map}
-use Rattle.market_lists.specs.Totals.{total}
 use Rattle.bundle_rules.specs.declared.bundle.Bundle.{Bundle}
 use Rattle.bundle_rules.specs.Bundles.{sections_of}
 use Rattle.bundle_rules.specs.Sets.{has}
-use Rattle.demand_api.specs.Crowds.{CrowdData, Student, demands, demand, holders, count}
+use Rattle.demand_api.specs.Crowds.{CrowdData, demands, demand, holders}
 use Rattle.price_board.specs.declared.place.Place.{Place}
-use Rattle.price_board.specs.declared.place.Place.TheVariants.{Open, Held, Filled, Spent}
+use Rattle.price_board.specs.declared.place.Place.TheVariants.{Open}
 use Rattle.price_board.specs.declared.round.Ask.{Ask}
 use Rattle.price_board.specs.declared.round.Ask.TheVariants.{Counts, Exceeds}
 use Rattle.price_board.specs.declared.shared.Terms.{Terms}
-use Rattle.price_board.specs.declared.tally.Tally.{Tally}
 use Rattle.price_board.specs.Closings.{AreSettled, exceeds_in, exceeds_at, exceeds_of}
 use Rattle.price_board.specs.Places.{row_of, place_of, bundle_in}
 use Rattle.price_board.specs.Rights.{AreRows, AreRight}
-use Rattle.price_board.specs.Settling.{ask_of, is_settled, one_if_with, one_if_none, unfilled_in, with_section, count_for}
+use Rattle.price_board.specs.Settling.{ask_of, is_settled, one_if_with, one_if_none, unfilled_in, with_section}
 use Rattle.price_board.specs.Tallies.{tally_of, exceeds_by}
-use Rattle.price_board.specs.Terms.{version_count, student_count, prices_of, demand_of, count_of}
+use Rattle.price_board.specs.Terms.{version_count, student_count, prices_of, count_of}
 use Rattle.price_board.proofs.Tallying.{unfilled_open}
 
 low_of : (v k : ℕ) → suc v < suc k → v < k

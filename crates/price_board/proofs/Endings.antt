@@ -1,19 +1,17 @@
 -- A board whose seats have finished.
-use Rattle.std.proofs.Common.{ℕ, zero, suc, ◌≡◌, ◌≢◌, ◌≤◌, ◌<◌, ◌+◌, ◌==◌, ◌&&◌, ◌||◌, ◌++◌, ◌∙◌, ◌⊎◌, Bool, true, false, List, [], ◌∷◌, Some, None, Option, length, filter, refl, ap, sym, subst, arith, slice_index_or, nat_lt, inl, inr}
+use Rattle.std.proofs.Common.{ℕ, zero, suc, ◌≡◌, ◌≤◌, ◌<◌, ◌==◌, ◌∙◌, ◌⊎◌, Bool, true, List, [], ◌∷◌, None, length, filter, refl, ap, sym, subst, arith, slice_index_or, inl, inr}
 use Rattle.std.specs.List.{All, Any, list_any, AllByRecursion as Each}
-use Rattle.std.proofs.lemmas.Bool.{cases_Bool, false≢true, true≢false}
-use Rattle.std.proofs.lemmas.Bool.Decides.{nat_tests}
+use Rattle.std.proofs.lemmas.Bool.{cases_Bool}
 use Rattle.chronicle.specs.declared.journal.StepOf.{StepOf}
 use Rattle.chronicle.specs.declared.origin.Origin.{Origin}
 use Rattle.chronicle.specs.declared.standing.Standing.{Standing}
-use Rattle.chronicle.specs.History.{step_of, IsLegal, state_after, calls_by}
+use Rattle.chronicle.specs.History.{IsLegal, state_after, calls_by}
 use Rattle.bundle_rules.specs.declared.bundle.Bundle.{Bundle}
 use Rattle.bundle_rules.specs.Bundles.{sections_of}
 use Rattle.price_board.specs.declared.calls.BoardCall.{BoardCall}
-use Rattle.price_board.specs.declared.calls.BoardCall.TheVariants.{Draw as DrawCall, Post as PostCall}
 use Rattle.price_board.specs.declared.calls.BoardReply.{BoardReply}
 use Rattle.price_board.specs.declared.calls.Posted.{Posted}
-use Rattle.price_board.specs.declared.calls.Posted.TheVariants.{NotYours, Late, Taken}
+use Rattle.price_board.specs.declared.calls.Posted.TheVariants.{Late, Taken}
 use Rattle.price_board.specs.declared.place.Place.{Place}
 use Rattle.price_board.specs.declared.place.Place.TheVariants.{Open, Held, Filled, Spent}
 use Rattle.price_board.specs.declared.round.Ask.TheVariants.{Counts}
@@ -22,10 +20,10 @@ use Rattle.price_board.specs.declared.shared.Progress.{Progress}
 use Rattle.price_board.specs.Closings.{AreSettled}
 use Rattle.price_board.specs.Fates.{calls_on, is_on_call, drew, posted, AreCallsTo, IsWorked, IsTaken, IsTakenOrLate}
 use Rattle.price_board.specs.Openings.{IsOpening, opening_of}
-use Rattle.price_board.specs.Places.{row_of, place_of, is_open, bundle_in}
+use Rattle.price_board.specs.Places.{row_of, place_of, bundle_in}
 use Rattle.price_board.specs.Rights.{AreRows}
-use Rattle.price_board.specs.Seats.{is_done, dones, rows_after, Holds, IsSeatOf, IsFinished}
-use Rattle.price_board.specs.Settling.{ask_of, is_settled}
+use Rattle.price_board.specs.Seats.{is_done, dones, rows_after, IsFinished}
+use Rattle.price_board.specs.Settling.{ask_of}
 use Rattle.price_board.specs.Shared.{is_sound, reply_to, progress_after}
 use Rattle.price_board.specs.Terms.{version_count, student_count, demand_of}
 use Rattle.price_board.proofs.Histories.{calls_tell}

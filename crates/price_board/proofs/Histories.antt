@@ -1,16 +1,15 @@
 -- What a legal history of a board says of where its tasks stand.
-use Rattle.std.proofs.Common.{ℕ, zero, suc, ◌≡◌, ◌≢◌, ◌≤◌, ◌<◌, ◌+◌, ◌==◌, ◌&&◌, ◌||◌, ◌++◌, ◌∙◌, Bool, true, false, List, [], ◌∷◌, Some, None, Option, length, filter, refl, ap, sym, subst, arith, append-nil, append_assoc, slice_index_or, slice_set, nat_lt, nat_le, inl, inr, if◌then◌else◌}
-use Rattle.std.proofs.lemmas.Bool.{cases_Bool, cases_eq, false≢true, true≢false}
+use Rattle.std.proofs.Common.{ℕ, suc, ◌≡◌, ◌<◌, ◌+◌, ◌==◌, ◌&&◌, ◌++◌, ◌∙◌, true, false, List, [], ◌∷◌, Some, None, Option, length, refl, ap, sym, subst, arith, append-nil, append_assoc, slice_index_or, nat_lt, inl, inr}
+use Rattle.std.proofs.lemmas.Bool.{cases_Bool}
 use Rattle.std.proofs.lemmas.Bool.Decides.{nat_tests}
 use Rattle.std.proofs.lemmas.List.Elements.{filter-append}
 use Rattle.chronicle.specs.declared.journal.StepOf.{StepOf}
-use Rattle.chronicle.specs.History.{step_of, IsLegal, state_after, calls_by}
+use Rattle.chronicle.specs.History.{step_of, IsLegal, state_after}
 use Rattle.bundle_rules.specs.declared.bundle.Bundle.{Bundle}
 use Rattle.price_board.specs.declared.calls.BoardCall.{BoardCall}
 use Rattle.price_board.specs.declared.calls.BoardCall.TheVariants.{Draw as DrawCall, Post as PostCall}
 use Rattle.price_board.specs.declared.calls.BoardReply.{BoardReply}
-use Rattle.price_board.specs.declared.calls.BoardReply.TheVariants.{Draw as Drew, Post as Answered}
-use Rattle.price_board.specs.declared.calls.Draw.TheVariants.{Task as Drawn, Done}
+use Rattle.price_board.specs.declared.calls.BoardReply.TheVariants.{Draw as Drew}
 use Rattle.price_board.specs.declared.calls.Posted.{Posted}
 use Rattle.price_board.specs.declared.calls.Posted.TheVariants.{NotYours, Late, Taken}
 use Rattle.price_board.specs.declared.place.Place.{Place}
@@ -18,15 +17,15 @@ use Rattle.price_board.specs.declared.place.Place.TheVariants.{Open, Held, Fille
 use Rattle.price_board.specs.declared.round.Ask.{Ask}
 use Rattle.price_board.specs.declared.shared.Terms.{Terms}
 use Rattle.price_board.specs.declared.shared.Progress.{Progress}
-use Rattle.price_board.specs.BoardStep.{task_of, first_open, first_task, draw_of, draw_answer, with_holder, rows_drawn, post_answer, rows_posted}
+use Rattle.price_board.specs.BoardStep.{first_open, first_task, draw_of, with_holder, rows_drawn, post_answer, rows_posted}
 use Rattle.price_board.specs.Fates.{calls_on, is_on_call, drew, posted, AreCallsTo}
-use Rattle.price_board.specs.Openings.{IsOpening, opening_of}
-use Rattle.price_board.specs.Places.{row_of, place_of, with_place, is_open, is_held_by, bundle_in}
+use Rattle.price_board.specs.Openings.{IsOpening}
+use Rattle.price_board.specs.Places.{row_of, place_of, with_place, is_open, is_held_by}
 use Rattle.price_board.specs.Settling.{ask_of, is_settled, count_for}
 use Rattle.price_board.specs.Shared.{is_sound, reply_to, progress_after}
 use Rattle.price_board.specs.Terms.{version_count, student_count}
 use Rattle.price_board.proofs.BoardKeeping.{open_place}
-use Rattle.price_board.proofs.PlaceChanges.{place-same, place-other, same_place, closed_below, held_is, open_is}
+use Rattle.price_board.proofs.PlaceChanges.{place-same, place-other, same_place, closed_below, held_is}
 
 -- the first open place is open
 undrawn_next : (p : Place) (row : List Place) → first_open row + 1 < length (p ∷ row) → (first_open row < length row → slice_index_or row (first_open row) Open ≡ Open)

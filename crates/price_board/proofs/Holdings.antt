@@ -1,7 +1,7 @@
 -- What a seat's own calls tell of what it holds, and how many tasks there are to draw.
-use Rattle.std.proofs.Common.{ℕ, zero, suc, ◌≡◌, ◌≢◌, ◌≤◌, ◌<◌, ◌+◌, ◌*◌, ◌==◌, ◌&&◌, ◌++◌, ◌∙◌, Bool, true, false, List, [], ◌∷◌, Some, None, Option, length, filter, replicate, refl, ap, sym, subst, arith, slice_index_or, slice_set, inl, inr, if◌then◌else◌}
+use Rattle.std.proofs.Common.{ℕ, zero, suc, ◌≡◌, ◌≤◌, ◌<◌, ◌+◌, ◌*◌, ◌==◌, ◌++◌, ◌∙◌, true, false, List, [], ◌∷◌, Some, None, Option, length, replicate, refl, ap, sym, subst, arith, slice_set, inl, inr, if◌then◌else◌}
 use Rattle.std.proofs.Math.Nat.{suc-mul}
-use Rattle.std.proofs.lemmas.Bool.{cases_Bool, cases_eq, false≢true, true≢false}
+use Rattle.std.proofs.lemmas.Bool.{cases_Bool}
 use Rattle.std.proofs.lemmas.Bool.Decides.{nat_tests}
 use Rattle.std.proofs.lemmas.List.{length-append}
 use Rattle.std.proofs.lemmas.List.Elements.{filter-append}
@@ -12,18 +12,15 @@ use Rattle.bundle_rules.specs.declared.bundle.Bundle.{Bundle}
 use Rattle.price_board.specs.declared.calls.BoardCall.{BoardCall}
 use Rattle.price_board.specs.declared.calls.BoardCall.TheVariants.{Draw as DrawCall, Post as PostCall}
 use Rattle.price_board.specs.declared.calls.BoardReply.{BoardReply}
-use Rattle.price_board.specs.declared.calls.BoardReply.TheVariants.{Draw as Drew, Post as Answered}
-use Rattle.price_board.specs.declared.calls.Draw.{Draw}
-use Rattle.price_board.specs.declared.calls.Draw.TheVariants.{Task as Drawn, Done}
-use Rattle.price_board.specs.declared.calls.Posted.{Posted}
-use Rattle.price_board.specs.declared.calls.Posted.TheVariants.{NotYours, Late, Taken}
+use Rattle.price_board.specs.declared.calls.BoardReply.TheVariants.{Draw as Drew}
+use Rattle.price_board.specs.declared.calls.Posted.TheVariants.{Late, Taken}
 use Rattle.price_board.specs.declared.place.Place.{Place}
 use Rattle.price_board.specs.declared.place.Place.TheVariants.{Open, Held, Filled, Spent}
 use Rattle.price_board.specs.declared.shared.Terms.{Terms}
 use Rattle.price_board.specs.declared.shared.Progress.{Progress}
-use Rattle.price_board.specs.BoardStep.{task_of, first_task, draw_of, with_holder, rows_posted}
+use Rattle.price_board.specs.BoardStep.{first_task, draw_of, with_holder, rows_posted}
 use Rattle.price_board.specs.Fates.{calls_on, is_on_call, drew, posted, AreCallsTo}
-use Rattle.price_board.specs.Openings.{IsOpening, opening_of}
+use Rattle.price_board.specs.Openings.{IsOpening}
 use Rattle.price_board.specs.Places.{row_of, place_of, with_place, is_open, is_held_by}
 use Rattle.price_board.specs.Seats.{is_task, is_done, is_post, draws, dones, posts}
 use Rattle.price_board.specs.Settling.{ask_of, is_settled}

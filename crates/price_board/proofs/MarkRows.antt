@@ -1,8 +1,8 @@
 -- The places after a mark, or a mark and a bundle, are written.
-use Rattle.std.proofs.Common.{◌≡◌, ◌<◌, ◌≤◌, ◌∙◌, ◌==◌, Bool, false, subst, replicate, ℕ, zero, suc, List, [], ◌∷◌, length, Option, Some, None, refl, sym, ap, arith, slice_index_or, slice_set}
+use Rattle.std.proofs.Common.{◌≡◌, ◌<◌, ◌∙◌, Bool, false, subst, replicate, ℕ, zero, suc, List, [], ◌∷◌, length, Option, Some, None, refl, sym, ap, arith, slice_index_or, slice_set}
 use Rattle.bundle_rules.specs.declared.bundle.Bundle.{Bundle}
 use Rattle.price_board.specs.declared.place.Place.{Place}
-use Rattle.price_board.specs.declared.place.Place.TheVariants.{Open, Held, Filled, Spent}
+use Rattle.price_board.specs.declared.place.Place.TheVariants.{Open}
 use Rattle.price_board.specs.declared.places.Mark.{Mark}
 use Rattle.price_board.specs.declared.places.Mark.TheVariants.{Open as NoMark, Held as HeldMark, Filled as FilledMark, Spent as SpentMark}
 use Rattle.price_board.specs.Marks.{is_mark_of, bundle_by, filled_with, place_in, row_in, places_in, HaveOneShape}

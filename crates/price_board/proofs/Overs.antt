@@ -1,35 +1,31 @@
 -- Versions that are over, and settled.
-use Rattle.std.proofs.Common.{ℕ, zero, suc, ◌≡◌, ◌≢◌, ◌≤◌, ◌<◌, ◌+◌, ◌==◌, ◌&&◌, ◌||◌, ◌∙◌, Bool, true, false, List, [], ◌∷◌, Some, None, Option, length, refl, ap, sym, subst, arith, slice_index_or, slice_set, nat_lt, nat_le, inl, inr, if◌then◌else◌, replicate}
+use Rattle.std.proofs.Common.{ℕ, zero, suc, ◌≡◌, ◌≤◌, ◌<◌, ◌+◌, ◌==◌, ◌&&◌, ◌||◌, ◌∙◌, Bool, true, false, List, [], ◌∷◌, Some, None, Option, length, refl, ap, sym, subst, arith, slice_index_or, nat_lt, nat_le, inl, inr, if◌then◌else◌}
 use Rattle.std.specs.List.{list_any}
 use Rattle.std.proofs.lemmas.Bool.{cases_Bool, cases_eq, false≢true, true≢false}
 use Rattle.std.proofs.lemmas.Bool.Decides.{nat_tests}
 use Rattle.chronicle.specs.declared.journal.StepOf.{StepOf}
-use Rattle.chronicle.specs.History.{step_of, IsLegal, state_after}
-use Rattle.market_lists.specs.Totals.{total}
+use Rattle.chronicle.specs.History.{IsLegal, state_after}
 use Rattle.bundle_rules.specs.declared.bundle.Bundle.{Bundle}
 use Rattle.price_board.specs.declared.calls.BoardCall.{BoardCall}
 use Rattle.price_board.specs.declared.calls.BoardCall.TheVariants.{Draw as DrawCall, Post as PostCall}
 use Rattle.price_board.specs.declared.calls.BoardReply.{BoardReply}
-use Rattle.price_board.specs.declared.calls.BoardReply.TheVariants.{Draw as Drew, Post as Answered}
-use Rattle.price_board.specs.declared.calls.Draw.TheVariants.{Task as Drawn, Done}
+use Rattle.price_board.specs.declared.calls.BoardReply.TheVariants.{Draw as Drew}
 use Rattle.price_board.specs.declared.place.Place.{Place}
 use Rattle.price_board.specs.declared.place.Place.TheVariants.{Open, Held, Filled, Spent}
 use Rattle.price_board.specs.declared.round.Ask.{Ask}
 use Rattle.price_board.specs.declared.round.Ask.TheVariants.{Counts, Exceeds}
 use Rattle.price_board.specs.declared.shared.Terms.{Terms}
 use Rattle.price_board.specs.declared.shared.Progress.{Progress}
-use Rattle.price_board.specs.BoardStep.{first_open, first_task, draw_of, with_holder, rows_drawn, rows_posted}
-use Rattle.price_board.specs.Closings.{AreSettled}
+use Rattle.price_board.specs.BoardStep.{first_open, first_task, draw_of, with_holder, rows_posted}
 use Rattle.price_board.specs.Cursors.{is_over}
 use Rattle.price_board.specs.Openings.{IsOpening}
 use Rattle.price_board.specs.Places.{row_of, place_of, with_place, is_open, is_held_by, bundle_in}
 use Rattle.price_board.specs.Seats.{is_done}
 use Rattle.price_board.specs.Settling.{ask_of, is_settled, one_if_none, unfilled_in, with_section}
 use Rattle.price_board.specs.Shared.{is_sound, reply_to, progress_after}
-use Rattle.price_board.specs.Terms.{version_count, student_count}
 use Rattle.price_board.proofs.CursorMoves.{over_kept}
 use Rattle.price_board.proofs.Histories.{drawable, opened_at}
-use Rattle.price_board.proofs.PlaceChanges.{place-same, place-other, same_place, closed_below, row-same, row-other, row-length, rows-length, held_is}
+use Rattle.price_board.proofs.PlaceChanges.{place-same, place-other, same_place, closed_below, row-same, row-other, rows-length, held_is}
 use Rattle.price_board.proofs.Tallying.{stays_settled}
 
 low_of : (v k : ℕ) → suc v < suc k → v < k

@@ -1,18 +1,17 @@
 -- The rows of a board keep their shape.
-use Rattle.std.proofs.Common.{ℕ, ◌≡◌, ◌<◌, ◌∙◌, Bool, true, false, List, [], ◌∷◌, Some, None, Option, length, replicate, refl, ap, sym, subst, inl, inr, if◌then◌else◌}
+use Rattle.std.proofs.Common.{ℕ, ◌≡◌, List, [], ◌∷◌, Some, None, Option, replicate, refl, ap, inl, inr, if◌then◌else◌}
 use Rattle.std.proofs.lemmas.Bool.{cases_Bool}
 use Rattle.chronicle.specs.declared.journal.StepOf.{StepOf}
 use Rattle.chronicle.specs.History.{state_after}
-use Rattle.bundle_rules.specs.declared.bundle.Bundle.{Bundle}
 use Rattle.price_board.specs.declared.calls.BoardCall.{BoardCall}
 use Rattle.price_board.specs.declared.calls.BoardCall.TheVariants.{Draw as DrawCall, Post as PostCall}
 use Rattle.price_board.specs.declared.calls.BoardReply.{BoardReply}
 use Rattle.price_board.specs.declared.place.Place.{Place}
-use Rattle.price_board.specs.declared.place.Place.TheVariants.{Open, Held, Filled, Spent}
+use Rattle.price_board.specs.declared.place.Place.TheVariants.{Held, Filled, Spent}
 use Rattle.price_board.specs.declared.shared.Terms.{Terms}
 use Rattle.price_board.specs.declared.shared.Progress.{Progress}
-use Rattle.price_board.specs.BoardStep.{first_task, with_holder, rows_posted}
-use Rattle.price_board.specs.Openings.{IsOpening, opening_of}
+use Rattle.price_board.specs.BoardStep.{first_task, with_holder}
+use Rattle.price_board.specs.Openings.{IsOpening}
 use Rattle.price_board.specs.Places.{row_of, place_of, is_open, is_held_by}
 use Rattle.price_board.specs.Rights.{AreRows}
 use Rattle.price_board.specs.Settling.{ask_of, is_settled}

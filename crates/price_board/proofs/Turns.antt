@@ -1,5 +1,5 @@
 -- A seat's calls on a board.
-use Rattle.std.proofs.Common.{ℕ, zero, suc, ◌≡◌, ◌≢◌, ◌≤◌, ◌<◌, ◌+◌, ◌*◌, ◌-◌, ◌==◌, ◌&&◌, ◌++◌, ◌∙◌, ◌↔◌, Bool, true, false, List, [], ◌∷◌, Some, None, Option, length, filter, take, refl, ap, sym, subst, arith, inl, inr, if◌then◌else◌, nat_lt}
+use Rattle.std.proofs.Common.{ℕ, ◌≡◌, ◌≤◌, ◌<◌, ◌+◌, ◌*◌, ◌-◌, ◌==◌, ◌&&◌, ◌++◌, ◌∙◌, ◌↔◌, true, false, List, [], ◌∷◌, Some, None, Option, length, take, refl, ap, sym, subst, arith, inl, inr}
 use Rattle.std.proofs.lemmas.Bool.{cases_Bool, false≢true, true≢false}
 use Rattle.std.proofs.lemmas.Bool.Decides.{nat_tests}
 use Rattle.std.proofs.Math.Seq.{take-append_seam}
@@ -19,17 +19,17 @@ use Rattle.price_board.specs.declared.calls.Draw.TheVariants.{Task as Drawn, Don
 use Rattle.price_board.specs.declared.calls.Posted.{Posted}
 use Rattle.price_board.specs.declared.calls.Posted.TheVariants.{NotYours, Late, Taken}
 use Rattle.price_board.specs.declared.place.Place.{Place}
-use Rattle.price_board.specs.declared.place.Place.TheVariants.{Open, Held, Filled, Spent}
+use Rattle.price_board.specs.declared.place.Place.TheVariants.{Held, Filled, Spent}
 use Rattle.price_board.specs.declared.shared.Terms.{Terms}
 use Rattle.price_board.specs.declared.shared.Progress.{Progress}
 use Rattle.market_units.specs.declared.units.StudentNo.{StudentNo}
 use Rattle.price_board.specs.BoardStep.{task_of, first_task, draw_of, draw_answer, with_holder, rows_drawn, post_answer, rows_posted}
 use Rattle.price_board.specs.Places.{row_of, place_of, with_place, is_open, is_held_by}
-use Rattle.price_board.specs.Seats.{draws, dones, posts, rows_after, rows_before_last, Holds, HoldsNothing, HoldsOnly, HoldsDrawn, IsSeatOf, IsFree, IsHolding, IsFinished, AfterDraw}
+use Rattle.price_board.specs.Seats.{draws, dones, posts, rows_after, rows_before_last, Holds, HoldsNothing, HoldsOnly, HoldsDrawn, IsSeatOf, IsFree, IsHolding, AfterDraw}
 use Rattle.price_board.specs.Rights.{AreRows}
 use Rattle.price_board.specs.Settling.{ask_of, is_settled, count_for}
 use Rattle.price_board.specs.Shared.{is_sound, reply_to, progress_after}
-use Rattle.price_board.specs.Terms.{version_count, student_count, task_count}
+use Rattle.price_board.specs.Terms.{task_count}
 use Rattle.price_board.proofs.Histories.{drawable}
 use Rattle.price_board.proofs.Holdings.{stays_held, few_draws, kinds, draws-append, dones-append, posts-append}
 use Rattle.price_board.proofs.PlaceChanges.{place-same, place-other, same_place, closed_below, row_below, held_is}

@@ -12,6 +12,7 @@ use Rattle.price_board.specs.declared.round.Ask.{Ask}
 use Rattle.price_board.specs.Places.{row_of, place_of, with_place, is_open, is_held_by}
 use Rattle.price_board.specs.Settling.{ask_of, is_settled, count_for}
 
+-- the task of a version and a student
 abbrev pub task_of : ℕ → ℕ → Task
 task_of version student = record { version = version; student = record { 0 = student } }
 
@@ -27,11 +28,12 @@ first_task asks version (row ∷ rows) =
     if is_settled (ask_of asks version) row then first_task asks (version + 1) rows
     else (if nat_lt (first_open row) (length row) then Some (version, first_open row) else first_task asks (version + 1) rows)
 
--- a draw gives that task, or there is none
+-- a draw gives the first task, or says that there is none
 abbrev pub draw_of : Option (ℕ × ℕ) → Draw
 draw_of None = Done
 draw_of (Some task) = Drawn (task_of task.0 task.1)
 
+-- what a draw answers
 abbrev pub draw_answer : List Ask → List (List Place) → Draw
 draw_answer asks rows = draw_of (first_task asks 0 rows)
 
@@ -40,6 +42,7 @@ abbrev pub with_holder : ℕ → Option (ℕ × ℕ) → List (List Place) → L
 with_holder seat None rows = rows
 with_holder seat (Some task) rows = with_place rows task.0 task.1 (Held seat)
 
+-- the rows after a draw
 abbrev pub rows_drawn : List Ask → List (List Place) → ℕ → List (List Place)
 rows_drawn asks rows seat = with_holder seat (first_task asks 0 rows) rows
 

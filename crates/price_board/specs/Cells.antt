@@ -29,5 +29,6 @@ AreLive region (id ∷ ids) = IsLive region id × (is_among ids id ≡ false) ×
 abbrev pub rows_of : {T : Type 0} → Inside T → List (List T)
 rows_of grid = rows_in grid.region.live grid.ids.items
 
+-- what a grid keeps
 abbrev pub IsKept : {T : Type 0} → Inside T → Type 0
 IsKept grid = AreLive grid.region grid.ids.items

@@ -31,5 +31,6 @@ abbrev pub exceeds_at : Terms → ℕ → Ask → Option Bool
 exceeds_at terms version Counts = None
 exceeds_at terms version (Exceeds section limit) = Some (nat_lt limit (count_of terms version section.0))
 
+-- the same of a version, by what is asked of it
 abbrev pub exceeds_of : Terms → ℕ → Option Bool
 exceeds_of terms version = exceeds_at terms version (ask_of terms.asks version)

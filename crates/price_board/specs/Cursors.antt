@@ -1,7 +1,6 @@
 -- The task that is drawn next.
 use Rattle.std.specs.Prelude.{ℕ, ◌≡◌, ◌<◌, ◌≤◌, ◌||◌, Bool, true, false, List, length, nat_le}
 use Rattle.price_board.specs.declared.place.Place.{Place}
-use Rattle.price_board.specs.declared.place.Place.TheVariants.{Open}
 use Rattle.price_board.specs.declared.round.Ask.{Ask}
 use Rattle.price_board.specs.BoardStep.{first_open}
 use Rattle.price_board.specs.Places.{row_of, place_of, is_open}

@@ -1,8 +1,7 @@
 -- What a board keeps.
-use Rattle.std.specs.Prelude.{ℕ, ◌≡◌, ◌<◌, ◌≤◌, List, Some, length, map, All}
+use Rattle.std.specs.Prelude.{ℕ, ◌≡◌, ◌≤◌, List, length}
 use Rattle.std.specs.Arc.{arc_value}
 use Rattle.price_board.specs.declared.place.Place.{Place}
-use Rattle.price_board.specs.declared.round.Round.{Round}
 use Rattle.price_board.specs.declared.shared.Terms.{Terms}
 use Rattle.price_board.specs.declared.state.BoardState.TheInside.{Inside}
 use Rattle.price_board.specs.declared.tally.Tally.{Tally}
@@ -11,7 +10,7 @@ use Rattle.price_board.specs.Cursors.{IsCursor}
 use Rattle.price_board.specs.Openings.{terms_of}
 use Rattle.price_board.specs.Rights.{AreRows, AreRight}
 use Rattle.price_board.specs.Tallies.{tallies_of}
-use Rattle.price_board.specs.Terms.{version_count, student_count, demand_of}
+use Rattle.price_board.specs.Terms.{version_count, student_count}
 
 -- the terms of a board by its fields
 abbrev pub terms_in : Inside → Terms
@@ -28,6 +27,7 @@ pub record KeepsTasks (terms : Terms) (places : List (List Place)) (tallies : Li
   pub tallied : tallies ≡ tallies_of terms.asks 0 places
   pub cursor : IsCursor terms.asks places version student
 
+-- what a board keeps
 pub record IsKept (board : Inside) : Type 0 where
   pub few_versions : version_count (terms_in board) ≤ 16
   pub few_students : student_count (terms_in board) ≤ 2000

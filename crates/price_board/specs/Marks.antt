@@ -32,11 +32,13 @@ bundle_by (HeldMark seat) bundle = None
 bundle_by (FilledMark seat) bundle = bundle
 bundle_by (SpentMark seat) bundle = None
 
+-- the places of one row
 abbrev pub row_in : List Mark → List (Option Bundle) → List Place
 row_in [] bundles = []
 row_in (mark ∷ marks) [] = []
 row_in (mark ∷ marks) (bundle ∷ bundles) = place_in mark bundle ∷ row_in marks bundles
 
+-- the places of all rows
 abbrev pub places_in : List (List Mark) → List (List (Option Bundle)) → List (List Place)
 places_in [] bundles = []
 places_in (row ∷ marks) [] = []

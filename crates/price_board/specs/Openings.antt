@@ -41,5 +41,6 @@ pub record IsRound (terms : Terms) : Type 0 where
 abbrev pub opening_of : Terms → Progress
 opening_of terms = record { rows = replicate (version_count terms) (replicate (student_count terms) Open) }
 
+-- a board that is at its opening
 abbrev pub IsOpening : Terms → Progress → Type 0
 IsOpening terms progress = progress ≡ opening_of terms

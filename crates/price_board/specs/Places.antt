@@ -1,5 +1,5 @@
 -- Where the tasks of a round stand: a row for each version, in it a place for each student.
-use Rattle.std.specs.Prelude.{ℕ, ◌==◌, Bool, true, false, Option, Some, None, List, [], ◌∷◌, slice_index_or, slice_set}
+use Rattle.std.specs.Prelude.{ℕ, ◌==◌, Bool, true, false, Option, Some, None, List, [], slice_index_or, slice_set}
 use Rattle.bundle_rules.specs.declared.bundle.Bundle.{Bundle}
 use Rattle.price_board.specs.declared.place.Place.{Place}
 use Rattle.price_board.specs.declared.place.Place.TheVariants.{Open, Held, Filled, Spent}

@@ -19,28 +19,32 @@ use Rattle.price_board.specs.Places.{place_of}
 use Rattle.price_board.specs.Shared.{is_sound, reply_to, progress_after}
 use Rattle.price_board.specs.Terms.{version_count, student_count, task_count}
 
--- a reply that gives a task, and one that says that there is none
+-- a reply that gives a task
 abbrev pub is_task : BoardReply → Bool
 is_task (Drew (Drawn task)) = true
 is_task (Drew Done) = false
 is_task (Answered answer) = false
 
+-- a reply that says that there is no task
 abbrev pub is_done : BoardReply → Bool
 is_done (Drew (Drawn task)) = false
 is_done (Drew Done) = true
 is_done (Answered answer) = false
 
+-- a call that posts
 abbrev pub is_post : BoardCall → Bool
 is_post DrawCall = false
 is_post (PostCall version student bundle) = true
 
--- how many tasks these calls drew, how many of them were answered that there is none, and how many are posts
+-- how many tasks these calls drew
 abbrev pub draws : List (StepOf BoardCall BoardReply) → ℕ
 draws own = length (filter (λ (step : StepOf BoardCall BoardReply). is_task step.reply) own)
 
+-- how many of these calls were answered that there is no task
 abbrev pub dones : List (StepOf BoardCall BoardReply) → ℕ
 dones own = length (filter (λ (step : StepOf BoardCall BoardReply). is_done step.reply) own)
 
+-- how many of these calls are posts
 abbrev pub posts : List (StepOf BoardCall BoardReply) → ℕ
 posts own = length (filter (λ (step : StepOf BoardCall BoardReply). is_post step.request) own)
 

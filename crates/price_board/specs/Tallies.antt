@@ -6,6 +6,7 @@ use Rattle.price_board.specs.declared.round.Ask.TheVariants.{Counts, Exceeds}
 use Rattle.price_board.specs.declared.tally.Tally.{Tally}
 use Rattle.price_board.specs.Settling.{ask_of, count_for, unfilled_in}
 
+-- the tally of a row
 abbrev pub tally_of : Ask → List Place → Tally
 tally_of ask row = record { unfilled = unfilled_in row; count = count_for ask row }
 

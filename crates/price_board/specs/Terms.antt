@@ -1,15 +1,14 @@
 -- What a round asks: its tasks, and the right answer to each.
-use Rattle.std.specs.Prelude.{ℕ, ◌*◌, ◌==◌, ◌&&◌, Bool, true, false, List, [], ◌∷◌, length, nat_lt, slice_index_or}
-use Rattle.bundle_rules.specs.declared.bundle.Bundle.{Bundle}
-use Rattle.bundle_rules.specs.Bundles.{sections_of}
+use Rattle.std.specs.Prelude.{ℕ, ◌*◌, ◌==◌, ◌&&◌, Bool, true, false, List, [], ◌∷◌, length, slice_index_or}
 use Rattle.bundle_rules.specs.Demand.{price_in}
 use Rattle.demand_api.specs.Crowds.{demand_of as crowd_demand, count}
 use Rattle.price_board.specs.declared.shared.Terms.{Terms}
 
--- how many students and how many versions there are
+-- how many students there are
 abbrev pub student_count : Terms → ℕ
 student_count terms = length terms.crowd.students
 
+-- how many versions there are
 abbrev pub version_count : Terms → ℕ
 version_count terms = length terms.versions
 

@@ -1,9 +1,10 @@
 // The board that workers share.
 ghost use Rattle.std.specs.Prelude.{◌≡◌, ◌≢◌, ◌≤◌, ◌<◌, ◌+◌, ◌++◌, ◌∷◌, ◌⊎◌, ◌↔◌, [], ℕ, IfOk, All, Any, length, vec_len, slice_index_or};
 ghost use Rattle.std.specs.Arc.{arc_value};
-ghost use Rattle.chronicle.specs.History.{IsLegal, calls_by, step_of, Extends};
+ghost use Rattle.chronicle.specs.History.{IsLegal, calls_by, state_after, step_of, Extends};
 ghost use Rattle.bundle_rules.specs.Bundles.{sections_of};
 ghost use Rattle.price_board.specs.BoardStep.{draw_answer, post_answer};
+ghost use Rattle.price_board.specs.Closings.{AreSettled};
 ghost use Rattle.price_board.specs.Fates.{IsWorked, IsTaken, IsTakenOrLate, calls_on};
 ghost use Rattle.price_board.specs.Openings.{terms_of, IsMade, IsRound};
 ghost use Rattle.price_board.specs.Seats.{IsSeatOf, HoldsNothing, Holds, HoldsDrawn, IsFree, IsHolding, IsFinished, AfterDraw, rows_before_last, dones, posts};
@@ -53,7 +54,7 @@ impl Model for Board {
 
 impl Board {
     /// A board of this round, of which nothing is drawn or filled, with a seat for each of 1 to 16 workers, numbered from 0. All
-    /// memory is taken here.
+    /// memory is taken here; the only error is that it was not given.
     pub fn start(
         alloc: Global,
         crowd: Arc<Crowd>,
@@ -68,6 +69,7 @@ impl Board {
         ensures count { IfOk result (λ r. vec_len r.1 ≡ workers) }
         ensures numbers { IfOk result (λ r. (n : ℕ) (d : _) → n < workers → (slice_index_or r.1.items n d).number ≡ n) }
         ensures free { IfOk result (λ r. All (λ s. IsFree r.0 s) r.1.items) }
+        ensures fresh { IfOk result (λ r. All (λ s. (s.seen ≡ []) × (s.own ≡ [])) r.1.items) }
     {
         let state = BoardState::make(alloc, crowd, round, workers)?;
         let share = 2 * state.task_count() + 1;
@@ -139,6 +141,9 @@ impl Board {
         requires finished { All (λ s. IsFinished self s) seats.items }
         ensures terms { result.terms ≡ self.base }
         ensures legal { IsLegal is_sound progress_after reply_to self.base self.opening result.history }
+        ensures rows { state_after progress_after self.base self.opening result.history ≡ record { rows = result.rows } }
+        ensures settled { AreSettled result.terms result.rows }
+        ensures seats { All (λ step. Any (λ s. s.number ≡ step.seat) seats.items) result.history }
         ensures own { All (λ s. calls_by s.number result.history ≡ s.own) seats.items }
         ensures tasks { (version student : ℕ) → version < version_count self.base → student < student_count self.base → (calls_on version student result.history ≡ []) ⊎ IsWorked IsTakenOrLate self.base result.history version student }
         ensures counts { (version student : ℕ) → version < version_count self.base → student < student_count self.base → ask_of self.base.asks version ≡ Ask.Counts → IsWorked IsTaken self.base result.history version student }

@@ -7,12 +7,19 @@ pub enum Ask {
     /// What each student takes.
     Counts,
     /// Whether more students than the limit take the section.
-    Exceeds { section: SectionNo, limit: u32 },
+    Exceeds {
+        /// A section of the crowd's market.
+        section: SectionNo,
+        /// The number of students that is not exceeded by as many.
+        limit: u32,
+    },
 }
 
-/// Price vectors, the versions, with one price for each section, and what is asked of each.
+/// Price vectors, the versions, and what is asked of each.
 #[derive(Drop)]
 pub struct Round {
+    /// 1 to 16 vectors, with one price for each section, each at most 1,000,001 tokens.
     pub versions: Vec<Vec<Tokens>>,
+    /// What is asked of each version, in the same order.
     pub asks: Vec<Ask>,
 }

@@ -63,7 +63,8 @@ impl Model for BoardState {
 }
 
 impl BoardState {
-    /// A board of this round, of which nothing is drawn or filled, with room for the calls of so many workers.
+    /// A board of this round, of which nothing is drawn or filled, with room for the calls of 1 to 16 workers. The only error is that
+    /// memory was wanted and not given.
     pub fn make(
         alloc: Global,
         crowd: Arc<Crowd>,

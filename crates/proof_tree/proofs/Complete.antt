@@ -24,7 +24,6 @@ use Rattle.bundle_bounds.proofs.BelowLimit.{some_closes, none_closes}
 use Rattle.bundle_bounds.proofs.NodeFacts.{nothing_chosen}
 use Rattle.bundle_bounds.proofs.Openings.{node_without}
 use Rattle.proof_tree.specs.Trees.{Tree, Wins, Bars, Cuts, Takes, Splits, Passes, IsTree, IsShut, IsChampionsEnd, GoesOn}
-use Rattle.bundle_rules.specs.Given.{IsBestWith}
 use Rattle.proof_tree.specs.Laws.{HasTree, TreesProveTheBest, TreesProveTheBestWith}
 use Rattle.proof_tree.proofs.Nodes.{places_with, places_low, last_here, last_other}
 use Rattle.proof_tree.proofs.Sound.{HasRequired, IsOnMenu, node_where_open, tree_is_sound}

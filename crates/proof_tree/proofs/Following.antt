@@ -1,22 +1,21 @@
 -- The walk along a text, step by step.
-use Rattle.std.proofs.Common.{◌≡◌, ◌≢◌, ◌<◌, ◌++◌, ◌↔◌, ℕ, Option, None, Some, List, [], ◌∷◌, length, refl, sym, ◌∙◌, ap, subst, inl, inr}
+use Rattle.std.proofs.Common.{◌≡◌, ◌≢◌, ◌++◌, ◌↔◌, ℕ, Option, None, List, [], ◌∷◌, refl, sym, subst, inl, inr}
 use Rattle.std.specs.Prelude.{IfErr, IsErrAnd, IsOk, OnOk}
 use Rattle.std.specs.declared.result.Result.{Result}
 use Rattle.std.specs.declared.result.Result.TheVariants.{Ok, Err}
 use Rattle.std.proofs.lemmas.Bool.{false≢true}
 use Rattle.bundle_bounds.specs.Offers.{Offer, places_of}
 use Rattle.proof_tree.specs.declared.signs.Sign.{Sign}
-use Rattle.proof_tree.specs.declared.walk.Step.TheVariants.{Signed, Unsigned, Ended}
+use Rattle.proof_tree.specs.declared.walk.Step.TheVariants.{Signed, Unsigned}
 use Rattle.proof_tree.specs.declared.defects.TreeDefect.{TreeDefect}
 use Rattle.proof_tree.specs.declared.defects.TreeDefect.TheVariants.{Syntax, NotClosed, Redundant, WrongLeaf, WrongBranch, Rest}
-use Rattle.proof_tree.specs.Trees.{IsSign, HasNoSign}
 use Rattle.proof_tree.specs.Texts.{Stands, IsTreeText}
-use Rattle.proof_tree.specs.Walks.{below, HasCome}
+use Rattle.proof_tree.specs.Walks.{HasCome}
 use Rattle.proof_tree.specs.Steps.{IsStep}
 use Rattle.proof_tree.specs.Defects.{Reads, IsDefect, FirstFailsAt, offset}
-use Rattle.proof_tree.specs.Mismatches.{IsMismatch, IsOther, IsUnsigned, offset_in}
+use Rattle.proof_tree.specs.Mismatches.{IsMismatch, IsUnsigned, offset_in}
 use Rattle.proof_tree.proofs.Uniqueness.{one_sign}
-use Rattle.proof_tree.proofs.OneSymbol.{one_symbol, shorter}
+use Rattle.proof_tree.proofs.OneSymbol.{one_symbol}
 use Rattle.proof_tree.proofs.Spelling.{comes_more, walk_spells, spelled_text, no_sign}
 
 pub on_ok : {E : Type 0} (r : Result (Unit {0}) E) (P Q : Type 0) → OnOk r P → (P → Q) → OnOk r Q

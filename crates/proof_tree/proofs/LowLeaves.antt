@@ -1,5 +1,5 @@
 -- The number in a canonical symbol is that of a place on the menu.
-use Rattle.std.proofs.Common.{◌≡◌, ◌<◌, ◌≤◌, ℕ, Option, Some, List, length, subst, arith}
+use Rattle.std.proofs.Common.{◌≡◌, ◌<◌, ◌≤◌, ℕ, Option, List, length, arith}
 use Rattle.bundle_rules.specs.Menus.{IsMenu}
 use Rattle.bundle_bounds.specs.declared.nodes.Leaf.{Leaf}
 use Rattle.bundle_bounds.specs.declared.nodes.Leaf.TheVariants.{Plain, Budget, Credits, Number}
@@ -8,7 +8,7 @@ use Rattle.bundle_bounds.proofs.LeafPlaces.{IsLow, closing_low}
 use Rattle.proof_tree.specs.declared.signs.Sign.{Sign}
 use Rattle.proof_tree.specs.declared.signs.Sign.TheVariants.{Champion, Shut, Closed, Forced, Open, Passed}
 use Rattle.proof_tree.specs.Trees.{IsSign}
-use Rattle.proof_tree.specs.Texts.{IsShort, number_of}
+use Rattle.proof_tree.specs.Texts.{IsShort}
 
 low_number : (n : ℕ) (leaf : Leaf) → n ≤ 60 → IsLow n leaf → IsShort (Closed leaf)
 low_number n Plain few low place some = absurd (cc some)

@@ -1,16 +1,15 @@
 -- A tree's text has no defect.
-use Rattle.std.proofs.Common.{◌≡◌, ◌≢◌, ◌<◌, ◌≤◌, ◌+◌, ◌++◌, ◌⊎◌, ℕ, Option, None, Some, List, [], ◌∷◌, length, refl, sym, ◌∙◌, ap, subst, inl, inr, arith}
+use Rattle.std.proofs.Common.{◌≡◌, ◌<◌, ◌≤◌, ◌+◌, ◌++◌, ℕ, Option, None, List, [], ◌∷◌, length, sym, ◌∙◌, subst, inl, inr, arith}
 use Rattle.std.specs.Prelude.{⊤}
 use Rattle.bundle_rules.specs.Menus.{IsMenu}
 use Rattle.bundle_bounds.specs.Offers.{Offer, places_of}
 use Rattle.proof_tree.specs.declared.signs.Sign.{Sign}
 use Rattle.proof_tree.specs.declared.signs.Sign.TheVariants.{Champion, Shut, Closed, Forced, Open, Passed}
-use Rattle.proof_tree.specs.declared.defects.TreeDefect.{TreeDefect}
 use Rattle.proof_tree.specs.declared.defects.TreeDefect.TheVariants.{Syntax, NotClosed, Redundant, WrongLeaf, WrongBranch, Rest}
 use Rattle.proof_tree.specs.Trees.{sign_of, IsSign, HasNoSign}
-use Rattle.proof_tree.specs.Texts.{symbol, spelled, NoDigitFirst, Stands, IsTreeText}
+use Rattle.proof_tree.specs.Texts.{NoDigitFirst, Stands, IsTreeText}
 use Rattle.proof_tree.specs.Walks.{below, ComesTo, HasCome}
-use Rattle.proof_tree.specs.Defects.{IsLeaf, IsCanonical, Reads, Differs, IsDefect, IsStuck, FirstFailsAt}
+use Rattle.proof_tree.specs.Defects.{IsCanonical, Reads, Differs, IsStuck}
 use Rattle.proof_tree.specs.Laws.{NoDefectInATree, NoFailureInATree}
 use Rattle.proof_tree.proofs.Uniqueness.{sign_is, one_sign}
 use Rattle.proof_tree.proofs.LowLeaves.{short_sign}

@@ -1,16 +1,14 @@
 -- What completes a node, by its places.
-use Rattle.std.proofs.Common.{◌≡◌, ◌≢◌, ◌<◌, ◌≤◌, ◌+◌, ◌++◌, ◌&&◌, ◌⊎◌, ℕ, Bool, true, false, List, [], ◌∷◌, length, map, refl, sym, ◌∙◌, ap, subst, inl, inr, arith}
-use Rattle.std.specs.Prelude.{nat_le}
+use Rattle.std.proofs.Common.{◌≡◌, ◌≢◌, ◌<◌, ◌≤◌, ◌+◌, ◌++◌, ◌⊎◌, ℕ, true, false, List, [], ◌∷◌, length, map, refl, sym, ◌∙◌, ap, subst, inl, inr, arith}
 use Rattle.std.proofs.lemmas.Bool.{cases_Bool, cases_lt, false≢true, ne_eqb}
-use Rattle.std.proofs.lemmas.Bool.Decides.{nat_tests}
 use Rattle.std.proofs.lemmas.List.{map-append, append-nil}
 use Rattle.bundle_rules.specs.declared.menu.Rated.{Rated}
 use Rattle.bundle_rules.specs.Sets.{has}
-use Rattle.bundle_rules.specs.Menus.{IsMenu, section_at, place_in, credits_at}
+use Rattle.bundle_rules.specs.Menus.{IsMenu, section_at, place_in}
 use Rattle.bundle_rules.specs.Existence.Members.{has-here, has-there, has-cases}
 use Rattle.bundle_rules.specs.Existence.Places.{section_at-place_in}
-use Rattle.bundle_bounds.specs.Offers.{Offer, price_at, allowed_at, places_of}
-use Rattle.bundle_bounds.specs.Opens.{budget_left, credits_left, is_apart, is_open}
+use Rattle.bundle_bounds.specs.Offers.{Offer, places_of}
+use Rattle.bundle_bounds.specs.Opens.{is_open}
 use Rattle.bundle_bounds.specs.Laws.{IsTakable, IsNode, Completes}
 use Rattle.bundle_rules.proofs.PlacesFirst.{AllOnMenu, section_at-rises}
 use Rattle.bundle_bounds.proofs.Openness.{MayBeTaken, front_of, is_open-more}

@@ -1,14 +1,13 @@
 -- The texts of the trees of several nodes, one after another.
-use Rattle.std.proofs.Common.{◌≡◌, ◌+◌, ◌++◌, ℕ, Option, None, List, [], ◌∷◌, refl, sym, ◌∙◌, ap, subst, append_assoc, arith}
+use Rattle.std.proofs.Common.{◌≡◌, ◌++◌, ℕ, Option, List, [], ◌∷◌, refl, sym, ◌∙◌, ap, subst, append_assoc, arith}
 use Rattle.std.proofs.lemmas.List.{append-nil}
-use Rattle.bundle_bounds.specs.declared.nodes.Leaf.{Leaf}
 use Rattle.bundle_bounds.specs.Offers.{Offer, places_of}
 use Rattle.bundle_bounds.specs.Bounds.{bounds}
 use Rattle.proof_tree.specs.declared.signs.Sign.{Sign}
 use Rattle.proof_tree.specs.declared.signs.Sign.TheVariants.{Champion, Shut, Closed, Forced, Open, Passed}
 use Rattle.proof_tree.specs.Trees.{Tree, Wins, Bars, Cuts, Takes, Splits, Passes, sign_of, IsSign, IsTree, HasNoSign}
 use Rattle.proof_tree.specs.Texts.{symbol, spelled, Stands, IsTreeText}
-use Rattle.proof_tree.specs.Walks.{below, ComesTo, HasCome}
+use Rattle.proof_tree.specs.Walks.{below, ComesTo}
 use Rattle.proof_tree.proofs.Uniqueness.{not_none, one_sign, sign_is}
 
 pub cancel : (xs ys zs : List ℕ) → xs ++ ys ≡ xs ++ zs → ys ≡ zs

@@ -1,5 +1,5 @@
 -- What waits after a step of the walk.
-use Rattle.std.proofs.Common.{◌≡◌, ◌≢◌, ◌<◌, ◌≤◌, ◌+◌, ◌-◌, ◌++◌, min, ℕ, zero, suc, true, false, Option, Some, None, List, [], ◌∷◌, length, map, reverse, take, get_or, length-append, refl, sym, ◌∙◌, ap, subst, inl, inr, arith}
+use Rattle.std.proofs.Common.{◌≡◌, ◌<◌, ◌≤◌, ◌+◌, ◌-◌, ◌++◌, min, ℕ, suc, true, Option, List, [], ◌∷◌, length, reverse, take, get_or, length-append, sym, ◌∙◌, ap, inl, inr, arith}
 use Rattle.std.proofs.lemmas.Bool.{cases_Bool}
 use Rattle.std.proofs.lemmas.List.{take_more, reverse-append, length-reverse, length-take}
 use Rattle.bundle_rules.specs.Bundles.{sections_of}
@@ -7,10 +7,8 @@ use Rattle.bundle_rules.specs.Menus.{IsMenu, section_at}
 use Rattle.bundle_bounds.specs.declared.nodes.Node.{Node}
 use Rattle.bundle_bounds.specs.Offers.{Offer, places_of}
 use Rattle.bundle_bounds.specs.Opens.{is_open}
-use Rattle.bundle_bounds.specs.Laws.{IsNode}
 use Rattle.bundle_bounds.proofs.Openings.{open_facts, takable_where_open, node_with, node_without, node_same}
-use Rattle.proof_tree.specs.declared.signs.Sign.{Sign}
-use Rattle.proof_tree.specs.declared.signs.Sign.TheVariants.{Forced, Open, Passed}
+use Rattle.proof_tree.specs.declared.signs.Sign.TheVariants.{Forced}
 use Rattle.proof_tree.specs.Trees.{IsSign}
 use Rattle.proof_tree.specs.Steps.{spot, MayWait}
 use Rattle.proof_tree.proofs.Nodes.{places_with}

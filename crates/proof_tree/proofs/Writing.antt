@@ -5,9 +5,9 @@ use Rattle.std.specs.Prelude.{IfNone}
 use Rattle.bundle_bounds.specs.Offers.{Offer, places_of}
 use Rattle.proof_tree.specs.declared.signs.Sign.{Sign}
 use Rattle.proof_tree.specs.declared.signs.Sign.TheVariants.{Champion, Shut, Closed, Forced, Open, Passed}
-use Rattle.proof_tree.specs.declared.walk.Step.TheVariants.{Signed, Unsigned, Ended}
+use Rattle.proof_tree.specs.declared.walk.Step.TheVariants.{Signed, Unsigned}
 use Rattle.proof_tree.specs.Trees.{Tree, IsSign, IsTree}
-use Rattle.proof_tree.specs.Texts.{symbol, spelled, IsShort, IsTreeText}
+use Rattle.proof_tree.specs.Texts.{symbol, spelled, IsTreeText}
 use Rattle.proof_tree.specs.Walks.{below}
 use Rattle.proof_tree.specs.Steps.{IsStep, nodes_below, nodes_left}
 use Rattle.proof_tree.specs.Laws.{HasTree}

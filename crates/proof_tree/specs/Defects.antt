@@ -2,7 +2,7 @@
 use Rattle.std.specs.Prelude.{ℕ, ◌-◌, ◌≡◌, ◌≢◌, ◌⊎◌, ◌^◌, min, ⊤, Option, None, List, [], ◌∷◌, length}
 use Rattle.bundle_bounds.specs.Offers.{Offer, places_of}
 use Rattle.proof_tree.specs.declared.signs.Sign.{Sign}
-use Rattle.proof_tree.specs.declared.signs.Sign.TheVariants.{Champion, Shut, Closed, Forced, Open, Passed}
+use Rattle.proof_tree.specs.declared.signs.Sign.TheVariants.{Shut, Closed, Forced}
 use Rattle.proof_tree.specs.declared.defects.TreeDefect.{TreeDefect}
 use Rattle.proof_tree.specs.declared.defects.TreeDefect.TheVariants.{Syntax, NotClosed, Redundant, WrongLeaf, WrongBranch, Rest}
 use Rattle.proof_tree.specs.Trees.{IsSign, HasNoSign}

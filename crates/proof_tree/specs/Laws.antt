@@ -32,6 +32,7 @@ pub record AreOne (offer : Offer) (required : Option ℕ) (champion : List ℕ) 
   pub sign : (a b : Sign) → IsSign offer required champion k chosen a → IsSign offer required champion k chosen b → a ≡ b
   pub tree : (a b : Tree) → IsTree offer required champion k chosen a → IsTree offer required champion k chosen b → a ≡ b
 
+-- and so at every node
 abbrev pub OneTree : Type 0
 OneTree = (offer : Offer) (required : Option ℕ) (champion : List ℕ) (k : ℕ) (chosen : List ℕ) → AreOne offer required champion k chosen
 

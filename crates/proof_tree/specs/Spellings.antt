@@ -2,5 +2,6 @@
 use Rattle.std.specs.Prelude.{ℕ, List, take}
 use Rattle.proof_tree.specs.declared.symbols.Symbol.{Symbol}
 
+-- as many of its three bytes as it has
 abbrev pub bytes_of : Symbol → List ℕ
 bytes_of symbol = take symbol.len symbol.bytes

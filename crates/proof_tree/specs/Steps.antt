@@ -19,6 +19,7 @@ waiting_of walk = reverse (take walk.count walk.waiting)
 abbrev pub spot : MenuData → Node → ℕ × List ℕ
 spot menu node = (node.place, places_of menu (sections_of node.chosen))
 
+-- the same of several nodes
 abbrev pub spots_of : MenuData → List Node → List (ℕ × List ℕ)
 spots_of menu nodes = map (spot menu) nodes
 

@@ -16,6 +16,7 @@ pub data Tree : Type 0 where
   Splits : (with_it without : Tree) → Tree
   Passes : (without : Tree) → Tree
 
+-- the sign of its first node
 abbrev pub sign_of : Tree → Sign
 sign_of Wins = Champion
 sign_of Bars = Shut

@@ -16,8 +16,8 @@ use bundle_rules::{Bundle, Menu};
 use market_units::{NoMemory, SectionNo, SectionSet, Tokens};
 use std::alloc::Global;
 
-/// The text of the canonical tree of a champion that is the best bundle. There is a price for each section of the menu,
-/// each at most 1,000,001.
+/// The text of the canonical tree of a champion that is the best bundle, or `NoMemory`, for want of memory alone. There is
+/// a price for each section of the menu, each at most 1,000,001.
 pub fn build(
     alloc: Global,
     menu: &Menu,
@@ -34,8 +34,8 @@ pub fn build(
     written(alloc, menu, prices, budget, allowed, None, champion)
 }
 
-/// The text of the forced tree of a champion that is the best bundle with the section. There is a price for each
-/// section of the menu, each at most 1,000,001.
+/// The text of the forced tree of a champion that is the best bundle with the section, or `NoMemory`, for want of memory
+/// alone. There is a price for each section of the menu, each at most 1,000,001.
 pub fn build_forced(
     alloc: Global,
     menu: &Menu,

@@ -11,15 +11,20 @@ use bundle_bounds::{Leaf, Node, bound_closes, is_open};
 use bundle_rules::{Bundle, Menu};
 use market_units::{SectionSet, Tokens};
 
-/// What stands at a node of a tree: the champion's end (`*`), the required place is not open (`x`), a bound closes the
-/// node (its leaf), the next place is the required one (`!`), it is open (`+`), it is not open (`-`).
+/// What stands at a node of a tree, the first of these that fits.
 #[derive(Clone, Copy, Debug, PartialEq, Eq)]
 pub enum Sign {
+    /// All places are decided, and the chosen ones are the champion's: `*`.
     Champion,
+    /// The required place is undecided and not open: `x`, of forced trees alone.
     Shut,
+    /// A bound closes the node: `n`, or `b`, `c`, `m` with a place.
     Closed(Leaf),
+    /// The next place is the required one: `!`, of forced trees alone.
     Forced,
+    /// The next place is open: `+`.
     Open,
+    /// The next place is not open: `-`.
     Passed,
 }
 

@@ -136,7 +136,7 @@ impl Walk {
 }
 
 // The node with the section of the next place, where that is open.
-fn with_next(menu: &Menu, node: &Node) -> Node
+pub(crate) fn with_next(menu: &Menu, node: &Node) -> Node
     requires left { node.now.place < length menu.now.places }
     requires open { (prices : List Tokens) × (budget : ℕ) × (allowed : set.FinSet nat_cmp) × IsNode (offer_of menu.now prices budget allowed) node.now.place (sections_of node.now.chosen) × (is_open (offer_of menu.now prices budget allowed) (places_of menu.now (sections_of node.now.chosen)) node.now.place ≡ true) }
     ensures menu { IsMenu menu.now }

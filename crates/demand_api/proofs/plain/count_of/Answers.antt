@@ -1,4 +1,4 @@
-use Rattle.std.proofs.Common.{rules, length, ◌<◌, ◌≤◌, ◌≡◌, ◌+◌, ◌∙◌, arith, take, ap, sym}
+use Rattle.std.proofs.Common.{rules, length, ◌<◌, ◌≤◌, ◌≡◌, ◌+◌, ◌∙◌, arith, take, ap}
 use Rattle.std.specs.Prelude.{if◌then◌else◌}
 use Rattle.std.proofs.lemmas.List.{take_all}
 use Rattle.bundle_rules.specs.Bundles.{sections_of}

@@ -1,16 +1,41 @@
-use Rattle.market_host.specs.declared.status.Status.TheVariants.{Done}
+use Rattle.std.proofs.Common.{rules, map, refl}
+use Rattle.std.specs.String.{string_bytes}
 use Rattle.market_edge.specs.Faults.{Rose}
+use Rattle.market_host.specs.Lines.{line_of, usage_line}
+use Rattle.market_host.specs.Sights.{sight}
+use Rattle.market_host.specs.Statuses.{status_of}
+use Rattle.market_host.specs.declared.status.Status.TheVariants.{Done, Usage}
 use Rattle.market_host.proofs.Completions.{completes_unless}
+use Rattle.market_host.proofs.ReadOut.{read_out_unless, stopped_outcome}
 use Rattle.market_host.proofs.host.course_match.Goals as goal
 
+pub returns-in_default-clause-replaced : goal.returns-in_default-clause-replaced
+returns-in_default-clause-replaced g c = λ fault. (Usage, usage_line, (search rules, refl), rw (c.as_bytes.ensures, c.usage.ensures) at (c.finish.ensures.front fault))
+
 pub returns-in-Ok-clause-written : goal.returns-in-Ok-clause-written
-returns-in-Ok-clause-written g c = λ taken.
-    (c.deref.result.now, rw (c.finish.ensures.status taken, c.deref.ensures.value) c.in-Ok.ensures.answer.1, c.finish.ensures.written taken)
+returns-in-Ok-clause-written g c = λ taken. (c.deref.result.now, rw (c.finish-in-Ok.ensures.status taken, c.deref.ensures.value) c.in-Ok.ensures.answer, c.finish-in-Ok.ensures.written taken)
 
 pub returns-in-Ok-clause-replaced : goal.returns-in-Ok-clause-replaced
-returns-in-Ok-clause-replaced g c = λ fault. (Done, c.deref.result.now, c.in-Ok.ensures.answer.0, rw c.deref.ensures.value c.in-Ok.ensures.answer.1, c.finish.ensures.front fault)
+returns-in-Ok-clause-replaced g c = λ fault. (Done, c.deref.result.now, rw c.deref.ensures.value c.in-Ok.ensures.answer, c.finish-in-Ok.ensures.front fault)
+
+pub returns-in-Err-clause-written : goal.returns-in-Err-clause-written
+returns-in-Err-clause-written g c = λ taken.
+    let outcome = stopped_outcome (map string_bytes c.args.words.now) (sight g.H.Shelf c.args.shelf.now c.answer.new.shelf) c.in-Err.trouble (line_of c.in-Err.trouble) c.in-Err.ensures.answer in
+    (line_of c.in-Err.trouble, rw (c.finish-in-Err.ensures.status taken, c.status.ensures) outcome, rw (c.as_bytes-in-Err.ensures, c.line_for.ensures) at (c.finish-in-Err.ensures.written taken))
+
+pub returns-in-Err-clause-replaced : goal.returns-in-Err-clause-replaced
+returns-in-Err-clause-replaced g c = λ fault.
+    let outcome = stopped_outcome (map string_bytes c.args.words.now) (sight g.H.Shelf c.args.shelf.now c.answer.new.shelf) c.in-Err.trouble (line_of c.in-Err.trouble) c.in-Err.ensures.answer in
+    (status_of c.in-Err.trouble, line_of c.in-Err.trouble, outcome, rw (c.as_bytes-in-Err.ensures, c.line_for.ensures) at (c.finish-in-Err.ensures.front fault))
 
 pub returns-in-Err-clause-complete : goal.returns-in-Err-clause-complete
 returns-in-Err-clause-complete g c = λ can none.
-    completes_unless _ _ (g.H.Shelf.faults c.args.shelf.now) (g.H.Shelf.faults c.answer.new.shelf) (Rose (g.K.Sink.faults c.args.sink.now) (g.K.Sink.faults c.finish-in-Err.new.sink)) c.finish-in-Err.result c.in-Err.status
-    c.finish-in-Err.ensures.status c.finish-in-Err.ensures.cause c.in-Err.ensures.answer.0 can none
+    let outcome = stopped_outcome (map string_bytes c.args.words.now) (sight g.H.Shelf c.args.shelf.now c.answer.new.shelf) c.in-Err.trouble (line_of c.in-Err.trouble) c.in-Err.ensures.answer in
+    completes_unless (map string_bytes c.args.words.now) (sight g.H.Shelf c.args.shelf.now c.answer.new.shelf) (Rose (g.K.Sink.faults c.args.sink.now) (g.K.Sink.faults c.finish-in-Err.new.sink)) c.finish-in-Err.result
+    (status_of c.in-Err.trouble) (line_of c.in-Err.trouble) (rw c.status.ensures at c.finish-in-Err.ensures.status) c.finish-in-Err.ensures.cause outcome can none
+
+pub returns-in-Err-clause-read_out : goal.returns-in-Err-clause-read_out
+returns-in-Err-clause-read_out g c =
+    let outcome = stopped_outcome (map string_bytes c.args.words.now) (sight g.H.Shelf c.args.shelf.now c.answer.new.shelf) c.in-Err.trouble (line_of c.in-Err.trouble) c.in-Err.ensures.answer in
+    read_out_unless (map string_bytes c.args.words.now) (sight g.H.Shelf c.args.shelf.now c.answer.new.shelf) c.finish-in-Err.result (status_of c.in-Err.trouble) (line_of c.in-Err.trouble)
+    (rw c.status.ensures at c.finish-in-Err.ensures.status) outcome

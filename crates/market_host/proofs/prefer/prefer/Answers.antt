@@ -1,14 +1,16 @@
-use Rattle.std.proofs.Common.{ℕ, ◌≡◌, ◌≤◌, ◌-◌, [], ◌∷◌, arith, drop, length, map, refl, sym, take, ◌∙◌}
+use Rattle.std.proofs.Common.{◌≡◌, ◌-◌, [], ◌∷◌, arith, drop, length, map, refl, take, ◌∙◌}
 use Rattle.std.specs.String.{string_bytes}
 use Rattle.std.specs.Vec.{vec_len}
 use Rattle.std.proofs.lemmas.Result.{err_from_is_err_and}
 use Rattle.market_lists.specs.Totals.{total}
 use Rattle.market_words.specs.declared.words.Form.TheVariants.{Prefer}
+use Rattle.market_host.specs.Kinds.{Catalog, Roll}
 use Rattle.market_host.specs.Sessions.{command_count}
-use Rattle.market_host.proofs.Ends.{refused_read_out, sessions_read_out, unrefused_read_out}
-use Rattle.market_host.proofs.PreferFacts.{first-prefer, inputs-prefer, length-prefer, length-sessions, prints_preferences}
+use Rattle.market_host.specs.Sights.{sight}
+use Rattle.market_host.proofs.InputTroubles.{catalog_first, none_read, roll_second}
+use Rattle.market_host.proofs.PreferFacts.{first-prefer, inputs-prefer, length-prefer, length-sessions, prefer_done}
 use Rattle.market_host.proofs.SessionsRead.{streams_of_names}
-use Rattle.market_host.proofs.Stops.{catalogue_stops, roll_stops, sessions_stop}
+use Rattle.market_host.proofs.Stops.{input_stops, sessions_stop}
 use Rattle.market_host.proofs.StreamFacts.{count_of_sessions}
 use Rattle.market_host.proofs.prefer.prefer.Goals as goal
 
@@ -21,18 +23,9 @@ returns-in_err-catalog-clause-answer g c =
     let words = map string_bytes c.args.words.now in
     let long = length-prefer c.args.words.now c.requires in
     let named = first-prefer c.args.words.now c.index-words-1.result long.0 c.index-words-1.is in
-    let faults = g.H.Shelf.faults c.args.shelf.now in
-    rw (p.1, p.2) (catalogue_stops words Prefer (g.H.Shelf.holds c.args.shelf.now) faults faults (g.H.Shelf.faults c.take_catalogue.new.shelf) c.requires (λ _. omega arith) (string_bytes c.index-words-1.result) (drop 2 words)
-    c.in_err-catalog.field-0.0 named refl (rw c.as_str.ensures.value at c.in_err-catalog.ensures.trouble))
-
-pub returns-in_err-catalog-clause-end : goal.returns-in_err-catalog-clause-end
-returns-in_err-catalog-clause-end g c =
-    let p = err_from_is_err_and c.from_residual.result c.from_residual.ensures.1 in
-    let words = map string_bytes c.args.words.now in
-    let long = length-prefer c.args.words.now c.requires in
-    let named = first-prefer c.args.words.now c.index-words-1.result long.0 c.index-words-1.is in
-    rw (p.1, p.2) (refused_read_out words Prefer (g.H.Shelf.holds c.args.shelf.now) (g.H.Shelf.serves c.take_catalogue.new.shelf) (g.H.Shelf.left c.take_catalogue.new.shelf) c.requires [] (drop 2 words)
-    (string_bytes c.index-words-1.result) 1 c.in_err-catalog.field-0.0 named refl (rw c.as_str.ensures.value at c.in_err-catalog.ensures.end))
+    let held = g.H.Shelf.holds c.args.shelf.now in
+    rw (p.1, p.2) (input_stops words Prefer c.requires held (g.H.Shelf.faults c.args.shelf.now) (sight g.H.Shelf c.args.shelf.now c.take_catalog.new.shelf) refl (λ _. omega arith) [] [] (none_read Prefer held) Catalog
+    (string_bytes c.index-words-1.result) (drop 2 words) 1 c.in_err-catalog.field-0.0 named refl refl (rw c.as_str.ensures.value at c.in_err-catalog.ensures.trouble))
 
 pub returns-in_err-roll-clause-answer : goal.returns-in_err-roll-clause-answer
 returns-in_err-roll-clause-answer g c =
@@ -40,20 +33,11 @@ returns-in_err-roll-clause-answer g c =
     let words = map string_bytes c.args.words.now in
     let long = length-prefer c.args.words.now c.requires in
     let named = inputs-prefer c.args.words.now c.index-words-1.result c.index-words-2.result long.0 c.index-words-1.is c.index-words-2.is in
+    let held = g.H.Shelf.holds c.args.shelf.now in
     let first = rw c.as_str.ensures.value at c.in_ok-catalog.ensures.read in
-    rw (p.1, p.2) (roll_stops words Prefer (g.H.Shelf.holds c.args.shelf.now) (g.H.Shelf.faults c.args.shelf.now) (g.H.Shelf.faults c.take_catalogue.new.shelf) (g.H.Shelf.faults c.take_roll.new.shelf) c.requires
-    c.in_ok-catalog.ensures.later (string_bytes c.index-words-1.result) (string_bytes c.index-words-2.result) _ _ c.in_err-roll.field-0.0 named refl refl (omega arith) first
-    (rw (c.as_str-2.ensures.value, c.in_ok-catalog.ensures.holds) at c.in_err-roll.ensures.trouble))
-
-pub returns-in_err-roll-clause-end : goal.returns-in_err-roll-clause-end
-returns-in_err-roll-clause-end g c =
-    let p = err_from_is_err_and c.from_residual-in_err-roll.result c.from_residual-in_err-roll.ensures.1 in
-    let words = map string_bytes c.args.words.now in
-    let long = length-prefer c.args.words.now c.requires in
-    let named = inputs-prefer c.args.words.now c.index-words-1.result c.index-words-2.result long.0 c.index-words-1.is c.index-words-2.is in
-    rw (p.1, p.2) (refused_read_out words Prefer (g.H.Shelf.holds c.args.shelf.now) (g.H.Shelf.serves c.take_roll.new.shelf) (g.H.Shelf.left c.take_roll.new.shelf) c.requires (string_bytes c.index-words-1.result ∷ [])
-    (map string_bytes (take (length c.args.words.now - 3) (drop 3 c.args.words.now))) (string_bytes c.index-words-2.result) 2 c.in_err-roll.field-0.0 named refl
-    (rw (c.as_str-2.ensures.value, c.in_ok-catalog.ensures.holds) at c.in_err-roll.ensures.end))
+    rw (p.1, p.2) (input_stops words Prefer c.requires held (g.H.Shelf.faults c.args.shelf.now) (sight g.H.Shelf c.take_catalog.new.shelf c.take_roll.new.shelf) c.in_ok-catalog.ensures.holds c.in_ok-catalog.ensures.later
+    (string_bytes c.index-words-1.result ∷ []) (first.0 ∷ []) (catalog_first Prefer held (string_bytes c.index-words-1.result) _ refl (omega arith) first) Roll (string_bytes c.index-words-2.result)
+    (map string_bytes (take (length c.args.words.now - 3) (drop 3 c.args.words.now))) 2 c.in_err-roll.field-0.0 named refl refl (rw c.as_str-2.ensures.value at c.in_err-roll.ensures.trouble))
 
 pub returns-in_err-streams-clause-answer : goal.returns-in_err-streams-clause-answer
 returns-in_err-streams-clause-answer g c =
@@ -61,18 +45,14 @@ returns-in_err-streams-clause-answer g c =
     let words = map string_bytes c.args.words.now in
     let long = length-prefer c.args.words.now c.requires in
     let named = inputs-prefer c.args.words.now c.index-words-1.result c.index-words-2.result long.0 c.index-words-1.is c.index-words-2.is in
+    let held = g.H.Shelf.holds c.args.shelf.now in
     let first = rw c.as_str.ensures.value at c.in_ok-catalog.ensures.read in
     let second = rw (c.as_str-2.ensures.value, c.in_ok-catalog.ensures.holds) at c.in_ok-roll.ensures.read in
-    rw (p.1, p.2) (sessions_stop words Prefer (g.H.Shelf.holds c.args.shelf.now) (g.H.Shelf.faults c.args.shelf.now) (g.H.Shelf.faults c.take_roll.new.shelf) (g.H.Shelf.faults c.take_sessions.new.shelf) c.requires
-    (λ other. omega (arith, c.in_ok-catalog.ensures.later other, c.in_ok-roll.ensures.later other)) (string_bytes c.index-words-1.result) (string_bytes c.index-words-2.result)
-    (map string_bytes (take (length c.args.words.now - 3) (drop 3 c.args.words.now))) _ _ c.in_err-streams.field-0.0 named refl refl refl first second
-    (rw (c.in_ok-roll.ensures.holds, c.in_ok-catalog.ensures.holds) at c.in_err-streams.ensures.trouble))
-
-pub returns-in_err-streams-clause-end : goal.returns-in_err-streams-clause-end
-returns-in_err-streams-clause-end g c =
-    let p = err_from_is_err_and c.from_residual-in_err-streams.result c.from_residual-in_err-streams.ensures.1 in
-    rw (p.1, p.2) (unrefused_read_out (map string_bytes c.args.words.now) (g.H.Shelf.holds c.args.shelf.now) (g.H.Shelf.serves c.take_sessions.new.shelf) (g.H.Shelf.left c.take_sessions.new.shelf)
-    c.in_err-streams.field-0.0 c.in_err-streams.ensures.end)
+    rw (p.1, p.2) (sessions_stop words Prefer c.requires held (g.H.Shelf.faults c.args.shelf.now) (sight g.H.Shelf c.take_roll.new.shelf c.take_sessions.new.shelf)
+    (c.in_ok-roll.ensures.holds ∙ c.in_ok-catalog.ensures.holds) (λ other. omega (arith, c.in_ok-catalog.ensures.later other, c.in_ok-roll.ensures.later other))
+    (string_bytes c.index-words-1.result ∷ string_bytes c.index-words-2.result ∷ []) (first.0 ∷ second.0 ∷ [])
+    (roll_second Prefer held (string_bytes c.index-words-1.result) (string_bytes c.index-words-2.result) _ _ refl (omega arith) refl first second)
+    (map string_bytes (take (length c.args.words.now - 3) (drop 3 c.args.words.now))) 3 c.in_err-streams.field-0.0 named refl refl refl c.in_err-streams.ensures.trouble)
 
 pub text_of-requires-clause-sessions : goal.text_of-requires-clause-sessions
 text_of-requires-clause-sessions g c κs within =
@@ -91,12 +71,7 @@ text_of-requires-clause-commands g c κs within =
 pub returns-in_err-text_of-clause-answer : goal.returns-in_err-text_of-clause-answer
 returns-in_err-text_of-clause-answer g c =
     let p = err_from_is_err_and c.from_residual-in_err-text_of.result c.from_residual-in_err-text_of.ensures.1 in
-    rw (p.1, p.2) ((Prefer, c.requires, tt), tt)
-
-pub returns-in_err-text_of-clause-end : goal.returns-in_err-text_of-clause-end
-returns-in_err-text_of-clause-end g c =
-    let p = err_from_is_err_and c.from_residual-in_err-text_of.result c.from_residual-in_err-text_of.ensures.1 in
-    rw (p.1, p.2) tt
+    rw (p.1, p.2) (Prefer, c.requires, tt, refl)
 
 pub returns-clause-answer : goal.returns-clause-answer
 returns-clause-answer g c =
@@ -104,18 +79,10 @@ returns-clause-answer g c =
     let names = map string_bytes (take (length c.args.words.now - 3) (drop 3 c.args.words.now)) in
     let long = length-prefer c.args.words.now c.requires in
     let named = inputs-prefer c.args.words.now c.index-words-1.result c.index-words-2.result long.0 c.index-words-1.is c.index-words-2.is in
+    let count : length (map string_bytes (take (length c.args.words.now - 3) (drop 3 c.args.words.now))) ≡ length c.args.words.now - 3 = length-sessions c.args.words.now in
     let first = rw c.as_str.ensures.value at c.in_ok-catalog.ensures.read in
     let second = rw (c.as_str-2.ensures.value, c.in_ok-catalog.ensures.holds) at c.in_ok-roll.ensures.read in
     let read = rw (c.in_ok-roll.ensures.holds, c.in_ok-catalog.ensures.holds) at c.in_ok-streams.ensures.read in
-    prints_preferences words (g.H.Shelf.holds c.args.shelf.now) (g.H.Shelf.faults c.args.shelf.now) (g.H.Shelf.faults c.take_sessions.new.shelf) (string_bytes c.index-words-1.result) (string_bytes c.index-words-2.result)
-    names read.0 read.1 _ _ c.in_ok-streams.streams.items _ c.requires named first second read.2 (rw c.deref.ensures.value at c.in_ok-text_of.ensures)
-
-pub returns-clause-end : goal.returns-clause-end
-returns-clause-end g c =
-    let words = map string_bytes c.args.words.now in
-    let names = map string_bytes (take (length c.args.words.now - 3) (drop 3 c.args.words.now)) in
-    let long = length-prefer c.args.words.now c.requires in
-    let named = inputs-prefer c.args.words.now c.index-words-1.result c.index-words-2.result long.0 c.index-words-1.is c.index-words-2.is in
-    let count : length (map string_bytes (take (length c.args.words.now - 3) (drop 3 c.args.words.now))) ≡ length c.args.words.now - 3 = length-sessions c.args.words.now in
-    sessions_read_out words Prefer (g.H.Shelf.holds c.args.shelf.now) (g.H.Shelf.serves c.take_sessions.new.shelf) (g.H.Shelf.left c.take_sessions.new.shelf) c.requires (string_bytes c.index-words-1.result)
-    (string_bytes c.index-words-2.result) names named (omega (arith, long.0)) (rw (c.in_ok-roll.ensures.holds, c.in_ok-catalog.ensures.holds) at c.in_ok-streams.ensures.end)
+    prefer_done words (g.H.Shelf.faults c.args.shelf.now) (sight g.H.Shelf c.take_roll.new.shelf c.take_sessions.new.shelf) (g.H.Shelf.holds c.args.shelf.now) (string_bytes c.index-words-1.result)
+    (string_bytes c.index-words-2.result) names read.0 read.1 _ _ c.in_ok-streams.streams.items _ c.requires named (omega (arith, count, long.0)) first second
+    (c.in_ok-roll.ensures.holds ∙ c.in_ok-catalog.ensures.holds) read.2 c.in_ok-streams.ensures.end (rw c.deref.ensures.value at c.in_ok-text_of.ensures)

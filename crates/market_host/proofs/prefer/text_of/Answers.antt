@@ -3,7 +3,6 @@ use Rattle.std.specs.Prelude.{All}
 use Rattle.std.proofs.lemmas.Result.{IfOk-weaker}
 use Rattle.preference_desk.specs.Shared.{entry_of_step}
 use Rattle.preference_text.specs.Texts.{HasShortCommand, preferences_text}
-use Rattle.session_hall.specs.Streams.{command_lists}
 use Rattle.market_host.proofs.StreamFacts.{short_entries}
 use Rattle.market_host.proofs.prefer.text_of.Goals as goal
 

@@ -7,7 +7,7 @@ use Rattle.market_host.proofs.quote.desk_after.Goals as goal
 
 pub commands-preserved : goal.commands-preserved
 commands-preserved c =
-    let names = market_names c.args.catalog.now c.args.roll.now in
+    let names = market_names c.args.catalog.now.sections c.args.roll.now.students in
     record {
       names = c.post.ensures.names ∙ c.commands.invariant.names;
       room = omega (arith, c.post.ensures.room, c.commands.invariant.room);

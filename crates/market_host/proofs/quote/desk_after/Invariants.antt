@@ -6,7 +6,7 @@ use Rattle.market_host.proofs.quote.desk_after.Given as goal
 
 abbrev pub invariant-commands : goal.invariant-commands
 invariant-commands l = record {
-  names : names_of l.desk ≡ market_names l.catalog l.roll;
+  names : names_of l.desk ≡ market_names l.catalog.sections l.roll.students;
   room : room_of l.desk + l.command-index ≡ length l.commands;
-  state : state_of l.desk ≡ state_of_new_desk l.catalog l.roll (take l.command-index l.commands);
+  state : state_of l.desk ≡ state_of_new_desk l.catalog.sections l.roll.students (take l.command-index l.commands);
 }

@@ -1,9 +1,11 @@
-use Rattle.std.proofs.Common.{ℕ, ◌≡◌, ◌<◌, ◌+◌, ◌∙◌, ◌++◌, [], ◌∷◌, arith, length, map, refl, take}
+use Rattle.std.proofs.Common.{◌≡◌, ◌<◌, ◌+◌, ◌∙◌, ◌++◌, [], ◌∷◌, arith, length, map, refl, take}
 use Rattle.std.specs.String.{string_bytes}
 use Rattle.std.proofs.lemmas.Result.{err_from_is_err_and}
 use Rattle.market_host.specs.Sessions.{command_count}
-use Rattle.market_host.proofs.Ends.{added_at_end, none_at_end}
+use Rattle.market_host.specs.Sights.{sight}
+use Rattle.market_host.proofs.ReadOut.{added_at_end, none_at_end}
 use Rattle.market_host.proofs.SessionsRead.{names_more, sessions_more, trouble_among}
+use Rattle.market_host.proofs.Shelves.{end_from}
 use Rattle.market_host.proofs.StreamFacts.{count_of_session}
 use Rattle.market_host.proofs.sessions.take_sessions.Goals as goal
 
@@ -13,7 +15,7 @@ sessions-init g c = record {
   later = λ other. omega arith;
   number = omega arith;
   read = ([], record { each = tt; commands = rw c.new-streams.ensures.items tt; count = refl });
-  ended = none_at_end (g.H.Shelf.holds c.args.shelf.now) (g.H.Shelf.serves c.args.shelf.now) (g.H.Shelf.left c.args.shelf.now);
+  ended = none_at_end (sight g.H.Shelf c.args.shelf.now c.args.shelf.now);
 }
 
 pub overflow_cast-room : goal.overflow_cast-room
@@ -34,7 +36,8 @@ sessions-preserved g c =
     let said = c.in_ok-commands.ensures in
     let below : c.sessions.name-index < length c.args.names.now = omega arith in
     let read = rw (c.as_str.ensures.value, before.holds) at said.read in
-    let ended = rw (c.as_str.ensures.value, before.holds) at said.end in
+    let ended = end_from (g.H.Shelf.holds c.args.shelf.now) (g.H.Shelf.faults c.args.shelf.now) (sight g.H.Shelf c.sessions.shelf c.take_session.new.shelf) (string_bytes c.name-item.result) before.holds
+    (rw c.as_str.ensures.value at said.end) in
     let many : length c.in_ok-commands.commands.items ≡ command_count said.read.0 = count_of_session said.read.0 c.in_ok-commands.commands.items said.read.3.0 in
     record {
       holds = said.holds ∙ before.holds;
@@ -45,15 +48,14 @@ sessions-preserved g c =
         rw c.in_ok-push.ensures.items (sessions_more (g.H.Shelf.holds c.args.shelf.now) c.args.names.now c.sessions.name-index c.name-item.result before.read.0 c.sessions.streams.items c.sessions.room _
             c.in_ok-commands.commands below c.name-item.is before.read.1 read (omega (arith, said.read.3.1, many, c.len.ensures, c.in_ok-commands.commands.ok.0))),
       );
-      ended = added_at_end (g.H.Shelf.holds c.args.shelf.now) (g.H.Shelf.serves c.take_session.new.shelf) (g.H.Shelf.left c.take_session.new.shelf)
-          (map string_bytes (take (c.sessions.name-index + 1) c.args.names.now)) (map string_bytes (take c.sessions.name-index c.args.names.now)) (string_bytes c.name-item.result)
-          (names_more c.args.names.now c.sessions.name-index c.name-item.result below c.name-item.is) ended;
+      ended = added_at_end (sight g.H.Shelf c.args.shelf.now c.take_session.new.shelf) (map string_bytes (take (c.sessions.name-index + 1) c.args.names.now)) (map string_bytes (take c.sessions.name-index c.args.names.now))
+          (string_bytes c.name-item.result) (names_more c.args.names.now c.sessions.name-index c.name-item.result below c.name-item.is) ended;
     }
 
 pub returns-in_err-commands-clause-trouble : goal.returns-in_err-commands-clause-trouble
 returns-in_err-commands-clause-trouble g c =
     let p = err_from_is_err_and c.from_residual.result c.from_residual.ensures.1 in
     let before = c.sessions.invariant in
-    rw (p.1, p.2) (trouble_among (g.H.Shelf.holds c.args.shelf.now) (g.H.Shelf.faults c.args.shelf.now) (g.H.Shelf.faults c.sessions.shelf) (g.H.Shelf.faults c.take_session.new.shelf) c.args.names.now
-    c.sessions.name-index c.name-item.result c.args.first c.sessions.input c.sessions.room before.read.0 c.sessions.streams.items c.in_err-commands.field-0.0 (omega arith) c.name-item.is before.number before.later
-    before.read.1 (rw (c.as_str.ensures.value, before.holds) at c.in_err-commands.ensures.trouble))
+    rw (p.1, p.2) (trouble_among (g.H.Shelf.holds c.args.shelf.now) (g.H.Shelf.faults c.args.shelf.now) (sight g.H.Shelf c.sessions.shelf c.take_session.new.shelf) c.args.names.now c.sessions.name-index c.name-item.result
+    c.args.first c.sessions.input c.sessions.room before.read.0 c.sessions.streams.items c.in_err-commands.field-0.0 (omega arith) c.name-item.is before.number before.holds before.later before.read.1
+    (rw c.as_str.ensures.value at c.in_err-commands.ensures.trouble))

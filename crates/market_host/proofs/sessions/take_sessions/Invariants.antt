@@ -1,6 +1,8 @@
-use Rattle.std.proofs.Common.{◌≡◌, ◌<◌, ◌≤◌, ◌+◌, ℕ, List, map, take}
+use Rattle.std.proofs.Common.{◌≡◌, ◌≤◌, ◌+◌, ℕ, List, map, take}
 use Rattle.std.specs.String.{string_bytes}
-use Rattle.market_host.specs.Reading.{AreReadSessions, IsLastAtEnd}
+use Rattle.market_host.specs.Outcomes.{IsLastAtEnd}
+use Rattle.market_host.specs.Reading.{AreReadSessions}
+use Rattle.market_host.specs.Sights.{sight}
 use Rattle.market_host.proofs.sessions.take_sessions.Given as goal
 
 -- the sessions so far were read
@@ -10,5 +12,5 @@ invariant-sessions g l = record {
   later : (other : List ℕ) → g.H.Shelf.faults l.fn.shelf other ≤ g.H.Shelf.faults l.shelf other;
   number : l.input ≡ l.first + l.name-index;
   read : (texts : List (List ℕ)) × AreReadSessions (g.H.Shelf.holds l.fn.shelf) (map string_bytes (take l.name-index l.names)) texts l.streams.items l.room;
-  ended : IsLastAtEnd (g.H.Shelf.holds l.fn.shelf) (g.H.Shelf.serves l.shelf) (g.H.Shelf.left l.shelf) (map string_bytes (take l.name-index l.names));
+  ended : IsLastAtEnd (sight g.H.Shelf l.fn.shelf l.shelf) (map string_bytes (take l.name-index l.names));
 }

@@ -1,12 +1,10 @@
-use Rattle.std.proofs.Common.{◌≡◌, ◌≤◌, ◌<◌, ◌+◌, ◌++◌, [], ◌∷◌, ℕ, None, Some, length, take, drop, refl, sym, subst, ap, ◌∙◌, arith}
+use Rattle.std.proofs.Common.{◌≡◌, ◌≤◌, ◌<◌, ◌+◌, ◌++◌, [], ℕ, None, length, take, refl, sym, subst, ap, ◌∙◌, arith}
 use Rattle.bundle_rules.specs.Bundles.{sections_of}
 use Rattle.bundle_bounds.specs.Offers.{offer_of, places_of}
-use Rattle.proof_tree.specs.declared.walk.Step.TheVariants.{Signed, Unsigned, Ended}
 use Rattle.proof_tree.specs.Texts.{symbol}
 use Rattle.proof_tree.specs.Steps.{IsStep, spots_of, waiting_of}
 use Rattle.proof_tree.proofs.Complete.{trees_prove_the_best}
 use Rattle.proof_tree.proofs.Writing.{IsWritten, nothing_written, written_more, written_whole, never_unsigned, longer, fewer}
-use Rattle.std.specs.Prelude.{IfNone}
 use Rattle.std.proofs.lemmas.List.{length-take-le}
 use Rattle.proof_tree.proofs.Writing.{if_none_any, drop_later}
 use Rattle.proof_tree.proofs.building.build_into.Goals as goal

@@ -1,10 +1,9 @@
-use Rattle.std.proofs.Common.{◌≡◌, ◌≤◌, ◌<◌, ◌+◌, ◌++◌, [], ◌∷◌, None, Some, length, take, drop, refl, sym, subst, ap, ◌∙◌, arith}
+use Rattle.std.proofs.Common.{◌≡◌, ◌++◌, [], sym, subst, ap, ◌∙◌}
 use Rattle.bundle_rules.specs.Bundles.{sections_of}
 use Rattle.bundle_bounds.specs.Offers.{offer_of, places_of}
-use Rattle.proof_tree.specs.declared.walk.Step.TheVariants.{Signed, Unsigned, Ended}
 use Rattle.proof_tree.specs.Texts.{symbol}
 use Rattle.proof_tree.specs.Steps.{IsStep, spots_of, waiting_of}
-use Rattle.proof_tree.proofs.Writing.{IsWritten, nothing_written, written_more, written_whole, never_unsigned, longer, fewer}
+use Rattle.proof_tree.proofs.Writing.{IsWritten, nothing_written, written_more, written_whole, never_unsigned, fewer}
 use Rattle.proof_tree.proofs.building.written.Goals as goal
 
 pub nodes-init : goal.nodes-init

@@ -1,8 +1,5 @@
-use Rattle.std.proofs.Common.{◌≡◌, ◌++◌, List, ℕ, []}
 use Rattle.bundle_rules.specs.Bundles.{sections_of}
-use Rattle.bundle_bounds.specs.Offers.{offer_of, places_of}
-use Rattle.proof_tree.specs.Trees.{Tree, IsTree}
-use Rattle.proof_tree.specs.Texts.{spelled}
+use Rattle.bundle_bounds.specs.Offers.{offer_of}
 use Rattle.proof_tree.specs.Steps.{AreWaiting, spots_of, waiting_of, nodes_left}
 use Rattle.proof_tree.proofs.Writing.{IsWritten}
 use Rattle.proof_tree.proofs.building.written.Given as goal

@@ -1,4 +1,4 @@
-use Rattle.std.proofs.Common.{None, refl}
+use Rattle.std.proofs.Common.{refl}
 use Rattle.bundle_rules.specs.Bundles.{sections_of}
 use Rattle.bundle_bounds.specs.Offers.{offer_of}
 use Rattle.proof_tree.proofs.Complete.{trees_prove_the_best}

@@ -1,12 +1,10 @@
-use Rattle.std.proofs.Common.{◌≡◌, ◌≢◌, [], ◌∷◌, None, sym, subst, ◌∙◌, ap}
-use Rattle.std.specs.Prelude.{IfErr, OnOk}
+use Rattle.std.proofs.Common.{sym, subst, ◌∙◌, ap}
 use Rattle.bundle_rules.specs.Bundles.{sections_of}
 use Rattle.bundle_bounds.specs.Offers.{offer_of, places_of}
-use Rattle.proof_tree.specs.declared.walk.Step.TheVariants.{Signed, Unsigned, Ended}
-use Rattle.proof_tree.specs.declared.defects.TreeDefect.TheVariants.{Rest}
+use Rattle.proof_tree.specs.declared.walk.Step.TheVariants.{Signed, Unsigned}
 use Rattle.proof_tree.specs.Walks.{HasCome}
 use Rattle.proof_tree.specs.Steps.{IsStep, spots_of, waiting_of}
-use Rattle.proof_tree.specs.Defects.{FirstFailsAt, IsDefect}
+use Rattle.proof_tree.specs.Defects.{IsDefect}
 use Rattle.proof_tree.specs.Mismatches.{offset_in}
 use Rattle.proof_tree.proofs.Following.{come_first, come_more, text_where_ended, fails_where_ended, fails_unsigned, fails_signed, defect_unsigned, defect_signed, defect_where_ended, on_ok, if_err, err_from}
 use Rattle.proof_tree.proofs.checking.follow.Goals as goal

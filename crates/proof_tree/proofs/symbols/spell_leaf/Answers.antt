@@ -1,4 +1,4 @@
-use Rattle.std.proofs.Common.{◌≡◌, refl, subst}
+use Rattle.std.proofs.Common.{refl, subst}
 use Rattle.proof_tree.specs.declared.signs.Sign.TheVariants.{Closed}
 use Rattle.proof_tree.specs.Texts.{IsShort}
 use Rattle.proof_tree.proofs.symbols.spell_leaf.Goals as goal

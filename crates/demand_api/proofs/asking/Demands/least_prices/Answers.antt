@@ -40,6 +40,6 @@ loop-section-preserved g c =
       c.loop-low.invariant.0 ∙ c.loop-section.invariant.0,
       least_more (g.Self.Demands.crowd c.args.self.now) (price_in c.args.prices.now) c.args.pairs.now c.loop-section.section-index _ c.loop-section.found.items c.push.new.self.items c.loop-low.low c.loop-section-test.true c.loop-section.invariant.1 (search rules)
           (halved (g.Self.Demands.crowd c.args.self.now) c.args.prices.now c.loop-low.trial.items pair.0.0 pair.1 c.loop-low.low c.loop-low.high _ _ c.loop-low.invariant.1 (search rules)),
-      rose_more (top (g.Self.Demands.crowd c.args.self.now)) c.loop-section.section-index (g.Self.Demands.asked c.args.self.now) (g.Self.Demands.asked c.loop-section.self) (g.Self.Demands.asked c.loop-low.self) c.loop-low.low c.loop-low.high c.loop-section.invariant.2 c.loop-low.invariant.1.asked,
+      rose_more (top (g.Self.Demands.crowd c.args.self.now)) c.loop-section.section-index (g.Self.Demands.asked c.args.self.now) (g.Self.Demands.asked c.loop-section.self) (g.Self.Demands.asked c.loop-low.self) c.loop-low.low c.loop-low.high c.loop-section.invariant.2 c.loop-low.invariant.1.kept c.loop-low.invariant.1.asked,
       trial_again (g.Self.Demands.crowd c.args.self.now) c.args.prices.now c.loop-low.trial.items pair.0.0 c.from-place.result pair.1 c.loop-low.low c.loop-low.high _ _ _ c.requires.prices c.loop-low.invariant.1 (c.requires.sections c.loop-section.section-index _ c.loop-section-test.true) c.from-place.ensures,
     )

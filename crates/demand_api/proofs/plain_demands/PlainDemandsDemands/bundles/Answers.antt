@@ -1,4 +1,3 @@
-use Rattle.std.proofs.Common.{rules}
 use Rattle.std.specs.Arc.{arc_value}
 use Rattle.demand_api.proofs.Takers.{students_length}
 use Rattle.demand_api.proofs.plain_demands.PlainDemandsDemands.bundles.Goals as goal

@@ -1,4 +1,4 @@
-use Rattle.std.proofs.Common.{◌≡◌, ◌∙◌, ap, sym, subst}
+use Rattle.std.proofs.Common.{◌≡◌, ◌∙◌, ap, subst}
 use Rattle.price_board.specs.Closings.{AnswersData, exceeds_of, exceeds_in}
 use Rattle.price_board.specs.Places.{row_of}
 use Rattle.price_board.specs.Settling.{ask_of}

@@ -1,7 +1,7 @@
-use Rattle.std.proofs.Common.{◌≡◌, sym, subst}
+use Rattle.std.proofs.Common.{subst}
 use Rattle.chronicle.specs.declared.origin.Origin.{Origin}
-use Rattle.price_board.specs.declared.calls.BoardCall.TheVariants.{Draw as DrawCall, Post as PostCall}
-use Rattle.price_board.specs.declared.calls.BoardReply.TheVariants.{Draw as Drew, Post as Answered}
+use Rattle.price_board.specs.declared.calls.BoardCall.TheVariants.{Draw as DrawCall}
+use Rattle.price_board.specs.declared.calls.BoardReply.TheVariants.{Draw as Drew}
 use Rattle.price_board.specs.declared.shared.Terms.{Terms}
 use Rattle.price_board.specs.declared.shared.Progress.{Progress}
 use Rattle.price_board.proofs.Turns.{HasCalled, may_draw, no_post, drew_answer, has_drawn}

@@ -1,7 +1,11 @@
-use Rattle.std.proofs.Common.{◌≡◌, ◌≤◌, ◌<◌, ◌+◌, ◌*◌, ◌∙◌, ℕ, ap, sym, subst, arith, length, replicate, slice_index}
+use Rattle.std.proofs.Common.{◌≡◌, ◌≤◌, ◌<◌, ◌+◌, ◌*◌, ◌∙◌, ℕ, ap, sym, subst, arith, length, slice_index}
 use Rattle.std.proofs.lemmas.List.{get_or-replicate}
+use Rattle.chronicle.specs.declared.standing.Standing.{Standing}
 use Rattle.chronicle.specs.Views.{sum_of}
-use Rattle.price_board.specs.Openings.{terms_of, opening_of}
+use Rattle.price_board.specs.declared.calls.BoardCall.{BoardCall}
+use Rattle.price_board.specs.declared.calls.BoardReply.{BoardReply}
+use Rattle.price_board.specs.declared.shared.Terms.{Terms}
+use Rattle.price_board.specs.Openings.{opening_of}
 use Rattle.price_board.specs.Terms.{task_count}
 use Rattle.price_board.specs.declared.shared.Progress.{Progress}
 use Rattle.price_board.proofs.Beginnings.{new_free, sum_of-replicate}
@@ -26,3 +30,10 @@ returns-clause-free c = λ k d below.
     new_free c.in_ok-chronicle.chronicle k (slice_index c.in_ok-allotments.allotments.items k) _
     (c.in_ok-chronicle.ensures.seats k d (omega (arith, c.in_ok-allotments.ensures.len))) opening
     (ap (λ l. slice_index l k) items ∙ get_or-replicate c.args.workers k (2 * c.task_count.result + 1) 0 low ∙ ap (λ n. 2 * n + 1) (c.task_count.ensures.value ∙ ap task_count (sym c.in_ok-chronicle.ensures.chronicle.0)))
+
+pub returns-clause-fresh : goal.returns-clause-fresh
+returns-clause-fresh c = λ k d below.
+    let count : length c.in_ok-chronicle.seats.items ≡ c.args.workers = omega (arith, c.in_ok-chronicle.ensures.count, c.in_ok-chronicle.seats.ok.0, c.in_ok-allotments.ensures.len) in
+    let low : k < c.args.workers = subst (λ n. k < n) count below in
+    let is = c.in_ok-chronicle.ensures.seats k d (omega (arith, c.in_ok-allotments.ensures.len)) in
+    (ap (λ (s : Standing Terms Progress BoardCall BoardReply). s.seen) is, ap (λ (s : Standing Terms Progress BoardCall BoardReply). s.own) is)

@@ -1,5 +1,4 @@
-use Rattle.std.proofs.Common.{◌≡◌, ◌<◌, ◌∙◌, ◌+◌, ap, sym, subst, arith, length, refl, replicate, ◌++◌, ◌∷◌, []}
-use Rattle.row_region.specs.Rows.{spare_of}
+use Rattle.std.proofs.Common.{◌≡◌, ◌∙◌, ap, sym, subst, arith, replicate, ◌++◌, ◌∷◌, []}
 use Rattle.price_board.specs.Cells.{AreLive, rows_in}
 use Rattle.price_board.proofs.GridRows.{first_rows, more_rows, live_more}
 use Rattle.price_board.proofs.grid.Grid.reserve.Goals as goal

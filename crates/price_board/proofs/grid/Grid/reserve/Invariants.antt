@@ -1,4 +1,4 @@
-use Rattle.std.proofs.Common.{◌≡◌, ◌≤◌, ◌+◌, ◌-◌, ℕ, length, replicate}
+use Rattle.std.proofs.Common.{◌≡◌, ◌+◌, replicate}
 use Rattle.row_region.specs.Rows.{spare_of}
 use Rattle.price_board.specs.Cells.{rows_in, AreLive}
 use Rattle.price_board.proofs.grid.Grid.reserve.Given as goal

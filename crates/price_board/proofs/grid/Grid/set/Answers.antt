@@ -1,4 +1,4 @@
-use Rattle.std.proofs.Common.{◌≡◌, ◌<◌, ◌∙◌, ap, sym, subst, arith, length, refl, slice_index_or, get_or, []}
+use Rattle.std.proofs.Common.{◌<◌, ap, subst, arith, length}
 use Rattle.std.proofs.lemmas.List.{get_or_read}
 use Rattle.row_region.specs.Rows.{rewritten}
 use Rattle.price_board.proofs.GridRows.{rows_length, shown_row, is_live, live_written, set_rows}

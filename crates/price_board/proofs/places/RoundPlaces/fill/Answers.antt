@@ -1,6 +1,5 @@
-use Rattle.std.proofs.Common.{refl, Some, None}
+use Rattle.std.proofs.Common.{Some}
 use Rattle.price_board.specs.declared.places.Mark.TheVariants as mark
-use Rattle.price_board.specs.declared.place.Place.TheVariants as place
 use Rattle.price_board.proofs.MarkRows.{mark_row, mark_column, bundle_row, bundle_column, both_set, both_set_shape}
 use Rattle.price_board.proofs.places.RoundPlaces.fill.Goals as goal
 

@@ -1,4 +1,4 @@
-use Rattle.std.proofs.Common.{refl, Some, None}
+use Rattle.std.proofs.Common.{refl}
 use Rattle.price_board.specs.declared.places.Mark.TheVariants as mark
 use Rattle.price_board.specs.declared.place.Place.TheVariants as place
 use Rattle.price_board.proofs.MarkRows.{mark_row, mark_column, mark_set, mark_set_shape}

@@ -1,6 +1,3 @@
-use Rattle.std.proofs.Common.{refl, Some, None}
-use Rattle.price_board.specs.declared.places.Mark.TheVariants as mark
-use Rattle.price_board.specs.declared.place.Place.TheVariants as place
 use Rattle.price_board.proofs.MarkRows.{mark_row, mark_column, held_at}
 use Rattle.price_board.proofs.places.RoundPlaces.is_held_by.Goals as goal
 

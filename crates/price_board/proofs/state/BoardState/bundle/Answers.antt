@@ -1,11 +1,11 @@
-use Rattle.std.proofs.Common.{◌≡◌, ◌≤◌, ◌<◌, ◌∙◌, None, Some, ap, sym, subst, arith, length}
+use Rattle.std.proofs.Common.{◌≡◌, ◌≤◌, ◌<◌, ◌∙◌, None, sym, subst, arith, length}
 use Rattle.std.specs.Prelude.{IfSome}
 use Rattle.bundle_rules.specs.Bundles.{sections_of}
 use Rattle.price_board.specs.Boards.{BoardData}
 use Rattle.price_board.specs.Kept.{terms_in}
 use Rattle.price_board.specs.Places.{row_of, place_of, bundle_in}
 use Rattle.price_board.specs.Rights.{AreRows}
-use Rattle.price_board.specs.Terms.{version_count, student_count, demand_of}
+use Rattle.price_board.specs.Terms.{version_count, demand_of}
 use Rattle.price_board.proofs.BoardKeeping.{count_tallies, wide_at}
 use Rattle.price_board.proofs.Deciding.{no_version, no_student, if_right}
 use Rattle.price_board.proofs.state.BoardState.bundle.Goals as goal

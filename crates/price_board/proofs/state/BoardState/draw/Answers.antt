@@ -1,4 +1,4 @@
-use Rattle.std.proofs.Common.{◌≡◌, ◌<◌, ◌≤◌, ◌+◌, ◌∙◌, ap, sym, subst, arith, length, true, false}
+use Rattle.std.proofs.Common.{◌≡◌, ◌<◌, ◌≤◌, ◌+◌, ◌∙◌, sym, subst, arith, length, false}
 use Rattle.price_board.specs.declared.calls.Draw.TheVariants.{Task as Drawn, Done}
 use Rattle.price_board.specs.Boards.{BoardData}
 use Rattle.price_board.specs.BoardStep.{task_of, draw_answer, rows_drawn}

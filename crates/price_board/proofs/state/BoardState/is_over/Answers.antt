@@ -1,9 +1,8 @@
-use Rattle.std.proofs.Common.{◌≡◌, ◌<◌, ◌≤◌, ◌∙◌, ap, sym, subst, arith, length}
+use Rattle.std.proofs.Common.{◌<◌, ◌≤◌, ◌∙◌, sym, subst, arith, length}
 use Rattle.price_board.specs.Boards.{BoardData}
-use Rattle.price_board.specs.Kept.{terms_in, board_of, KeepsTasks}
-use Rattle.price_board.specs.Places.{row_of, place_of, with_place, is_held_by}
-use Rattle.price_board.specs.Settling.{ask_of, is_settled, count_for}
-use Rattle.price_board.specs.Terms.{version_count, student_count}
+use Rattle.price_board.specs.Kept.{terms_in}
+use Rattle.price_board.specs.Places.{row_of}
+use Rattle.price_board.specs.Terms.{version_count}
 use Rattle.price_board.proofs.BoardKeeping.{wide_at}
 use Rattle.price_board.proofs.CursorMoves.{over_is, over_full}
 use Rattle.price_board.proofs.state.BoardState.is_over.Goals as goal

@@ -1,11 +1,11 @@
-use Rattle.std.proofs.Common.{◌≡◌, ◌<◌, ◌∙◌, ap, sym, subst, arith, length}
+use Rattle.std.proofs.Common.{◌≡◌, ◌<◌, sym, subst, arith}
 use Rattle.std.proofs.lemmas.List.{get_or_read}
 use Rattle.price_board.specs.declared.round.Ask.TheVariants.{Counts}
 use Rattle.price_board.specs.Boards.{BoardData}
-use Rattle.price_board.specs.Kept.{terms_in, board_of, KeepsTasks}
-use Rattle.price_board.specs.Places.{row_of, place_of, with_place, is_held_by}
-use Rattle.price_board.specs.Settling.{ask_of, is_settled, count_for}
-use Rattle.price_board.specs.Terms.{version_count, student_count}
+use Rattle.price_board.specs.Kept.{terms_in}
+use Rattle.price_board.specs.Places.{row_of}
+use Rattle.price_board.specs.Settling.{ask_of, is_settled}
+use Rattle.price_board.specs.Terms.{version_count}
 use Rattle.price_board.proofs.BoardKeeping.{tally_at, count_tallies, small_at, settled_at}
 use Rattle.price_board.proofs.state.BoardState.is_settled.Goals as goal
 

@@ -1,4 +1,4 @@
-use Rattle.std.proofs.Common.{◌≡◌, ◌≤◌, ◌∙◌, ◌*◌, ◌+◌, ℕ, zero, suc, List, [], ◌∷◌, length, replicate, map, refl, ap, sym, subst, arith, vec_len}
+use Rattle.std.proofs.Common.{◌≡◌, ◌≤◌, ◌∙◌, ◌*◌, ◌+◌, ℕ, suc, List, [], ◌∷◌, length, replicate, refl, ap, sym, subst, arith, vec_len}
 use Rattle.std.specs.Arc.{arc_value}
 use Rattle.std.proofs.lemmas.List.{length-map}
 use Rattle.market_units.specs.declared.units.Tokens.{Tokens}

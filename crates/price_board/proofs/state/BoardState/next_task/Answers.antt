@@ -1,9 +1,7 @@
-use Rattle.std.proofs.Common.{◌≡◌, ◌<◌, ◌≤◌, ◌∙◌, ap, sym, subst, arith, length, true, false}
+use Rattle.std.proofs.Common.{◌<◌, sym, subst, arith, length}
 use Rattle.price_board.specs.Boards.{BoardData}
-use Rattle.price_board.specs.Cursors.{is_over, IsCursor}
+use Rattle.price_board.specs.Cursors.{IsCursor}
 use Rattle.price_board.specs.Kept.{terms_in}
-use Rattle.price_board.specs.Places.{row_of}
-use Rattle.price_board.specs.Settling.{ask_of}
 use Rattle.price_board.specs.Terms.{version_count}
 use Rattle.price_board.proofs.BoardKeeping.{count_tallies}
 use Rattle.price_board.proofs.CursorMoves.{moves_on}

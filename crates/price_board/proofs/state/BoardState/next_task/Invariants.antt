@@ -1,4 +1,4 @@
-use Rattle.std.proofs.Common.{◌≡◌, ◌-◌, vec_len}
+use Rattle.std.proofs.Common.{◌-◌, vec_len}
 use Rattle.price_board.specs.Cursors.{IsCursor}
 use Rattle.price_board.proofs.state.BoardState.next_task.Given as goal
 

@@ -1,4 +1,4 @@
-use Rattle.std.proofs.Common.{◌≡◌, ◌<◌, ◌≤◌, ◌∙◌, ap, sym, subst, arith, length, true, false, slice_set, Some}
+use Rattle.std.proofs.Common.{◌≡◌, ◌<◌, ◌∙◌, ap, sym, subst, arith, true, false, slice_set}
 use Rattle.std.proofs.lemmas.List.{get_or_read}
 use Rattle.bundle_rules.specs.Bundles.{sections_of}
 use Rattle.price_board.specs.declared.calls.Posted.TheVariants.{Late, Taken}
@@ -7,10 +7,9 @@ use Rattle.price_board.specs.declared.tally.Tally.{Tally}
 use Rattle.price_board.specs.BoardStep.{post_answer, rows_posted}
 use Rattle.price_board.specs.Terms.{demand_of}
 use Rattle.price_board.specs.Boards.{BoardData}
-use Rattle.price_board.specs.Kept.{terms_in, board_of, KeepsTasks}
-use Rattle.price_board.specs.Places.{row_of, place_of, with_place, is_held_by}
-use Rattle.price_board.specs.Settling.{ask_of, is_settled, count_for}
-use Rattle.price_board.specs.Terms.{version_count, student_count}
+use Rattle.price_board.specs.Kept.{terms_in, KeepsTasks}
+use Rattle.price_board.specs.Places.{place_of, is_held_by}
+use Rattle.price_board.specs.Terms.{version_count}
 use Rattle.price_board.proofs.BoardKeeping.{tally_at, count_tallies, small_at, settled_at, keeps_spent, keeps_filled, new_tally, place_left, post_late, post_taken}
 use Rattle.price_board.proofs.state.BoardState.post_at.Goals as goal
 

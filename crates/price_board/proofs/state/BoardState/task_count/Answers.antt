@@ -1,7 +1,7 @@
-use Rattle.std.proofs.Common.{◌≡◌, ◌≤◌, ◌*◌, ◌∙◌, ℕ, ap, sym, subst, arith}
+use Rattle.std.proofs.Common.{◌≡◌, ◌≤◌, ◌*◌, ◌∙◌, ap, subst, arith}
 use Rattle.price_board.specs.Boards.{BoardData}
 use Rattle.price_board.specs.Kept.{terms_in}
-use Rattle.price_board.specs.Terms.{task_count, version_count, student_count}
+use Rattle.price_board.specs.Terms.{task_count, version_count}
 use Rattle.price_board.proofs.BoardKeeping.{count_tallies, few_tasks}
 use Rattle.price_board.proofs.state.BoardState.task_count.Goals as goal
 

@@ -1,10 +1,8 @@
-use Rattle.std.proofs.Common.{◌≡◌, ◌<◌, ◌≤◌, ◌+◌, ◌++◌, ◌∷◌, ℕ, suc, length, sym, subst, ap, ◌∙◌, arith}
+use Rattle.std.proofs.Common.{◌≡◌, ◌<◌, ◌≤◌, ◌+◌, ◌∷◌, ℕ, suc, length, sym, subst, ap, ◌∙◌, arith}
 use Rattle.bundle_rules.specs.Bundles.{sections_of}
 use Rattle.bundle_bounds.specs.Offers.{offer_of, places_of}
-use Rattle.proof_tree.specs.declared.signs.Sign.TheVariants.{Forced, Open, Passed}
 use Rattle.proof_tree.specs.Trees.{IsSign}
-use Rattle.proof_tree.specs.Steps.{MayWait, waiting_of, spots_of, spot}
-use Rattle.proof_tree.specs.Walks.{below}
+use Rattle.proof_tree.specs.Steps.{MayWait, waiting_of, spots_of}
 use Rattle.proof_tree.proofs.Stepping.{room_for_two, open_where_forced, wait_with, wait_without, spot_with, spot_without}
 use Rattle.proof_tree.proofs.walk.Walk.put_below.Goals as goal
 

@@ -1,9 +1,7 @@
-use Rattle.std.proofs.Common.{◌≡◌, ap, sym, subst, ◌∙◌}
+use Rattle.std.proofs.Common.{◌≡◌, ap, subst}
 use Rattle.bundle_rules.specs.Bundles.{sections_of}
 use Rattle.bundle_bounds.specs.Offers.{offer_of, places_of}
 use Rattle.proof_tree.specs.Steps.{MayWait, spots_of}
-use Rattle.proof_tree.specs.declared.signs.Sign.{Sign}
-use Rattle.proof_tree.specs.declared.walk.Step.TheVariants.{Signed}
 use Rattle.proof_tree.specs.Texts.{IsShort}
 use Rattle.proof_tree.proofs.LowLeaves.{short_sign}
 use Rattle.proof_tree.proofs.walk.Walk.step.Goals as goal

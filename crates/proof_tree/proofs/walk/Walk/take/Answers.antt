@@ -1,5 +1,4 @@
-use Rattle.std.proofs.Common.{rules, ◌≡◌, ◌≤◌, ◌∷◌, ◌-◌, length, arith, get_or}
-use Rattle.proof_tree.specs.Steps.{waiting_of}
+use Rattle.std.proofs.Common.{rules, ◌≡◌, ◌≤◌, length, arith}
 use Rattle.proof_tree.proofs.Stepping.{next_waits}
 use Rattle.proof_tree.proofs.walk.Walk.take.Goals as goal
 

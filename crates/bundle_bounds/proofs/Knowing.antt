@@ -1,0 +1,81 @@
+-- What a price and the next one tell.
+use Rattle.std.proofs.Common.{◌≡◌, ℕ, ◌+◌, ◌-◌, ◌*◌, ◌≤◌, ◌<◌, max, min, List, subst, arith, inl, inr}
+use Rattle.std.specs.Prelude.{ℤ, pos, ◌+ℤ◌, ◌≤ℤ◌}
+use Rattle.std.proofs.lemmas.Int.{ints}
+use Rattle.std.proofs.lemmas.Bool.{cases_lt}
+use Rattle.bundle_bounds.specs.declared.prospects.Prospect.{Prospect}
+use Rattle.bundle_bounds.specs.declared.prospects.Resource.{Resource}
+use Rattle.bundle_bounds.specs.declared.known.Known.{Known}
+use Rattle.bundle_bounds.specs.Bounds.{at_price}
+use Rattle.bundle_bounds.specs.Known.{IsKnown}
+use Rattle.bundle_bounds.proofs.Lines.{no_less_before, no_less_after, falls_before, falls_after}
+
+over : (base limit : ℤ) (margin g h : ℕ) → (limit +ℤ pos margin) ≤ℤ (base +ℤ pos g) → g ≤ h + margin → limit ≤ℤ (base +ℤ pos h)
+over base limit margin g h high more = omega (arith, ints)
+
+times_less : (a b s : ℕ) → a ≤ b → a * s ≤ b * s
+times_less a b s up = let e : b ≡ a + (b - a) = omega arith in of_sum a (b - a) s b e
+  where
+    of_sum : (a d s b : ℕ) → b ≡ a + d → a * s ≤ b * s
+    of_sum a d s b e = rw e (omega arith)
+
+module _ (base limit : ℤ) (rest : ℕ) (resource : Resource) (all : List Prospect) (known : Known) (is : IsKnown base limit rest resource all known) (price sum next margin : ℕ)
+    (sum_is : sum ≡ at_price resource rest price all) (next_is : next ≡ at_price resource rest (price + 1) all) (high : (limit +ℤ pos margin) ≤ℤ (base +ℤ pos sum)) where
+  pub known_rising : (steps from highest : ℕ) → sum ≤ next → steps * (next - sum) ≤ margin → from ≡ price - steps → highest ≡ min known.high from → IsKnown base limit rest resource all record { low = known.low; high = highest }
+  known_rising steps from highest rise few from_is highest_is = record {
+    low = is.low;
+    high = λ other above within. elim (cases_lt other known.high) [
+      | inl before ↦
+          let g : ℕ = at_price resource rest price all in
+          let n : ℕ = at_price resource rest (price + 1) all in
+          let o : ℕ = at_price resource rest other all in
+          let sum_is' : sum ≡ g = sum_is in
+          let next_is' : next ≡ n = next_is in
+          let rise' : g ≤ n = omega arith in
+          elim (cases_lt other price) [
+            | inl left ↦
+                let near : price - other ≤ steps = omega arith in
+                let line : g ≤ o + (price - other) * (n - g) = falls_before resource rest price all other (omega arith) rise' in
+                let few' : (price - other) * (next - sum) ≤ steps * (next - sum) = times_less (price - other) steps (next - sum) near in
+                let same : next - sum ≡ n - g = λ i. next_is i - sum_is i in
+                let few'' : (price - other) * (n - g) ≤ steps * (next - sum) = subst (λ d. (price - other) * d ≤ steps * (next - sum)) same few' in
+                over base limit margin sum (at_price resource rest other all) high (let goal : sum ≤ o + margin = omega arith in goal)
+            | inr right ↦ elim (cases_lt price other) [
+              | inl later ↦
+                  let up : n ≤ o = no_less_after resource rest price (price + 1) all (omega arith) rise' other (omega arith) in
+                  over base limit margin sum (at_price resource rest other all) high (let goal : sum ≤ o + margin = omega arith in goal)
+              | inr here ↦
+                  let at : other ≡ price = omega arith in
+                  rw at (over base limit margin sum (at_price resource rest price all) high (let goal : sum ≤ g + margin = omega arith in goal))
+            ]
+          ]
+      | inr after ↦ is.high other after within
+    ];
+  }
+
+  pub known_falling : (steps lowest : ℕ) → next < sum → steps * (sum - next) ≤ margin → lowest ≡ max known.low ((price + steps) + 1) → IsKnown base limit rest resource all record { low = lowest; high = known.high }
+  known_falling steps lowest fall few lowest_is = record {
+    low = λ other below. elim (cases_lt other known.low) [
+      | inl before ↦ is.low other before
+      | inr after ↦
+          let g : ℕ = at_price resource rest price all in
+          let n : ℕ = at_price resource rest (price + 1) all in
+          let o : ℕ = at_price resource rest other all in
+          let sum_is' : sum ≡ g = sum_is in
+          let next_is' : next ≡ n = next_is in
+          let fall' : n ≤ g = omega arith in
+          elim (cases_lt price other) [
+            | inl right ↦
+                let near : other - price ≤ steps = omega arith in
+                let line : g ≤ o + (other - price) * (g - n) = falls_after resource rest price all other (omega arith) fall' in
+                let few' : (other - price) * (sum - next) ≤ steps * (sum - next) = times_less (other - price) steps (sum - next) near in
+                let same : sum - next ≡ g - n = λ i. sum_is i - next_is i in
+                let few'' : (other - price) * (g - n) ≤ steps * (sum - next) = subst (λ d. (other - price) * d ≤ steps * (sum - next)) same few' in
+                over base limit margin sum (at_price resource rest other all) high (let goal : sum ≤ o + margin = omega arith in goal)
+            | inr left ↦
+                let up : g ≤ o = no_less_before resource rest price (price + 1) all (omega arith) fall' other (omega arith) in
+                over base limit margin sum (at_price resource rest other all) high (let goal : sum ≤ o + margin = omega arith in goal)
+          ]
+    ];
+    high = is.high;
+  }

@@ -1,0 +1,68 @@
+// What a few bounds of a resource tell of the others: as a function of its price, a resource's bound is convex.
+ghost use Rattle.std.specs.Prelude.{◌≡◌, ◌<◌, ◌≤◌, ◌≤ℤ◌, ◌+◌, ◌*◌, ◌+ℤ◌, ℤ, ℕ, List, pos, IsTrue};
+ghost use Rattle.bundle_bounds.specs.declared.prospects.Prospect.{Prospect};
+ghost use Rattle.bundle_bounds.specs.declared.prospects.Resource.{Resource};
+ghost use Rattle.bundle_bounds.specs.Bounds.{at_price};
+
+// More than any price of a bound.
+const HIGHEST: u64 = 20_000_001;
+
+/// No bound is below the limit at a price below `low`, nor at one from `high` on.
+#[derive(Clone, Copy)]
+pub(crate) struct Known {
+    pub(crate) low: u64,
+    pub(crate) high: u64,
+}
+
+impl Known {
+    ghost use Rattle.bundle_bounds.specs.Known.{IsKnown};
+
+    // Nothing is known.
+    pub(crate) fn nothing() -> Known
+        ensures { (base limit : ℤ) (rest : ℕ) (resource : Resource) (all : List Prospect) → IsKnown base limit rest resource all result }
+    {
+        Known {
+            low: 0,
+            high: HIGHEST,
+        }
+    }
+
+    // Whether it is known that the bound at this price is not below the limit.
+    pub(crate) fn has(&self, price: u64) -> bool
+        requires { price ≤ 20000000 }
+        ensures { IsTrue result → (base limit : ℤ) (rest : ℕ) (resource : Resource) (all : List Prospect) → IsKnown base limit rest resource all self.now → limit ≤ℤ (base +ℤ pos (at_price resource rest price all)) }
+    {
+        if price < self.low {
+            return true;
+        }
+        price >= self.high
+    }
+
+    // Takes in what a price and the next one make, where the bound at the first is above the limit by at least the
+    // margin. The bound does not fall on the side on which it rises here; on the other side it falls by no more at a
+    // step than here.
+    pub(crate) fn learn(&mut self, price: u64, sum: u64, next: u64, margin: u64)
+        requires { price < 20000000 }
+        ensures { (base limit : ℤ) (rest : ℕ) (resource : Resource) (all : List Prospect) → IsKnown base limit rest resource all self.old
+            → sum ≡ at_price resource rest price all → next ≡ at_price resource rest (price + 1) all → (limit +ℤ pos margin) ≤ℤ (base +ℤ pos sum) → IsKnown base limit rest resource all self.new }
+    {
+        if next >= sum {
+            let from = price.saturating_sub(steps_within(margin, next - sum));
+            self.high = self.high.min(from);
+        } else {
+            let up_to = price + steps_within(margin, sum - next);
+            self.low = self.low.max(up_to + 1);
+        }
+    }
+}
+
+// How many steps of this height stay within the margin; more than there are prices where all do.
+fn steps_within(margin: u64, height: u64) -> u64
+    ensures within { result * height ≤ margin }
+    ensures high { result ≤ 20000001 }
+{
+    if height == 0 {
+        return HIGHEST;
+    }
+    (margin / height).min(HIGHEST)
+}

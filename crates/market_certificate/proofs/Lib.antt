@@ -1,0 +1,15 @@
+pub mod Blocks
+pub mod Bundles
+pub mod Cuts
+pub mod Defects
+pub mod DueLemmas
+pub mod Forms
+pub mod Joins
+pub mod NamesOf
+pub mod OneText
+pub mod Parts
+pub mod Places
+pub mod Steps
+pub mod Unformed
+pub mod Wholes
+pub mod Written

@@ -1,0 +1,9 @@
+use Rattle.std.proofs.Common.{◌≡◌, ◌++◌, map, take}
+use Rattle.std.specs.List.{join_with_byte}
+use Rattle.market_units.specs.Name.{name_bytes}
+use Rattle.bundle_rules.specs.Bundles.{sections_of}
+use Rattle.market_certificate.specs.Tables.{name_at}
+use Rattle.market_certificate.proofs.writing.fields.put_bundle_field.Given as goal
+
+abbrev pub invariant-sections : goal.invariant-sections
+invariant-sections l = l.text.items ≡ l.initial.text.items ++ join_with_byte 44 (map (name_at (map name_bytes l.sections)) (take l.place (sections_of l.bundle)))

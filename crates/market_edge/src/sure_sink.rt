@@ -1,0 +1,82 @@
+// A sink in memory that never fails.
+ghost use Rattle.std.specs.Prelude.{◌≡◌, ◌<◌, ◌≤◌, ◌+◌, ◌^◌, ◌-◌, ◌↔◌, [], Some, None, length, take, min, IfOk, OnErr, IsOk, IsNone, IfSome, IfNone, vec_capacity};
+ghost use Rattle.market_edge.specs.Faults.{Rose};
+ghost use Rattle.market_edge.specs.Sinks.{Takes, told_within};
+
+use crate::{Failed, Sink};
+use market_units::NoMemory;
+use std::alloc::Global;
+
+/// A sink that takes every byte, and tells them while they are at most so many. Once more were taken it tells nothing.
+#[derive(Drop)]
+pub struct SureSink {
+    bytes: Vec<u8>,
+    size: usize,
+    count: usize,
+    ghost reserved: { size ≤ vec_capacity bytes },
+    ghost counted: { count ≤ size → length bytes.items ≡ count },
+}
+
+impl SureSink {
+    ghost use Rattle.market_edge.specs.SureSinks.{count_of, size_of, told_bytes};
+
+    /// A sink that has taken nothing yet, and tells at most `size` bytes. Their room is reserved here.
+    pub fn make(alloc: Global, size: usize) -> Result<SureSink, NoMemory>
+        ensures taken { IfOk result (λ sink. told_bytes sink ≡ Some []) }
+        ensures size { IfOk result (λ sink. size_of sink ≡ size) }
+        ensures count { IfOk result (λ sink. count_of sink ≡ 0) }
+    {
+        Ok(SureSink {
+            bytes: Vec::with_capacity(alloc, size)?,
+            size,
+            count: 0,
+        })
+    }
+
+    /// The bytes that it has taken; none exactly where these are more than `size`.
+    pub fn taken(&self) -> Option<&[u8]>
+        ensures told { IfSome result (λ bytes. told_bytes self.now ≡ Some bytes.now) }
+        ensures untold { IfNone result (told_bytes self.now ≡ None) }
+        ensures past { IsNone result ↔ (size_of self.now < count_of self.now) }
+    {
+        if self.count > self.size {
+            return None;
+        }
+        Some(&self.bytes)
+    }
+}
+
+impl Sink for SureSink {
+    ghost use Rattle.market_edge.specs.SureSinks.{count_of, size_of, told_bytes};
+
+    ghost taken = { told_bytes };
+
+    ghost faults = { λ _. 0 };
+
+    fn write(&mut self, piece: &[u8]) -> Result<usize, Failed>
+        requires { 0 < length piece.now }
+
+        ensures some { IfOk result (λ n. 0 < n) }
+        ensures bound { IfOk result (λ n. n ≤ length piece.now) }
+        ensures bytes { IfOk result (λ n. Takes (told_bytes self.old) (told_bytes self.new) (take n piece.now)) }
+        ensures none { OnErr result (Takes (told_bytes self.old) (told_bytes self.new) []) }
+        ensures cause { OnErr result (Rose 0 0) }
+        ensures later { 0 ≤ 0 }
+
+        // It never fails, and takes the whole piece.
+        ensures sure { IsOk result }
+        ensures whole { IfOk result (λ n. n ≡ length piece.now) }
+        ensures told { told_bytes self.new ≡ told_within (size_of self.old) (told_bytes self.old) piece.now }
+        ensures count { count_of self.new ≡ min (count_of self.old + length piece.now) (2 ^ 64 - 1) }
+        ensures size { size_of self.new ≡ size_of self.old }
+    {
+        self.count = self.count.saturating_add(piece.len());
+        if self.count <= self.size {
+            match self.bytes.extend_from_slice(piece) {
+                Ok(()) => {}
+                Err(_) => unreachable!(),
+            }
+        }
+        Ok(piece.len())
+    }
+}

@@ -1,0 +1,25 @@
+-- What is seen of a shelf at a call.
+use Rattle.std.specs.Prelude.{ℕ, Bool, List, Option}
+use Rattle.market_edge.specs.declared.shelf.Shelf as Shelf
+use Rattle.market_edge.specs.Holdings.{Holding}
+
+-- What a shelf holds, where it tells, and its counts of faults before and after a call; and after it whether a text is begun, which names are
+-- served, and what is left of the begun text, where the shelf tells.
+pub record Sight : Type 0 where
+  pub held : Option Holding
+  pub before : List ℕ → ℕ
+  pub after : List ℕ → ℕ
+  pub begun : Bool
+  pub serves : List ℕ → Bool
+  pub left : Option (List ℕ)
+
+-- what is seen of a shelf that was the first before a call, and is the second after it
+abbrev pub sight : {H : Type 0} → Shelf.Ghosts H → H → H → Sight
+sight shelf old new = record {
+  held = shelf.holds old;
+  before = shelf.faults old;
+  after = shelf.faults new;
+  begun = shelf.is_begun new;
+  serves = shelf.serves new;
+  left = shelf.left new;
+}

@@ -1,0 +1,23 @@
+-- The status of each trouble, and the number of each status.
+use Rattle.std.specs.Prelude.{ℕ}
+use Rattle.market_host.specs.declared.status.Status.{Status}
+use Rattle.market_host.specs.declared.status.Status.TheVariants.{Done, Usage, ShelfFault, Refused, TooLong, SinkFault, OutOfMemory}
+use Rattle.market_host.specs.declared.trouble.Trouble.{Trouble}
+use Rattle.market_host.specs.declared.trouble.Trouble.TheVariants as trouble
+
+-- with which a call ends that this stops
+abbrev pub status_of : Trouble → Status
+status_of (trouble.ShelfFault number) = ShelfFault number
+status_of (trouble.Refused number row cause) = Refused number row cause
+status_of (trouble.TooLong number) = TooLong number
+status_of trouble.OutOfMemory = OutOfMemory
+
+-- with which the process ends
+abbrev pub number_of : Status → ℕ
+number_of Done = 0
+number_of Usage = 1
+number_of (ShelfFault input) = 2
+number_of (Refused input row cause) = 3
+number_of (TooLong input) = 4
+number_of SinkFault = 6
+number_of OutOfMemory = 7

@@ -1,0 +1,142 @@
+// The program over texts in memory. The cases named for what they show are worked examples that were computed apart
+// from this program.
+use super::exit_code;
+use market_edge::{Gate, MemoryShelf, MemorySink, OpenGate};
+use market_host::{Cause, Status, course_match, no_memory_for_words};
+use std::alloc::Global;
+use std::process::{Abort, ExitCode};
+use std::sync::Wait;
+use std::test::Fail;
+use std::thread::Threads;
+
+mod faults;
+mod gates;
+mod limits;
+mod prefer;
+mod quote;
+
+const HEADER: &[u8] = b"section,course,seats,credits,meetings\n";
+
+const ONE: &[u8] = b"section,course,seats,credits,meetings\nA,AA,1,1,\n";
+
+const TWO: &[u8] = b"section,course,seats,credits,meetings\nA,AA,1,1,\nB,BB,1,1,\n";
+
+const THREE: &[u8] = b"section,course,seats,credits,meetings\nA,AA,1,1,\nB,BB,1,1,\nC,CC,1,1,\n";
+
+const TIE: &[u8] = b"rate ann A 50\nrate ann B 50\n";
+
+const STUDENTS: &[u8] = b"student,budget,credits,courses\n";
+
+const ANN: &[u8] = b"student,budget,credits,courses\nann,100,10,1\n";
+
+const ANN_AND_BOB: &[u8] = b"student,budget,credits,courses\nann,100,10,1\nbob,100,10,1\n";
+
+// A file's name and its bytes.
+type File<'a> = (&'a str, &'a [u8]);
+
+fn words_of(alloc: Global, line: &str) -> Result<Vec<String>, Fail> {
+    let mut words = Vec::new(alloc);
+    for word in line.split(' ') {
+        words.push(String::from_str(alloc, word)?)?;
+    }
+    Ok(words)
+}
+
+// The status of a command over these files, and what it wrote.
+fn run<R: Threads + Wait + Sync + Abort>(
+    rt: &R,
+    alloc: Global,
+    line: &str,
+    files: &[File],
+) -> Result<(Status, String), Fail> {
+    run_by(rt, alloc, line, files, (0, 0), 30_000, &OpenGate)
+}
+
+// The same where the shelf's call and the sink's write of these numbers fail, 0 being none, the sink has so much room,
+// and the sessions pass this gate.
+fn run_by<R: Threads + Wait + Sync + Abort, G: Gate + Sync>(
+    rt: &R,
+    alloc: Global,
+    line: &str,
+    files: &[File],
+    failing: (u64, u64),
+    room: usize,
+    gate: &G,
+) -> Result<(Status, String), Fail> {
+    let mut held = Vec::new(alloc);
+    for (name, bytes) in files {
+        held.push((String::from_str(alloc, name)?, bytes.to_vec(alloc)?))?;
+    }
+    let mut shelf = MemoryShelf::make(alloc, held, vec![in alloc; failing.0]?).expect(rt, "room");
+    let mut sink = MemorySink::make(alloc, room, vec![in alloc; failing.1]?).expect(rt, "room");
+    let words = words_of(alloc, line)?;
+    let status = course_match(rt, alloc, &words, &mut shelf, &mut sink, gate);
+    Ok((
+        status,
+        String::from_utf8(sink.taken().to_vec(alloc)?).expect(rt, "text"),
+    ))
+}
+
+// Puts a row behind the text for each number from the first to before the last: the head, and each of the pieces behind the number.
+fn put_rows(
+    text: &mut Vec<u8>,
+    alloc: Global,
+    numbers: (u32, u32),
+    head: &str,
+    pieces: &[&str],
+) -> Result<(), Fail> {
+    for number in numbers.0..numbers.1 {
+        let digits = format!(in alloc; "{number}")?;
+        text.extend_from_slice(head.as_bytes())?;
+        for piece in pieces {
+            text.extend_from_slice(digits.as_bytes())?;
+            text.extend_from_slice(piece.as_bytes())?;
+        }
+    }
+    Ok(())
+}
+
+// The process ends with each status's number.
+#[test]
+fn each_status_has_its_number(rt: HostRuntime) {
+    let refused = Status::Refused {
+        input: 2,
+        row: 3,
+        cause: Cause::Header,
+    };
+    let cases: [(Status, u8); 7] = [
+        (Status::Done, 0),
+        (Status::Usage, 1),
+        (Status::ShelfFault { input: 1 }, 2),
+        (refused, 3),
+        (Status::TooLong { input: 4 }, 4),
+        (Status::SinkFault, 6),
+        (Status::OutOfMemory, 7),
+    ];
+    for (status, number) in cases {
+        assert_eq!(rt; exit_code(status), ExitCode::from(number), "{status:?}");
+    }
+}
+
+// Words that are no form, and words for which there is no memory.
+#[test]
+fn no_form(rt: HostRuntime) -> Result<(), Fail> {
+    let alloc = rt.alloc();
+    let usage = "usage: run, check, prefer, demand, quote, make\n";
+    for line in [
+        "quote CAT S1 ann 010 1",
+        "quote CAT S1 ann 10 9",
+        "quote CAT S1",
+        "prefer CAT STU",
+    ] {
+        let files = [("CAT", TWO), ("STU", ANN), ("S1", TIE)];
+        let (found, written) = run(&rt, alloc, line, &files)?;
+        assert_eq!(rt; found, Status::Usage);
+        assert_eq!(rt; written.as_str(), usage);
+    }
+    let mut sink = MemorySink::make(alloc, 14, Vec::new(alloc)).expect(&rt, "room");
+    assert_eq!(rt; no_memory_for_words(&mut sink), Status::OutOfMemory);
+    assert_eq!(rt; sink.taken(), b"out of memory\n".as_slice());
+    assert_eq!(rt; no_memory_for_words(&mut sink), Status::SinkFault);
+    Ok(())
+}
