@@ -1,3 +1,4 @@
 pub mod Growing
 pub mod Members
+pub mod Sizes
 pub mod Written

@@ -1,4 +1,5 @@
 pub mod Catalogs
+pub mod Laws
 pub mod Lines
 pub mod Rolls
 pub mod Sessions

@@ -7,6 +7,7 @@
 #![tactic(auto)]
 
 mod catalog;
+pub mod laws;
 mod lines;
 mod market;
 mod roll;

@@ -12,4 +12,5 @@ pub mod PlaceChanges
 pub mod Shapes
 pub mod SoundCalls
 pub mod Tallying
+pub mod TestRounds
 pub mod Turns

@@ -19,3 +19,6 @@ pub use place::Place;
 pub use round::{Ask, Round};
 pub use shared::{Progress, Terms};
 pub use state::BoardState;
+
+#[cfg(test)]
+mod tests;
