@@ -1,0 +1,4 @@
+pub mod Ranks
+pub mod Turning
+pub mod Passing
+pub mod Crowding

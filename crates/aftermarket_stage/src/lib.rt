@@ -1,0 +1,14 @@
+//! The aftermarket: students choose again, in turn, with raised budgets, of what they hold and of what is free
+//! (Course Match: Budish, Cachon, Kessler, Othman 2017).
+#![tactic(auto)]
+
+mod counts;
+pub mod laws;
+mod passes;
+mod turns;
+
+pub use passes::aftermarket;
+pub use turns::{After, Turn};
+
+#[cfg(test)]
+mod tests;

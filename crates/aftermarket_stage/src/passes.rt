@@ -1,0 +1,180 @@
+// Turns and passes.
+ghost use Rattle.std.specs.Prelude.{◌≡◌, ◌<◌, ◌≤◌, ℕ, [], List, IfOk, All, length, map};
+ghost use Rattle.std.specs.FinSet as set;
+ghost use Rattle.bundle_rules.specs.Bundles.{sections_of};
+ghost use Rattle.bundle_rules.specs.Demand.{price_in};
+ghost use Rattle.bundle_rules.specs.Places.{places_from};
+ghost use Rattle.demand_api.specs.Crowds.{demands, holders};
+ghost use Rattle.demand_api.specs.Made.{MakeCrowd, crowd_of};
+ghost use Rattle.aftermarket_stage.specs.Turns.{AreHeldWithin, after_turns};
+ghost use Rattle.aftermarket_stage.specs.Passes.{IsAftermarket};
+ghost use Rattle.aftermarket_stage.specs.After.{ArePriced, terms_of, turns_of};
+ghost use Rattle.held_seats.specs.Floors.{AreBelow, IsFloor, held_on};
+ghost use Rattle.aftermarket_stage.specs.HeldChoices.{AreChoices, AreTerms};
+ghost use Rattle.aftermarket_stage.specs.Runs.{IsBestAt, HasTurned, HaveTurned};
+
+use crate::counts::narrowed;
+use crate::{After, Turn};
+use budget_draw::{after_order, raised};
+use bundle_rules::Bundle;
+use demand_api::Crowd;
+use demand_oracle::{Workspace, demand};
+use held_seats::Floor;
+use market_units::{NoMemory, SectionSet, StudentNo, Tokens};
+use std::alloc::Global;
+
+// What the aftermarket works in: room for demands, what is held, and the turns so far.
+#[derive(Drop)]
+struct Stage {
+    workspace: Workspace,
+    floor: Floor,
+    turns: Vec<Turn>,
+}
+
+/// The aftermarket of a crowd. In a pass each student has one turn, by budgets before any raise, the greatest first,
+/// and of equal budgets the lowest ordinal first. At a turn a section is free when fewer students hold it than it has
+/// seats, and the student's bundle becomes the best of held and free sections within the student's budget raised by
+/// `raise` percent, at the same prices. The first pass without a change is the last; without students there is none.
+///
+/// There are one seat number and one price for each section, each price at most 1,000,001, and a raise of at most 50.
+/// The bundles are what each student takes at the prices, in file order, and no section has more of them than seats.
+/// There is no limit of passes: each but the last brings some student a bundle that it prefers. The one error is the
+/// want of memory.
+pub fn aftermarket(
+    alloc: Global,
+    crowd: &Crowd,
+    seats: &[u16],
+    prices: &[Tokens],
+    bundles: &[Bundle],
+    raise: u8,
+) -> Result<After, NoMemory>
+    requires crowd { MakeCrowd crowd.now.menus.items crowd.now.budgets.items crowd.now.sections }
+    requires seats { length seats.now ≡ crowd.now.sections }
+    requires prices { ArePriced crowd.now.sections prices.now }
+    requires demands { map sections_of bundles.now ≡ demands (crowd_of crowd.now.menus.items crowd.now.budgets.items crowd.now.sections) (price_in prices.now) }
+    requires within { AreHeldWithin crowd.now.sections seats.now (map sections_of bundles.now) }
+    requires raise { raise ≤ 50 }
+    ensures turns { IfOk result (λ after. IsAftermarket (terms_of crowd.now seats.now prices.now raise) (map sections_of bundles.now) (turns_of after.turns.items) after.passes) }
+    ensures bundles { IfOk result (λ after. map sections_of after.bundles.items ≡ after_turns (map sections_of bundles.now) (turns_of after.turns.items)) }
+    ensures used { IfOk result (λ after. after.used.items ≡ map (λ s. holders s (map sections_of after.bundles.items)) (places_from 0 crowd.now.sections)) }
+    ensures within { IfOk result (λ after. AreHeldWithin crowd.now.sections seats.now (map sections_of after.bundles.items)) }
+{
+    let order = after_order(alloc, &crowd.budgets)?;
+    let mut stage = Stage::open(alloc, seats, bundles)?;
+    let mut passes = 0;
+    let mut changed = !crowd.menus.is_empty();
+    while changed {
+        passes += 1;
+        changed = stage.run_pass(crowd, seats, prices, raise, &order, passes)?;
+    }
+    stage.close(alloc, passes)
+}
+
+impl Stage {
+    // The stage on which these bundles are held, before any turn.
+    fn open(alloc: Global, seats: &[u16], bundles: &[Bundle]) -> Result<Stage, NoMemory>
+        requires sections { length seats.now ≤ 400 }
+        requires few { length bundles.now ≤ 2000 }
+        requires below { AreBelow (length seats.now) (map sections_of bundles.now) }
+        ensures turns { IfOk result (λ stage. stage.turns.items ≡ []) }
+        ensures held { IfOk result (λ stage. held_on stage.floor ≡ map sections_of bundles.now) }
+        ensures floor { IfOk result (λ stage. IsFloor seats.now stage.floor) }
+    {
+        Ok(Stage {
+            workspace: Workspace::reserve(alloc)?,
+            floor: Floor::open(alloc, seats, bundles)?,
+            turns: Vec::new(alloc),
+        })
+    }
+
+    // One pass of turns in this order; whether it changed a bundle.
+    fn run_pass(
+        &mut self,
+        crowd: &Crowd,
+        seats: &[u16],
+        prices: &[Tokens],
+        raise: u8,
+        order: &[StudentNo],
+        pass: u64,
+    ) -> Result<bool, NoMemory>
+        requires terms { AreTerms crowd.now seats.now prices.now raise }
+        requires order { All (λ student. student.0 < length crowd.now.menus.items) order.now }
+        requires choices { AreChoices (terms_of crowd.now seats.now prices.now raise) (held_on self.old.floor) }
+        requires floor { IsFloor seats.now self.old.floor }
+        ensures turns { IfOk result (λ changed. HaveTurned (terms_of crowd.now seats.now prices.now raise) pass (map (λ student. student.0) order.now) (held_on self.old.floor) (held_on self.new.floor) self.old.turns.items self.new.turns.items changed) }
+        ensures floor { IfOk result (λ changed. IsFloor seats.now self.new.floor) }
+    {
+        let mut changed = false;
+        for student in order {
+            changed |= self.take_turn(crowd, seats, prices, raise, pass, *student)?;
+        }
+        Ok(changed)
+    }
+
+    // One turn of a student; whether it changed the student's bundle.
+    fn take_turn(
+        &mut self,
+        crowd: &Crowd,
+        seats: &[u16],
+        prices: &[Tokens],
+        raise: u8,
+        pass: u64,
+        student: StudentNo,
+    ) -> Result<bool, NoMemory>
+        requires terms { AreTerms crowd.now seats.now prices.now raise }
+        requires student { student.0 < length crowd.now.menus.items }
+        requires choices { AreChoices (terms_of crowd.now seats.now prices.now raise) (held_on self.old.floor) }
+        requires floor { IsFloor seats.now self.old.floor }
+        ensures turn { IfOk result (λ changed. HasTurned (terms_of crowd.now seats.now prices.now raise) pass student.0 (held_on self.old.floor) (held_on self.new.floor) self.old.turns.items self.new.turns.items changed) }
+        ensures floor { IfOk result (λ changed. IsFloor seats.now self.new.floor) }
+    {
+        let place = usize::from(student.0);
+        let allowed = self.floor.choices(place);
+        let bundle = best_at(&mut self.workspace, crowd, prices, raise, &allowed, place);
+        self.turns.push(Turn {
+            pass,
+            student,
+            allowed,
+            bundle,
+        })?;
+        Ok(self.floor.give(seats, place, bundle))
+    }
+
+    // What the turns come to.
+    fn close(self, alloc: Global, passes: u64) -> Result<After, NoMemory>
+        requires { All (λ count. count ≤ 2000) self.floor.used.items }
+        ensures turns { IfOk result (λ after. after.turns.items ≡ self.turns.items) }
+        ensures passes { IfOk result (λ after. after.passes ≡ passes) }
+        ensures bundles { IfOk result (λ after. after.bundles.items ≡ self.floor.held.items) }
+        ensures used { IfOk result (λ after. after.used.items ≡ self.floor.used.items) }
+    {
+        let turns = self.turns;
+        let floor = self.floor;
+        let used = narrowed(alloc, &floor.used)?;
+        Ok(After {
+            turns,
+            passes,
+            bundles: floor.held,
+            used,
+        })
+    }
+}
+
+// The best bundle of allowed sections of the student at this place, within its raised budget.
+fn best_at(
+    workspace: &mut Workspace,
+    crowd: &Crowd,
+    prices: &[Tokens],
+    raise: u8,
+    allowed: &SectionSet,
+    place: usize,
+) -> Bundle
+    requires crowd { MakeCrowd crowd.now.menus.items crowd.now.budgets.items crowd.now.sections }
+    requires prices { ArePriced crowd.now.sections prices.now }
+    requires raise { raise ≤ 50 }
+    requires place { place < length crowd.now.menus.items }
+    ensures { (seats : List ℕ) → IsBestAt (terms_of crowd.now seats prices.now raise) place (set.contains allowed.now) (sections_of result) }
+{
+    let budget = raised(crowd.budgets[place], raise);
+    demand(workspace, &crowd.menus[place], prices, budget, allowed)
+}

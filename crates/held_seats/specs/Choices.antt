@@ -1,0 +1,12 @@
+-- What a student may choose of the sections' seats, where students hold bundles, in file order.
+use Rattle.std.specs.Prelude.{ℕ, ◌||◌, Bool, nat_lt, List, [], slice_index, slice_index_or}
+use Rattle.bundle_rules.specs.Sets.{has}
+use Rattle.demand_api.specs.Crowds.{holders}
+
+-- a section is free when fewer students hold it than it has seats
+abbrev pub is_free : List ℕ → List (List ℕ) → ℕ → Bool
+is_free seats held s = nat_lt (holders s held) (slice_index seats s)
+
+-- a student may choose each section that it holds, and each that is free
+abbrev pub may_choose : List ℕ → List (List ℕ) → ℕ → ℕ → Bool
+may_choose seats held student s = has (slice_index_or held student []) s || is_free seats held s

@@ -1,0 +1,100 @@
+// How many students hold each section, and which sections are free.
+ghost use Rattle.std.specs.Prelude.{◌≡◌, ◌<◌, ◌≤◌, ◌||◌, ℕ, IfOk, All, length, map, nat_lt, slice_index, if◌then◌else◌};
+ghost use Rattle.std.specs.FinSet as set;
+ghost use Rattle.bundle_rules.specs.Sets.{has, IsAscending};
+ghost use Rattle.bundle_rules.specs.Ordinals.{ordinals};
+ghost use Rattle.bundle_rules.specs.Bundles.{sections_of};
+ghost use Rattle.demand_api.specs.Counting.{HasCounted};
+ghost use Rattle.demand_api.proofs.Takers.{AreCounts};
+ghost use Rattle.held_seats.specs.Floors.{AreBelow};
+
+use bundle_rules::Bundle;
+use demand_api::count_bundle;
+use market_units::{NoMemory, SectionNo, SectionSet};
+use std::alloc::Global;
+
+// How many of these bundles have each section.
+pub(crate) fn count_all(
+    alloc: Global,
+    sections: usize,
+    bundles: &[Bundle],
+) -> Result<Vec<u32>, NoMemory>
+    requires few { length bundles.now ≤ 2000 }
+    requires below { AreBelow sections (map sections_of bundles.now) }
+    ensures { IfOk result (λ counts. AreCounts sections (map sections_of bundles.now) counts.items) }
+{
+    let mut counts = vec![in alloc; 0u32; sections]?;
+    for bundle in bundles {
+        count_bundle(&mut counts, bundle.sections());
+    }
+    Ok(counts)
+}
+
+// Takes one from the count of each section of a bundle. Each of them is counted at least once.
+pub(crate) fn discount_bundle(counts: &mut [u32], sections: &[SectionNo])
+    requires range { All (λ section. section.0 < length counts.old) sections.now }
+    requires set { IsAscending (ordinals sections.now) }
+    requires counted { All (λ section. 1 ≤ slice_index counts.old section.0) sections.now }
+    ensures len { length counts.new ≡ length counts.old }
+    ensures each { (s : ℕ) → s < length counts.old → HasCounted counts.new counts.old (ordinals sections.now) s }
+{
+    match sections {
+        [] => {}
+        [section, more @ ..] => {
+            counts[usize::from(section.0)] -= 1;
+            discount_bundle(counts, more);
+        }
+    }
+}
+
+// The free sections: those with fewer holders than seats.
+pub(crate) fn free_sections(counts: &[u32], seats: &[u16]) -> SectionSet
+    requires few { length seats.now ≤ 400 }
+    requires same { length counts.now ≡ length seats.now }
+    ensures { (s : ℕ) → set.contains result s ≡ nat_lt (slice_index counts.now s) (slice_index seats.now s) }
+{
+    let mut free = SectionSet::empty();
+    for place in 0..seats.len() {
+        if counts[place] < u32::from(seats[place]) {
+            free = free.with(SectionNo(place as u16));
+        }
+    }
+    free
+}
+
+// The free sections, where the counts of these sections have changed.
+pub(crate) fn freed(
+    free: SectionSet,
+    counts: &[u32],
+    seats: &[u16],
+    sections: &[SectionNo],
+) -> SectionSet
+    requires few { length seats.now ≤ 400 }
+    requires same { length counts.now ≡ length seats.now }
+    requires range { All (λ section. section.0 < length seats.now) sections.now }
+    ensures { (s : ℕ) → set.contains result s ≡ (if has (ordinals sections.now) s then nat_lt (slice_index counts.now s) (slice_index seats.now s) else set.contains free s) }
+{
+    match sections {
+        [] => free,
+        [section, more @ ..] => {
+            let rest = freed(free, counts, seats, more);
+            let place = usize::from(section.0);
+            if counts[place] < u32::from(seats[place]) {
+                rest.with(*section)
+            } else {
+                rest.without(*section)
+            }
+        }
+    }
+}
+
+// The set with these sections too.
+pub(crate) fn with_all(free: SectionSet, sections: &[SectionNo]) -> SectionSet
+    requires { All (λ section. section.0 < 400) sections.now }
+    ensures { (s : ℕ) → set.contains result s ≡ (has (ordinals sections.now) s || set.contains free s) }
+{
+    match sections {
+        [] => free,
+        [section, more @ ..] => with_all(free, more).with(*section),
+    }
+}

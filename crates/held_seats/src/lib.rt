@@ -1,0 +1,7 @@
+//! What students hold of the sections' seats.
+#![tactic(auto)]
+
+mod counts;
+mod floor;
+
+pub use floor::Floor;
