@@ -1,0 +1,4 @@
+pub mod Distinct
+pub mod Neighbours
+pub mod Asked
+pub mod Laws

@@ -1,0 +1,90 @@
+// Vectors in which one section alone has another price.
+ghost use Rattle.std.specs.Prelude.{◌≡◌, ◌<◌, ◌≤◌, ◌++◌, IfOk, length, map, filter, flat_map};
+ghost use Rattle.std.specs.List.{range_with_len};
+ghost use Rattle.bundle_rules.specs.Demand.{price_in};
+ghost use Rattle.demand_api.specs.Crowds.{count, counts as counts_of};
+ghost use Rattle.demand_api.specs.Asking.{ArePricesFor};
+ghost use Rattle.price_neighbours.specs.Neighbours.{with_alone, least_fewer, alone};
+ghost use Rattle.price_neighbours.specs.Asked.{is_over, pair_of};
+
+use demand_api::Demands;
+use market_units::{NoMemory, SectionNo, Tokens};
+use std::alloc::Global;
+use std::sync::Wait;
+use std::thread::Threads;
+
+// The sections that more students take than they have seats, by ordinal, each with one less than its count.
+fn pairs_over(
+    alloc: Global,
+    counts: &[u32],
+    seats: &[u16],
+) -> Result<Vec<(SectionNo, u32)>, NoMemory>
+    requires few { length counts.now ≤ 400 }
+    requires seats { length seats.now ≡ length counts.now }
+    ensures { IfOk result (λ pairs. pairs.items ≡ map (pair_of counts.now) (filter (is_over counts.now seats.now) (range_with_len 0 (length counts.now)))) }
+{
+    let mut pairs = Vec::new(alloc);
+    for place in 0..counts.len() {
+        let count = counts[place];
+        if count <= u32::from(seats[place]) {
+            continue;
+        }
+        pairs.push((SectionNo(place as u16), count - 1))?;
+    }
+    Ok(pairs)
+}
+
+// The vector in which the section at this place alone has this price.
+fn with_alone(
+    alloc: Global,
+    prices: &[Tokens],
+    place: usize,
+    price: Tokens,
+) -> Result<Vec<Tokens>, NoMemory>
+    requires { place < length prices.now }
+    ensures { IfOk result (λ vector. vector.items ≡ with_alone prices.now place price.0) }
+{
+    let mut vector = prices.to_vec(alloc)?;
+    vector[place] = price;
+    Ok(vector)
+}
+
+// By ordinal, the vectors in which one section alone has another price. All least prices are asked for at once.
+pub(crate) fn push_alone<R: Threads + Wait + Sync, D: Demands>(
+    rt: &R,
+    alloc: Global,
+    demands: &mut D,
+    vectors: &mut Vec<Vec<Tokens>>,
+    prices: &[Tokens],
+    counts: &[u32],
+    seats: &[u16],
+) -> Result<(), NoMemory>
+    requires few { (D.crowd demands.old).sections ≤ 400 }
+    requires seats { length seats.now ≡ (D.crowd demands.old).sections }
+    requires prices { ArePricesFor (D.crowd demands.old) prices.now }
+    requires counts { counts.now ≡ counts_of (D.crowd demands.old) (price_in prices.now) }
+    ensures crowd { D.crowd demands.new ≡ D.crowd demands.old }
+    ensures value { IfOk result (λ done. map (λ vector. vector.items) vectors.new.items ≡ map (λ vector. vector.items) vectors.old.items ++ flat_map (alone (least_fewer (D.crowd demands.old) (price_in prices.now)) (count (D.crowd demands.old) (price_in prices.now)) seats.now prices.now) (range_with_len 0 (length prices.now))) }
+{
+    let pairs = pairs_over(alloc, counts, seats)?;
+    let least = demands.least_prices(rt, alloc, prices, &pairs)?;
+    let mut asked = 0;
+    for place in 0..prices.len() {
+        let count = counts[place];
+        let room = u32::from(seats[place]);
+        if count > room {
+            vectors.push(with_alone(alloc, prices, place, least[asked])?)?;
+            asked += 1;
+            continue;
+        }
+        // A section with as many students as seats stays, and so does one that costs nothing.
+        if count == room {
+            continue;
+        }
+        if prices[place].0 == 0 {
+            continue;
+        }
+        vectors.push(with_alone(alloc, prices, place, Tokens(0))?)?;
+    }
+    Ok(())
+}

@@ -1,0 +1,70 @@
+// Vectors in which every price makes a step.
+ghost use Rattle.std.specs.Prelude.{◌≡◌, ◌≤◌, pos, nat_abs, ◌*ℤ◌, ◌++◌, IfOk, All, length, map, slice_index};
+ghost use Rattle.clearing_error.specs.Errors.{excess};
+ghost use Rattle.price_neighbours.specs.Neighbours.{stepped_price, stepped};
+
+use clearing_error::excess;
+use market_units::{NoMemory, Tokens};
+use std::alloc::Global;
+
+// So many times the section's excess.
+fn change(count: u32, seats: u16, step: u32) -> i64
+    requires { count ≤ 2000 }
+    ensures value { result ≡ pos step *ℤ excess count seats }
+    ensures small { nat_abs result ≤ 281470681677825 }
+{
+    i64::from(step) * i64::from(excess(count, seats))
+}
+
+// The price plus so many times the section's excess, cut to the range 0 to the top.
+fn stepped_price(top: Tokens, price: Tokens, count: u32, seats: u16, step: u32) -> Tokens
+    requires { count ≤ 2000 }
+    ensures { result.0 ≡ stepped_price top.0 price.0 count seats step }
+{
+    let moved = i64::from(price.0) + change(count, seats, step);
+    Tokens(moved.clamp(0, i64::from(top.0)) as u32)
+}
+
+// The vector in which every price makes the step.
+fn stepped(
+    alloc: Global,
+    top: Tokens,
+    prices: &[Tokens],
+    counts: &[u32],
+    seats: &[u16],
+    step: u32,
+) -> Result<Vec<Tokens>, NoMemory>
+    requires few { All (λ count. count ≤ 2000) counts.now }
+    requires counts { length counts.now ≡ length prices.now }
+    requires seats { length seats.now ≡ length prices.now }
+    ensures { IfOk result (λ moved. moved.items ≡ stepped top.0 (slice_index counts.now) seats.now prices.now step) }
+{
+    let mut moved = Vec::with_capacity(alloc, prices.len())?;
+    for place in 0..prices.len() {
+        let price = stepped_price(top, prices[place], counts[place], seats[place], step);
+        moved.push(price)?;
+    }
+    Ok(moved)
+}
+
+// For each step, in order, the vector in which every price makes it.
+pub(crate) fn push_stepped(
+    alloc: Global,
+    vectors: &mut Vec<Vec<Tokens>>,
+    top: Tokens,
+    prices: &[Tokens],
+    counts: &[u32],
+    seats: &[u16],
+    steps: &[u32],
+) -> Result<(), NoMemory>
+    requires few { All (λ count. count ≤ 2000) counts.now }
+    requires counts { length counts.now ≡ length prices.now }
+    requires seats { length seats.now ≡ length prices.now }
+    ensures { IfOk result (λ done. map (λ vector. vector.items) vectors.new.items ≡ map (λ vector. vector.items) vectors.old.items ++ map (stepped top.0 (slice_index counts.now) seats.now prices.now) steps.now) }
+{
+    for step in steps {
+        let vector = stepped(alloc, top, prices, counts, seats, *step)?;
+        vectors.push(vector)?;
+    }
+    Ok(())
+}

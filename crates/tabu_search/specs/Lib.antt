@@ -1,0 +1,4 @@
+pub mod Visits
+pub mod Search
+pub mod Walks
+pub mod Laws

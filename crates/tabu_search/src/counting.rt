@@ -1,0 +1,58 @@
+// Counts at one vector and at many.
+ghost use Rattle.std.specs.Prelude.{◌≡◌, ◌≤◌, IfOk, All, length, map, take, drop};
+ghost use Rattle.demand_api.specs.Asking.{ArePricesFor};
+ghost use Rattle.tabu_search.specs.Visits.{counts_at};
+
+use demand_api::Demands;
+use market_units::{NoMemory, Tokens};
+use std::alloc::Global;
+use std::sync::Wait;
+use std::thread::Threads;
+
+// How many vectors are counted at once.
+const BATCH: usize = 16;
+
+// The counts at one vector.
+pub(crate) fn count_one<R: Threads + Wait + Sync, D: Demands>(
+    rt: &R,
+    alloc: Global,
+    demands: &mut D,
+    prices: &[Tokens],
+) -> Result<Vec<u32>, NoMemory>
+    requires { ArePricesFor (D.crowd demands.old) prices.now }
+    ensures crowd { D.crowd demands.new ≡ D.crowd demands.old }
+    ensures value { IfOk result (λ counts. counts.items ≡ counts_at (D.crowd demands.old) prices.now) }
+{
+    let batch = [prices.to_vec(alloc)?];
+    let found = demands.counts(rt, alloc, &batch)?;
+    Ok(found[0].to_vec(alloc)?)
+}
+
+// The next vectors to be counted, at most 16.
+fn next_batch(vectors: &[Vec<Tokens>], done: usize) -> &[Vec<Tokens>]
+    requires { done ≤ length vectors.now }
+    ensures { result.now ≡ take 16 (drop done vectors.now) }
+{
+    let rest = &vectors[done..];
+    &rest[..rest.len().min(BATCH)]
+}
+
+// The counts at each vector, in order, of which at most 16 are asked for at once.
+pub(crate) fn count_all<R: Threads + Wait + Sync, D: Demands>(
+    rt: &R,
+    alloc: Global,
+    demands: &mut D,
+    vectors: &[Vec<Tokens>],
+) -> Result<Vec<Vec<u32>>, NoMemory>
+    requires { All (λ vector. ArePricesFor (D.crowd demands.old) vector.items) vectors.now }
+    ensures crowd { D.crowd demands.new ≡ D.crowd demands.old }
+    ensures value { IfOk result (λ counted. map (λ counts. counts.items) counted.items ≡ map (λ vector. counts_at (D.crowd demands.old) vector.items) vectors.now) }
+{
+    let mut counted = Vec::with_capacity(alloc, vectors.len())?;
+    'batches: while counted.len() < vectors.len() {
+        let batch = next_batch(vectors, counted.len());
+        let mut found = demands.counts(rt, alloc, batch)?;
+        counted.append(&mut found)?;
+    }
+    Ok(counted)
+}

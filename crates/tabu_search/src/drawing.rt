@@ -1,0 +1,26 @@
+// The prices of a restart.
+ghost use Rattle.std.specs.Prelude.{◌≡◌, ◌<◌, IfOk, map, ◌%◌};
+ghost use Rattle.seed_words.specs.Streams.{stream_words};
+
+use market_units::{NoMemory, Tokens};
+use seed_words::words;
+use std::alloc::Global;
+
+// The prices of a restart, by its number from 1.
+pub(crate) fn drawn_prices(
+    alloc: Global,
+    top: Tokens,
+    seed: u64,
+    restart: u32,
+    sections: usize,
+) -> Result<Vec<Tokens>, NoMemory>
+    requires { 0 < top.0 }
+    ensures { IfOk result (λ prices. prices.items ≡ map (λ word. record { 0 = word % top.0 }) (stream_words seed restart sections)) }
+{
+    let drawn = words(alloc, seed, u64::from(restart), sections)?;
+    let mut prices = Vec::with_capacity(alloc, drawn.len())?;
+    for word in &drawn {
+        prices.push(Tokens((*word % u64::from(top.0)) as u32))?;
+    }
+    Ok(prices)
+}
