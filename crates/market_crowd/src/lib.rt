@@ -1,0 +1,6 @@
+//! The crowd of a market: who can be asked for a bundle at given prices.
+#![tactic(auto)]
+
+mod making;
+
+pub use making::make_crowd;
