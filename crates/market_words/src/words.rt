@@ -1,7 +1,7 @@
 // The words of the command line.
-ghost use Rattle.std.specs.Prelude.{◌≡◌, ◌∷◌, codes, map, IfSome, IfNone};
+ghost use Rattle.std.specs.Prelude.{◌≡◌, ◌↔◌, ◌∷◌, codes, map, IfSome, IfNone, IsTrue};
 ghost use Rattle.std.specs.String.{string_bytes};
-ghost use Rattle.market_words.specs.Forms.{HasForm, HasNoForm};
+ghost use Rattle.market_words.specs.Forms.{AreSessions, HasForm, HasNoForm};
 
 use market_units::{
     MAX_COURSES, MAX_CREDITS, MAX_SESSIONS, MAX_WORKERS, Name, read_name, read_number,
@@ -72,7 +72,7 @@ fn read_prefer(more: &[String]) -> Option<Form>
     let [_, _, sessions @ ..] = more else {
         return None;
     };
-    if sessions.is_empty() || sessions.len() > usize::from(MAX_SESSIONS) {
+    if !are_sessions(sessions) {
         return None;
     }
     Some(Form::Prefer)
@@ -87,10 +87,20 @@ fn read_demand(more: &[String]) -> Option<Form>
         return None;
     };
     let workers = read_number(workers.as_bytes(), u64::from(MAX_WORKERS))?;
-    if workers < 1 || sessions.is_empty() || sessions.len() > usize::from(MAX_SESSIONS) {
+    if workers < 1 {
+        return None;
+    }
+    if !are_sessions(sessions) {
         return None;
     }
     Some(Form::Demand {
         workers: workers as u16,
     })
+}
+
+// Whether these words name sessions: 1 to 64 of them.
+fn are_sessions(words: &[String]) -> bool
+    ensures { IsTrue result ↔ AreSessions (map string_bytes words.now) }
+{
+    !words.is_empty() && words.len() <= usize::from(MAX_SESSIONS)
 }
