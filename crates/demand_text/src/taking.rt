@@ -88,12 +88,12 @@ impl Taken {
 
 // The prices, each cut to the top.
 fn capped(alloc: Global, prices: &[Tokens], top: Tokens) -> Result<Vec<Tokens>, NoMemory>
-    ensures { IfOk result (λ asked. map (λ price. price.0) asked.items ≡ map (λ price. min price.0 top.0) prices.now) }
+    ensures { IfOk result (λ asked. asked.items ≡ map (λ price. record { 0 = min price.0 top.0 }) prices.now) }
 {
-    let mut asked = Vec::with_capacity(alloc, prices.len())?;
-    'prices: for price in prices {
-        asked.push(Tokens(price.0.min(top.0)))?;
-    }
+    let asked = prices
+        .iter()
+        .map(|price| Tokens(price.0.min(top.0)))
+        .collect(alloc)?;
     Ok(asked)
 }
 

@@ -22,6 +22,6 @@ pub record IsHeld (catalog roll : List ℕ) (sessions : List (List ℕ)) (offere
   pub merged : (streams : List (List Command)) × AreStreams sessions streams × MergesStreams streams journal
 
 -- the crowd of a market's students, who want what the journal ends with, with the budgets that the settings draw
-abbrev pub IsCrowdAfter : CatalogData → RollData → Settings → List Entry → CrowdData → Type 0
-IsCrowdAfter offered enrolled settings journal crowd =
+abbrev pub IsClosingCrowd : CatalogData → RollData → Settings → List Entry → CrowdData → Type 0
+IsClosingCrowd offered enrolled settings journal crowd =
     IsCrowdOf offered.sections enrolled.students (closed_preferences (market_names offered.sections enrolled.students) journal) settings.seed settings.spread crowd

@@ -6,7 +6,7 @@ ghost use Rattle.demand_api.specs.Crowds.{CrowdData};
 ghost use Rattle.demand_text.specs.Taken.{IsTakenBy, taken_at};
 ghost use Rattle.demand_text.specs.Texts as texts;
 ghost use Rattle.market_host.specs.Lines.{line_of};
-ghost use Rattle.market_host.specs.Markets.{IsCrowdAfter};
+ghost use Rattle.market_host.specs.Markets.{IsClosingCrowd};
 ghost use Rattle.market_host.specs.Outcomes.{IsDone, IsStopped};
 ghost use Rattle.market_host.specs.Sights.{sight};
 ghost use Rattle.market_settings.specs.Settings.{AreInRange};
@@ -77,7 +77,7 @@ fn text_of<R: Threads + Wait + Sync, G: Gate + Sync>(
     requires commands { command_count streams.now ≤ 200000 }
     ensures { IfOk result (λ text. (journal : List Entry) × IsLegalJournal (market_names market.now.catalog.sections market.now.roll.students) journal
         × MergesStreams (command_lists streams.now) journal
-        × (crowd : CrowdData) × IsCrowdAfter market.now.catalog market.now.roll market.now.settings journal crowd
+        × (crowd : CrowdData) × IsClosingCrowd market.now.catalog market.now.roll market.now.settings journal crowd
         × (text.items ≡ texts.demand_text market.now.catalog.sections market.now.roll.students journal (taken_at crowd (map (λ section. section.seats) market.now.catalog.sections) prices.now))) }
 {
     let closed = hold(rt, alloc, &market.catalog, &market.roll, streams, gate)?;
