@@ -1,15 +1,15 @@
 -- Lines of names, one more of them.
-use Rattle.std.proofs.Common.{ℕ, ◌≡◌, ◌==◌, ◌+◌, ◌<◌, List, [], ◌∷◌, ◌++◌, cond, length, map, take, get_or, ap, sym, arith, ◌∙◌}
+use Rattle.std.proofs.Common.{ℕ, ◌≡◌, ◌==◌, ◌+◌, ◌<◌, List, [], ◌∷◌, ◌++◌, cond, length, map, take, get_or, ap, sym, arith, ◌∙◌, append_assoc}
 use Rattle.std.specs.Prelude.{Option, Some, option_map, slice_get}
 use Rattle.std.specs.List.{join_with_byte}
-use Rattle.std.proofs.lemmas.List.{get_or-map, length-map}
+use Rattle.std.proofs.lemmas.List.{get_or-map, get_or_default, length-map}
 use Rattle.bundle_rules.specs.Bundles.{sections_of}
 use Rattle.bundle_rules.specs.declared.bundle.Bundle.{Bundle}
 use Rattle.course_catalog.specs.Sections.{Section, no_section, section_at}
 use Rattle.market_certificate.specs.Lines.{joined}
 use Rattle.market_certificate.specs.Tables.{name_at, section_names}
 use Rattle.market_certificate.specs.Texts.{each_line}
-use Rattle.market_certificate.proofs.Joins.{bundle_more, each_more, text_more, value_at}
+use Rattle.market_certificate.proofs.Joins.{bundle_more, each_more, joined_append, text_more, value_at}
 use Rattle.market_units.specs.declared.units.SectionNo.{SectionNo}
 use Rattle.preference_desk.proofs.CopyLemmas.{read_at}
 use Rattle.student_roll.specs.Students.{Student, names_of, no_student}
@@ -54,3 +54,22 @@ pub section_more : (sections : List Section) (items : List SectionNo) (bundle : 
     → new ≡ begun ++ join_with_byte 44 (map (name_at (section_names sections)) (take (k + 1) bundle))
 section_more sections items bundle k section begun text comma new name same inside is within so parted put named =
     bundle_more (section_names sections) items bundle k section begun text comma new same inside is so parted (put ∙ ap (λ bytes. comma ++ bytes) (named ∙ section_name sections section.0 within))
+
+-- the bundle at an index is that of the student's number, whatever stands for no bundle
+pub bundle_at : (bundles : List Bundle) (n index : ℕ) (bundle : Bundle) → n < length bundles → index ≡ n → bundle ≡ get_or bundles index bundle → (d : Bundle) → bundle ≡ get_or bundles n d
+bundle_at bundles n index bundle inside same is d = is ∙ ap (λ k. get_or bundles k bundle) same ∙ get_or_default bundles n bundle d inside
+
+-- the count at an index is that of the section's number
+pub count_at : (counts : List ℕ) (n index : ℕ) → n < length counts → index ≡ n → get_or counts index 0 ≡ get_or counts n (get_or counts index 0)
+count_at counts n index inside same = ap (λ k. get_or counts k 0) same ∙ get_or_default counts n 0 (get_or counts index 0) inside
+
+-- the parts of the text, one behind the other
+pub text_whole : (bundles counts : List (List ℕ)) (line error : List ℕ) (begun first second third last : List ℕ) → begun ≡ [] → first ≡ (begun ++ line) ++ 10 ∷ [] → second ≡ first ++ joined bundles → third ≡ second ++ joined counts
+    → last ≡ (third ++ error) ++ 10 ∷ [] → last ≡ joined (line ∷ (bundles ++ (counts ++ error ∷ [])))
+text_whole bundles counts line error begun first second third last none begins taken counted ends =
+    let one : first ≡ joined (line ∷ []) = begins ∙ ap (λ (text : List ℕ). (text ++ line) ++ 10 ∷ []) none in
+    let two : second ≡ joined (line ∷ bundles) = taken ∙ ap (λ (text : List ℕ). text ++ joined bundles) one ∙ sym (joined_append (line ∷ []) bundles) in
+    let three : third ≡ joined (line ∷ (bundles ++ counts)) = counted ∙ ap (λ (text : List ℕ). text ++ joined counts) two ∙ sym (joined_append (line ∷ bundles) counts) in
+    let four : last ≡ joined ((line ∷ (bundles ++ counts)) ++ error ∷ []) =
+    ends ∙ append_assoc third error (10 ∷ []) ∙ ap (λ (text : List ℕ). text ++ (error ++ 10 ∷ [])) three ∙ sym (joined_append (line ∷ (bundles ++ counts)) (error ∷ [])) in
+    four ∙ ap (λ (lines : List (List ℕ)). joined (line ∷ lines)) (append_assoc bundles counts (error ∷ []))

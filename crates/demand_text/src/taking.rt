@@ -18,19 +18,17 @@ use std::thread::Threads;
 /// error.
 #[derive(Drop)]
 pub struct Taken {
-    bundles: Vec<Bundle>,
+    held: Held,
     counts: Vec<u32>,
     error: u64,
 }
 
 impl Model for Taken {
-    ghost use Rattle.std.specs.Prelude.{map};
-    ghost use Rattle.bundle_rules.specs.Bundles.{sections_of};
     ghost use Rattle.demand_text.specs.Taken.{TakenData};
 
     ghost Value = { TakenData };
 
-    ghost view = { λ taken. record { bundles = map sections_of taken.bundles.items; counts = taken.counts.items; error = taken.error } };
+    ghost view = { λ taken. record { bundles = taken.held.bundles; counts = taken.counts.items; error = taken.error } };
 }
 
 impl Taken {
@@ -56,9 +54,8 @@ impl Taken {
         let held = Held::take(rt, alloc, demands, &asked)?;
         let counts = counts_of(alloc, &held, seats.len())?;
         let error = error(&counts, seats, prices);
-        let bundles = held.bundles().to_vec(alloc)?;
         Ok(Taken {
-            bundles,
+            held,
             counts,
             error,
         })
@@ -68,7 +65,7 @@ impl Taken {
     pub fn bundles(&self) -> &[Bundle]
         ensures { map sections_of result.now ≡ self.now.bundles }
     {
-        &self.bundles
+        self.held.bundles()
     }
 
     /// How many students take each section, in file order.
