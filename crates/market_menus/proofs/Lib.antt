@@ -1,7 +1,8 @@
 mod ClashFacts
+pub mod OneMenus
 mod Orders
 mod PairFacts
 mod PlaceFacts
 mod StudentFacts
-mod WantedFacts
+pub mod WantedFacts
 mod WordBits

@@ -1,12 +1,12 @@
 -- The menus of the students so far.
 use Rattle.std.proofs.Common.{ℕ, ◌≡◌, ◌<◌, ◌+◌, List, [], ◌∷◌, ◌++◌, ◌∙◌, ap, map, length, take, get_or}
-use Rattle.std.specs.Prelude.{ℤ, Result, Ok, Err, IfOk}
+use Rattle.std.specs.Prelude.{ℤ}
 use Rattle.std.specs.List.{filter_map}
 use Rattle.std.specs.FinMap.{entries}
 use Rattle.std.proofs.lemmas.List.{take_more}
 use Rattle.market_units.specs.declared.units.SectionNo.{SectionNo}
 use Rattle.bundle_rules.specs.declared.menu.Rated.{Rated}
-use Rattle.bundle_rules.specs.Menus.{MenuData}
+use Rattle.bundle_rules.specs.Menus.{IsMenu, MenuData}
 use Rattle.course_catalog.specs.Sections.{Section}
 use Rattle.preference_desk.specs.Rows.{pair_entry, rating_entry}
 use Rattle.preference_desk.specs.StudentPreferences.{StudentPreferences}
@@ -14,6 +14,7 @@ use Rattle.student_roll.specs.Students.{Student}
 use Rattle.market_menus.specs.ClashWords.{AreClashWords}
 use Rattle.market_menus.specs.MenusOf.{AreMenusOf, IsMenuOf, places_of, rated_of}
 use Rattle.market_menus.specs.PairPlaces.{pair_among}
+use Rattle.market_menus.proofs.ClashFacts.{off_menu, on_menu}
 use Rattle.market_menus.proofs.PairFacts.{filter_map-map, pairs_by_ratings}
 use Rattle.market_menus.proofs.PlaceFacts.{map_twice}
 
@@ -41,19 +42,17 @@ menu_data places pairs words credits courses = record { places = places; pairs =
 pub is_menu : (catalog : List Section) (student : Student) (wanted : StudentPreferences) (ratings : List (SectionNo × ℕ)) (items : List (SectionNo × SectionNo × ℤ)) (places : List Rated) (pairs : List (ℕ × ℕ × ℤ)) (words : List ℕ) (credits courses : ℕ)
     → places ≡ map (λ rating. rated_of catalog (rating_entry rating)) ratings → map rating_entry ratings ≡ entries wanted.ratings
     → pairs ≡ filter_map (λ pair. pair_among places (pair_entry pair)) items → map pair_entry items ≡ entries wanted.pairs
-    → AreClashWords catalog places words → credits ≡ student.credits → courses ≡ student.courses → IsMenuOf catalog student wanted (menu_data places pairs words credits courses)
-is_menu catalog student wanted ratings items places pairs words credits courses made rated kept adjusted clashes most many =
+    → AreClashWords catalog places words → credits ≡ student.credits → courses ≡ student.courses → IsMenu (menu_data places pairs words credits courses) → IsMenuOf catalog student wanted (menu_data places pairs words credits courses)
+is_menu catalog student wanted ratings items places pairs words credits courses made rated kept adjusted clashes most many limits =
     let whole : places ≡ places_of catalog wanted = made ∙ map_twice (rated_of catalog) rating_entry ratings ∙ ap (map (rated_of catalog)) rated in
     record {
       places = whole;
       pairs = kept ∙ filter_map-map (pair_among places) pair_entry items ∙ ap (filter_map (pair_among places)) adjusted
           ∙ ap (λ (all : List Rated). filter_map (pair_among all) (entries wanted.pairs)) whole ∙ pairs_by_ratings catalog wanted;
-      clashes = clashes.each;
+      words = clashes.whole;
+      clashes = λ a b. on_menu catalog places words a b clashes;
+      no_more = λ a b. off_menu catalog places words a b clashes;
       credits = most;
       courses = many;
+      limits = limits;
     }
-
--- what holds of a value that is answered
-pub if_ok : {A E : Type 0} (P Q : A → Type 0) (r : Result A E) → ((v : A) → P v → Q v) → IfOk r P → IfOk r Q
-if_ok P Q (Ok v) then is = then v is
-if_ok P Q (Err e) then is = tt

@@ -52,12 +52,14 @@ fn menu_of(
     let places = places_of(alloc, catalog, preferences.ratings(student))?;
     let pairs = pairs_of(alloc, &places, preferences.pairs(student))?;
     let clashes = clashes_of(alloc, catalog, &places)?;
-    Menu::build(
+    let menu = Menu::build(
         alloc,
         &places,
         &pairs,
         &clashes,
         roll.credits(student),
         roll.courses(student),
-    )
+    )?;
+    prove!(menu.len() <= 60);
+    Ok(menu)
 }

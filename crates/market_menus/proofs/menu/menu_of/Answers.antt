@@ -1,4 +1,5 @@
-use Rattle.std.proofs.Common.{length, sym, subst, arith}
+use Rattle.std.proofs.Common.{◌≡◌, length, sym, subst, arith}
+use Rattle.bundle_rules.specs.Menus.{IsMenu}
 use Rattle.preference_desk.specs.PreferencesView.{wanted_by}
 use Rattle.preference_desk.specs.StudentPreferences.{no_preferences}
 use Rattle.preference_desk.proofs.BelowLemmas.{rated_below}
@@ -9,7 +10,7 @@ use Rattle.market_menus.specs.Students.{student_at}
 use Rattle.market_menus.proofs.ClashFacts.{are_clashes}
 use Rattle.market_menus.proofs.PairFacts.{are_pairs}
 use Rattle.market_menus.proofs.PlaceFacts.{AreGoodPlaces, good_places}
-use Rattle.market_menus.proofs.StudentFacts.{if_ok, is_menu, menu_data}
+use Rattle.market_menus.proofs.StudentFacts.{is_menu, menu_data}
 use Rattle.market_menus.proofs.menu.menu_of.Goals as goal
 
 pub places_of-requires : goal.places_of-requires
@@ -53,9 +54,11 @@ returns c =
     let student = student_at c.args.roll.now.students c.args.student.0 in
     let nobody = no_student in
     let parts = menu_data c.in_ok-places.places.items c.in_ok-pairs.pairs.items c.in_ok-clashes.clashes.items c.credits.result c.courses.result in
+    let is : c.in_ok-menu.menu ≡ parts = rw (c.deref-3.ensures.value, c.deref-4.ensures.value, c.deref-5.ensures.value) at c.in_ok-menu.ensures in
     let made : IsMenuOf catalog student wanted parts =
     is_menu catalog student wanted c.ratings.result.now c.pairs.result.now c.in_ok-places.places.items c.in_ok-pairs.pairs.items c.in_ok-clashes.clashes.items c.credits.result c.courses.result
     c.in_ok-places.ensures c.ratings.ensures.entries (rw c.deref.ensures.value at c.in_ok-pairs.ensures) c.pairs.ensures.entries (rw c.deref-2.ensures.value at c.in_ok-clashes.ensures)
     (read_at (λ (s : Student). s.credits) c.args.roll.now.students c.args.student.0 c.credits.result nobody c.credits.ensures.credits)
-    (read_at (λ (s : Student). s.courses) c.args.roll.now.students c.args.student.0 c.courses.result nobody c.courses.ensures.courses) in
-    if_ok _ _ c.build.result (λ menu is. subst (IsMenuOf catalog student wanted) (sym is) (rw (c.deref-3.ensures.value, c.deref-4.ensures.value, c.deref-5.ensures.value) made)) c.build.ensures
+    (read_at (λ (s : Student). s.courses) c.args.roll.now.students c.args.student.0 c.courses.result nobody c.courses.ensures.courses)
+    (subst IsMenu is c.len.ensures.menu) in
+    subst (IsMenuOf catalog student wanted) (sym is) made

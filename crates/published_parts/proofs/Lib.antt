@@ -1,0 +1,3 @@
+pub mod OneJournals
+pub mod OneCrowds
+pub mod OneBests

@@ -1,0 +1,6 @@
+pub mod Markets
+pub mod Journals
+pub mod Crowds
+pub mod Offers
+pub mod Holdings
+pub mod Laws
