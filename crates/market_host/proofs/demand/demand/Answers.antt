@@ -13,6 +13,15 @@ use Rattle.market_host.proofs.Stops.{market_stops, prices_stop, sessions_stop}
 use Rattle.market_host.proofs.StreamFacts.{count_of_sessions}
 use Rattle.market_host.proofs.demand.demand.Goals as goal
 
+pub bounds-words-5 : goal.bounds-words-5
+bounds-words-5 g c = omega (arith, (length-demand c.args.words.now c.args.workers c.requires).0)
+
+pub slice_bounds-take_sessions-count : goal.slice_bounds-take_sessions-count
+slice_bounds-take_sessions-count g c = omega (arith, (length-demand c.args.words.now c.args.workers c.requires).0)
+
+pub slice_bounds-take_sessions-start : goal.slice_bounds-take_sessions-start
+slice_bounds-take_sessions-start g c = omega (arith, (length-demand c.args.words.now c.args.workers c.requires).0)
+
 pub returns-in_err-market-clause-answer : goal.returns-in_err-market-clause-answer
 returns-in_err-market-clause-answer g c =
     let p = err_from_is_err_and c.from_residual.result c.from_residual.ensures.1 in

@@ -22,11 +22,11 @@ make_crowd-requires-clause-sections g c =
     sections_listed (names_of c.in_ok-closed.closed.desk) c.args.market.now.catalog.sections c.args.market.now.roll.students (preferences_of c.closed.result.now) c.in_ok-closed.ensures.names c.closed.ensures.sections
 
 pub taken_by-requires-clause-seats : goal.taken_by-requires-clause-seats
-taken_by-requires-clause-seats g c =
+taken_by-requires-clause-seats g c κs within =
     ap length c.all_seats-seats.ensures ∙ length-map c.args.market.now.catalog.sections (λ section. section.seats) ∙ sym c.in_ok-crowd.ensures.crowd.sections
 
 pub taken_by-requires-clause-prices : goal.taken_by-requires-clause-prices
-taken_by-requires-clause-prices g c = c.requires.prices ∙ sym c.in_ok-crowd.ensures.crowd.sections
+taken_by-requires-clause-prices g c κs within = c.requires.prices ∙ sym c.in_ok-crowd.ensures.crowd.sections
 
 pub demand_text-requires : goal.demand_text-requires
 demand_text-requires g c =
