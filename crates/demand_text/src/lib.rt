@@ -12,3 +12,6 @@ mod text;
 pub use lines::put_order;
 pub use taking::Taken;
 pub use text::demand_text;
+
+#[cfg(test)]
+mod tests;

@@ -8,15 +8,19 @@ const LINES: [&str; 3] = [
     "demand 16 CAT STU SET PRICES S1",
 ];
 
-pub const FOUR: &[u8] = b"student,budget,credits,courses\ns1,100,10,1\ns2,101,10,1\ns3,102,10,1\ns4,103,10,1\n";
+pub(super) const FOUR: &[u8] =
+    b"student,budget,credits,courses\ns1,100,10,1\ns2,101,10,1\ns3,102,10,1\ns4,103,10,1\n";
 
-const CARRIED: &[u8] = b"student,budget,credits,courses,carry\ns1,100,10,1,3\ns2,101,10,1,0\ns3,102,10,1,0\ns4,103,10,1,0\n";
+const CARRIED: &[u8] =
+    b"student,budget,credits,courses,carry\ns1,100,10,1,3\ns2,101,10,1,0\ns3,102,10,1,0\ns4,103,10,1,0\n";
 
-pub const SEAT: &[u8] = b"section,course,seats,credits,meetings\nX,XX,1,1,\n";
+pub(super) const SEAT: &[u8] = b"section,course,seats,credits,meetings\nX,XX,1,1,\n";
 
-pub const EQUAL: &[u8] = br#"{"seed":0,"spread":0,"accept":9,"turns":0,"tabu":5,"patience":3,"steps":[1],"raise":10}"#;
+pub(super) const EQUAL: &[u8] =
+    br#"{"seed":0,"spread":0,"accept":9,"turns":0,"tabu":5,"patience":3,"steps":[1],"raise":10}"#;
 
-const MARKED: &[u8] = b"\xef\xbb\xbf{\"seed\":0,\"spread\":0,\"accept\":9,\"turns\":0,\"tabu\":5,\"patience\":3,\"steps\":[1],\"raise\":10}";
+const MARKED: &[u8] =
+    b"\xef\xbb\xbf{\"seed\":0,\"spread\":0,\"accept\":9,\"turns\":0,\"tabu\":5,\"patience\":3,\"steps\":[1],\"raise\":10}";
 
 const RATED: &[u8] = b"rate s1 X 50\nrate s2 X 50\nrate s3 X 50\nrate s4 X 50\n";
 
@@ -183,14 +187,17 @@ const REFUSED_SETTINGS: [Case; 7] = [
     ),
 ];
 
-const TERM: &[u8] = b"section,course,seats,credits,meetings\nA,ACCT,1,1,M0900-1020;W0900-1020\nB,BIOL,2,1,M1020-1140\nC,CHEM,2,1,T0900-1020\nD,ACCT,1,1,M1000-1100\n";
+const TERM: &[u8] =
+    b"section,course,seats,credits,meetings\nA,ACCT,1,1,M0900-1020;W0900-1020\nB,BIOL,2,1,M1020-1140\nC,CHEM,2,1,T0900-1020\nD,ACCT,1,1,M1000-1100\n";
 
 const THREE_STUDENTS: &[u8] =
     b"student,budget,credits,courses\nann,100,10,2\nbob,101,10,2\ncat,102,10,2\n";
 
-const SPREAD: &[u8] = br#"{"seed":0,"spread":2,"accept":1,"turns":5,"tabu":5,"patience":3,"steps":[1],"raise":10}"#;
+const SPREAD: &[u8] =
+    br#"{"seed":0,"spread":2,"accept":1,"turns":5,"tabu":5,"patience":3,"steps":[1],"raise":10}"#;
 
-const ORDINARY: &[u8] = b"rate ann A 60\nrate ann B 30\nrate bob A 50\nrate bob C 40\npair bob A C 10\nrate cat A 20\nrate cat D 45\nclose\n";
+const ORDINARY: &[u8] =
+    b"rate ann A 60\nrate ann B 30\nrate bob A 50\nrate bob C 40\npair bob A C 10\nrate cat A 20\nrate cat D 45\nclose\n";
 
 const OF_A_TERM: [Case; 2] = [
     (
@@ -262,15 +269,15 @@ const ORDERS: [&str; 6] = [
     "order 2 2 1 1\n",
 ];
 
-pub const FIRST: &[u8] = b"rate s1 X 50\nrate s2 X 50\n";
+pub(super) const FIRST: &[u8] = b"rate s1 X 50\nrate s2 X 50\n";
 
-pub const SECOND: &[u8] = b"rate s3 X 50\nrate s4 X 50\n";
+pub(super) const SECOND: &[u8] = b"rate s3 X 50\nrate s4 X 50\n";
 
-pub const TAKEN: &str =
+const TAKEN: &str =
     "bundle s1 []\nbundle s2 []\nbundle s3 [X]\nbundle s4 [X]\ncount X 2\nerror 1\n";
 
 // Whether a text has a lawful order, and behind it what is taken.
-pub fn is_lawful(text: &str) -> bool {
+pub(super) fn is_lawful(text: &str) -> bool {
     ORDERS
         .iter()
         .any(|order| text.strip_prefix(*order) == Some(TAKEN))
