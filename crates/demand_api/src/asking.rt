@@ -1,5 +1,6 @@
 // What can be asked of a crowd.
 ghost use Rattle.std.specs.Prelude.{◌≡◌, ◌<◌, ◌≤◌, ◌↔◌, ℕ, IsTrue, IfOk, All, length, map};
+ghost use Rattle.std.specs.Thread.{IsSync};
 ghost use Rattle.bundle_rules.specs.Demand.{price_in};
 ghost use Rattle.bundle_rules.specs.Bundles.{sections_of};
 ghost use Rattle.demand_api.specs.Crowds.{CrowdData, IsCrowd, top, demand_of, count, counts};
@@ -14,7 +15,8 @@ use std::thread::Threads;
 
 /// A crowd that is asked what it demands. Whoever implements this may use any method: each answer is fixed by the
 /// crowd and the prices. A vector of prices has one price for each section, each at most the top. Besides its value,
-/// a call can only answer that memory was wanted.
+/// a call can only answer that memory was wanted. That threads may share `rt`, which the bound `Sync` says, is a clause
+/// beside it: in a trait's method the bound alone tells a body nothing.
 pub trait Demands {
     /// The crowd, which no call changes.
     ghost crowd: { Self → CrowdData };
@@ -39,6 +41,7 @@ pub trait Demands {
         alloc: Global,
         batch: &[Vec<Tokens>],
     ) -> Result<Vec<Vec<u32>>, NoMemory>
+        requires sync { IsSync R.row }
         requires some { 1 ≤ length batch.now }
         requires few { length batch.now ≤ 16 }
         requires prices { All (λ prices. ArePricesFor (crowd self.old) prices.items) batch.now }
@@ -54,6 +57,7 @@ pub trait Demands {
         prices: &[Tokens],
         students: &[StudentNo],
     ) -> Result<Vec<Bundle>, NoMemory>
+        requires sync { IsSync R.row }
         requires prices { ArePricesFor (crowd self.old) prices.now }
         requires few { length students.now ≤ 2000 }
         requires range { All (λ student. student.0 < length (crowd self.old).students) students.now }
@@ -70,6 +74,7 @@ pub trait Demands {
         section: SectionNo,
         limit: u32,
     ) -> Result<bool, NoMemory>
+        requires sync { IsSync R.row }
         requires prices { ArePricesFor (crowd self.old) prices.now }
         requires section { section.0 < (crowd self.old).sections }
         ensures crowd { crowd self.new ≡ crowd self.old }
@@ -87,6 +92,7 @@ pub trait Demands {
         prices: &[Tokens],
         pairs: &[(SectionNo, u32)],
     ) -> Result<Vec<Tokens>, NoMemory>
+        requires sync { IsSync R.row }
         requires prices { ArePricesFor (crowd self.old) prices.now }
         requires few { length pairs.now ≤ 400 }
         requires sections { All (λ pair. pair.0.0 < (crowd self.old).sections) pairs.now }
