@@ -13,7 +13,7 @@ use price_board::{Answers, Ask};
 use std::alloc::Global;
 
 // What a student takes at a version of which all bundles were asked.
-pub(crate) fn bundle_of(answers: &Answers, version: u8, student: StudentNo) -> Bundle
+fn bundle_of(answers: &Answers, version: u8, student: StudentNo) -> Bundle
     requires version { version < version_count answers.now.terms }
     requires student { student.0 < student_count answers.now.terms }
     requires counts { ask_of answers.now.terms.asks version ≡ Ask.Counts }
@@ -22,6 +22,19 @@ pub(crate) fn bundle_of(answers: &Answers, version: u8, student: StudentNo) -> B
     match answers.bundle(version, student) {
         Some(bundle) => bundle,
         None => unreachable!(),
+    }
+}
+
+// Writes what each listed student takes at the first version, of which all bundles were asked.
+pub(crate) fn read_bundles(answers: &Answers, students: &[StudentNo], bundles: &mut [Bundle])
+    requires version { 1 ≤ version_count answers.now.terms }
+    requires students { All (λ student. student.0 < student_count answers.now.terms) students.now }
+    requires counts { ask_of answers.now.terms.asks 0 ≡ Ask.Counts }
+    requires same { length bundles.old ≡ length students.now }
+    ensures { map sections_of bundles.new ≡ map (λ student. demand_of answers.now.terms 0 student.0) students.now }
+{
+    for place in 0..students.len() {
+        bundles[place] = bundle_of(answers, 0, students[place]);
     }
 }
 
@@ -58,16 +71,16 @@ pub(crate) fn count_versions(answers: &Answers, students: u16, found: &mut [Vec<
 }
 
 // Counts, from 0, how many students take each section at a version of which all bundles were asked.
-fn count_version(answers: &Answers, version: u8, students: u16, counts: &mut [u32])
+fn count_version(answers: &Answers, version: u8, students: u16, found: &mut [u32])
     requires crowd { IsCrowd answers.now.terms.crowd }
     requires version { version < version_count answers.now.terms }
     requires students { students ≡ student_count answers.now.terms }
     requires counts { ask_of answers.now.terms.asks version ≡ Ask.Counts }
-    requires zeros { counts.old ≡ replicate answers.now.terms.crowd.sections 0 }
-    ensures { counts.new ≡ counts answers.now.terms.crowd (prices_of answers.now.terms version) }
+    requires zeros { found.old ≡ replicate answers.now.terms.crowd.sections 0 }
+    ensures { found.new ≡ counts answers.now.terms.crowd (prices_of answers.now.terms version) }
 {
     for student in 0..students {
         let bundle = bundle_of(answers, version, StudentNo(student));
-        count_bundle(counts, bundle.sections());
+        count_bundle(found, bundle.sections());
     }
 }

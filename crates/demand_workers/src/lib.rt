@@ -6,7 +6,7 @@ mod pooled_demands;
 mod round;
 mod worker;
 
-pub use pooled_demands::PooledDemands;
+pub use pooled_demands::{AnyGate, PooledDemands};
 
 #[cfg(test)]
 mod tests;

@@ -18,14 +18,14 @@ use std::thread::Threads;
 
 // What all workers find for these versions and what is asked of each. All memory is taken before the first worker starts, and the only
 // error is that it was not given.
-pub(crate) fn ask_workers<R: Threads + Wait + Sync, G: Gate + Sync>(
+pub(crate) fn ask_workers<R: Threads + Wait + Sync>(
     rt: &R,
     alloc: Global,
     crowd: &Arc<Crowd>,
     versions: &[Vec<Tokens>],
     asks: Vec<Ask>,
     workspaces: &[Mutex<Workspace>],
-    gate: &G,
+    gate: &(dyn Gate + Sync),
 ) -> Result<Answers, NoMemory>
     requires crowd { IsMade (arc_value crowd.now) }
     requires versions { AreVersionsFor (data_of (arc_value crowd.now)) versions.now }
@@ -69,14 +69,14 @@ fn copies_of(alloc: Global, versions: &[Vec<Tokens>]) -> Result<Vec<Vec<Tokens>>
 }
 
 // Each worker works at its seat with a workspace of its own, in a thread of its own where one can be started.
-fn work_all<R: Threads + Wait + Sync, G: Gate + Sync>(
+fn work_all<R: Threads + Wait + Sync>(
     rt: &R,
     board: &Board,
     seats: &mut [BoardSeat],
     workspaces: &[Mutex<Workspace>],
     crowd: &Crowd,
     versions: &[Vec<Tokens>],
-    gate: &G,
+    gate: &(dyn Gate + Sync),
 )
     requires crowd { IsMade crowd.now }
     requires versions { AreVersionsFor (data_of crowd.now) versions.now }
@@ -95,9 +95,7 @@ fn work_all<R: Threads + Wait + Sync, G: Gate + Sync>(
         threads,
         &|n, seat|
             requires { (n < length workspaces.now) × (seat.now.number < 16) × IsFree board.now seat.now × IsMade crowd.now × AreVersionsFor (data_of crowd.now) versions.now × IsBoardOf (data_of crowd.now) versions.now board.now }
-        {
-            let mut workspace = workspaces[n].lock(rt);
-            work(rt, board, seat, &mut workspace, crowd, versions, gate);
-        },
+            ensures { IsFinished board.entry.now seat.exit.now × (seat.exit.now.number ≡ seat.entry.now.number) }
+        { work(rt, board, seat, &workspaces[n], crowd, versions, gate) },
     );
 }

@@ -104,11 +104,11 @@ fn at(alloc: Global, price: u32) -> Result<Vec<Tokens>, NoMemory> {
 }
 
 // How many of the four take the section at 104, 102, 103 and 0, asked in one call of so many workers.
-fn counts_by<R: Abort + Threads + Wait + Sync, G: Gate + Sync>(
+fn counts_by<R: Abort + Threads + Wait + Sync>(
     rt: &R,
     alloc: Global,
     workers: u16,
-    gate: &G,
+    gate: &(dyn Gate + Sync),
 ) -> Result<[u32; 4], Fail>
     requires { (1 ≤ workers) × (workers ≤ 16) }
 {

@@ -15,18 +15,18 @@ use demand_oracle::{Workspace, demand};
 use market_edge::{Gate, Stop};
 use market_units::{SectionSet, StudentNo, Tokens};
 use price_board::{Board, BoardSeat, Draw};
-use std::sync::Wait;
+use std::sync::{Mutex, Wait};
 
 // Draws one task after another, and posts what its student takes, until no task is left. The worker passes the gate before its first
 // draw and after each of its posts.
-pub(crate) fn work<R: Wait, G: Gate>(
+pub(crate) fn work<R: Wait>(
     rt: &R,
     board: &Board,
     seat: &mut BoardSeat,
-    workspace: &mut Workspace,
+    workspace: &Mutex<Workspace>,
     crowd: &Crowd,
     versions: &[Vec<Tokens>],
-    gate: &G,
+    gate: &(dyn Gate + Sync),
 )
     requires crowd { IsMade crowd.now }
     requires versions { AreVersionsFor (data_of crowd.now) versions.now }
@@ -36,12 +36,13 @@ pub(crate) fn work<R: Wait, G: Gate>(
     ensures finished { IsFinished board.now seat.new }
     ensures number { seat.new.number ≡ seat.old.number }
 {
+    let mut workspace = workspace.lock(rt);
     let number = seat.number() + 1;
     gate.pass(Stop::WorkerStart(number));
     let allowed = SectionSet::full(crowd.sections);
     while let Draw::Task(task) = board.draw(rt, seat) {
         let prices = &versions[usize::from(task.version)];
-        let bundle = taken(workspace, crowd, prices, &allowed, task.student);
+        let bundle = taken(&mut workspace, crowd, prices, &allowed, task.student);
         board.post(rt, seat, task.version, task.student, bundle);
         gate.pass(Stop::WorkerCall(number));
     }
