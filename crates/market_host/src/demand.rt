@@ -118,6 +118,6 @@ fn taken_by<R: Threads + Wait + Sync, G: Gate + Sync>(
     ensures by { IfOk result (λ taken. IsTakenBy (length (crowd_of crowd.menus.items crowd.budgets.items crowd.sections).students) crowd.sections taken) }
 {
     let crowd = Arc::new(alloc, crowd)?;
-    let mut demands = PooledDemands::make(workers, crowd, gate, alloc)?;
+    let mut demands = PooledDemands::make(alloc, workers, crowd, gate)?;
     Taken::at(rt, alloc, &mut demands, seats, prices)
 }
