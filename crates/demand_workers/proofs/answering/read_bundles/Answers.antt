@@ -3,7 +3,7 @@ use Rattle.std.proofs.lemmas.List.{length-set}
 use Rattle.market_units.specs.declared.units.StudentNo.{StudentNo}
 use Rattle.bundle_rules.specs.Bundles.{sections_of}
 use Rattle.price_board.specs.Terms.{demand_of}
-use Rattle.demand_workers.proofs.Counting.{maps_same, written_more}
+use Rattle.demand_workers.proofs.Counting.{maps_same}
 use Rattle.demand_workers.proofs.answering.read_bundles.Goals as goal
 
 pub returns : goal.returns
