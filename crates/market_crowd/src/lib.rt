@@ -4,3 +4,6 @@
 mod making;
 
 pub use making::make_crowd;
+
+#[cfg(test)]
+mod tests;

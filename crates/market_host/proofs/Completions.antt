@@ -3,9 +3,11 @@ use Rattle.std.proofs.Common.{ℕ, ◌≡◌, ◌≢◌, ◌≤◌, ◌+◌, Lis
 use Rattle.std.specs.Prelude.{◌⊎◌, All, Option, Some, None, MatchResult, slice_index_or, ⊤}
 use Rattle.std.specs.List.{AllZip}
 use Rattle.std.proofs.lemmas.List.{append-nil, length-append}
+use Rattle.course_catalog.specs.Catalog.{CatalogData}
 use Rattle.market_edge.specs.Faults.{Rose}
 use Rattle.market_edge.specs.Holdings.{Holding, IsLeftOf, IsTextOf, TakesExactly, text_of, told_text}
 use Rattle.market_words.specs.declared.words.Form.{Form}
+use Rattle.price_sheet.specs.Sheets.{prices_of}
 use Rattle.market_words.specs.Forms.{inputs_of}
 use Rattle.market_words.proofs.OneForm.{one_form}
 use Rattle.market_host.specs.declared.cause.Cause.{Cause}
@@ -14,8 +16,8 @@ use Rattle.market_host.specs.declared.status.Status.TheVariants.{Done, Usage, Sh
 use Rattle.market_host.specs.declared.trouble.Trouble.{Trouble}
 use Rattle.market_host.specs.declared.trouble.Trouble.TheVariants as trouble
 use Rattle.market_host.specs.Completeness.{CanBeDone, EndsWork}
-use Rattle.market_host.specs.Inputs.{AreInOrder, AreTold, HasFault, IsInOrder, IsOfGrammar}
-use Rattle.market_host.specs.Kinds.{Kind, Catalog, Roll, Session, kind_of, limit_of}
+use Rattle.market_host.specs.Inputs.{AreInOrder, AreTold, BeginWithCatalog, HasFault, IsInOrder, IsOfGrammar}
+use Rattle.market_host.specs.Kinds.{Kind, Catalog, Roll, Settings, Prices, Session, kind_of, limit_of}
 use Rattle.market_host.specs.Outcomes.{IsOutcome, IsStopped}
 use Rattle.market_host.specs.Sights.{Sight}
 use Rattle.market_host.specs.Statuses.{status_of}
@@ -49,10 +51,19 @@ in_order_at form held front (e ∷ earlier) later (t ∷ told) (s ∷ texts) nam
     let joined : (front ++ t ∷ []) ++ texts ≡ front ++ s ∷ texts = append_assoc front (t ∷ []) texts ∙ ap (λ first. front ++ first ∷ texts) same in
     (rest.0, rest.1, subst (λ all. IsInOrder form all rest.0) joined rest.2)
 
+-- texts begin with one catalogue at most
+one_catalog : (texts : List (List ℕ)) (one other : CatalogData) → BeginWithCatalog texts one → BeginWithCatalog texts other → one ≡ other
+one_catalog [] one other is same = absurd is
+one_catalog (text ∷ texts) one other is same = cc
+
 -- a text of its grammar has no fault
 no_fault : (kind : Kind) (earlier : List (List ℕ)) (row : ℕ) (cause : Cause) (text : List ℕ) → IsOfGrammar kind earlier text → HasFault kind earlier row cause text → ⊥
 no_fault Catalog earlier row cause text good fault = subst (λ read. MatchResult read (λ _. ⊤) (λ _. ⊥)) (sym good.1 ∙ fault.1) tt
 no_fault Roll earlier row cause text good fault = subst (λ read. MatchResult read (λ _. ⊤) (λ _. ⊥)) (sym good.1 ∙ fault.1) tt
+no_fault Settings earlier row cause text good fault = subst (λ read. MatchResult read (λ _. ⊤) (λ _. ⊥)) (sym good.1 ∙ fault.1) tt
+no_fault Prices earlier row cause text good fault =
+    let same : good.0 ≡ fault.0 = one_catalog earlier good.0 fault.0 good.2 fault.1 in
+    subst (λ read. MatchResult read (λ _. ⊤) (λ _. ⊥)) (sym good.3 ∙ ap (λ (catalog : CatalogData). prices_of catalog.sections text) same ∙ fault.2.1) tt
 no_fault Session earlier row cause text good fault = absurd fault
 
 left_is_short : (count : ℕ) (text : List ℕ) (told left : Option (List ℕ)) → told ≡ Some text → IsLeftOf count told left → count ≤ length text

@@ -1,7 +1,9 @@
 pub mod Completions
+pub mod DemandFacts
 pub mod InputTroubles
 pub mod LineTexts
 pub mod ListedSections
+pub mod MarketFacts
 pub mod PreferFacts
 pub mod QuoteFacts
 pub mod QuoteWords

@@ -19,7 +19,7 @@ use Rattle.utility_language.specs.declared.commands.Command.{Command}
 use Rattle.market_host.specs.Inputs.{AreRead}
 use Rattle.market_host.specs.Kinds.{Catalog, Roll}
 use Rattle.market_host.specs.Outcomes.{IsDone, IsLastAtEnd}
-use Rattle.market_host.specs.Preferences.{IsHeld}
+use Rattle.market_host.specs.Markets.{IsHeld}
 use Rattle.market_host.specs.Reading.{AreReadSessions, IsRead}
 use Rattle.market_host.specs.Sights.{Sight}
 use Rattle.market_host.proofs.InputTroubles.{roll_second}

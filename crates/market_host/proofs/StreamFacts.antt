@@ -12,8 +12,7 @@ use Rattle.preference_text.proofs.ShortCommands.{commands_are_short, entries_are
 use Rattle.session_hall.specs.Streams.{command_lists}
 use Rattle.utility_language.specs.declared.commands.Command.{Command}
 use Rattle.utility_language.specs.Commands.{AreCommands, HasShortNumber, IsCommandOf, command_lines}
-use Rattle.market_host.specs.Preferences.{AreStreams}
-use Rattle.market_host.specs.Sessions.{command_count, session_text}
+use Rattle.market_host.specs.Sessions.{AreStreams, command_count, session_text}
 
 -- a session has as many commands as lines that are commands
 pub count_of_session : (session : List ℕ) (commands : List Command) → AreCommands (session_text session) commands → length commands ≡ command_count session

@@ -5,34 +5,49 @@ use Rattle.course_catalog.specs.Catalog.{CatalogData}
 use Rattle.course_catalog.specs.Reading.{catalog_of}
 use Rattle.student_roll.specs.Rolls.{roll_of}
 use Rattle.student_roll.specs.Students.{RollData}
+use Rattle.market_settings.specs.declared.reader.Settings.{Settings as SettingsData}
+use Rattle.market_settings.specs.Settings.{settings_of}
+use Rattle.price_sheet.specs.Sheets.{prices_of}
 use Rattle.market_edge.specs.Holdings.{Holding, IsTextOf, told_text}
 use Rattle.market_lists.specs.Totals.{total}
 use Rattle.market_words.specs.declared.words.Form.{Form}
 use Rattle.market_host.specs.declared.cause.Cause.{Cause}
-use Rattle.market_host.specs.Kinds.{Kind, Catalog, Roll, Session, front_of, kind_of, limit_of, streams_of}
-use Rattle.market_host.specs.Refusals.{IsNoCatalog, IsNoRoll}
+use Rattle.market_host.specs.Marks.{without_mark}
+use Rattle.market_host.specs.Kinds.{Kind, Catalog, Roll, Settings, Prices, Session, front_of, kind_of, limit_of, streams_of}
+use Rattle.market_host.specs.Refusals.{AreNoPrices, AreNoSettings, IsNoCatalog, IsNoRoll}
 use Rattle.market_host.specs.Sessions.{command_count}
 
 -- how many commands a text of this kind has, where it is a stream of them
 abbrev pub commands_in : Kind → List ℕ → ℕ
 commands_in Catalog text = 0
 commands_in Roll text = 0
+commands_in Settings text = 0
+commands_in Prices text = 0
 commands_in Session text = command_count text
 
 -- how many commands the streams among the texts of a form's first inputs have together
 abbrev pub commands_among : Form → List (List ℕ) → ℕ
 commands_among form texts = total (commands_in (streams_of form)) (drop (length (front_of form)) texts)
 
--- a text of this kind, behind these others, is of its grammar; a session always is
+-- the first of these texts is this catalogue
+abbrev pub BeginWithCatalog : List (List ℕ) → CatalogData → Type 0
+BeginWithCatalog [] catalog = ⊥
+BeginWithCatalog (text ∷ more) catalog = catalog_of text ≡ Ok catalog
+
+-- a text of this kind, behind these others, is of its grammar; prices are those of the catalogue's sections, and a session always is
 abbrev pub IsOfGrammar : Kind → List (List ℕ) → List ℕ → Type 0
 IsOfGrammar Catalog earlier text = (catalog : CatalogData) × (catalog_of text ≡ Ok catalog)
 IsOfGrammar Roll earlier text = (roll : RollData) × (roll_of text ≡ Ok roll)
+IsOfGrammar Settings earlier text = (settings : SettingsData) × (settings_of (without_mark text) ≡ Ok settings)
+IsOfGrammar Prices earlier text = (catalog : CatalogData) × (prices : List ℕ) × BeginWithCatalog earlier catalog × (prices_of catalog.sections text ≡ Ok prices)
 IsOfGrammar Session earlier text = ⊤
 
 -- a text of this kind, behind these others, is not of its grammar, and its first fault has this row and this cause; a session has none
 abbrev pub HasFault : Kind → List (List ℕ) → ℕ → Cause → List ℕ → Type 0
 HasFault Catalog earlier row cause text = IsNoCatalog text row cause
 HasFault Roll earlier row cause text = IsNoRoll text row cause
+HasFault Settings earlier row cause text = AreNoSettings text row cause
+HasFault Prices earlier row cause text = (catalog : CatalogData) × BeginWithCatalog earlier catalog × AreNoPrices catalog.sections text row cause
 HasFault Session earlier row cause text = ⊥
 
 -- The text of a form's next input, behind these others, is within its limits and of its grammar: its bytes, the commands of all streams up

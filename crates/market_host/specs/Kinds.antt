@@ -1,22 +1,30 @@
 -- The kinds of inputs. Limits, grammars and faults go by kind; a form says which kinds its inputs have.
-use Rattle.std.specs.Prelude.{ℕ, zero, suc, List, [], ◌∷◌}
+use Rattle.std.specs.Prelude.{ℕ, ◌≡◌, zero, suc, List, [], ◌∷◌}
 use Rattle.market_words.specs.declared.words.Form.{Form}
-use Rattle.market_words.specs.declared.words.Form.TheVariants.{Prefer, Quote}
+use Rattle.market_words.specs.declared.words.Form.TheVariants.{Demand, Prefer, Quote}
 
 pub data Kind : Type 0 where
   Catalog : Kind
   Roll : Kind
+  Settings : Kind
+  Prices : Kind
   Session : Kind
 
 -- the kinds of a form's inputs in front of its streams of commands
 abbrev pub front_of : Form → List Kind
 front_of (Quote name credits courses) = Catalog ∷ []
 front_of Prefer = Catalog ∷ Roll ∷ []
+front_of (Demand workers) = Catalog ∷ Roll ∷ Settings ∷ Prices ∷ []
+
+-- the first three inputs of a form are a catalogue, a roll and settings
+abbrev pub OpensMarket : Form → Type 0
+OpensMarket form = (kinds : List Kind) × (front_of form ≡ Catalog ∷ Roll ∷ Settings ∷ kinds)
 
 -- the kind of a form's streams of commands
 abbrev pub streams_of : Form → Kind
 streams_of (Quote name credits courses) = Session
 streams_of Prefer = Session
+streams_of (Demand workers) = Session
 
 -- the kind of the input that stands behind so many others, where these kinds stand in front of streams of that kind
 abbrev pub kind_behind : List Kind → Kind → ℕ → Kind
@@ -32,4 +40,6 @@ kind_of form count = kind_behind (front_of form) (streams_of form) count
 abbrev pub limit_of : Kind → ℕ
 limit_of Catalog = 16777216
 limit_of Roll = 16777216
+limit_of Settings = 16777216
+limit_of Prices = 16777216
 limit_of Session = 16777216

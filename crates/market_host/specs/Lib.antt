@@ -1,8 +1,11 @@
 pub mod Completeness
+pub mod Demands
 pub mod Ends
 pub mod Inputs
 pub mod Kinds
 pub mod Lines
+pub mod Markets
+pub mod Marks
 pub mod Outcomes
 pub mod Preferences
 pub mod Quotes

@@ -2,12 +2,13 @@
 use Rattle.std.specs.Prelude.{ℕ, ◌≡◌, List, [], ◌∷◌, ◌++◌}
 use Rattle.market_units.specs.Name.{name_bytes}
 use Rattle.market_words.specs.declared.words.Form.{Form}
-use Rattle.market_words.specs.declared.words.Form.TheVariants.{Prefer, Quote}
+use Rattle.market_words.specs.declared.words.Form.TheVariants.{Demand, Prefer, Quote}
 use Rattle.market_words.specs.Forms.{HasForm, HasNoForm, inputs_of}
 use Rattle.market_host.specs.declared.status.Status.{Status}
 use Rattle.market_host.specs.declared.status.Status.TheVariants.{Done, Usage, ShelfFault, Refused, TooLong, SinkFault, OutOfMemory}
 use Rattle.market_host.specs.declared.trouble.Trouble.{Trouble}
 use Rattle.market_host.specs.declared.trouble.Trouble.TheVariants as trouble
+use Rattle.market_host.specs.Demands.{PrintsDemand}
 use Rattle.market_host.specs.Inputs.{AreRead}
 use Rattle.market_host.specs.Lines.{line_of, usage_line}
 use Rattle.market_host.specs.Preferences.{PrintsPreferences}
@@ -19,6 +20,7 @@ use Rattle.market_host.specs.Troubles.{HasTrouble, IsAtEnd}
 abbrev pub Prints : Form → List (List ℕ) → List ℕ → Type 0
 Prints (Quote name credits courses) texts text = PrintsQuote (name_bytes name) credits courses texts text
 Prints Prefer texts text = PrintsPreferences texts text
+Prints (Demand workers) texts text = PrintsDemand texts text
 
 -- the last of these inputs, where there is one, was read to its end
 abbrev pub IsLastAtEnd : Sight → List (List ℕ) → Type 0

@@ -2,6 +2,7 @@
 use Rattle.std.specs.Prelude.{ℕ, ◌≡◌, ◌+◌, ◌<◌, ◌≤◌, List, ◌∷◌, ◌++◌, length, Option, Vec, ⊤}
 use Rattle.std.proofs.Common.{Global}
 use Rattle.std.specs.List.{AllZip}
+use Rattle.course_catalog.specs.Catalog.{CatalogData}
 use Rattle.market_edge.specs.Holdings.{Holding, IsTextOf, TakesExactly}
 use Rattle.market_lists.specs.Totals.{total}
 use Rattle.market_words.specs.declared.words.Form.{Form}
@@ -10,10 +11,9 @@ use Rattle.utility_language.specs.declared.commands.Command.{Command}
 use Rattle.market_host.specs.declared.cause.Cause.{Cause}
 use Rattle.market_host.specs.declared.trouble.Trouble.{Trouble}
 use Rattle.market_host.specs.declared.trouble.Trouble.TheVariants.{ShelfFault, Refused, TooLong, OutOfMemory}
-use Rattle.market_host.specs.Inputs.{AreRead, commands_among}
-use Rattle.market_host.specs.Kinds.{Kind, Session, front_of, kind_of, limit_of, streams_of}
-use Rattle.market_host.specs.Preferences.{AreStreams}
-use Rattle.market_host.specs.Sessions.{command_count}
+use Rattle.market_host.specs.Inputs.{AreRead, BeginWithCatalog, commands_among}
+use Rattle.market_host.specs.Kinds.{Kind, Prices, Session, OpensMarket, front_of, kind_of, limit_of, streams_of}
+use Rattle.market_host.specs.Sessions.{AreStreams, command_count}
 use Rattle.market_host.specs.Sights.{Sight}
 use Rattle.market_host.specs.Troubles.{HasTrouble, IsFailed}
 
@@ -48,6 +48,18 @@ abbrev pub IsTroubleOf : Sight → Kind → List ℕ → ℕ → Trouble → Typ
 IsTroubleOf seen kind name number trouble =
     (form : Form) (earlier texts later : List (List ℕ)) → AreRead form seen.held earlier texts → kind_of form (length earlier) ≡ kind → number ≡ length earlier + 1
     → HasTrouble form seen (earlier ++ name ∷ later) trouble
+
+-- the same of prices, where the first input is this catalogue
+abbrev pub IsTroubleOfPrices : Sight → CatalogData → List ℕ → ℕ → Trouble → Type 0
+IsTroubleOfPrices seen catalog name number trouble =
+    (form : Form) (earlier texts later : List (List ℕ)) → AreRead form seen.held earlier texts → kind_of form (length earlier) ≡ Prices → number ≡ length earlier + 1
+    → BeginWithCatalog texts catalog
+    → HasTrouble form seen (earlier ++ name ∷ later) trouble
+
+-- the same of some of the first three inputs, for each form that begins with a catalogue, a roll and settings
+abbrev pub IsTroubleOfMarket : Sight → List ℕ → List ℕ → List ℕ → Trouble → Type 0
+IsTroubleOfMarket seen catalog roll settings trouble =
+    (form : Form) (later : List (List ℕ)) → OpensMarket form → HasTrouble form seen (catalog ∷ roll ∷ settings ∷ later) trouble
 
 -- the same of a session, where the sessions before it leave room for so many commands
 abbrev pub IsTroubleOfSession : Sight → ℕ → List ℕ → ℕ → Trouble → Type 0

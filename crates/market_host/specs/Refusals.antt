@@ -1,13 +1,21 @@
--- The row and the cause that are told of a refused catalogue or roll.
+-- The row and the cause that are told of a refused input.
 use Rattle.std.specs.Prelude.{ℕ, ◌≡◌, List, Err}
 use Rattle.course_catalog.specs.declared.refusal.CatalogRefusal.{CatalogRefusal}
 use Rattle.course_catalog.specs.declared.refusal.CatalogRefusal.TheVariants as of_catalog
 use Rattle.course_catalog.specs.Reading.{catalog_of}
+use Rattle.course_catalog.specs.Sections.{Section}
+use Rattle.market_settings.specs.declared.reader.SettingsRefusal.{SettingsRefusal}
+use Rattle.market_settings.specs.declared.reader.SettingsRefusal.TheVariants as of_settings
+use Rattle.market_settings.specs.Settings.{settings_of}
+use Rattle.price_sheet.specs.declared.refusal.PriceRefusal.{PriceRefusal}
+use Rattle.price_sheet.specs.declared.refusal.PriceRefusal.TheVariants as of_prices
+use Rattle.price_sheet.specs.Sheets.{prices_of}
 use Rattle.student_roll.specs.declared.refusal.RollRefusal.{RollRefusal}
 use Rattle.student_roll.specs.declared.refusal.RollRefusal.TheVariants as of_roll
 use Rattle.student_roll.specs.Rolls.{roll_of}
 use Rattle.market_host.specs.declared.cause.Cause.{Cause}
 use Rattle.market_host.specs.declared.cause.Cause.TheVariants as cause
+use Rattle.market_host.specs.Marks.{without_mark}
 
 -- The row and the cause of a refused catalogue. The header is row 1, and the section too many is the record of row 402.
 abbrev pub IsTold : CatalogRefusal → ℕ → Cause → Type 0
@@ -31,6 +39,24 @@ IsToldOfRoll (of_roll.Number at column) row told = (row ≡ at) × (told ≡ cau
 IsToldOfRoll of_roll.TooMany row told = (row ≡ 2002) × (told ≡ cause.TooMany)
 IsToldOfRoll of_roll.NoMemory row told = ⊥
 
+-- The row and the cause of refused settings. No fault of settings has a row, which is told as row 0.
+abbrev pub IsToldOfSettings : SettingsRefusal → ℕ → Cause → Type 0
+IsToldOfSettings of_settings.NotJson row told = (row ≡ 0) × (told ≡ cause.NotJson)
+IsToldOfSettings of_settings.NotObject row told = (row ≡ 0) × (told ≡ cause.NotObject)
+IsToldOfSettings (of_settings.Missing key) row told = (row ≡ 0) × (told ≡ cause.Missing key)
+IsToldOfSettings of_settings.Unknown row told = (row ≡ 0) × (told ≡ cause.Unknown)
+IsToldOfSettings (of_settings.Range key) row told = (row ≡ 0) × (told ≡ cause.Range key)
+IsToldOfSettings of_settings.NoMemory row told = ⊥
+
+-- The row and the cause of refused prices. The header is row 1.
+abbrev pub IsToldOfPrices : PriceRefusal → ℕ → Cause → Type 0
+IsToldOfPrices of_prices.Header row told = (row ≡ 1) × (told ≡ cause.Header)
+IsToldOfPrices (of_prices.Fields at) row told = (row ≡ at) × (told ≡ cause.Fields)
+IsToldOfPrices (of_prices.Name at column) row told = (row ≡ at) × (told ≡ cause.Name column)
+IsToldOfPrices (of_prices.Repeated at earlier) row told = (row ≡ at) × (told ≡ cause.Repeated earlier)
+IsToldOfPrices (of_prices.Number at column) row told = (row ≡ at) × (told ≡ cause.Number column)
+IsToldOfPrices of_prices.NoMemory row told = ⊥
+
 -- the text is no catalogue, and its first fault has this row and this cause
 abbrev pub IsNoCatalog : List ℕ → ℕ → Cause → Type 0
 IsNoCatalog text row told = (why : CatalogRefusal) × (catalog_of text ≡ Err why) × IsTold why row told
@@ -38,3 +64,11 @@ IsNoCatalog text row told = (why : CatalogRefusal) × (catalog_of text ≡ Err w
 -- the text is no roll, and its first fault has this row and this cause
 abbrev pub IsNoRoll : List ℕ → ℕ → Cause → Type 0
 IsNoRoll text row told = (why : RollRefusal) × (roll_of text ≡ Err why) × IsToldOfRoll why row told
+
+-- the text, without one leading byte order mark, is no settings, and its first fault has this row and this cause
+abbrev pub AreNoSettings : List ℕ → ℕ → Cause → Type 0
+AreNoSettings text row told = (why : SettingsRefusal) × (settings_of (without_mark text) ≡ Err why) × IsToldOfSettings why row told
+
+-- the text has no prices of these sections, and its first fault has this row and this cause
+abbrev pub AreNoPrices : List Section → List ℕ → ℕ → Cause → Type 0
+AreNoPrices sections text row told = (why : PriceRefusal) × (prices_of sections text ≡ Err why) × IsToldOfPrices why row told

@@ -1,16 +1,18 @@
 -- What a session says.
-use Rattle.std.specs.Prelude.{ℕ, List, [], ◌∷◌, take, drop, length, nat_eq, if◌then◌else◌}
-use Rattle.std.specs.Cmp.Lexicographic.{pointwise}
-use Rattle.utility_language.specs.Commands.{command_lines}
-
--- a byte order mark
-abbrev pub mark : List ℕ
-mark = 239 ∷ 187 ∷ 191 ∷ []
+use Rattle.std.specs.Prelude.{ℕ, List, length}
+use Rattle.std.specs.List.{AllZip}
+use Rattle.utility_language.specs.declared.commands.Command.{Command}
+use Rattle.utility_language.specs.Commands.{AreCommands, command_lines}
+use Rattle.market_host.specs.Marks.{without_mark}
 
 -- the text of a session: its bytes without one leading byte order mark
 abbrev pub session_text : List ℕ → List ℕ
-session_text bytes = if pointwise nat_eq (take 3 bytes) mark then drop 3 bytes else bytes
+session_text bytes = without_mark bytes
 
 -- how many commands a session has
 abbrev pub command_count : List ℕ → ℕ
 command_count bytes = length (command_lines (session_text bytes))
+
+-- the commands of each session
+abbrev pub AreStreams : List (List ℕ) → List (List Command) → Type 0
+AreStreams sessions streams = AllZip (λ session commands. AreCommands (session_text session) commands) sessions streams

@@ -12,6 +12,7 @@ ghost use Rattle.market_host.specs.Sights.{sight};
 ghost use Rattle.market_host.specs.declared.trouble.Trouble.TheVariants as trouble;
 
 use crate::Status;
+use crate::demand::demand;
 use crate::line::{line_for, usage};
 use crate::prefer::prefer;
 use crate::quote::quote;
@@ -113,5 +114,6 @@ fn answer<R: Threads + Wait + Sync, H: Shelf, G: Gate + Sync>(
             courses,
         } => quote(alloc, words, shelf, name, credits, courses),
         Form::Prefer => prefer(rt, alloc, words, shelf, gate),
+        Form::Demand { workers } => demand(rt, alloc, words, workers, shelf, gate),
     }
 }

@@ -1,6 +1,7 @@
 // The inputs of a call, each read whole.
 ghost use Rattle.std.specs.Prelude.{◌≡◌, ◌≤◌, List, ℕ, length, IfOk, OnOk, IfErr};
 ghost use Rattle.market_edge.specs.Holdings.{IsTextOf};
+ghost use Rattle.market_host.specs.Marks.{without_mark};
 ghost use Rattle.market_host.specs.Reading.{IsUnread};
 ghost use Rattle.market_host.specs.Sights.{sight};
 ghost use Rattle.market_host.specs.Troubles.{IsAtEnd};
@@ -31,5 +32,15 @@ pub fn read_input<H: Shelf>(
         Err(Taking::ShelfFault) => Err(Trouble::ShelfFault { input }),
         Err(Taking::TooLong) => Err(Trouble::TooLong { input }),
         Err(Taking::NoMemory) => Err(Trouble::OutOfMemory),
+    }
+}
+
+/// The bytes behind one leading byte order mark.
+pub fn without_mark(bytes: &[u8]) -> &[u8]
+    ensures { result.now ≡ without_mark bytes.now }
+{
+    match bytes.strip_prefix(b"\xef\xbb\xbf") {
+        Some(text) => text,
+        None => bytes,
     }
 }

@@ -4,14 +4,18 @@
 
 mod catalog;
 mod cause;
+mod demand;
 mod host;
 mod inputs;
 mod line;
+mod market;
 mod prefer;
+mod prices;
 mod quote;
 mod roll;
 mod session;
 mod sessions;
+mod settings;
 mod status;
 mod text;
 mod trouble;

@@ -4,7 +4,7 @@ ghost use Rattle.std.specs.String.{string_bytes};
 ghost use Rattle.market_host.specs.Lines.{line_of};
 ghost use Rattle.market_host.specs.Outcomes.{IsDone, IsStopped};
 ghost use Rattle.market_host.specs.Sights.{sight};
-ghost use Rattle.market_host.specs.Preferences.{AreStreams};
+ghost use Rattle.market_host.specs.Sessions.{AreStreams};
 ghost use Rattle.market_words.specs.Forms.{HasForm};
 ghost use Rattle.preference_desk.specs.Journals.{IsLegalJournal, MergesStreams};
 ghost use Rattle.preference_desk.specs.MarketNames.{market_names};

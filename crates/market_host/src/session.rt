@@ -7,7 +7,7 @@ ghost use Rattle.market_host.specs.Sights.{sight};
 ghost use Rattle.market_host.specs.Sessions.{command_count, session_text};
 ghost use Rattle.market_host.specs.Troubles.{IsAtEnd};
 
-use crate::inputs::read_input;
+use crate::inputs::{read_input, without_mark};
 use crate::trouble::Trouble;
 use market_edge::Shelf;
 use market_units::MAX_INPUT_BYTES;
@@ -41,15 +41,5 @@ fn commands_in(alloc: Global, bytes: &[u8], input: u16, room: u32) -> Result<Vec
         Ok(commands) => Ok(commands),
         Err(StreamEnd::TooMany) => Err(Trouble::TooLong { input }),
         Err(StreamEnd::NoMemory) => Err(Trouble::OutOfMemory),
-    }
-}
-
-// The bytes behind one leading byte order mark.
-fn without_mark(bytes: &[u8]) -> &[u8]
-    ensures { result.now ≡ session_text bytes.now }
-{
-    match bytes.strip_prefix(b"\xef\xbb\xbf") {
-        Some(text) => text,
-        None => bytes,
     }
 }

@@ -9,6 +9,7 @@ use std::sync::Wait;
 use std::test::Fail;
 use std::thread::Threads;
 
+mod demand;
 mod faults;
 mod gates;
 mod limits;
@@ -128,6 +129,10 @@ fn no_form(rt: HostRuntime) -> Result<(), Fail> {
         "quote CAT S1 ann 10 9",
         "quote CAT S1",
         "prefer CAT STU",
+        "demand 0 CAT STU SET PRICES S1",
+        "demand 17 CAT STU SET PRICES S1",
+        "demand 02 CAT STU SET PRICES S1",
+        "demand 2 CAT STU SET PRICES",
     ] {
         let files = [("CAT", TWO), ("STU", ANN), ("S1", TIE)];
         let (found, written) = run(&rt, alloc, line, &files)?;

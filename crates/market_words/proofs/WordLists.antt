@@ -29,3 +29,14 @@ pub prefer_words : (words : List (String Global)) → 3 ≤ length words → len
 prefer_words (a ∷ b ∷ more) some few = (string_bytes a, string_bytes b, map string_bytes more, refl, omega (arith, length-map more string_bytes), omega (arith, length-map more string_bytes))
 prefer_words (a ∷ []) some few = absurd (omega arith)
 prefer_words [] some few = absurd (omega arith)
+
+-- the words behind `demand`
+pub demand_words : (words : List (String Global)) (workers : String Global) → 6 ≤ length words → length words ≤ 69 → workers ≡ get_or words 0 workers
+    → (catalog roll settings prices : List ℕ) × (sessions : List (List ℕ)) × (map string_bytes words ≡ string_bytes workers ∷ catalog ∷ roll ∷ settings ∷ prices ∷ sessions) × (1 ≤ length sessions) × (length sessions ≤ 64)
+demand_words (w ∷ a ∷ b ∷ c ∷ d ∷ more) workers some few is =
+    (string_bytes a, string_bytes b, string_bytes c, string_bytes d, map string_bytes more, cc, omega (arith, length-map more string_bytes), omega (arith, length-map more string_bytes))
+demand_words (w ∷ a ∷ b ∷ c ∷ []) workers some few is = absurd (omega arith)
+demand_words (w ∷ a ∷ b ∷ []) workers some few is = absurd (omega arith)
+demand_words (w ∷ a ∷ []) workers some few is = absurd (omega arith)
+demand_words (w ∷ []) workers some few is = absurd (omega arith)
+demand_words [] workers some few is = absurd (omega arith)

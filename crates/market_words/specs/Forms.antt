@@ -3,13 +3,17 @@ use Rattle.std.specs.Prelude.{ℕ, ◌≡◌, ◌≤◌, List, [], ◌∷◌, co
 use Rattle.std.specs.Fmt.{decimal}
 use Rattle.market_units.specs.Name.{name_bytes}
 use Rattle.market_words.specs.declared.words.Form.{Form}
-use Rattle.market_words.specs.declared.words.Form.TheVariants.{Prefer, Quote}
+use Rattle.market_words.specs.declared.words.Form.TheVariants.{Demand, Prefer, Quote}
 
 -- words that name sessions: 1 to 64
 abbrev pub AreSessions : List (List ℕ) → Type 0
 AreSessions sessions = (1 ≤ length sessions) × (length sessions ≤ 64)
 
--- these words ask for this: `quote CAT SES NAME CREDITS COURSES`, `prefer CAT STU SES..`
+-- a number of workers: 1 to 16
+abbrev pub AreWorkers : ℕ → Type 0
+AreWorkers workers = (1 ≤ workers) × (workers ≤ 16)
+
+-- these words ask for this: `quote CAT SES NAME CREDITS COURSES`, `prefer CAT STU SES..`, `demand W CAT STU SET PRICES SES..`
 abbrev pub HasForm : List (List ℕ) → Form → Type 0
 HasForm words (Quote name credits courses) =
     (catalog : List ℕ) × (session : List ℕ)
@@ -18,6 +22,9 @@ HasForm words (Quote name credits courses) =
 HasForm words Prefer =
     (catalog : List ℕ) × (roll : List ℕ) × (sessions : List (List ℕ))
     × (words ≡ codes "prefer" ∷ catalog ∷ roll ∷ sessions) × AreSessions sessions
+HasForm words (Demand workers) =
+    (catalog : List ℕ) × (roll : List ℕ) × (settings : List ℕ) × (prices : List ℕ) × (sessions : List (List ℕ))
+    × (words ≡ codes "demand" ∷ decimal workers ∷ catalog ∷ roll ∷ settings ∷ prices ∷ sessions) × AreWorkers workers × AreSessions sessions
 
 -- these words ask for nothing
 abbrev pub HasNoForm : List (List ℕ) → Type 0
@@ -27,3 +34,4 @@ HasNoForm words = (form : Form) → ¬ HasForm words form
 abbrev pub inputs_of : Form → List (List ℕ) → List (List ℕ)
 inputs_of (Quote name credits courses) words = take 2 (drop 1 words)
 inputs_of Prefer words = drop 1 words
+inputs_of (Demand workers) words = drop 2 words

@@ -1,12 +1,13 @@
-// Sessions that meet, and how often they pass the gate.
+// Sessions and workers that meet, and how often they pass the gate.
+use super::demand::{EQUAL, FIRST as OF_FIRST, FOUR, SEAT, SECOND as OF_SECOND, is_lawful};
 use super::*;
 use market_edge::Stop;
 use std::sync::atomic::{AtomicU64, Ordering};
 
-// How often a session looks for the other one before it passes on alone.
+// How often a session or a worker looks for the other one before it passes on alone.
 const TURNS: u32 = 1_000_000_000;
 
-// The stops of one session.
+// The stops of one session or worker.
 #[derive(Drop)]
 struct Passes {
     starts: AtomicU64,
@@ -34,14 +35,17 @@ fn count_one(counter: &AtomicU64) {
     counter.fetch_add(1, Ordering::SeqCst);
 }
 
-// Counts the stops of three sessions. The calls of the first two meet: after each reply they wait until the other has had one.
+// Counts the stops of three sessions and two workers. The calls of the first two sessions meet, and those of the workers: after each reply
+// they wait until the other has had one.
 #[derive(Drop)]
 struct MeetingGate {
     first: Passes,
     second: Passes,
     third: Passes,
+    first_worker: Passes,
+    second_worker: Passes,
     others: AtomicU64,
-    // How often a session passed on alone.
+    // How often a session or a worker passed on alone.
     missed: AtomicU64,
 }
 
@@ -51,6 +55,8 @@ impl MeetingGate {
             first: Passes::none(),
             second: Passes::none(),
             third: Passes::none(),
+            first_worker: Passes::none(),
+            second_worker: Passes::none(),
             others: AtomicU64::new(0),
             missed: AtomicU64::new(0),
         }
@@ -76,6 +82,10 @@ impl Gate for MeetingGate {
             Stop::SessionCall(1) => self.meet(&self.first, &self.second),
             Stop::SessionCall(2) => self.meet(&self.second, &self.first),
             Stop::SessionCall(3) => count_one(&self.third.calls),
+            Stop::WorkerStart(1) => count_one(&self.first_worker.starts),
+            Stop::WorkerStart(2) => count_one(&self.second_worker.starts),
+            Stop::WorkerCall(1) => self.meet(&self.first_worker, &self.second_worker),
+            Stop::WorkerCall(2) => self.meet(&self.second_worker, &self.first_worker),
             _ => count_one(&self.others),
         }
     }
@@ -142,5 +152,33 @@ fn two_sessions_post_at_once(rt: HostRuntime) -> Result<(), Fail> {
     assert_eq!(rt; gate.second.counts(), (1, 3));
     assert_eq!(rt; gate.third.counts(), (1, 0));
     assert_eq!(rt; count_of(&gate.others), 0);
+    Ok(())
+}
+
+// Two workers whose calls meet: neither can post all tasks before the other has posted one. There is a task for each
+// student, and each session passes the gate as often as it has commands.
+#[test]
+fn two_workers_post_at_once(rt: HostRuntime) -> Result<(), Fail> {
+    let gate = MeetingGate::new();
+    let files = [
+        ("CAT", SEAT),
+        ("STU", FOUR),
+        ("SET", EQUAL),
+        ("PRICES", b"section,price\nX,102\n".as_slice()),
+        ("S1", OF_FIRST),
+        ("S2", OF_SECOND),
+    ];
+    let line = "demand 2 CAT STU SET PRICES S1 S2";
+    let (status, text) = run_by(&rt, rt.alloc(), line, &files, (0, 0), 1000, &gate)?;
+    assert_eq!(rt; status, Status::Done);
+    assert!(rt; is_lawful(text.as_str()), "{text}");
+    assert_eq!(rt; count_of(&gate.missed), 0);
+    assert_eq!(rt; gate.first.counts(), (1, 2));
+    assert_eq!(rt; gate.second.counts(), (1, 2));
+    assert_eq!(rt; count_of(&gate.others), 0);
+    let (_, of_first) = gate.first_worker.counts();
+    let (_, of_second) = gate.second_worker.counts();
+    assert!(rt; of_first > 0 && of_second > 0);
+    assert!(rt; of_first.saturating_add(of_second) >= 4);
     Ok(())
 }

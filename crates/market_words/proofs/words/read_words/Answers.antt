@@ -13,3 +13,8 @@ pub returns-then-eq-2-clause-form : goal.returns-then-eq-2-clause-form
 returns-then-eq-2-clause-form c =
     let verb : string_bytes c.verb-item.result ≡ codes "prefer" = search rules in
     rw (verb_first c.args.words.now c.verb-item.result (omega arith) c.verb-item.is, verb) c.read_prefer.ensures.form
+
+pub returns-then-eq-3-clause-form : goal.returns-then-eq-3-clause-form
+returns-then-eq-3-clause-form c =
+    let verb : string_bytes c.verb-item.result ≡ codes "demand" = search rules in
+    rw (verb_first c.args.words.now c.verb-item.result (omega arith) c.verb-item.is, verb) c.read_demand.ensures.form

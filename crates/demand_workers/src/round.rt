@@ -1,0 +1,101 @@
+// A round of all workers over one board.
+ghost use Rattle.std.specs.Prelude.{◌≡◌, ◌≤◌, ◌<◌, ℕ, All, IfOk, length, slice_index_or};
+ghost use Rattle.std.specs.Arc.{arc_value};
+ghost use Rattle.price_board.specs.Openings.{IsAskOf, IsMade};
+ghost use Rattle.price_board.specs.Seats.{IsFree, IsFinished};
+ghost use Rattle.demand_workers.specs.Rounds.{data_of, prices_of, AreVersionsFor, IsBoardOf};
+
+use crate::worker::work;
+use demand_api::Crowd;
+use demand_oracle::Workspace;
+use market_edge::Gate;
+use market_units::{NoMemory, Tokens};
+use price_board::{Answers, Ask, Board, BoardSeat, Round};
+use std::alloc::Global;
+use std::sync::{Arc, Mutex, Wait};
+use std::thread;
+use std::thread::Threads;
+
+// What all workers find for these versions and what is asked of each. All memory is taken before the first worker starts, and the only
+// error is that it was not given.
+pub(crate) fn ask_workers<R: Threads + Wait + Sync>(
+    rt: &R,
+    alloc: Global,
+    crowd: &Arc<Crowd>,
+    versions: &[Vec<Tokens>],
+    asks: Vec<Ask>,
+    workspaces: &[Mutex<Workspace>],
+    gate: &(dyn Gate + Sync),
+) -> Result<Answers, NoMemory>
+    requires crowd { IsMade (arc_value crowd.now) }
+    requires versions { AreVersionsFor (data_of (arc_value crowd.now)) versions.now }
+    requires some { 1 ≤ length versions.now }
+    requires few { length versions.now ≤ 16 }
+    requires asks { length asks.items ≡ length versions.now }
+    requires sections { All (IsAskOf (arc_value crowd.now).sections) asks.items }
+    requires workers { (1 ≤ length workspaces.now) × (length workspaces.now ≤ 16) }
+    ensures crowd { IfOk result (λ answers. answers.terms.crowd ≡ data_of (arc_value crowd.now)) }
+    ensures versions { IfOk result (λ answers. answers.terms.versions ≡ prices_of versions.now) }
+    ensures asks { IfOk result (λ answers. answers.terms.asks ≡ asks.items) }
+{
+    let shared = Arc::try_clone(crowd)?;
+    let round = Round {
+        versions: copies_of(alloc, versions)?,
+        asks,
+    };
+    let (board, mut seats) = Board::start(alloc, shared, round, workspaces.len() as u16)?;
+    work_all(
+        rt,
+        &board,
+        seats.as_mut_slice(),
+        workspaces,
+        crowd,
+        versions,
+        gate,
+    );
+    Ok(board.close(seats))
+}
+
+// Copies of these vectors of prices.
+fn copies_of(alloc: Global, versions: &[Vec<Tokens>]) -> Result<Vec<Vec<Tokens>>, NoMemory>
+    ensures { IfOk result (λ copies. prices_of copies.items ≡ prices_of versions.now) }
+{
+    let mut copies = Vec::with_capacity(alloc, versions.len())?;
+    for version in versions {
+        let copy = version.to_vec(alloc)?;
+        copies.push(copy)?;
+    }
+    Ok(copies)
+}
+
+// Each worker works at its seat with a workspace of its own, in a thread of its own where one can be started.
+fn work_all<R: Threads + Wait + Sync>(
+    rt: &R,
+    board: &Board,
+    seats: &mut [BoardSeat],
+    workspaces: &[Mutex<Workspace>],
+    crowd: &Crowd,
+    versions: &[Vec<Tokens>],
+    gate: &(dyn Gate + Sync),
+)
+    requires crowd { IsMade crowd.now }
+    requires versions { AreVersionsFor (data_of crowd.now) versions.now }
+    requires board { IsBoardOf (data_of crowd.now) versions.now board.now }
+    requires count { (length seats.old ≡ length workspaces.now) × (1 ≤ length workspaces.now) × (length workspaces.now ≤ 16) }
+    requires numbers { (n : ℕ) (d : _) → n < length seats.old → (slice_index_or seats.old n d).number ≡ n }
+    requires free { All (λ seat. IsFree board.now seat) seats.old }
+    ensures count { length seats.new ≡ length seats.old }
+    ensures numbers { (n : ℕ) (d : _) → n < length seats.old → (slice_index_or seats.new n d).number ≡ n }
+    ensures finished { All (λ seat. IsFinished board.now seat) seats.new }
+{
+    let threads = seats.len();
+    thread::for_each_mut(
+        rt,
+        seats,
+        threads,
+        &|n, seat|
+            requires { (n < length workspaces.now) × (seat.now.number < 16) × IsFree board.now seat.now × IsMade crowd.now × AreVersionsFor (data_of crowd.now) versions.now × IsBoardOf (data_of crowd.now) versions.now board.now }
+            ensures { IsFinished board.entry.now seat.exit.now × (seat.exit.now.number ≡ seat.entry.now.number) }
+        { work(rt, board, seat, &workspaces[n], crowd, versions, gate) },
+    );
+}

@@ -1,0 +1,227 @@
+// Four students of budgets 100 to 103 who want the one section, asked by some workers.
+ghost use Rattle.std.specs.Prelude.{◌≡◌, ◌≤◌, IsTrue, IfOk, All, length};
+ghost use Rattle.std.specs.Arc.{arc_value};
+ghost use Rattle.demand_api.specs.Asking.{ArePricesFor};
+ghost use Rattle.price_board.specs.Openings.{IsMade};
+ghost use Rattle.demand_workers.specs.Rounds.{data_of, AreVersionsFor};
+
+use super::*;
+use bundle_rules::{Menu, Rated};
+use demand_api::{Crowd, Demands};
+use market_edge::{Gate, OpenGate, Stop};
+use market_units::{NoMemory, SectionNo, StudentNo, Tokens};
+use std::alloc::Global;
+use std::process::Abort;
+use std::sync::atomic::{AtomicU64, Ordering};
+use std::sync::{Arc, Wait};
+use std::test::Fail;
+use std::thread::Threads;
+
+/// Counts the starts of workers and their posts.
+#[derive(Drop)]
+struct CountingGate {
+    starts: AtomicU64,
+    calls: AtomicU64,
+}
+
+impl CountingGate {
+    fn new() -> Self {
+        CountingGate {
+            starts: AtomicU64::new(0),
+            calls: AtomicU64::new(0),
+        }
+    }
+
+    // How often workers started and posted since this was asked last.
+    fn take(&self) -> (u64, u64) {
+        (
+            self.starts.swap(0, Ordering::SeqCst),
+            self.calls.swap(0, Ordering::SeqCst),
+        )
+    }
+}
+
+impl Gate for CountingGate {
+    fn pass(&self, stop: Stop) {
+        match stop {
+            Stop::WorkerStart(_) => {
+                self.starts.fetch_add(1, Ordering::SeqCst);
+            }
+            Stop::WorkerCall(_) => {
+                self.calls.fetch_add(1, Ordering::SeqCst);
+            }
+            _ => {}
+        }
+    }
+}
+
+// The menu of a student who wants the one section.
+fn one_section<R: Abort>(rt: &R, alloc: Global) -> Result<Menu, NoMemory> {
+    let places = [Rated {
+        section: SectionNo(0),
+        course: 0,
+        rating: 50,
+        credits: 1,
+    }];
+    assert!(rt; Menu::may_build(&places, &[], &[0], 10, 1));
+    let menu = Menu::build(alloc, &places, &[], &[0], 10, 1)?;
+    Ok(menu)
+}
+
+// Four such students, with budgets from 100 to 103.
+fn four_students<R: Abort>(rt: &R, alloc: Global) -> Result<Arc<Crowd>, Fail>
+    ensures { IfOk result (λ crowd. IsMade (arc_value crowd)) }
+{
+    let mut menus = Vec::new(alloc);
+    let mut budgets = Vec::new(alloc);
+    for more in 0..4u32 {
+        let menu = one_section(rt, alloc)?;
+        menus.push(menu)?;
+        budgets.push(Tokens(100 + more))?;
+    }
+    let crowd = Crowd {
+        menus,
+        budgets,
+        sections: 1,
+    };
+    assert!(rt; crowd.is_whole());
+    Ok(Arc::new(alloc, crowd)?)
+}
+
+// Whether each of these vectors has prices that can be asked of the crowd.
+fn all_have_prices(crowd: &Crowd, batch: &[Vec<Tokens>]) -> bool
+    requires { IsMade crowd.now }
+    ensures { IsTrue result → AreVersionsFor (data_of crowd.now) batch.now }
+{
+    match batch {
+        [] => true,
+        [prices, more @ ..] => crowd.has_prices(prices) && all_have_prices(crowd, more),
+    }
+}
+
+fn at(alloc: Global, price: u32) -> Result<Vec<Tokens>, NoMemory> {
+    Ok(vec![in alloc; Tokens(price); 1]?)
+}
+
+// How many of the four take the section at 104, 102, 103 and 0, asked in one call of so many workers.
+fn counts_by<R: Abort + Threads + Wait + Sync>(
+    rt: &R,
+    alloc: Global,
+    workers: u16,
+    gate: &(dyn Gate + Sync),
+) -> Result<[u32; 4], Fail>
+    requires { (1 ≤ workers) × (workers ≤ 16) }
+{
+    let crowd = four_students(rt, alloc)?;
+    let batch = [
+        at(alloc, 104)?,
+        at(alloc, 102)?,
+        at(alloc, 103)?,
+        at(alloc, 0)?,
+    ];
+    assert!(rt; all_have_prices(&crowd, &batch));
+    let mut demands = PooledDemands::make(alloc, workers, crowd, gate)?;
+    let found = demands.counts(rt, alloc, &batch)?;
+    let mut counts = [9; 4];
+    assert_eq!(rt; found.len(), 4);
+    for version in 0..4 {
+        assert_eq!(rt; found[version].len(), 1);
+        counts[version] = found[version][0];
+    }
+    Ok(counts)
+}
+
+#[test]
+fn counts_of_four_students(rt: HostRuntime) -> Result<(), Fail> {
+    let alloc = rt.alloc();
+    assert_eq!(rt; counts_by(&rt, alloc, 1, &OpenGate)?, [0, 2, 1, 4]);
+    assert_eq!(rt; counts_by(&rt, alloc, 2, &OpenGate)?, [0, 2, 1, 4]);
+    assert_eq!(rt; counts_by(&rt, alloc, 16, &OpenGate)?, [0, 2, 1, 4]);
+    Ok(())
+}
+
+// Each worker starts once, and each task is posted once.
+#[test]
+fn each_worker_passes_the_gate(rt: HostRuntime) -> Result<(), Fail> {
+    let gate = CountingGate::new();
+    counts_by(&rt, rt.alloc(), 3, &gate)?;
+    assert_eq!(rt; gate.take(), (3, 16));
+    Ok(())
+}
+
+// Which of the last student, the first, and the third twice take the section at 102.
+fn bundles_by<R: Abort + Threads + Wait + Sync>(
+    rt: &R,
+    alloc: Global,
+    workers: u16,
+) -> Result<[bool; 4], Fail>
+    requires { (1 ≤ workers) × (workers ≤ 16) }
+{
+    let crowd = four_students(rt, alloc)?;
+    let prices = [Tokens(102)];
+    assert!(rt; crowd.has_prices(&prices));
+    let mut demands = PooledDemands::make(alloc, workers, crowd, &OpenGate)?;
+    assert_eq!(rt; demands.students(), 4);
+    assert_eq!(rt; demands.top(), Tokens(104));
+    let students = [StudentNo(3), StudentNo(0), StudentNo(2), StudentNo(2)];
+    let found = demands.bundles(rt, alloc, &prices, &students)?;
+    assert_eq!(rt; found.len(), 4);
+    let mut have = [false; 4];
+    for place in 0..4 {
+        have[place] = found[place].has(SectionNo(0));
+    }
+    Ok(have)
+}
+
+#[test]
+fn bundles_of_four_students(rt: HostRuntime) -> Result<(), Fail> {
+    let alloc = rt.alloc();
+    let wanted = [true, false, true, true];
+    assert_eq!(rt; bundles_by(&rt, alloc, 1)?, wanted);
+    assert_eq!(rt; bundles_by(&rt, alloc, 2)?, wanted);
+    assert_eq!(rt; bundles_by(&rt, alloc, 16)?, wanted);
+    Ok(())
+}
+
+// Whether more than the limit of the four take the section where it is free, and how many bundles one worker posted for the answer.
+fn settle<R: Abort + Threads + Wait + Sync>(
+    rt: &R,
+    alloc: Global,
+    limit: u32,
+) -> Result<(bool, u64), Fail> {
+    let crowd = four_students(rt, alloc)?;
+    let prices = [Tokens(0)];
+    assert!(rt; crowd.has_prices(&prices));
+    assert_eq!(rt; crowd.sections, 1);
+    let gate = CountingGate::new();
+    let mut demands = PooledDemands::make(alloc, 1, crowd, &gate)?;
+    let more = demands.exceeds(rt, alloc, &prices, SectionNo(0), limit)?;
+    let (_, calls) = gate.take();
+    Ok((more, calls))
+}
+
+#[test]
+fn a_comparison_settles_early(rt: HostRuntime) -> Result<(), Fail> {
+    let alloc = rt.alloc();
+    assert_eq!(rt; settle(&rt, alloc, 2)?, (true, 3));
+    assert_eq!(rt; settle(&rt, alloc, 3)?, (true, 4));
+    assert_eq!(rt; settle(&rt, alloc, 4)?, (false, 0));
+    Ok(())
+}
+
+// The least prices from 50 up at which at most 2, 4, none and 1 of the four take the section.
+#[test]
+fn least_prices_of_four_students(rt: HostRuntime) -> Result<(), Fail> {
+    let alloc = rt.alloc();
+    let crowd = four_students(&rt, alloc)?;
+    let prices = [Tokens(50)];
+    assert!(rt; crowd.has_prices(&prices));
+    assert_eq!(rt; crowd.sections, 1);
+    let mut demands = PooledDemands::make(alloc, 2, crowd, &OpenGate)?;
+    let section = SectionNo(0);
+    let pairs = [(section, 2), (section, 4), (section, 0), (section, 1)];
+    let found = demands.least_prices(&rt, alloc, &prices, &pairs)?;
+    let wanted = [102, 50, 104, 103].map(Tokens);
+    assert_eq!(rt; found.as_slice(), wanted.as_slice());
+    Ok(())
+}

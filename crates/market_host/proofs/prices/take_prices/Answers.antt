@@ -1,0 +1,24 @@
+use Rattle.std.proofs.lemmas.Result.{IfErr-weaker, IfOk-weaker, err_from_is_err_and}
+use Rattle.market_host.specs.Kinds.{Prices}
+use Rattle.market_host.specs.Refusals.{AreNoPrices}
+use Rattle.market_host.specs.Sights.{sight}
+use Rattle.market_host.proofs.InputTroubles.{trouble_of_refusal, trouble_of_unread}
+use Rattle.market_host.proofs.prices.take_prices.Goals as goal
+
+pub returns-in_err-bytes-clause-trouble : goal.returns-in_err-bytes-clause-trouble
+returns-in_err-bytes-clause-trouble g c =
+    let p = err_from_is_err_and c.from_residual.result c.from_residual.ensures.1 in
+    rw (p.1, p.2) (λ form earlier texts later read of number begins. trouble_of_unread form (sight g.H.Shelf c.args.shelf.now c.read_input.new.shelf) earlier texts later c.args.name.now c.args.input read number Prices _ of
+    c.in_err-bytes.ensures.unread)
+
+pub returns-clause-read : goal.returns-clause-read
+returns-clause-read g c =
+    IfOk-weaker c.prices_in.result _ _ (λ prices is. (c.in_ok-bytes.bytes.items, c.in_ok-bytes.ensures.whole, c.in_ok-bytes.ensures.within, rw c.deref.ensures.value at is)) c.prices_in.ensures.read
+
+pub returns-clause-trouble : goal.returns-clause-trouble
+returns-clause-trouble g c =
+    IfErr-weaker c.prices_in.result _ _
+    (λ stop refusal form earlier texts later read of number begins. trouble_of_refusal form (sight g.H.Shelf c.args.shelf.now c.read_input.new.shelf) earlier texts later c.args.name.now c.args.input read number Prices
+    (AreNoPrices c.args.catalog.now.sections c.in_ok-bytes.bytes.items) c.in_ok-bytes.bytes.items stop of c.in_ok-bytes.ensures.end c.in_ok-bytes.ensures.whole c.in_ok-bytes.ensures.within
+    (λ row cause is. (c.args.catalog.now, begins, is)) (rw c.deref.ensures.value at refusal))
+    c.prices_in.ensures.refused

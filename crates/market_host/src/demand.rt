@@ -1,0 +1,123 @@
+// What the students take at given prices.
+ghost use Rattle.std.specs.Prelude.{◌≡◌, ◌≤◌, List, ℕ, length, map, MatchResult, IfOk};
+ghost use Rattle.std.specs.String.{string_bytes};
+ghost use Rattle.demand_api.specs.Made.{MakeCrowd, crowd_of};
+ghost use Rattle.demand_api.specs.Crowds.{CrowdData};
+ghost use Rattle.demand_text.specs.Taken.{IsTakenBy, taken_at};
+ghost use Rattle.demand_text.specs.Texts as texts;
+ghost use Rattle.market_host.specs.Lines.{line_of};
+ghost use Rattle.market_host.specs.Markets.{IsClosingCrowd};
+ghost use Rattle.market_host.specs.Outcomes.{IsDone, IsStopped};
+ghost use Rattle.market_host.specs.Sights.{sight};
+ghost use Rattle.market_settings.specs.Settings.{AreInRange};
+ghost use Rattle.market_words.specs.Forms.{AreWorkers, HasForm};
+ghost use Rattle.preference_desk.specs.Journals.{IsLegalJournal, MergesStreams};
+ghost use Rattle.preference_desk.specs.MarketNames.{market_names};
+ghost use Rattle.preference_desk.specs.declared.entry.Entry.{Entry};
+ghost use Rattle.session_hall.specs.Streams.{command_count, command_lists};
+
+use crate::market::{Market, take_market};
+use crate::prices::take_prices;
+use crate::sessions::take_sessions;
+use crate::trouble::Trouble;
+use demand_api::Crowd;
+use demand_text::{Taken, demand_text};
+use demand_workers::PooledDemands;
+use market_crowd::make_crowd;
+use market_edge::{Gate, Shelf};
+use market_units::{NoMemory, Tokens};
+use market_words::Form;
+use session_hall::hold;
+use std::alloc::Global;
+use std::sync::{Arc, Wait};
+use std::thread::Threads;
+use utility_language::Command;
+
+/// The text of `demand`, or why there is none.
+pub fn demand<R: Threads + Wait + Sync, H: Shelf, G: Gate + Sync>(
+    rt: &R,
+    alloc: Global,
+    words: &[String],
+    workers: u16,
+    shelf: &mut H,
+    gate: &G,
+) -> Result<Vec<u8>, Trouble>
+    requires { HasForm (map string_bytes words.now) (Form.Demand workers) }
+    ensures answer { MatchResult result (λ text. IsDone (map string_bytes words.now) (sight H.Shelf shelf.old shelf.new) text.items)
+        (λ stop. IsStopped (map string_bytes words.now) (sight H.Shelf shelf.old shelf.new) stop (line_of stop)) }
+    ensures holds { H.holds shelf.new ≡ H.holds shelf.old }
+    ensures later { (other : List ℕ) → H.faults shelf.old other ≤ H.faults shelf.new other }
+{
+    let market = take_market(
+        alloc,
+        shelf,
+        words[2].as_str(),
+        words[3].as_str(),
+        words[4].as_str(),
+    )?;
+    let prices = take_prices(alloc, shelf, words[5].as_str(), 4, &market.catalog)?;
+    let streams = take_sessions(alloc, shelf, &words[6..], 5)?;
+    Ok(text_of(rt, alloc, workers, &market, &prices, &streams, gate)?)
+}
+
+// The text of the order in which a desk for this market takes these streams, and of what its crowd then takes at these prices.
+fn text_of<R: Threads + Wait + Sync, G: Gate + Sync>(
+    rt: &R,
+    alloc: Global,
+    workers: u16,
+    market: &Market,
+    prices: &[Tokens],
+    streams: &[Vec<Command>],
+    gate: &G,
+) -> Result<Vec<u8>, NoMemory>
+    requires workers { AreWorkers workers }
+    requires in_range { AreInRange market.now.settings }
+    requires prices { length prices.now ≡ length market.now.catalog.sections }
+    requires sessions { (1 ≤ length streams.now) × (length streams.now ≤ 64) }
+    requires commands { command_count streams.now ≤ 200000 }
+    ensures { IfOk result (λ text. (journal : List Entry) × IsLegalJournal (market_names market.now.catalog.sections market.now.roll.students) journal
+        × MergesStreams (command_lists streams.now) journal
+        × (crowd : CrowdData) × IsClosingCrowd market.now.catalog market.now.roll market.now.settings journal crowd
+        × (text.items ≡ texts.demand_text market.now.catalog.sections market.now.roll.students journal (taken_at crowd (map (λ section. section.seats) market.now.catalog.sections) prices.now))) }
+{
+    let closed = hold(rt, alloc, &market.catalog, &market.roll, streams, gate)?;
+    let crowd = make_crowd(
+        alloc,
+        &market.catalog,
+        &market.roll,
+        closed.desk.closed(),
+        market.settings.seed,
+        market.settings.spread,
+    )?;
+    let seats = market.catalog.all_seats();
+    let taken = taken_by(rt, alloc, workers, crowd, seats, prices, gate)?;
+    demand_text(
+        alloc,
+        &market.catalog,
+        &market.roll,
+        closed.desk.journal(),
+        &taken,
+    )
+}
+
+// What workers find that a crowd takes where its sections have these seats and these prices.
+fn taken_by<R: Threads + Wait + Sync, G: Gate + Sync>(
+    rt: &R,
+    alloc: Global,
+    workers: u16,
+    crowd: Crowd,
+    seats: &[u16],
+    prices: &[Tokens],
+    gate: &G,
+) -> Result<Taken, NoMemory>
+    requires workers { AreWorkers workers }
+    requires crowd { MakeCrowd crowd.menus.items crowd.budgets.items crowd.sections }
+    requires seats { length seats.now ≡ crowd.sections }
+    requires prices { length prices.now ≡ crowd.sections }
+    ensures value { IfOk result (λ taken. taken ≡ taken_at (crowd_of crowd.menus.items crowd.budgets.items crowd.sections) seats.now prices.now) }
+    ensures by { IfOk result (λ taken. IsTakenBy (length (crowd_of crowd.menus.items crowd.budgets.items crowd.sections).students) crowd.sections taken) }
+{
+    let crowd = Arc::new(alloc, crowd)?;
+    let mut demands = PooledDemands::make(alloc, workers, crowd, gate)?;
+    Taken::at(rt, alloc, &mut demands, seats, prices)
+}

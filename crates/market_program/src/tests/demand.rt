@@ -1,0 +1,302 @@
+// `demand` over texts in memory.
+use super::*;
+
+// Each number of workers gives the same bytes.
+const LINES: [&str; 3] = [
+    "demand 1 CAT STU SET PRICES S1",
+    "demand 2 CAT STU SET PRICES S1",
+    "demand 16 CAT STU SET PRICES S1",
+];
+
+pub(super) const FOUR: &[u8] =
+    b"student,budget,credits,courses\ns1,100,10,1\ns2,101,10,1\ns3,102,10,1\ns4,103,10,1\n";
+
+const CARRIED: &[u8] =
+    b"student,budget,credits,courses,carry\ns1,100,10,1,3\ns2,101,10,1,0\ns3,102,10,1,0\ns4,103,10,1,0\n";
+
+pub(super) const SEAT: &[u8] = b"section,course,seats,credits,meetings\nX,XX,1,1,\n";
+
+pub(super) const EQUAL: &[u8] =
+    br#"{"seed":0,"spread":0,"accept":9,"turns":0,"tabu":5,"patience":3,"steps":[1],"raise":10}"#;
+
+const MARKED: &[u8] =
+    b"\xef\xbb\xbf{\"seed\":0,\"spread\":0,\"accept\":9,\"turns\":0,\"tabu\":5,\"patience\":3,\"steps\":[1],\"raise\":10}";
+
+const RATED: &[u8] = b"rate s1 X 50\nrate s2 X 50\nrate s3 X 50\nrate s4 X 50\n";
+
+// What the case shows, the roll, the settings, the prices, the number of the status, and the text.
+type Case = (
+    &'static str,
+    &'static [u8],
+    &'static [u8],
+    &'static [u8],
+    u8,
+    &'static str,
+);
+
+const OF_ONE_SEAT: [Case; 6] = [
+    (
+        "four students of one seat",
+        FOUR,
+        EQUAL,
+        b"section,price\nX,102\n",
+        0,
+        "order 1 1 1 1\nbundle s1 []\nbundle s2 []\nbundle s3 [X]\nbundle s4 [X]\ncount X 2\nerror 1\n",
+    ),
+    (
+        "a price that is the budget is affordable",
+        FOUR,
+        EQUAL,
+        b"section,price\nX,103\n",
+        0,
+        "order 1 1 1 1\nbundle s1 []\nbundle s2 []\nbundle s3 []\nbundle s4 [X]\ncount X 1\nerror 0\n",
+    ),
+    (
+        "the greatest price",
+        FOUR,
+        EQUAL,
+        b"section,price\nX,1000001\n",
+        0,
+        "order 1 1 1 1\nbundle s1 []\nbundle s2 []\nbundle s3 []\nbundle s4 []\ncount X 0\nerror 1\n",
+    ),
+    (
+        "a section without a price has price 0",
+        FOUR,
+        EQUAL,
+        b"section,price\n",
+        0,
+        "order 1 1 1 1\nbundle s1 [X]\nbundle s2 [X]\nbundle s3 [X]\nbundle s4 [X]\ncount X 4\nerror 9\n",
+    ),
+    (
+        "carried tokens are budget",
+        CARRIED,
+        EQUAL,
+        b"section,price\nX,103\n",
+        0,
+        "order 1 1 1 1\nbundle s1 [X]\nbundle s2 []\nbundle s3 []\nbundle s4 [X]\ncount X 2\nerror 1\n",
+    ),
+    (
+        "settings with a byte order mark",
+        FOUR,
+        MARKED,
+        b"section,price\nX,102\n",
+        0,
+        "order 1 1 1 1\nbundle s1 []\nbundle s2 []\nbundle s3 [X]\nbundle s4 [X]\ncount X 2\nerror 1\n",
+    ),
+];
+
+const REFUSED_PRICES: [Case; 5] = [
+    (
+        "an empty price file",
+        FOUR,
+        EQUAL,
+        b"",
+        3,
+        "input 4 row 1: header\n",
+    ),
+    (
+        "a price above its limit",
+        FOUR,
+        EQUAL,
+        b"section,price\nX,1000002\n",
+        3,
+        "input 4 row 2: number in column 2\n",
+    ),
+    (
+        "a price that is given twice",
+        FOUR,
+        EQUAL,
+        b"section,price\nX,1\nX,1\n",
+        3,
+        "input 4 row 3: repeats row 2\n",
+    ),
+    (
+        "a price of no section",
+        FOUR,
+        EQUAL,
+        b"section,price\nX,1\nY,2\n",
+        3,
+        "input 4 row 3: name in column 1\n",
+    ),
+    (
+        "a price with three fields",
+        FOUR,
+        EQUAL,
+        b"section,price\nX,1,2\n",
+        3,
+        "input 4 row 2: fields\n",
+    ),
+];
+
+const REFUSED_SETTINGS: [Case; 7] = [
+    (
+        "settings come before prices",
+        FOUR,
+        br#"{"seed":0,"spread":2,"accept":1,"turns":10001,"tabu":5,"patience":3,"steps":[1],"raise":10}"#,
+        b"",
+        3,
+        "input 3 row 0: range of turns\n",
+    ),
+    (
+        "no settings",
+        FOUR,
+        b"",
+        b"",
+        3,
+        "input 3 row 0: not json\n",
+    ),
+    (
+        "two byte order marks",
+        FOUR,
+        b"\xef\xbb\xbf\xef\xbb\xbf{\"seed\":0,\"spread\":2,\"accept\":1,\"turns\":5,\"tabu\":5,\"patience\":3,\"steps\":[1],\"raise\":10}",
+        b"",
+        3,
+        "input 3 row 0: not json\n",
+    ),
+    (
+        "settings that are no object",
+        FOUR,
+        b"[]",
+        b"",
+        3,
+        "input 3 row 0: not an object\n",
+    ),
+    (
+        "a missing key comes before an unknown one",
+        FOUR,
+        br#"{"seed":0,"spread":2,"accept":1,"turns":5,"tabu":5,"patience":3,"steps":[1],"Raise":10}"#,
+        b"",
+        3,
+        "input 3 row 0: missing raise\n",
+    ),
+    (
+        "an unknown key comes before a range",
+        FOUR,
+        br#"{"seed":0,"spread":50,"accept":1,"turns":5,"tabu":5,"patience":3,"steps":[1],"raise":10,"note":"x"}"#,
+        b"",
+        3,
+        "input 3 row 0: unknown key\n",
+    ),
+    (
+        "the first key out of range",
+        FOUR,
+        br#"{"seed":0,"spread":2,"accept":1000000000001,"turns":5,"tabu":5,"patience":3,"steps":[1],"raise":51}"#,
+        b"",
+        3,
+        "input 3 row 0: range of accept\n",
+    ),
+];
+
+const TERM: &[u8] =
+    b"section,course,seats,credits,meetings\nA,ACCT,1,1,M0900-1020;W0900-1020\nB,BIOL,2,1,M1020-1140\nC,CHEM,2,1,T0900-1020\nD,ACCT,1,1,M1000-1100\n";
+
+const THREE_STUDENTS: &[u8] =
+    b"student,budget,credits,courses\nann,100,10,2\nbob,101,10,2\ncat,102,10,2\n";
+
+const SPREAD: &[u8] =
+    br#"{"seed":0,"spread":2,"accept":1,"turns":5,"tabu":5,"patience":3,"steps":[1],"raise":10}"#;
+
+const ORDINARY: &[u8] =
+    b"rate ann A 60\nrate ann B 30\nrate bob A 50\nrate bob C 40\npair bob A C 10\nrate cat A 20\nrate cat D 45\nclose\n";
+
+const OF_A_TERM: [Case; 2] = [
+    (
+        "an ordinary term at its last prices",
+        THREE_STUDENTS,
+        SPREAD,
+        b"section,price\nA,104\n",
+        0,
+        "order 1 1 1 1 1 1 1 1\nbundle ann [A,B]\nbundle bob [C]\nbundle cat [D]\ncount A 1\ncount B 1\ncount C 1\ncount D 1\nerror 0\n",
+    ),
+    (
+        "free seats at price 0 are no error",
+        THREE_STUDENTS,
+        SPREAD,
+        b"section,price\nA,104\nB,1\nC,1\nD,1\n",
+        0,
+        "order 1 1 1 1 1 1 1 1\nbundle ann [A]\nbundle bob [C]\nbundle cat [D]\ncount A 1\ncount B 0\ncount C 1\ncount D 1\nerror 5\n",
+    ),
+];
+
+// Each case has its answer, with each number of workers.
+fn try_each<R: Threads + Wait + Sync + Abort>(
+    rt: &R,
+    alloc: Global,
+    catalogue: &[u8],
+    session: &[u8],
+    cases: &[Case],
+) -> Result<(), Fail> {
+    for (shows, roll, settings, prices, status, text) in cases {
+        let files = [
+            ("CAT", catalogue),
+            ("STU", *roll),
+            ("SET", *settings),
+            ("PRICES", *prices),
+            ("S1", session),
+        ];
+        for line in LINES {
+            let (found, written) = run(rt, alloc, line, &files)?;
+            assert_eq!(rt; found.number(), *status, "{shows}: {line}");
+            assert_eq!(rt; written.as_str(), *text, "{shows}: {line}");
+        }
+    }
+    Ok(())
+}
+
+#[test]
+fn demands_of_one_seat(rt: HostRuntime) -> Result<(), Fail> {
+    try_each(&rt, rt.alloc(), SEAT, RATED, &OF_ONE_SEAT)
+}
+
+#[test]
+fn demands_of_an_ordinary_term(rt: HostRuntime) -> Result<(), Fail> {
+    try_each(&rt, rt.alloc(), TERM, ORDINARY, &OF_A_TERM)
+}
+
+#[test]
+fn refused_settings_and_prices(rt: HostRuntime) -> Result<(), Fail> {
+    try_each(&rt, rt.alloc(), SEAT, RATED, &REFUSED_PRICES)?;
+    try_each(&rt, rt.alloc(), SEAT, RATED, &REFUSED_SETTINGS)
+}
+
+// The orders of two sessions with two commands each.
+const ORDERS: [&str; 6] = [
+    "order 1 1 2 2\n",
+    "order 1 2 1 2\n",
+    "order 1 2 2 1\n",
+    "order 2 1 1 2\n",
+    "order 2 1 2 1\n",
+    "order 2 2 1 1\n",
+];
+
+pub(super) const FIRST: &[u8] = b"rate s1 X 50\nrate s2 X 50\n";
+
+pub(super) const SECOND: &[u8] = b"rate s3 X 50\nrate s4 X 50\n";
+
+const TAKEN: &str =
+    "bundle s1 []\nbundle s2 []\nbundle s3 [X]\nbundle s4 [X]\ncount X 2\nerror 1\n";
+
+// Whether a text has a lawful order, and behind it what is taken.
+pub(super) fn is_lawful(text: &str) -> bool {
+    ORDERS
+        .iter()
+        .any(|order| text.strip_prefix(*order) == Some(TAKEN))
+}
+
+#[test]
+fn demands_of_two_sessions(rt: HostRuntime) -> Result<(), Fail> {
+    let alloc = rt.alloc();
+    let files = [
+        ("CAT", SEAT),
+        ("STU", FOUR),
+        ("SET", EQUAL),
+        ("PRICES", b"section,price\nX,102\n".as_slice()),
+        ("S1", FIRST),
+        ("S2", SECOND),
+    ];
+    let line = "demand 2 CAT STU SET PRICES S1 S2";
+    let (status, written) = run(&rt, alloc, line, &files)?;
+    assert_eq!(rt; status, Status::Done);
+    assert!(rt; is_lawful(written.as_str()), "{written}");
+    Ok(())
+}
