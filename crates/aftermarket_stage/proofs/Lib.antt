@@ -2,3 +2,4 @@ pub mod Ranks
 pub mod Turning
 pub mod Passing
 pub mod Crowding
+pub mod Knowing

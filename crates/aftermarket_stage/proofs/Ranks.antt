@@ -110,17 +110,21 @@ rank_falls n menu before after feasible below (inr (same, first)) =
     let even = ap (λ u. power n * gap (utility (wishes_of menu) (highest menu)) u) same in
     omega (arith, less, even, number_of-lt before n, number_of-lt after n)
 
--- a rated section of a menu within n sections is below n
-pub rated_below : (n : ℕ) (menu : MenuData) → IsWithin n menu → (s : ℕ) → 0 < (wishes_of menu).rating s → s < n
+-- what holds of each section of a menu holds of each that is rated
+pub of_rated : (P : ℕ → Type 0) (menu : MenuData) → All (λ one. P one.section.0) menu.places → (s : ℕ) → 0 < (wishes_of menu).rating s → P s
 unfolding wishes_of
-rated_below n menu within s rated = among menu.places within rated
+of_rated P menu each s rated = among menu.places each rated
   where
-    among : (places : List Rated) → All (λ one. one.section.0 < n) places → 0 < rating_at places (place_in places s) → s < n
+    among : (places : List Rated) → All (λ one. P one.section.0) places → 0 < rating_at places (place_in places s) → P s
     among [] all some = absurd (omega arith)
     among (x ∷ xs) all some = elim (cases_Bool (x.section.0 == s)) [
-      | inl here ↦ let e : x.section.0 ≡ s = grind (arith, nat_tests) in let low : x.section.0 < n = all 0 x (omega arith) in omega arith
+      | inl here ↦ let e : x.section.0 ≡ s = grind (arith, nat_tests) in subst P e (all 0 x (omega arith))
       | inr there ↦ among xs (λ i d low. all (suc i) d (let h : suc i < suc (length xs) = omega arith in h)) (rw there at some)
     ]
+
+-- a rated section of a menu within n sections is below n
+pub rated_below : (n : ℕ) (menu : MenuData) → IsWithin n menu → (s : ℕ) → 0 < (wishes_of menu).rating s → s < n
+rated_below n menu within s rated = of_rated (λ t. t < n) menu within s rated
 
 -- the ranks of all that is held
 pub left : ℕ → List Student → List (List ℕ) → ℕ

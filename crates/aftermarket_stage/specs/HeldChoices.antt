@@ -1,10 +1,13 @@
 -- What students hold, as what they may take and afford with the raise.
-use Rattle.std.specs.Prelude.{ℕ, ◌≤◌, ◌≡◌, true, List, length, Some, slice_get}
+use Rattle.std.specs.Prelude.{ℕ, ◌≤◌, ◌≡◌, ◌||◌, true, not, List, All, IsTrue, length, Option, Some, slice_get}
+use Rattle.std.specs.Ordering.{nat_cmp}
+use Rattle.std.specs.FinSet as set
+use Rattle.bundle_rules.specs.declared.menu.Rated.{Rated}
 use Rattle.market_units.specs.declared.units.Tokens.{Tokens}
 use Rattle.bundle_rules.specs.Menus.{wishes_of}
-use Rattle.bundle_rules.specs.Demand.{price_in, IsChoice}
+use Rattle.bundle_rules.specs.Demand.{price_in, IsChoice, IsBest}
 use Rattle.budget_draw.specs.Budgets.{raised_by}
-use Rattle.demand_api.specs.Crowds.{Student}
+use Rattle.demand_api.specs.Crowds.{Student, CrowdData}
 use Rattle.demand_api.specs.Made.{MakeCrowd}
 use Rattle.demand_api.specs.declared.crowd.Crowd.{Crowd}
 use Rattle.aftermarket_stage.specs.Turns.{Terms}
@@ -27,3 +30,15 @@ pub record AreTerms (crowd : Crowd) (seats : List ℕ) (prices : List Tokens) (r
   pub seats_each : length seats ≡ crowd.sections
   pub prices_each : ArePriced crowd.sections prices
   pub raise_low : raise ≤ 50
+
+-- where sections are known of a student, the bundle that it holds is the best of these within its raised budget
+abbrev pub AreKnown : CrowdData → List Tokens → ℕ → List (List ℕ) → List (Option (set.FinSet nat_cmp)) → Type 0
+AreKnown crowd prices raise held known =
+    (place : ℕ) (who : Student) (bundle : List ℕ) (sections : set.FinSet nat_cmp) → slice_get crowd.students place ≡ Some who → slice_get held place ≡ Some bundle → slice_get known place ≡ Some (Some sections)
+    → IsBest (wishes_of who.menu) (price_in prices) (raised_by raise who.budget) (set.contains sections) bundle
+
+-- sections are known of a student, and those at these places that are allowed are among them
+pub record IsSettled (known : List (Option (set.FinSet nat_cmp))) (place : ℕ) (places : List Rated) (allowed : set.FinSet nat_cmp) : Type 0 where
+  pub sections : set.FinSet nat_cmp
+  pub are_known : slice_get known place ≡ Some (Some sections)
+  pub none_new : All (λ rated. IsTrue (set.contains sections rated.section.0 || not (set.contains allowed rated.section.0))) places

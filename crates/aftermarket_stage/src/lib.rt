@@ -2,6 +2,7 @@
 //! (Course Match: Budish, Cachon, Kessler, Othman 2017).
 #![tactic(auto)]
 
+mod choosing;
 mod counts;
 pub mod laws;
 mod passes;

@@ -1,6 +1,5 @@
 // Turns and passes.
-ghost use Rattle.std.specs.Prelude.{◌≡◌, ◌<◌, ◌≤◌, ℕ, [], List, IfOk, All, length, map};
-ghost use Rattle.std.specs.FinSet as set;
+ghost use Rattle.std.specs.Prelude.{◌≡◌, ◌<◌, ◌≤◌, [], None, IfOk, All, length, map};
 ghost use Rattle.bundle_rules.specs.Bundles.{sections_of};
 ghost use Rattle.bundle_rules.specs.Demand.{price_in};
 ghost use Rattle.bundle_rules.specs.Places.{places_from};
@@ -10,23 +9,23 @@ ghost use Rattle.aftermarket_stage.specs.Turns.{AreHeldWithin, after_turns};
 ghost use Rattle.aftermarket_stage.specs.Passes.{IsAftermarket};
 ghost use Rattle.aftermarket_stage.specs.After.{ArePriced, terms_of, turns_of};
 ghost use Rattle.held_seats.specs.Floors.{AreBelow, IsFloor, held_on};
-ghost use Rattle.aftermarket_stage.specs.HeldChoices.{AreChoices, AreTerms};
-ghost use Rattle.aftermarket_stage.specs.Runs.{IsBestAt, HasTurned, HaveTurned};
+ghost use Rattle.aftermarket_stage.specs.HeldChoices.{AreChoices, AreKnown, AreTerms};
+ghost use Rattle.aftermarket_stage.specs.Runs.{HasTurned, HaveTurned};
 
+use crate::choosing::Chooser;
 use crate::counts::narrowed;
 use crate::{After, Turn};
-use budget_draw::{after_order, raised};
+use budget_draw::after_order;
 use bundle_rules::Bundle;
 use demand_api::Crowd;
-use demand_oracle::{Workspace, demand};
 use held_seats::Floor;
-use market_units::{NoMemory, SectionSet, StudentNo, Tokens};
+use market_units::{NoMemory, StudentNo, Tokens};
 use std::alloc::Global;
 
-// What the aftermarket works in: room for demands, what is held, and the turns so far.
+// What the aftermarket works in: who seeks the best bundles, what is held, and the turns so far.
 #[derive(Drop)]
 struct Stage {
-    workspace: Workspace,
+    chooser: Chooser,
     floor: Floor,
     turns: Vec<Turn>,
 }
@@ -78,10 +77,12 @@ impl Stage {
         requires below { AreBelow (length seats.now) (map sections_of bundles.now) }
         ensures turns { IfOk result (λ stage. stage.turns.items ≡ []) }
         ensures held { IfOk result (λ stage. held_on stage.floor ≡ map sections_of bundles.now) }
+        ensures size { IfOk result (λ stage. length stage.chooser.known.items ≡ length bundles.now) }
+        ensures none { IfOk result (λ stage. All (λ known. known ≡ None) stage.chooser.known.items) }
         ensures floor { IfOk result (λ stage. IsFloor seats.now stage.floor) }
     {
         Ok(Stage {
-            workspace: Workspace::reserve(alloc)?,
+            chooser: Chooser::reserve(alloc, bundles.len())?,
             floor: Floor::open(alloc, seats, bundles)?,
             turns: Vec::new(alloc),
         })
@@ -101,8 +102,12 @@ impl Stage {
         requires order { All (λ student. student.0 < length crowd.now.menus.items) order.now }
         requires choices { AreChoices (terms_of crowd.now seats.now prices.now raise) (held_on self.old.floor) }
         requires floor { IsFloor seats.now self.old.floor }
+        requires size { length self.old.chooser.known.items ≡ length crowd.now.menus.items }
+        requires known { AreKnown (crowd_of crowd.now.menus.items crowd.now.budgets.items crowd.now.sections) prices.now raise (held_on self.old.floor) self.old.chooser.known.items }
         ensures turns { IfOk result (λ changed. HaveTurned (terms_of crowd.now seats.now prices.now raise) pass (map (λ student. student.0) order.now) (held_on self.old.floor) (held_on self.new.floor) self.old.turns.items self.new.turns.items changed) }
         ensures floor { IfOk result (λ changed. IsFloor seats.now self.new.floor) }
+        ensures size { IfOk result (λ changed. length self.new.chooser.known.items ≡ length self.old.chooser.known.items) }
+        ensures known { IfOk result (λ changed. AreKnown (crowd_of crowd.now.menus.items crowd.now.budgets.items crowd.now.sections) prices.now raise (held_on self.new.floor) self.new.chooser.known.items) }
     {
         let mut changed = false;
         for student in order {
@@ -125,12 +130,19 @@ impl Stage {
         requires student { student.0 < length crowd.now.menus.items }
         requires choices { AreChoices (terms_of crowd.now seats.now prices.now raise) (held_on self.old.floor) }
         requires floor { IsFloor seats.now self.old.floor }
+        requires size { length self.old.chooser.known.items ≡ length crowd.now.menus.items }
+        requires known { AreKnown (crowd_of crowd.now.menus.items crowd.now.budgets.items crowd.now.sections) prices.now raise (held_on self.old.floor) self.old.chooser.known.items }
         ensures turn { IfOk result (λ changed. HasTurned (terms_of crowd.now seats.now prices.now raise) pass student.0 (held_on self.old.floor) (held_on self.new.floor) self.old.turns.items self.new.turns.items changed) }
         ensures floor { IfOk result (λ changed. IsFloor seats.now self.new.floor) }
+        ensures size { IfOk result (λ changed. length self.new.chooser.known.items ≡ length self.old.chooser.known.items) }
+        ensures known { IfOk result (λ changed. AreKnown (crowd_of crowd.now.menus.items crowd.now.budgets.items crowd.now.sections) prices.now raise (held_on self.new.floor) self.new.chooser.known.items) }
     {
         let place = usize::from(student.0);
         let allowed = self.floor.choices(place);
-        let bundle = best_at(&mut self.workspace, crowd, prices, raise, &allowed, place);
+        let held = &self.floor.held;
+        let bundle = self
+            .chooser
+            .best_at(crowd, prices, raise, &allowed, held, place);
         self.turns.push(Turn {
             pass,
             student,
@@ -158,23 +170,4 @@ impl Stage {
             used,
         })
     }
-}
-
-// The best bundle of allowed sections of the student at this place, within its raised budget.
-fn best_at(
-    workspace: &mut Workspace,
-    crowd: &Crowd,
-    prices: &[Tokens],
-    raise: u8,
-    allowed: &SectionSet,
-    place: usize,
-) -> Bundle
-    requires crowd { MakeCrowd crowd.now.menus.items crowd.now.budgets.items crowd.now.sections }
-    requires prices { ArePriced crowd.now.sections prices.now }
-    requires raise { raise ≤ 50 }
-    requires place { place < length crowd.now.menus.items }
-    ensures { (seats : List ℕ) → IsBestAt (terms_of crowd.now seats prices.now raise) place (set.contains allowed.now) (sections_of result) }
-{
-    let budget = raised(crowd.budgets[place], raise);
-    demand(workspace, &crowd.menus[place], prices, budget, allowed)
 }

@@ -1,7 +1,6 @@
 -- Items of a list that one of them is written into.
-use Rattle.std.proofs.Common.{ℕ, zero, suc, ◌≡◌, ◌≢◌, ◌<◌, ◌+◌, ◌⊎◌, Bool, List, [], ◌∷◌, length, Option, Some, None, arith, refl, ap, inl, inr}
+use Rattle.std.proofs.Common.{ℕ, zero, suc, ◌≡◌, ◌≢◌, ◌<◌, ◌+◌, List, [], ◌∷◌, length, Some, None, arith, refl, ap}
 use Rattle.std.specs.Prelude.{slice_get, slice_set, if◌then◌else◌}
-use Rattle.std.proofs.lemmas.Bool.{cases_Bool}
 use Rattle.bundle_rules.specs.Sets.{has}
 use Rattle.demand_api.specs.Crowds.{holders}
 

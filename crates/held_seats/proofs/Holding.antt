@@ -6,19 +6,20 @@ use Rattle.std.specs.FinSet as set
 use Rattle.std.proofs.lemmas.Bool.{cases_Bool, cases_lt, false≢true}
 use Rattle.std.proofs.lemmas.Bool.Decides.{nat_tests}
 use Rattle.std.specs.Cmp.Lexicographic.{pointwise}
-use Rattle.std.proofs.lemmas.List.{get_or_past, length-set, get_or-set_same, get_or-set_other, length-map, get_or-map, map-set}
-use Rattle.std.proofs.lemmas.Option.{slice_get_within, get_or_from_slice_get, slice_get-get_or, slice_get-map, slice_get_read}
+use Rattle.std.proofs.lemmas.List.{get_or-set_same, get_or-set_other, get_or-map}
+use Rattle.std.proofs.lemmas.Option.{slice_get_within, get_or_from_slice_get, slice_get-map, slice_get_read}
 use Rattle.market_units.specs.declared.units.SectionNo.{SectionNo}
 use Rattle.bundle_rules.specs.declared.bundle.Bundle.{Bundle}
 use Rattle.bundle_rules.specs.Bundles.{sections_of}
 use Rattle.bundle_rules.specs.Sets.{has, IsAscending}
-use Rattle.bundle_rules.specs.Ordinals.{ordinals, IsBundle}
+use Rattle.bundle_rules.specs.Ordinals.{ordinals}
 use Rattle.bundle_rules.specs.Places.{places_from}
+use Rattle.bundle_rules.specs.Existence.Members.{has-cases}
 use Rattle.bundle_rules.specs.Existence.Orders.{none_below}
 use Rattle.bundle_rules.proofs.Firsts.{first_rest}
 use Rattle.demand_api.specs.Crowds.{holders}
 use Rattle.demand_api.specs.Counting.{HasCounted}
-use Rattle.demand_api.proofs.Takers.{AreCounts, listed_in, holders_few, index_same, lent_back, sections_few, listed_by_place}
+use Rattle.demand_api.proofs.Takers.{AreCounts, listed_in, holders_few, index_same, lent_back, listed_by_place}
 use Rattle.held_seats.specs.Choices.{is_free, may_choose}
 use Rattle.held_seats.specs.Floors.{AreBelow}
 use Rattle.held_seats.proofs.Freeing.{Tells, no_seats}
@@ -33,6 +34,14 @@ holds_one s (x ∷ xs) (suc i) bundle there in_it = let more = holds_one s xs i 
 -- what holds of each section of a bundle holds of each of its list
 pub all_listed : (P : ℕ → Type 0) (sections : List SectionNo) (bundle : List ℕ) → ordinals sections ≡ bundle → ((s : ℕ) → has bundle s ≡ true → P s) → All (λ section. P section.0) sections
 all_listed P sections bundle listed each = λ k d low. each (slice_index_or sections k d).0 (ap (λ b. has b (slice_index_or sections k d).0) (sym listed) ∙ listed_in sections k d low)
+
+-- and what holds of each of its list holds of each section
+pub each_listed : (P : ℕ → Type 0) (sections : List SectionNo) → All (λ section. P section.0) sections → (s : ℕ) → has (ordinals sections) s ≡ true → P s
+each_listed P [] all s in_it = absurd (false≢true in_it)
+each_listed P (x ∷ xs) all s in_it = elim (has-cases x.0 (ordinals xs) s in_it) [
+  | inl here ↦ subst P here (all 0 x (omega arith))
+  | inr there ↦ each_listed P xs (λ k d low. all (suc k) d (let h : suc k < suc (length xs) = omega arith in h)) s there
+]
 
 -- the bundle at a place has sections below the bound
 pub below_at : (n : ℕ) (held : List (List ℕ)) (i : ℕ) (bundle : List ℕ) → AreBelow n held → slice_get held i ≡ Some bundle → (s : ℕ) → has bundle s ≡ true → s < n

@@ -5,3 +5,6 @@ mod counts;
 mod floor;
 
 pub use floor::Floor;
+
+#[cfg(test)]
+mod tests;

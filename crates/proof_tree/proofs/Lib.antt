@@ -9,6 +9,7 @@ pub mod Reading
 pub mod Spelling
 pub mod OneSymbol
 pub mod LowLeaves
+pub mod Alphabet
 pub mod NoDefects
 pub mod Following
 pub mod Writing

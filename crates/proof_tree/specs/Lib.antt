@@ -6,3 +6,4 @@ pub mod Steps
 pub mod Mismatches
 pub mod Spellings
 pub mod Laws
+pub mod Alphabets

@@ -6,6 +6,7 @@ use Rattle.bundle_rules.specs.Demand.{price_in}
 use Rattle.bundle_rules.specs.Places.{places_from}
 use Rattle.budget_draw.specs.AfterOrder.{after_order_of}
 use Rattle.demand_api.specs.Crowds.{holders}
+use Rattle.demand_api.specs.Made.{crowd_of}
 use Rattle.demand_api.proofs.Takers.{crowd_made, demands_length}
 use Rattle.aftermarket_stage.specs.Turns.{AreHeldWithin}
 use Rattle.aftermarket_stage.specs.After.{terms_of}
@@ -13,6 +14,7 @@ use Rattle.held_seats.specs.Floors.{held_on}
 use Rattle.aftermarket_stage.specs.HeldChoices.{AreChoices, AreTerms}
 use Rattle.aftermarket_stage.specs.Runs.{HaveTurned}
 use Rattle.aftermarket_stage.proofs.Turning.{start_choices}
+use Rattle.aftermarket_stage.proofs.Knowing.{known_none}
 use Rattle.held_seats.proofs.Holding.{counts_are, counts_few}
 use Rattle.aftermarket_stage.proofs.Crowding.{begins, budgets_same, choices_length, choices_low, choices_run, goes_on, if_both, is_made, made_within, measure, measure_falls, order_within, passes_few, some_or_none, under_way}
 use Rattle.aftermarket_stage.proofs.passes.aftermarket.Goals as goal
@@ -32,6 +34,8 @@ loop-changed-init c =
       begins (terms_of c.args.crowd.now c.args.seats.now c.args.prices.now c.args.raise) (map sections_of c.args.bundles.now) (held_on c.in_ok-stage.stage.floor) c.in_ok-stage.stage.turns.items (not c.is_empty-changed.result) c.in_ok-stage.ensures.held c.in_ok-stage.ensures.turns some.0 some.1,
       c.in_ok-stage.ensures.floor,
       subst (AreChoices (terms_of c.args.crowd.now c.args.seats.now c.args.prices.now c.args.raise)) (sym (c.in_ok-stage.ensures.held ∙ c.requires.demands)) (start_choices (terms_of c.args.crowd.now c.args.seats.now c.args.prices.now c.args.raise)),
+      omega (arith, c.in_ok-stage.ensures.size, ap length c.requires.demands, length-map c.args.bundles.now sections_of, demands_length c.args.crowd.now.menus.items c.args.crowd.now.budgets.items c.args.crowd.now.sections (price_in c.args.prices.now) c.requires.crowd.same),
+      known_none (crowd_of c.args.crowd.now.menus.items c.args.crowd.now.budgets.items c.args.crowd.now.sections) c.args.prices.now c.args.raise (held_on c.in_ok-stage.stage.floor) c.in_ok-stage.stage.chooser.known.items c.in_ok-stage.ensures.none,
     )
 
 pub overflow_add-passes : goal.overflow_add-passes
@@ -61,6 +65,8 @@ loop-changed-preserved c =
       goes_on (terms_of c.args.crowd.now c.args.seats.now c.args.prices.now c.args.raise) (map sections_of c.args.bundles.now) (held_on now.floor) (held_on later.floor) now.turns.items later.turns.items c.loop-changed.passes c.in_ok-changed.changed way run,
       c.in_ok-changed.ensures.floor,
       choices_run (terms_of c.args.crowd.now c.args.seats.now c.args.prices.now c.args.raise) _ _ (held_on now.floor) (held_on later.floor) now.turns.items later.turns.items c.in_ok-changed.changed c.loop-changed.invariant.2 c.in_ok-changed.ensures.turns,
+      c.in_ok-changed.ensures.size ∙ c.loop-changed.invariant.3,
+      c.in_ok-changed.ensures.known,
     )
 
 pub close-requires : goal.close-requires

@@ -6,14 +6,14 @@ use Rattle.held_seats.proofs.counts.+discount_bundle.Goals as goal
 
 pub discount_bundle-requires : goal.discount_bundle-requires
 discount_bundle-requires t c = (
-    search rules,
+  search rules,
+  (
+    rw (length-set c.args.counts.now c.from.result _) (rest_all (λ section. section.0 < length c.args.counts.now) c.args.sections.now c.in-len1-up.len_at_least c.requires.range),
     (
-      rw (length-set c.args.counts.now c.from.result _) (rest_all (λ section. section.0 < length c.args.counts.now) c.args.sections.now c.in-len1-up.len_at_least c.requires.range),
-      (
-        rest_ascending c.args.sections.now c.in-len1-up.len_at_least c.requires.set,
-        still_counted c.args.counts.now c.args.sections.now c.from.result c.in-len1-up.len_at_least c.requires.set c.from.ensures c.requires.counted,
-      ),
+      rest_ascending c.args.sections.now c.in-len1-up.len_at_least c.requires.set,
+      still_counted c.args.counts.now c.args.sections.now c.from.result c.in-len1-up.len_at_least c.requires.set c.from.ensures c.requires.counted,
     ),
+  ),
 )
 
 pub returns-in-len1-up-clause-each : goal.returns-in-len1-up-clause-each

@@ -1,4 +1,4 @@
-use Rattle.std.proofs.Common.{◌≡◌, ◌+◌, ◌<◌, ◌≤◌, ◌∙◌, length, subst, sym, rules}
+use Rattle.std.proofs.Common.{◌+◌, ◌<◌, ◌≤◌, ◌∙◌, length, subst, sym, rules}
 use Rattle.std.specs.Prelude.{slice_index}
 use Rattle.held_seats.proofs.Freeing.{FreeBelow, free_none, free_one, free_same, free_all}
 use Rattle.held_seats.proofs.counts.free_sections.Goals.{then-counts-place, else-counts-place}

@@ -1,4 +1,4 @@
-use Rattle.std.proofs.Common.{map, take, subst, sym, ◌||◌}
+use Rattle.std.proofs.Common.{◌∙◌, map, take, subst, sym, ◌||◌, refl}
 use Rattle.aftermarket_stage.specs.After.{terms_of}
 use Rattle.held_seats.specs.Floors.{held_on}
 use Rattle.aftermarket_stage.specs.Runs.{HaveTurned}
@@ -6,7 +6,7 @@ use Rattle.aftermarket_stage.proofs.Crowding.{none_turned, have_turned, choices_
 use Rattle.aftermarket_stage.proofs.passes.Stage.run_pass.Goals as goal
 
 pub loop-student-init : goal.loop-student-init
-loop-student-init c = (none_turned (terms_of c.args.crowd.now c.args.seats.now c.args.prices.now c.args.raise) c.args.pass (held_on c.args.self.now.floor) c.args.self.now.turns.items, c.requires.floor, c.requires.choices)
+loop-student-init c = (none_turned (terms_of c.args.crowd.now c.args.seats.now c.args.prices.now c.args.raise) c.args.pass (held_on c.args.self.now.floor) c.args.self.now.turns.items, c.requires.floor, c.requires.choices, refl, c.requires.known)
 
 pub loop-student-preserved : goal.loop-student-preserved
 loop-student-preserved c =
@@ -17,4 +17,6 @@ loop-student-preserved c =
           c.loop-student.invariant.0 c.in_ok-changed.ensures.turn),
       c.in_ok-changed.ensures.floor,
       choices_turned (terms_of c.args.crowd.now c.args.seats.now c.args.prices.now c.args.raise) c.args.pass _ (held_on now.floor) (held_on later.floor) now.turns.items later.turns.items c.in_ok-changed.field-0 c.loop-student.invariant.2 c.in_ok-changed.ensures.turn,
+      c.in_ok-changed.ensures.size ∙ c.loop-student.invariant.3,
+      c.in_ok-changed.ensures.known,
     )

@@ -1,4 +1,4 @@
-use Rattle.std.proofs.Common.{◌≡◌, ◌<◌, ◌∙◌, ◌||◌, length, ap, arith, sym}
+use Rattle.std.proofs.Common.{◌<◌, ◌∙◌, ◌||◌, length, ap, arith}
 use Rattle.std.specs.FinSet as set
 use Rattle.std.proofs.lemmas.List.{length-map}
 use Rattle.bundle_rules.specs.Sets.{has}

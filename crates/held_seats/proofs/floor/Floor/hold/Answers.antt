@@ -1,9 +1,8 @@
-use Rattle.std.proofs.Common.{◌≡◌, ◌<◌, ◌≤◌, ◌∙◌, ◌++◌, take, drop, refl, ℕ, Bool, List, length, ap, arith, sym, subst, rules}
+use Rattle.std.proofs.Common.{◌≡◌, ◌<◌, ◌≤◌, ◌∙◌, ◌++◌, take, drop, refl, ℕ, length, ap, arith, sym, subst, rules}
 use Rattle.std.specs.Prelude.{nat_lt, slice_index, slice_set}
 use Rattle.std.specs.FinSet as set
 use Rattle.std.proofs.lemmas.List.{length-map, map-set}
 use Rattle.bundle_rules.specs.Bundles.{sections_of}
-use Rattle.demand_api.specs.Crowds.{holders}
 use Rattle.demand_api.specs.Counting.{HasCounted}
 use Rattle.demand_api.proofs.Takers.{AreCounts, lent_back, sections_few}
 use Rattle.held_seats.specs.Floors.{held_on}

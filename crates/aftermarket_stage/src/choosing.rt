@@ -1,0 +1,103 @@
+// The best bundles of students, sought only where something new may be chosen.
+ghost use Rattle.std.specs.Prelude.{◌≡◌, ◌<◌, ◌≤◌, ◌||◌, ℕ, [], List, Option, None, Some, IfOk, IsTrue, All, true, not, length, map, slice_get, slice_index_or, slice_set};
+ghost use Rattle.std.specs.FinSet as set;
+ghost use Rattle.bundle_rules.specs.Sets.{has};
+ghost use Rattle.bundle_rules.specs.Bundles.{sections_of};
+ghost use Rattle.demand_api.specs.Made.{MakeCrowd, crowd_of};
+ghost use Rattle.aftermarket_stage.specs.After.{ArePriced, terms_of};
+ghost use Rattle.aftermarket_stage.specs.HeldChoices.{AreKnown, IsSettled};
+ghost use Rattle.aftermarket_stage.specs.Runs.{IsBestAt};
+
+use budget_draw::raised;
+use bundle_rules::{Bundle, Rated};
+use demand_api::Crowd;
+use demand_oracle::{Workspace, demand};
+use market_units::{NoMemory, SectionNo, SectionSet, Tokens};
+use std::alloc::Global;
+
+// Room for demands, and for each student the sections of which the bundle that it holds is known to be the best.
+#[derive(Drop)]
+pub(crate) struct Chooser {
+    workspace: Workspace,
+    pub(crate) known: Vec<Option<SectionSet>>,
+}
+
+impl Chooser {
+    // A chooser for so many students, of whom nothing is known.
+    pub(crate) fn reserve(alloc: Global, students: usize) -> Result<Chooser, NoMemory>
+        ensures size { IfOk result (λ chooser. length chooser.known.items ≡ students) }
+        ensures none { IfOk result (λ chooser. All (λ known. known ≡ None) chooser.known.items) }
+    {
+        let mut known = Vec::with_capacity(alloc, students)?;
+        for _ in 0..students {
+            known.push(None)?;
+        }
+        Ok(Chooser {
+            workspace: Workspace::reserve(alloc)?,
+            known,
+        })
+    }
+
+    // The best bundle of allowed sections of the student at this place, within its raised budget. What the student
+    // holds is allowed: where nothing else on its menu is new since its bundle was found, the bundle is still the best.
+    pub(crate) fn best_at(
+        &mut self,
+        crowd: &Crowd,
+        prices: &[Tokens],
+        raise: u8,
+        allowed: &SectionSet,
+        held: &[Bundle],
+        place: usize,
+    ) -> Bundle
+        requires crowd { MakeCrowd crowd.now.menus.items crowd.now.budgets.items crowd.now.sections }
+        requires prices { ArePriced crowd.now.sections prices.now }
+        requires raise { raise ≤ 50 }
+        requires place { place < length crowd.now.menus.items }
+        requires students { length held.now ≡ length crowd.now.menus.items }
+        requires size { length self.old.known.items ≡ length crowd.now.menus.items }
+        requires held { (s : ℕ) → has (slice_index_or (map sections_of held.now) place []) s ≡ true → set.contains allowed.now s ≡ true }
+        requires known { AreKnown (crowd_of crowd.now.menus.items crowd.now.budgets.items crowd.now.sections) prices.now raise (map sections_of held.now) self.old.known.items }
+        ensures best { (seats : List ℕ) → IsBestAt (terms_of crowd.now seats prices.now raise) place (set.contains allowed.now) (sections_of result) }
+        ensures size { length self.new.known.items ≡ length self.old.known.items }
+        ensures known { AreKnown (crowd_of crowd.now.menus.items crowd.now.budgets.items crowd.now.sections) prices.now raise (slice_set (map sections_of held.now) place (sections_of result)) self.new.known.items }
+    {
+        let menu = &crowd.menus[place];
+        if self.is_settled(menu.places(), allowed, place) {
+            return held[place];
+        }
+        let budget = raised(crowd.budgets[place], raise);
+        let bundle = demand(&mut self.workspace, menu, prices, budget, allowed);
+        self.known[place] = Some(*allowed);
+        bundle
+    }
+
+    // Whether the held bundle of the student at this place is known to be the best of sections among which are all of
+    // these that are on its menu.
+    fn is_settled(&self, places: &[Rated], allowed: &SectionSet, place: usize) -> bool
+        requires place { place < length self.now.known.items }
+        requires low { All (λ rated. rated.section.0 < 400) places.now }
+        ensures { IsTrue result → IsSettled self.now.known.items place places.now allowed.now }
+    {
+        match self.known[place] {
+            Some(known) => none_new(places, &known, allowed),
+            None => false,
+        }
+    }
+}
+
+// Whether each of these sections that is allowed is among the known ones.
+fn none_new(places: &[Rated], known: &SectionSet, allowed: &SectionSet) -> bool
+    requires { All (λ rated. rated.section.0 < 400) places.now }
+    ensures { IsTrue result → All (λ rated. IsTrue (set.contains known.now rated.section.0 || not (set.contains allowed.now rated.section.0))) places.now }
+{
+    places
+        .iter()
+        .all(|rated| is_old(rated.section, known, allowed))
+}
+
+fn is_old(section: SectionNo, known: &SectionSet, allowed: &SectionSet) -> bool
+    requires { section.0 < 400 }
+    ensures { result ≡ (set.contains known.now section.0 || not (set.contains allowed.now section.0)) }
+{
+    known.has(section) || !allowed.has(section)
+}

@@ -1,0 +1,15 @@
+pub mod LowerFirst
+pub mod Prices
+pub mod Settled
+pub mod Turning
+pub mod Asked
+pub mod Sentences
+pub mod OnePublications
+pub mod Showing
+pub mod Ranges
+pub mod Outcomes
+pub mod PublicationRanges
+pub mod HeldStages
+pub mod Found
+pub mod Telling
+pub mod Existing

@@ -1,0 +1,73 @@
+-- The laws of published markets. The first six are the sentences on what a published text says of students and sections.
+use Rattle.std.specs.Prelude.{ℕ, ◌<◌, ◌≡◌, ◌⊎◌, List, [], ◌∷◌, ◌++◌, length, slice_index, slice_index_or}
+use Rattle.bundle_rules.specs.Demand.{IsBest}
+use Rattle.budget_draw.specs.Budgets.{budgets_of, raised_by}
+use Rattle.preference_desk.specs.declared.entry.Entry.{Entry}
+use Rattle.utility_language.specs.declared.commands.Command.{Command}
+use Rattle.market_certificate.specs.Publications.{ProvedTurn, Publication}
+use Rattle.demand_api.specs.Crowds.{CrowdData, IsCrowd}
+use Rattle.published_parts.specs.Crowds.{IsCrowdAfter}
+use Rattle.published_parts.specs.Markets.{Market, names_in, seats_in}
+use Rattle.published_parts.specs.Journals.{IsJournalOf, wishes_in}
+use Rattle.published_parts.specs.Offers.{all_sections}
+use Rattle.published_parts.specs.Holdings.{AreWithinSeats, demanded, held_after, may_choose}
+use Rattle.published_market.specs.Publishing.{IsPublished, IsPublishedText, IsUnpriced}
+
+-- the published order has a journal, which merges all sessions' commands
+abbrev pub OrderMergesStreams : Type 0
+OrderMergesStreams = (market : Market) (streams : List (List Command)) (order : List ℕ) (p : Publication) → IsPublished market streams order p
+    → (p.order ≡ order) × ((journal : List Entry) × IsJournalOf (names_in market) streams order journal)
+
+-- each student's budget is what the seed draws for it, with its base and what it carried over
+abbrev pub BudgetsAreDrawn : Type 0
+BudgetsAreDrawn = (market : Market) (streams : List (List Command)) (order : List ℕ) (p : Publication) → IsPublished market streams order p
+    → p.budgets ≡ budgets_of market.roll.students market.settings.seed market.settings.spread
+
+-- each student's bundle of stage two is the best that its budget buys at the published prices: the student may take it, its prices sum to at
+-- most the budget, and the student prefers it to every other such bundle of the catalogue's sections
+abbrev pub BestWithinBudget : Type 0
+BestWithinBudget = (market : Market) (streams : List (List Command)) (order : List ℕ) (p : Publication) (journal : List Entry) → IsPublished market streams order p → IsJournalOf (names_in market) streams order journal
+    → (student : ℕ) → student < length market.roll.students
+    → IsBest (wishes_in market journal student) (slice_index p.prices) (slice_index p.budgets student) (all_sections (length market.catalog.sections)) (slice_index_or (demanded p) student [])
+
+-- the bundle of each turn is the best that the student's raised budget buys, at the same prices, of the sections that the student holds and
+-- of those that are free when its turn comes
+abbrev pub BestAtItsTurn : Type 0
+BestAtItsTurn = (market : Market) (streams : List (List Command)) (order : List ℕ) (p : Publication) (journal : List Entry) → IsPublished market streams order p → IsJournalOf (names_in market) streams order journal
+    → (earlier later : List ProvedTurn) (turn : ProvedTurn) → p.turns ≡ earlier ++ turn ∷ later
+    → IsBest (wishes_in market journal turn.student) (slice_index p.prices) (raised_by market.settings.raise (slice_index p.budgets turn.student))
+    (may_choose (seats_in market) (held_after (demanded p) earlier) turn.student) turn.bundle
+
+-- no section is above its seats in the bundles of stage two
+abbrev pub StageTwoWithinSeats : Type 0
+StageTwoWithinSeats = (market : Market) (streams : List (List Command)) (order : List ℕ) (p : Publication) → IsPublished market streams order p → AreWithinSeats market (demanded p)
+
+-- nor after any turn
+abbrev pub TurnsWithinSeats : Type 0
+TurnsWithinSeats = (market : Market) (streams : List (List Command)) (order : List ℕ) (p : Publication) → IsPublished market streams order p
+    → (earlier later : List ProvedTurn) → p.turns ≡ earlier ++ later → AreWithinSeats market (held_after (demanded p) earlier)
+
+-- nor at the end
+abbrev pub AllocationWithinSeats : Type 0
+AllocationWithinSeats = (market : Market) (streams : List (List Command)) (order : List ℕ) (p : Publication) → IsPublished market streams order p → AreWithinSeats market p.allocation
+
+-- a market publishes one publication for an order
+abbrev pub OnePublication : Type 0
+OnePublication = (market : Market) (streams : List (List Command)) (order : List ℕ) (one other : Publication) → IsPublished market streams order one → IsPublished market streams order other → one ≡ other
+
+-- and one text
+abbrev pub OnePublishedText : Type 0
+OnePublishedText = (market : Market) (streams : List (List Command)) (order one other : List ℕ) → IsPublishedText market streams order one → IsPublishedText market streams order other → one ≡ other
+
+-- where no prices are found, there is one least error
+abbrev pub OneLeastError : Type 0
+OneLeastError = (market : Market) (streams : List (List Command)) (order : List ℕ) (one other : ℕ) → IsUnpriced market streams order one → IsUnpriced market streams order other → one ≡ other
+
+-- what is published has prices: it is never that something is published, and that no prices are found
+abbrev pub PublishedIsPriced : Type 0
+PublishedIsPriced = (market : Market) (streams : List (List Command)) (order : List ℕ) (p : Publication) (least : ℕ) → IsPublished market streams order p → ¬ IsUnpriced market streams order least
+
+-- an order of which the journal merges the streams has something published, or a least error that is not accepted
+abbrev pub PublishedOrUnpriced : Type 0
+PublishedOrUnpriced = (market : Market) (streams : List (List Command)) (order : List ℕ) (crowd : CrowdData) → IsCrowdAfter market streams order crowd → IsCrowd crowd
+    → ((p : Publication) × IsPublished market streams order p) ⊎ ((least : ℕ) × IsUnpriced market streams order least)

@@ -1,0 +1,5 @@
+pub mod Turns
+pub mod Publishing
+pub mod Laws
+pub mod Making
+pub mod Stages

@@ -1,0 +1,23 @@
+-- Turns of the aftermarket, as they are published.
+use Rattle.std.specs.Prelude.{ℕ, ◌≡◌, Some, List, slice_get}
+use Rattle.market_units.specs.declared.units.Tokens.{Tokens}
+use Rattle.bundle_rules.specs.Demand.{price_in}
+use Rattle.bundle_bounds.specs.Offers.{Offer}
+use Rattle.budget_draw.specs.Budgets.{raised_by}
+use Rattle.demand_api.specs.Crowds.{CrowdData, Student}
+use Rattle.aftermarket_stage.specs.Turns.{TurnData}
+use Rattle.market_certificate.specs.Publications.{ProvedTurn}
+use Rattle.published_parts.specs.Offers.{IsProvedBest, offer_to}
+
+-- what is offered to a student at a turn: the sections that it may choose, at the same prices, with its raised budget
+abbrev pub offer_at : List Tokens → ℕ → Student → TurnData → Offer
+offer_at prices raise student turn = offer_to student (price_in prices) (raised_by raise student.budget) turn.allowed
+
+-- a turn as it is published: its pass, its student and its bundle, which is the best of what is offered, with the bundle's tree
+pub record IsPublishedTurn (crowd : CrowdData) (prices : List Tokens) (raise : ℕ) (turn : TurnData) (published : ProvedTurn) : Type 0 where
+  pub pass : published.pass ≡ turn.pass
+  pub student : published.student ≡ turn.student
+  pub bundle : published.bundle ≡ turn.bundle
+  pub who : Student
+  pub listed : slice_get crowd.students turn.student ≡ Some who
+  pub proved : IsProvedBest (offer_at prices raise who turn) published.bundle published.tree

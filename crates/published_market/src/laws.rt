@@ -1,0 +1,88 @@
+//! What holds of published markets: each call here does nothing, and its contract is a law. First come the sentences on
+//! what a published text says of students and sections.
+ghost use Rattle.published_market.specs.Laws.{AllocationWithinSeats, BestAtItsTurn, BestWithinBudget, BudgetsAreDrawn, OneLeastError, OnePublication, OnePublishedText, OrderMergesStreams, PublishedIsPriced, PublishedOrUnpriced, StageTwoWithinSeats, TurnsWithinSeats};
+
+use aftermarket_stage::laws::{aftermarket_ends, one_aftermarket, stays_within_seats};
+use oversubscription_stage::laws::elimination_ends;
+use proof_tree::laws::trees_prove_the_best;
+use tabu_search::laws::{not_both_are_searched, one_is_found, search_ends};
+
+/// The published order is that of a journal which merges all sessions' commands.
+pub fn order_merges_streams()
+    ensures { OrderMergesStreams }
+{}
+
+/// Each student's budget is drawn by the seed.
+pub fn budgets_are_drawn()
+    ensures { BudgetsAreDrawn }
+{}
+
+/// Each student's bundle of stage two is the best feasible one within its budget at the published prices.
+pub fn best_within_budget()
+    ensures { BestWithinBudget }
+{}
+
+/// Each turn's bundle is the best one within the raised budget of the sections that the student holds and of those that
+/// are free.
+pub fn best_at_its_turn()
+    ensures { BestAtItsTurn }
+{}
+
+/// No section is above its seats in stage two.
+pub fn stage_two_within_seats()
+    ensures { StageTwoWithinSeats }
+{}
+
+/// No section is above its seats after any turn.
+pub fn turns_within_seats()
+    ensures { TurnsWithinSeats }
+{
+    stays_within_seats();
+}
+
+/// No section is above its seats at the end.
+pub fn allocation_within_seats()
+    ensures { AllocationWithinSeats }
+{
+    stays_within_seats();
+}
+
+/// A market publishes one publication for an order.
+pub fn one_publication()
+    ensures { OnePublication }
+{
+    one_is_found();
+    one_aftermarket();
+}
+
+/// A market publishes one text for an order, whoever finds it and with however many workers.
+pub fn one_published_text()
+    ensures { OnePublishedText }
+{
+    one_is_found();
+    one_aftermarket();
+}
+
+/// Where no prices are found, the least error is one.
+pub fn one_least_error()
+    ensures { OneLeastError }
+{
+    tabu_search::laws::one_least_error();
+}
+
+/// What is published has prices: no order has both a publication and a least error that is not accepted.
+pub fn published_is_priced()
+    ensures { PublishedIsPriced }
+{
+    not_both_are_searched();
+}
+
+/// An order of which the journal merges the streams has something published, or a least error that is not accepted.
+pub fn published_or_unpriced()
+    ensures { PublishedOrUnpriced }
+{
+    search_ends();
+    elimination_ends();
+    aftermarket_ends();
+    trees_prove_the_best();
+}
