@@ -1,5 +1,6 @@
 -- What a price and the next one tell.
-use Rattle.std.proofs.Common.{◌≡◌, ℕ, ◌+◌, ◌-◌, ◌*◌, ◌≤◌, ◌<◌, max, min, List, subst, arith, inl, inr}
+use Rattle.std.proofs.Common.{◌≡◌, ℕ, ◌+◌, ◌-◌, ◌*◌, ◌/◌, ◌≤◌, ◌<◌, max, min, List, subst, arith, inl, inr}
+use Rattle.std.proofs.Math.Nat.{div-le_self, div-lt_iff_lt-mul, le-div_iff_mul-le}
 use Rattle.std.specs.Prelude.{ℤ, pos, ◌+ℤ◌, ◌≤ℤ◌}
 use Rattle.std.proofs.lemmas.Int.{ints}
 use Rattle.std.proofs.lemmas.Bool.{cases_lt}
@@ -51,10 +52,12 @@ module _ (base limit : ℤ) (rest : ℕ) (resource : Resource) (all : List Prosp
           ]
       | inr after ↦ is.high other after within
     ];
+    low_within = is.low_within;
+    high_within = let h = is.high_within in omega arith;
   }
 
-  pub known_falling : (steps lowest : ℕ) → next < sum → steps * (sum - next) ≤ margin → lowest ≡ max known.low ((price + steps) + 1) → IsKnown base limit rest resource all record { low = lowest; high = known.high }
-  known_falling steps lowest fall few lowest_is = record {
+  pub known_falling : (steps lowest : ℕ) → next < sum → price < 20000000 → steps ≤ known.high - price → steps * (sum - next) ≤ margin → lowest ≡ max known.low ((price + steps) + 1) → IsKnown base limit rest resource all record { low = lowest; high = known.high }
+  known_falling steps lowest fall small most few lowest_is = record {
     low = λ other below. elim (cases_lt other known.low) [
       | inl before ↦ is.low other before
       | inr after ↦
@@ -78,4 +81,16 @@ module _ (base limit : ℤ) (rest : ℕ) (resource : Resource) (all : List Prosp
           ]
     ];
     high = is.high;
+    low_within = let l = is.low_within in let h = is.high_within in omega arith;
+    high_within = is.high_within;
   }
+
+-- what is known at the price of a ratio that is low, or high
+pub known_below : (base limit : ℤ) (rest : ℕ) (resource : Resource) (all : List Prospect) (known : Known) (worth taken : ℕ) → IsKnown base limit rest resource all known → 0 < taken → worth < known.low * taken
+    → limit ≤ℤ (base +ℤ pos (at_price resource rest (worth / taken) all))
+known_below base limit rest resource all known worth taken is some below = is.low (worth / taken) ((div-lt_iff_lt-mul some).1 below)
+
+pub known_above : (base limit : ℤ) (rest : ℕ) (resource : Resource) (all : List Prospect) (known : Known) (worth taken : ℕ) → IsKnown base limit rest resource all known → 0 < taken → worth ≤ 20000000 → known.high * taken ≤ worth
+    → limit ≤ℤ (base +ℤ pos (at_price resource rest (worth / taken) all))
+known_above base limit rest resource all known worth taken is some small above =
+    is.high (worth / taken) ((le-div_iff_mul-le some).1 above) (let less : worth / taken ≤ worth = div-le_self worth taken in omega arith)

@@ -7,7 +7,8 @@ use Rattle.bundle_bounds.specs.declared.nodes.Leaf.{Leaf}
 use Rattle.bundle_bounds.specs.declared.nodes.Leaf.TheVariants.{Budget, Credits, Number}
 use Rattle.bundle_bounds.specs.declared.prospects.Prospect.{Prospect}
 use Rattle.bundle_bounds.specs.declared.prospects.Resource.{Resource}
-use Rattle.bundle_bounds.specs.declared.prospects.Resource.TheVariants.{Money, Load, Count}
+use Rattle.bundle_bounds.specs.declared.prospects.Resource.TheVariants.{Money, Count}
+use Rattle.bundle_bounds.specs.declared.prospects.Resource.TheVariants as resources
 use Rattle.bundle_bounds.specs.Courses.{takes_of}
 use Rattle.bundle_bounds.specs.Bounds.{leaf_of, at_price, resource_bounds, all_bounds, HasBound}
 
@@ -27,7 +28,7 @@ has-append_cases (a ∷ as') bs leaf b (inr later) = elim (has-append_cases as' 
 
 same_place : (resource : Resource) (p q : ℕ) → leaf_of resource p ≡ leaf_of resource q → p ≡ q
 same_place Money p q e = cc e
-same_place Load p q e = cc e
+same_place resources.Credits p q e = cc e
 same_place Count p q e = cc e
 
 module _ (base : ℤ) (rest : ℕ) (resource : Resource) (all : List Prospect) where
@@ -74,22 +75,22 @@ of_money base budget credits courses ps place result own b (inl plain) = absurd 
 of_money base budget credits courses ps place result own b (inr has) =
     inr (has-append_left (resource_bounds base budget Money ps ps) _ (Budget place) result (own b (elim (has-append_cases (resource_bounds base budget Money ps ps) _ (Budget place) b has) [
       | inl mine ↦ mine
-      | inr others ↦ elim (has-append_cases (resource_bounds base credits Load ps ps) _ (Budget place) b others) [
-        | inl load ↦ absurd (other_resource base credits Money Load ps ps place b (λ p q e. cc e) load)
+      | inr others ↦ elim (has-append_cases (resource_bounds base credits resources.Credits ps ps) _ (Budget place) b others) [
+        | inl credits_ ↦ absurd (other_resource base credits Money resources.Credits ps ps place b (λ p q e. cc e) credits_)
         | inr count ↦ absurd (other_resource base courses Money Count ps ps place b (λ p q e. cc e) count)
       ]
     ])))
 
-pub of_load : (base : ℤ) (budget credits courses : ℕ) (ps : List Prospect) (place : ℕ) (result : ℤ)
-    → ((b : ℤ) → HasBound (resource_bounds base credits Load ps ps) (Credits place) b → HasBound (resource_bounds base credits Load ps ps) (Credits place) result)
+pub of_credits : (base : ℤ) (budget credits courses : ℕ) (ps : List Prospect) (place : ℕ) (result : ℤ)
+    → ((b : ℤ) → HasBound (resource_bounds base credits resources.Credits ps ps) (Credits place) b → HasBound (resource_bounds base credits resources.Credits ps ps) (Credits place) result)
     → (b : ℤ) → HasBound (all_bounds base budget credits courses ps) (Credits place) b → HasBound (all_bounds base budget credits courses ps) (Credits place) result
-of_load base budget credits courses ps place result own b (inl plain) = absurd (cc plain.0)
-of_load base budget credits courses ps place result own b (inr has) =
-    inr (has-append_right (resource_bounds base budget Money ps ps) _ (Credits place) result (has-append_left (resource_bounds base credits Load ps ps) _ (Credits place) result (own b (elim (has-append_cases (resource_bounds base budget Money ps ps) _ (Credits place) b has) [
-      | inl money ↦ absurd (other_resource base budget Load Money ps ps place b (λ p q e. cc e) money)
-      | inr others ↦ elim (has-append_cases (resource_bounds base credits Load ps ps) _ (Credits place) b others) [
+of_credits base budget credits courses ps place result own b (inl plain) = absurd (cc plain.0)
+of_credits base budget credits courses ps place result own b (inr has) =
+    inr (has-append_right (resource_bounds base budget Money ps ps) _ (Credits place) result (has-append_left (resource_bounds base credits resources.Credits ps ps) _ (Credits place) result (own b (elim (has-append_cases (resource_bounds base budget Money ps ps) _ (Credits place) b has) [
+      | inl money ↦ absurd (other_resource base budget resources.Credits Money ps ps place b (λ p q e. cc e) money)
+      | inr others ↦ elim (has-append_cases (resource_bounds base credits resources.Credits ps ps) _ (Credits place) b others) [
         | inl mine ↦ mine
-        | inr count ↦ absurd (other_resource base courses Load Count ps ps place b (λ p q e. cc e) count)
+        | inr count ↦ absurd (other_resource base courses resources.Credits Count ps ps place b (λ p q e. cc e) count)
       ]
     ]))))
 
@@ -98,10 +99,10 @@ pub of_count : (base : ℤ) (budget credits courses : ℕ) (ps : List Prospect) 
     → (b : ℤ) → HasBound (all_bounds base budget credits courses ps) (Number place) b → HasBound (all_bounds base budget credits courses ps) (Number place) result
 of_count base budget credits courses ps place result own b (inl plain) = absurd (cc plain.0)
 of_count base budget credits courses ps place result own b (inr has) =
-    inr (has-append_right (resource_bounds base budget Money ps ps) _ (Number place) result (has-append_right (resource_bounds base credits Load ps ps) _ (Number place) result (own b (elim (has-append_cases (resource_bounds base budget Money ps ps) _ (Number place) b has) [
+    inr (has-append_right (resource_bounds base budget Money ps ps) _ (Number place) result (has-append_right (resource_bounds base credits resources.Credits ps ps) _ (Number place) result (own b (elim (has-append_cases (resource_bounds base budget Money ps ps) _ (Number place) b has) [
       | inl money ↦ absurd (other_resource base budget Count Money ps ps place b (λ p q e. cc e) money)
-      | inr others ↦ elim (has-append_cases (resource_bounds base credits Load ps ps) _ (Number place) b others) [
-        | inl load ↦ absurd (other_resource base credits Count Load ps ps place b (λ p q e. cc e) load)
+      | inr others ↦ elim (has-append_cases (resource_bounds base credits resources.Credits ps ps) _ (Number place) b others) [
+        | inl credits_ ↦ absurd (other_resource base credits Count resources.Credits ps ps place b (λ p q e. cc e) credits_)
         | inr mine ↦ mine
       ]
     ]))))

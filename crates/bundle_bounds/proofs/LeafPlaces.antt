@@ -6,7 +6,8 @@ use Rattle.bundle_bounds.specs.declared.nodes.Leaf.{Leaf}
 use Rattle.bundle_bounds.specs.declared.nodes.Leaf.TheVariants.{Plain, Budget, Credits, Number}
 use Rattle.bundle_bounds.specs.declared.prospects.Prospect.{Prospect}
 use Rattle.bundle_bounds.specs.declared.prospects.Resource.{Resource}
-use Rattle.bundle_bounds.specs.declared.prospects.Resource.TheVariants.{Money, Load, Count}
+use Rattle.bundle_bounds.specs.declared.prospects.Resource.TheVariants.{Money, Count}
+use Rattle.bundle_bounds.specs.declared.prospects.Resource.TheVariants as resources
 use Rattle.bundle_bounds.specs.Offers.{Offer}
 use Rattle.bundle_bounds.specs.Courses.{takes_of}
 use Rattle.bundle_bounds.specs.Opens.{is_open, opens_from, open_places, prospects, left_of}
@@ -47,7 +48,7 @@ prospects_at offer cs (o ∷ os) n below = (below.0, prospects_at offer cs os n 
 
 low_leaf : (resource : Resource) (place n : ℕ) → place < n → IsLow n (leaf_of resource place)
 low_leaf Money place n low = low
-low_leaf Load place n low = low
+low_leaf resources.Credits place n low = low
 low_leaf Count place n low = low
 
 low_bounds : (base : ℤ) (rest : ℕ) (resource : Resource) (all ps : List Prospect) (n : ℕ) → AreAt n ps → AreLow n (resource_bounds base rest resource all ps)
@@ -71,7 +72,7 @@ all_low offer k cs n few within =
     let base = base_of offer cs in (
       tt,
       low_append n (resource_bounds base (left_of offer cs Money) Money ps ps) _ (low_bounds base (left_of offer cs Money) Money ps ps n at)
-          (low_append n (resource_bounds base (left_of offer cs Load) Load ps ps) _ (low_bounds base (left_of offer cs Load) Load ps ps n at) (low_bounds base (left_of offer cs Count) Count ps ps n at)),
+          (low_append n (resource_bounds base (left_of offer cs resources.Credits) resources.Credits ps ps) _ (low_bounds base (left_of offer cs resources.Credits) resources.Credits ps ps n at) (low_bounds base (left_of offer cs Count) Count ps ps n at)),
     )
 
 low_first : (offer : Offer) (k : ℕ) (cs ch : List ℕ) (n : ℕ) (bs : List (Leaf × ℤ)) (leaf : Leaf) → AreLow n bs → IsFirstClosing offer k cs ch bs leaf → IsLow n leaf

@@ -16,3 +16,9 @@ pub mod Openings
 pub mod Lines
 pub mod LeafPlaces
 pub mod Knowing
+pub mod Adding
+pub mod Prefixes
+pub mod StayingOpen
+pub mod Stemming
+pub mod StemSteps
+pub mod StemTaken

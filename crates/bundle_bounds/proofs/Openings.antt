@@ -35,7 +35,7 @@ pub record IsOpen (offer : Offer) (places : List ℕ) (k : ℕ) : Type 0 where
   pub credits : credits_at offer.menu.places k ≤ credits_left offer places
   pub courses : 1 ≤ courses_left offer places
 
-both : (a b : Bool) → (a && b) ≡ true → (a ≡ true) × (b ≡ true)
+pub both : (a b : Bool) → (a && b) ≡ true → (a ≡ true) × (b ≡ true)
 both true b is = (refl, is)
 both false b is = absurd (false≢true is)
 
@@ -159,10 +159,10 @@ node_same offer k j chosen others same equal node = subst (λ n. IsNode offer n 
 pub node_later : (offer : Offer) (k place : ℕ) (chosen : List ℕ) → k ≤ place → IsNode offer k chosen → IsNode offer place chosen
 node_later offer k place chosen later node = record { takable = node.takable; decided = λ s is. (let below : place_in offer.menu.places s < k = node.decided s is in omega arith) }
 
-le_to : (a b : ℕ) → a ≤ b → nat_le a b ≡ true
+pub le_to : (a b : ℕ) → a ≤ b → nat_le a b ≡ true
 le_to a b h = grind (arith, nat_tests)
 
-open_of : (offer : Offer) (places : List ℕ) (k : ℕ) → IsOpen offer places k → is_open offer places k ≡ true
+pub open_of : (offer : Offer) (places : List ℕ) (k : ℕ) → IsOpen offer places k → is_open offer places k ≡ true
 open_of offer places k is =
     rw (is.allowed, is.apart, le_to _ _ is.price, le_to _ _ is.credits) (le_to _ _ is.courses)
 

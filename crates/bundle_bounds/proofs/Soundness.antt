@@ -12,7 +12,7 @@ use Rattle.bundle_rules.specs.Menus.{IsMenu, wishes_of, by_place, credits_at}
 use Rattle.bundle_rules.proofs.Feasibility.{utility_by_place}
 use Rattle.bundle_bounds.specs.declared.prospects.Prospect.{Prospect}
 use Rattle.bundle_bounds.specs.declared.prospects.Resource.{Resource}
-use Rattle.bundle_bounds.specs.declared.prospects.Resource.TheVariants.{Money, Load, Count}
+use Rattle.bundle_bounds.specs.declared.prospects.Resource.TheVariants.{Money, Credits, Count}
 use Rattle.bundle_bounds.specs.declared.nodes.Leaf.{Leaf}
 use Rattle.bundle_bounds.specs.Offers.{Offer, places_of, price_at}
 use Rattle.bundle_bounds.specs.Courses.{takes_of, by_course}
@@ -75,7 +75,7 @@ module _ (offer : Offer) (cs : List ℕ) (u : ℤ) (ps : List Prospect) (bs : Li
   all_sound fits = (
     plain_sound,
     each-append u (resource_bounds (base_of offer cs) (left_of offer cs Money) Money ps ps) _ (resource_sound Money ps (fits Money))
-        (each-append u (resource_bounds (base_of offer cs) (left_of offer cs Load) Load ps ps) _ (resource_sound Load ps (fits Load)) (resource_sound Count ps (fits Count))),
+        (each-append u (resource_bounds (base_of offer cs) (left_of offer cs Credits) Credits ps ps) _ (resource_sound Credits ps (fits Credits)) (resource_sound Count ps (fits Count))),
   )
 
 rest_of : (whole front more cap : ℕ) → whole ≡ front + more → whole ≤ cap → more ≤ cap - front
@@ -84,7 +84,7 @@ rest_of whole front more cap split fits = omega arith
 -- what completes the chosen places takes no more than they leave
 fits_of : (offer : Offer) (cs : List ℕ) (bs : List Bool) (opens ds : List ℕ) → chosen bs opens ≡ ds → MayBeTaken offer (cs ++ ds) → (resource : Resource) → total (takes_of resource) (chosen bs (prospects offer cs opens)) ≤ left_of offer cs resource
 fits_of offer cs bs opens ds same may Money = rw (prices_of offer cs bs opens, same) (rest_of _ _ _ _ (total-append (price_at offer) cs ds) may.affordable)
-fits_of offer cs bs opens ds same may Load = rw (credits_of offer cs bs opens, same) (rest_of _ _ _ _ (total-append (credits_at offer.menu.places) cs ds) may.credits)
+fits_of offer cs bs opens ds same may Credits = rw (credits_of offer cs bs opens, same) (rest_of _ _ _ _ (total-append (credits_at offer.menu.places) cs ds) may.credits)
 fits_of offer cs bs opens ds same may Count = rw (count_of offer cs bs opens, same) (rest_of _ _ _ _ (length-append cs ds) may.courses)
 
 -- the bounds are sound for what completes chosen places by further ones

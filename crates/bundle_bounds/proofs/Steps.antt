@@ -47,7 +47,7 @@ courses_once (p ∷ ps) c =
           ]
     ]
 
-greatest_none : (f : Prospect → ℕ) (ps : List Prospect) (c : ℕ) → has_course ps c ≡ false → greatest f c ps ≡ 0
+pub greatest_none : (f : Prospect → ℕ) (ps : List Prospect) (c : ℕ) → has_course ps c ≡ false → greatest f c ps ≡ 0
 greatest_none f [] c none = refl
 greatest_none f (p ∷ ps) c none =
     elim (cases_Bool (p.course == c)) [

@@ -9,7 +9,8 @@ use Rattle.bundle_bounds.specs.Offers.{Offer}
 use Rattle.bundle_bounds.specs.Courses.{takes_of, by_course}
 use Rattle.bundle_bounds.specs.declared.prospects.Prospect.{Prospect}
 use Rattle.bundle_bounds.specs.declared.prospects.Resource.{Resource}
-use Rattle.bundle_bounds.specs.declared.prospects.Resource.TheVariants.{Money, Load, Count}
+use Rattle.bundle_bounds.specs.declared.prospects.Resource.TheVariants.{Money, Count}
+use Rattle.bundle_bounds.specs.declared.prospects.Resource.TheVariants as resources
 use Rattle.bundle_bounds.specs.Opens.{left_of, open_places, prospects}
 
 -- what is left of 1000 times the worth at this price of what is taken of a resource
@@ -23,7 +24,7 @@ at_price resource rest price ps = price * rest + by_course (over_price resource 
 -- the bound of a resource by the place whose worth for what it takes is the price
 abbrev pub leaf_of : Resource → ℕ → Leaf
 leaf_of Money place = Budget place
-leaf_of Load place = Credits place
+leaf_of resources.Credits place = Credits place
 leaf_of Count place = Number place
 
 -- a bound for each of these that is worth something and takes something, above this base and with this rest
@@ -42,10 +43,10 @@ base_of offer chosen = pos 1000 *ℤ utility (by_place offer.menu) chosen
 abbrev pub all_bounds : ℤ → ℕ → ℕ → ℕ → List Prospect → List (Leaf × ℤ)
 all_bounds base budget credits courses ps =
     (Plain, base +ℤ pos (by_course (λ p. 1000 * p.worth) ps))
-    ∷ (resource_bounds base budget Money ps ps ++ (resource_bounds base credits Load ps ps ++ resource_bounds base courses Count ps ps))
+    ∷ (resource_bounds base budget Money ps ps ++ (resource_bounds base credits resources.Credits ps ps ++ resource_bounds base courses Count ps ps))
 
 abbrev pub bounds_over : Offer → List ℕ → List Prospect → List (Leaf × ℤ)
-bounds_over offer chosen ps = all_bounds (base_of offer chosen) (left_of offer chosen Money) (left_of offer chosen Load) (left_of offer chosen Count) ps
+bounds_over offer chosen ps = all_bounds (base_of offer chosen) (left_of offer chosen Money) (left_of offer chosen resources.Credits) (left_of offer chosen Count) ps
 
 abbrev pub bounds : Offer → ℕ → List ℕ → List (Leaf × ℤ)
 bounds offer k chosen = bounds_over offer chosen (prospects offer chosen (open_places offer k chosen))

@@ -3,12 +3,12 @@ use Rattle.std.specs.Prelude.{ℕ, ◌||◌, ◌==◌, max, if◌then◌else◌,
 use Rattle.market_lists.specs.Totals.{total}
 use Rattle.bundle_bounds.specs.declared.prospects.Prospect.{Prospect}
 use Rattle.bundle_bounds.specs.declared.prospects.Resource.{Resource}
-use Rattle.bundle_bounds.specs.declared.prospects.Resource.TheVariants.{Money, Load, Count}
+use Rattle.bundle_bounds.specs.declared.prospects.Resource.TheVariants.{Money, Credits, Count}
 
 -- what a prospect takes of a resource: its price, its credits, or one section
 abbrev pub takes_of : Resource → Prospect → ℕ
 takes_of Money p = p.price
-takes_of Load p = p.credits
+takes_of Credits p = p.credits
 takes_of Count p = 1
 
 -- whether one of these is of this course

@@ -10,3 +10,5 @@ pub mod Closings
 pub mod ClosingLaws
 pub mod Lines
 pub mod Known
+pub mod Tangents
+pub mod Stems

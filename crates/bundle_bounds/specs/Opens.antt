@@ -7,7 +7,7 @@ use Rattle.bundle_rules.specs.Menus.{adjustment_in, clash_in, course_at, rating_
 use Rattle.bundle_bounds.specs.Offers.{Offer, price_at, allowed_at}
 use Rattle.bundle_bounds.specs.declared.prospects.Prospect.{Prospect}
 use Rattle.bundle_bounds.specs.declared.prospects.Resource.{Resource}
-use Rattle.bundle_bounds.specs.declared.prospects.Resource.TheVariants.{Money, Load, Count}
+use Rattle.bundle_bounds.specs.declared.prospects.Resource.TheVariants.{Money, Credits, Count}
 
 -- what the chosen places leave of the budget, of the credit cap and of the course cap
 abbrev pub budget_left : Offer → List ℕ → ℕ
@@ -21,7 +21,7 @@ courses_left offer chosen = offer.menu.courses - length chosen
 
 abbrev pub left_of : Offer → List ℕ → Resource → ℕ
 left_of offer chosen Money = budget_left offer chosen
-left_of offer chosen Load = credits_left offer chosen
+left_of offer chosen Credits = credits_left offer chosen
 left_of offer chosen Count = courses_left offer chosen
 
 -- a place that clashes with none of the chosen ones

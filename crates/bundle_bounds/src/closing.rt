@@ -1,15 +1,19 @@
 // The bounds of the resources, and the first below a limit.
-ghost use Rattle.std.specs.Prelude.{◌≡◌, ◌<◌, ◌≤◌, ◌≤ℤ◌, ◌↔◌, ◌++◌, ◌*◌, ◌/◌, ◌+ℤ◌, ◌<ℤ◌, ◌&&◌, ◌==◌, ℤ, nat_lt, true, pos, neg_ℤ, IsTrue, IfSome, IfNone, length, All};
+ghost use Rattle.std.specs.Prelude.{ℕ, List, ◌≡◌, ◌<◌, ◌≤◌, ◌≤ℤ◌, ◌↔◌, ◌++◌, ◌*◌, ◌/◌, ◌+ℤ◌, ◌<ℤ◌, ◌&&◌, ◌==◌, ℤ, nat_lt, true, pos, neg_ℤ, IsTrue, IfSome, IfNone, length, All};
 ghost use Rattle.bundle_bounds.specs.Bounds.{leaf_of, at_price, resource_bounds, all_bounds, HasBound};
 ghost use Rattle.bundle_bounds.specs.Courses.{takes_of, by_course};
 ghost use Rattle.bundle_bounds.specs.Limits.{NoneBelow, IsFirstBelow};
 ghost use Rattle.bundle_bounds.specs.Known.{IsKnown};
 ghost use Rattle.bundle_bounds.specs.Modest.{IsModest};
+ghost use Rattle.bundle_bounds.specs.Tangents.{IsTangent, AreTangents};
+ghost use Rattle.bundle_bounds.specs.declared.prospects.Prospect.{Prospect};
+ghost use Rattle.bundle_bounds.specs.declared.prospects.Resource.{Resource};
 
 use crate::Leaf;
 use crate::known::Known;
 use crate::opens::Rests;
 use crate::prospects::{Prospect, Resource, at_price, takes};
+use crate::tangents::{Tangent, Tangents};
 
 // The leaf of a resource by a place.
 fn leaf_of(resource: Resource, place: u8) -> Leaf
@@ -17,7 +21,7 @@ fn leaf_of(resource: Resource, place: u8) -> Leaf
 {
     match resource {
         Resource::Money => Leaf::Budget(place),
-        Resource::Load => Leaf::Credits(place),
+        Resource::Credits => Leaf::Credits(place),
         Resource::Count => Leaf::Number(place),
     }
 }
@@ -27,7 +31,8 @@ fn margin(base: i64, limit: i64, sum: u64) -> u64
     requires low { neg_ℤ (pos 3000000000000) ≤ℤ base }
     requires above { limit ≤ℤ (base +ℤ pos sum) }
     requires high { sum ≤ 1000000000000000000 }
-    ensures { (limit +ℤ pos result) ≤ℤ (base +ℤ pos sum) }
+    ensures above { (limit +ℤ pos result) ≤ℤ (base +ℤ pos sum) }
+    ensures high { result ≤ sum }
 {
     if limit < base {
         return sum;
@@ -35,7 +40,8 @@ fn margin(base: i64, limit: i64, sum: u64) -> u64
     sum - (limit - base) as u64
 }
 
-// Whether a prospect has a bound, and that is below the limit. What is known of the bounds grows where it is not.
+// Whether a prospect has a bound, and that is below the limit. What is known of the bounds grows where it is not, and
+// what was computed for that is the last tangent.
 fn is_below(
     base: i64,
     limit: i64,
@@ -44,6 +50,7 @@ fn is_below(
     all: &[Prospect],
     prospect: &Prospect,
     known: &mut Known,
+    last: &mut Option<Tangent>,
 ) -> bool
     requires low { neg_ℤ (pos 3000000000000) ≤ℤ base }
     requires high { base ≤ℤ pos 3000000000000 }
@@ -51,18 +58,21 @@ fn is_below(
     requires few { length all.now ≤ 60 }
     requires one_modest { IsModest prospect.now }
     requires known { IsKnown base limit rest resource all.now known.old }
+    requires last { IfSome last.old (IsTangent rest resource all.now) }
     ensures below { IsTrue result ↔ (((nat_lt 0 prospect.now.worth && nat_lt 0 (takes_of resource prospect.now)) ≡ true)
         × ((base +ℤ pos (at_price resource rest (1000 * prospect.now.worth / takes_of resource prospect.now) all.now)) <ℤ limit)) }
     ensures known { IsKnown base limit rest resource all.now known.new }
+    ensures last { IfSome last.new (IsTangent rest resource all.now) }
 {
     let taken = takes(prospect, resource);
+    let worth = 1000 * u64::from(prospect.worth);
+    if known.has_ratio(worth, taken) {
+        return false;
+    }
     if prospect.worth == 0 || taken == 0 {
         return false;
     }
-    let price = 1000 * u64::from(prospect.worth) / taken;
-    if known.has(price) {
-        return false;
-    }
+    let price = worth / taken;
     let sum = at_price(all, resource, rest, price);
     let bound = base + sum as i64;
     if bound < limit {
@@ -71,59 +81,71 @@ fn is_below(
     if price < 20_000_000 {
         let next = at_price(all, resource, rest, price + 1);
         known.learn(price, sum, next, margin(base, limit, sum));
+        *last = Some(Tangent { price, sum, next });
     }
     false
 }
 
-// The leaf of the first of these that has a bound below the limit, where so much is known of the bounds.
-fn first_among(
-    base: i64,
-    limit: i64,
-    rest: u32,
-    resource: Resource,
-    all: &[Prospect],
-    some: &[Prospect],
-    known: &mut Known,
-) -> Option<Leaf>
+// Takes in what an earlier price and the next one make, where the bound at the first is not below the limit.
+fn recall(known: &mut Known, base: i64, limit: i64, tangent: Tangent)
     requires low { neg_ℤ (pos 3000000000000) ≤ℤ base }
     requires high { base ≤ℤ pos 3000000000000 }
-    requires modest { All IsModest all.now }
-    requires few { length all.now ≤ 60 }
-    requires some_modest { All IsModest some.now }
-    requires known { IsKnown base limit rest resource all.now known.old }
-    ensures first { IfSome result (IsFirstBelow limit (resource_bounds base rest resource all.now some.now)) }
-    ensures none { IfNone result (NoneBelow limit (resource_bounds base rest resource all.now some.now)) }
+    requires price { tangent.price < 20000000 }
+    requires sum { tangent.sum ≤ 1000000000000000000 }
+    requires known { known.old.high ≤ 20000001 }
+    ensures { (rest : ℕ) (resource : Resource) (all : List Prospect) → IsTangent rest resource all tangent → IsKnown base limit rest resource all known.old → IsKnown base limit rest resource all known.new }
 {
-    match some {
-        [] => None,
-        [prospect, more @ ..] => {
-            if is_below(base, limit, rest, resource, all, prospect, known) {
-                return Some(leaf_of(resource, prospect.place));
-            }
-            first_among(base, limit, rest, resource, all, more, known)
-        }
+    let bound = base + tangent.sum as i64;
+    if bound < limit {
+        return;
     }
+    let above = margin(base, limit, tangent.sum);
+    known.learn(tangent.price, tangent.sum, tangent.next, above);
 }
 
-// The leaf of the first of these that has a bound below the limit.
+// What the last tangent tells of the bounds.
+fn known_by(base: i64, limit: i64, last: &Option<Tangent>) -> Known
+    requires low { neg_ℤ (pos 3000000000000) ≤ℤ base }
+    requires high { base ≤ℤ pos 3000000000000 }
+    requires last { (rest : ℕ) × ((resource : Resource) × ((all : List Prospect) × IfSome last.now (IsTangent rest resource all))) }
+    ensures { (rest : ℕ) (resource : Resource) (all : List Prospect) → IfSome last.now (IsTangent rest resource all) → IsKnown base limit rest resource all result }
+{
+    let mut known = Known::nothing();
+    match last {
+        Some(tangent) => recall(&mut known, base, limit, *tangent),
+        None => {}
+    }
+    known
+}
+
+// The leaf of the first of all that has a bound below the limit.
 fn first_of_resource(
     base: i64,
     limit: i64,
     rest: u32,
     resource: Resource,
     all: &[Prospect],
-    some: &[Prospect],
+    last: &mut Option<Tangent>,
 ) -> Option<Leaf>
     requires low { neg_ℤ (pos 3000000000000) ≤ℤ base }
     requires high { base ≤ℤ pos 3000000000000 }
     requires modest { All IsModest all.now }
     requires few { length all.now ≤ 60 }
-    requires some_modest { All IsModest some.now }
-    ensures first { IfSome result (IsFirstBelow limit (resource_bounds base rest resource all.now some.now)) }
-    ensures none { IfNone result (NoneBelow limit (resource_bounds base rest resource all.now some.now)) }
+    requires last { IfSome last.old (IsTangent rest resource all.now) }
+    ensures first { IfSome result (IsFirstBelow limit (resource_bounds base rest resource all.now all.now)) }
+    ensures none { IfNone result (NoneBelow limit (resource_bounds base rest resource all.now all.now)) }
+    ensures last { IfSome last.new (IsTangent rest resource all.now) }
 {
-    let mut known = Known::nothing();
-    first_among(base, limit, rest, resource, all, some, &mut known)
+    let mut known = known_by(base, limit, last);
+    for prospect in all {
+        if known.is_all() {
+            return None;
+        }
+        if is_below(base, limit, rest, resource, all, prospect, &mut known, last) {
+            return Some(leaf_of(resource, prospect.place));
+        }
+    }
+    None
 }
 
 // The leaf of the first bound below the limit, of all bounds in their order.
@@ -135,28 +157,81 @@ pub(crate) fn first_below(base: i64, limit: i64, rests: Rests, all: &[Prospect])
     ensures first { IfSome result (IsFirstBelow limit (all_bounds base rests.budget rests.credits rests.courses all.now)) }
     ensures none { IfNone result (NoneBelow limit (all_bounds base rests.budget rests.credits rests.courses all.now)) }
 {
-    let plain = base + plain_sum(all) as i64;
-    if plain < limit {
-        return Some(Leaf::Plain);
-    }
-    match first_of_resource(base, limit, rests.budget, Resource::Money, all, all) {
-        Some(leaf) => Some(leaf),
-        None => first_after_money(base, limit, rests, all),
-    }
+    let mut tangents = Tangents::none();
+    first_with(base, limit, rests, all, plain_sum(all), &mut tangents)
 }
 
-// The same of the bounds of the credits and of the number of sections.
-fn first_after_money(base: i64, limit: i64, rests: Rests, all: &[Prospect]) -> Option<Leaf>
+// The same where the sum of the plain bound is at hand, and some tangents are.
+pub(crate) fn first_with(
+    base: i64,
+    limit: i64,
+    rests: Rests,
+    all: &[Prospect],
+    plain: u64,
+    tangents: &mut Tangents,
+) -> Option<Leaf>
     requires low { neg_ℤ (pos 3000000000000) ≤ℤ base }
     requires high { base ≤ℤ pos 3000000000000 }
     requires modest { All IsModest all.now }
     requires few { length all.now ≤ 60 }
-    ensures first { IfSome result (IsFirstBelow limit (resource_bounds base rests.credits Resource.Load all.now all.now ++ resource_bounds base rests.courses Resource.Count all.now all.now)) }
-    ensures none { IfNone result (NoneBelow limit (resource_bounds base rests.credits Resource.Load all.now all.now ++ resource_bounds base rests.courses Resource.Count all.now all.now)) }
+    requires plain { plain ≡ by_course (λ p. 1000 * p.worth) all.now }
+    requires plain_high { plain ≤ 1200000000 }
+    requires tangents { AreTangents rests.budget rests.credits rests.courses all.now tangents.old }
+    ensures first { IfSome result (IsFirstBelow limit (all_bounds base rests.budget rests.credits rests.courses all.now)) }
+    ensures none { IfNone result (NoneBelow limit (all_bounds base rests.budget rests.credits rests.courses all.now)) }
+    ensures tangents { AreTangents rests.budget rests.credits rests.courses all.now tangents.new }
 {
-    match first_of_resource(base, limit, rests.credits, Resource::Load, all, all) {
+    let least = base + plain as i64;
+    if least < limit {
+        return Some(Leaf::Plain);
+    }
+    match first_of_resource(
+        base,
+        limit,
+        rests.budget,
+        Resource::Money,
+        all,
+        &mut tangents.money,
+    ) {
         Some(leaf) => Some(leaf),
-        None => first_of_resource(base, limit, rests.courses, Resource::Count, all, all),
+        None => first_after_money(base, limit, rests, all, tangents),
+    }
+}
+
+// The same of the bounds of the credits and of the number of sections.
+fn first_after_money(
+    base: i64,
+    limit: i64,
+    rests: Rests,
+    all: &[Prospect],
+    tangents: &mut Tangents,
+) -> Option<Leaf>
+    requires low { neg_ℤ (pos 3000000000000) ≤ℤ base }
+    requires high { base ≤ℤ pos 3000000000000 }
+    requires modest { All IsModest all.now }
+    requires few { length all.now ≤ 60 }
+    requires tangents { AreTangents rests.budget rests.credits rests.courses all.now tangents.old }
+    ensures first { IfSome result (IsFirstBelow limit (resource_bounds base rests.credits Resource.Credits all.now all.now ++ resource_bounds base rests.courses Resource.Count all.now all.now)) }
+    ensures none { IfNone result (NoneBelow limit (resource_bounds base rests.credits Resource.Credits all.now all.now ++ resource_bounds base rests.courses Resource.Count all.now all.now)) }
+    ensures tangents { AreTangents rests.budget rests.credits rests.courses all.now tangents.new }
+{
+    match first_of_resource(
+        base,
+        limit,
+        rests.credits,
+        Resource::Credits,
+        all,
+        &mut tangents.credits,
+    ) {
+        Some(leaf) => Some(leaf),
+        None => first_of_resource(
+            base,
+            limit,
+            rests.courses,
+            Resource::Count,
+            all,
+            &mut tangents.courses,
+        ),
     }
 }
 
@@ -224,7 +299,7 @@ pub(crate) fn bound_of(base: i64, rests: Rests, all: &[Prospect], leaf: Leaf) ->
         Leaf::Credits(place) => resource_bound(
             base,
             rests.credits,
-            Resource::Load,
+            Resource::Credits,
             all,
             all,
             place,

@@ -1,5 +1,5 @@
 // What a few bounds of a resource tell of the others: as a function of its price, a resource's bound is convex.
-ghost use Rattle.std.specs.Prelude.{◌≡◌, ◌<◌, ◌≤◌, ◌≤ℤ◌, ◌+◌, ◌*◌, ◌+ℤ◌, ℤ, ℕ, List, pos, IsTrue};
+ghost use Rattle.std.specs.Prelude.{◌≡◌, ◌<◌, ◌≤◌, ◌≤ℤ◌, ◌+◌, ◌*◌, ◌/◌, ◌+ℤ◌, ℤ, ℕ, List, pos, IsTrue};
 ghost use Rattle.bundle_bounds.specs.declared.prospects.Prospect.{Prospect};
 ghost use Rattle.bundle_bounds.specs.declared.prospects.Resource.{Resource};
 ghost use Rattle.bundle_bounds.specs.Bounds.{at_price};
@@ -27,42 +27,58 @@ impl Known {
         }
     }
 
-    // Whether it is known that the bound at this price is not below the limit.
-    pub(crate) fn has(&self, price: u64) -> bool
-        requires { price ≤ 20000000 }
-        ensures { IsTrue result → (base limit : ℤ) (rest : ℕ) (resource : Resource) (all : List Prospect) → IsKnown base limit rest resource all self.now → limit ≤ℤ (base +ℤ pos (at_price resource rest price all)) }
+    // Whether it is known that the bound at the price of so much worth for so much that is taken is not below the
+    // limit.
+    pub(crate) fn has_ratio(&self, worth: u64, taken: u64) -> bool
+        requires worth { worth ≤ 20000000 }
+        requires taken { taken ≤ 1000001 }
+        requires low { self.now.low ≤ 20000002 }
+        requires high { self.now.high ≤ 20000001 }
+        ensures { IsTrue result → 0 < taken → (base limit : ℤ) (rest : ℕ) (resource : Resource) (all : List Prospect) → IsKnown base limit rest resource all self.now
+            → limit ≤ℤ (base +ℤ pos (at_price resource rest (worth / taken) all)) }
     {
-        if price < self.low {
+        if worth < self.low * taken {
             return true;
         }
-        price >= self.high
+        worth >= self.high * taken
+    }
+
+    // Whether it is known that no bound is below the limit.
+    pub(crate) fn is_all(&self) -> bool
+        ensures { IsTrue result → self.now.high ≤ self.now.low }
+    {
+        self.high <= self.low
     }
 
     // Takes in what a price and the next one make, where the bound at the first is above the limit by at least the
     // margin. The bound does not fall on the side on which it rises here; on the other side it falls by no more at a
     // step than here.
     pub(crate) fn learn(&mut self, price: u64, sum: u64, next: u64, margin: u64)
-        requires { price < 20000000 }
+        requires price { price < 20000000 }
+        requires high { self.old.high ≤ 20000001 }
+        requires margin { margin ≤ 1000000000000000000 }
         ensures { (base limit : ℤ) (rest : ℕ) (resource : Resource) (all : List Prospect) → IsKnown base limit rest resource all self.old
             → sum ≡ at_price resource rest price all → next ≡ at_price resource rest (price + 1) all → (limit +ℤ pos margin) ≤ℤ (base +ℤ pos sum) → IsKnown base limit rest resource all self.new }
     {
         if next >= sum {
-            let from = price.saturating_sub(steps_within(margin, next - sum));
+            let from = price.saturating_sub(steps_within(margin, next - sum, price));
             self.high = self.high.min(from);
         } else {
-            let up_to = price + steps_within(margin, sum - next);
+            let most = self.high.saturating_sub(price);
+            let up_to = price + steps_within(margin, sum - next, most);
             self.low = self.low.max(up_to + 1);
         }
     }
 }
 
-// How many steps of this height stay within the margin; more than there are prices where all do.
-fn steps_within(margin: u64, height: u64) -> u64
+// How many steps of this height stay within the margin, but no more than these, which are as good as all.
+fn steps_within(margin: u64, height: u64, most: u64) -> u64
+    requires margin { margin ≤ 1000000000000000000 }
     ensures within { result * height ≤ margin }
-    ensures high { result ≤ 20000001 }
+    ensures high { result ≤ most }
 {
-    if height == 0 {
-        return HIGHEST;
+    if height.saturating_mul(most) <= margin {
+        return most;
     }
-    (margin / height).min(HIGHEST)
+    (margin / height).min(most)
 }

@@ -4,13 +4,18 @@
 mod closing;
 mod known;
 pub mod laws;
+mod leaving;
 mod nodes;
 mod opens;
 mod places;
 mod prospects;
+mod sifting;
+mod stems;
+mod tangents;
 
 pub use nodes::{Leaf, Node, bound, bound_closes, is_open};
 pub use places::{adjustments_with, is_apart, price_of_place};
+pub use stems::Stem;
 
 #[cfg(test)]
 mod tests;

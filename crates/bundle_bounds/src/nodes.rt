@@ -115,7 +115,7 @@ pub fn bound_closes(
 }
 
 // The number below which a bound closes the node.
-fn limit_of(menu: &Menu, node: &Node, chosen: &[u8], champion: &Bundle) -> i64
+pub(crate) fn limit_of(menu: &Menu, node: &Node, chosen: &[u8], champion: &Bundle) -> i64
     requires champion { IsFeasible (wishes_of menu.now) (sections_of champion.now) }
     ensures { result ≡ limit_of (utility (wishes_of menu.now) (sections_of champion.now)) (is_ahead node.now.place (places_of menu.now (sections_of champion.now)) chosen.now) }
 {

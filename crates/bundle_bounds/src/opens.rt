@@ -65,7 +65,7 @@ fn credits_of(menu: &Menu, chosen: &[u8]) -> u32
 }
 
 // The positive adjustments of a place with later open ones.
-fn hopes(menu: &Menu, place: u8, later: &[Prospect]) -> u32
+pub(crate) fn hopes(menu: &Menu, place: u8, later: &[Prospect]) -> u32
     requires on_menu { All (λ other. other.place < length menu.now.places) later.now }
     requires place { place < length menu.now.places }
     requires few { length later.now ≤ 60 }
@@ -128,7 +128,7 @@ fn first_of_course(places: &[Rated], course: u16) -> usize
 }
 
 // A rating and adjustments added up, or 0 where the sum is negative.
-fn worth_of(rating: u8, adjustments: i32, hopes: u32) -> u32
+pub(crate) fn worth_of(rating: u8, adjustments: i32, hopes: u32) -> u32
     requires rating { rating ≤ 100 }
     requires low { neg_ℤ (pos 1600) ≤ℤ adjustments }
     requires high { adjustments ≤ℤ pos 1600 }

@@ -1,6 +1,6 @@
 // What is known of open places, and what one of each course can add at most.
-ghost use Rattle.std.specs.Prelude.{◌≡◌, ◌<◌, ◌≤◌, ◌*◌, ◌+◌, ℕ, length, slice_index, All};
-ghost use Rattle.bundle_bounds.specs.Courses.{takes_of, greatest, by_course};
+ghost use Rattle.std.specs.Prelude.{◌≡◌, ◌≤◌, ◌*◌, ◌+◌, ◌-◌, ◌==◌, if◌then◌else◌, false, IsTrue, length, All};
+ghost use Rattle.bundle_bounds.specs.Courses.{takes_of, has_course, greatest, by_course};
 ghost use Rattle.bundle_bounds.specs.Bounds.{over_price, at_price};
 ghost use Rattle.bundle_bounds.specs.Modest.{IsModest};
 
@@ -8,7 +8,7 @@ ghost use Rattle.bundle_bounds.specs.Modest.{IsModest};
 #[derive(Clone, Copy, Debug, PartialEq, Eq)]
 pub(crate) enum Resource {
     Money,
-    Load,
+    Credits,
     Count,
 }
 
@@ -42,13 +42,13 @@ pub(crate) fn takes(prospect: &Prospect, resource: Resource) -> u64
 {
     match resource {
         Resource::Money => u64::from(prospect.price),
-        Resource::Load => u64::from(prospect.credits),
+        Resource::Credits => u64::from(prospect.credits),
         Resource::Count => 1,
     }
 }
 
 // What is left of 1000 times the worth at this price of what is taken.
-fn over_price(prospect: &Prospect, resource: Resource, price: u64) -> u64
+pub(crate) fn over_price(prospect: &Prospect, resource: Resource, price: u64) -> u64
     requires modest { IsModest prospect.now }
     requires price { price ≤ 20000000 }
     ensures value { result ≡ over_price resource price prospect.now }
@@ -65,30 +65,74 @@ pub(crate) fn at_price(prospects: &[Prospect], resource: Resource, rest: u32, pr
     ensures value { result ≡ at_price resource rest price prospects.now }
     ensures high { result ≤ 20000000 * rest + 20000000 * 60 }
 {
-    let mut most_so_far = [0; COURSES];
-    price * u64::from(rest) + add_up(prospects, resource, price, &mut most_so_far)
+    price * u64::from(rest) + add_up(prospects, resource, price)
 }
 
-// For each course the most that is left over the price, added up. `most_so_far` is the most of each course so far.
-fn add_up(prospects: &[Prospect], resource: Resource, price: u64, most_so_far: &mut [u64]) -> u64
-    requires courses { length most_so_far.old ≡ 60 }
-    requires zeros { (course : ℕ) → course < 60 → slice_index most_so_far.old course ≡ 0 }
+// For each course the most that is left over the price, added up.
+fn add_up(prospects: &[Prospect], resource: Resource, price: u64) -> u64
     requires modest { All IsModest prospects.now }
     requires few { length prospects.now ≤ 60 }
     requires price { price ≤ 20000000 }
     ensures value { result ≡ by_course (over_price resource price) prospects.now }
-    ensures each { (course : ℕ) → course < 60 → slice_index most_so_far.new course ≡ greatest (over_price resource price) course prospects.now }
     ensures high { result ≤ 20000000 * length prospects.now }
 {
-    match prospects {
-        [] => 0,
-        [prospect, more @ ..] => {
-            let sum = add_up(more, resource, price, most_so_far);
-            let course = usize::from(prospect.course);
-            let most = most_so_far[course];
-            let value = over_price(prospect, resource, price);
-            most_so_far[course] = most.max(value);
-            sum + value.saturating_sub(most)
-        }
+    let mut is_there = [false; COURSES];
+    let mut sum = 0;
+    for index in (0..prospects.len()).rev() {
+        let prospect = &prospects[index];
+        let course = usize::from(prospect.course);
+        let is_alone = !is_there[course];
+        sum += added(prospect, &prospects[index + 1..], resource, price, is_alone);
+        is_there[course] = true;
+    }
+    sum
+}
+
+// How much a prospect in front of others adds to the greatest of each course. One that is alone is the only one of its
+// course.
+pub(crate) fn added(
+    prospect: &Prospect,
+    more: &[Prospect],
+    resource: Resource,
+    price: u64,
+    is_alone: bool,
+) -> u64
+    requires one_modest { IsModest prospect.now }
+    requires modest { All IsModest more.now }
+    requires price { price ≤ 20000000 }
+    requires alone { IsTrue is_alone → has_course more.now prospect.now.course ≡ false }
+    ensures value { result ≡ over_price resource price prospect.now - greatest (over_price resource price) prospect.now.course more.now }
+    ensures high { result ≤ 20000000 }
+{
+    let value = over_price(prospect, resource, price);
+    if is_alone {
+        return value;
+    }
+    value.saturating_sub(greatest_of(more, resource, price, prospect.course))
+}
+
+// The most that is left over the price by one of a course.
+fn greatest_of(prospects: &[Prospect], resource: Resource, price: u64, course: u8) -> u64
+    requires modest { All IsModest prospects.now }
+    requires price { price ≤ 20000000 }
+    ensures { result ≡ greatest (over_price resource price) course prospects.now }
+{
+    let mut most = 0;
+    for prospect in prospects {
+        most = most.max(value_in(prospect, resource, price, course));
+    }
+    most
+}
+
+// What is left over the price by a prospect of the course, 0 by one of another.
+fn value_in(prospect: &Prospect, resource: Resource, price: u64, course: u8) -> u64
+    requires modest { IsModest prospect.now }
+    requires price { price ≤ 20000000 }
+    ensures { result ≡ (if prospect.now.course == course then over_price resource price prospect.now else 0) }
+{
+    if prospect.course == course {
+        over_price(prospect, resource, price)
+    } else {
+        0
     }
 }

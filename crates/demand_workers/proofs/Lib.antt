@@ -1,3 +1,4 @@
 pub mod Counting
+pub mod Recalling
 pub mod Rounds
 pub mod Working

@@ -2,8 +2,11 @@
 #![tactic(auto)]
 
 mod answering;
+mod effort;
 mod pooled_demands;
+mod remembered;
 mod round;
+mod taking;
 mod worker;
 
 pub use pooled_demands::{AnyGate, PooledDemands};

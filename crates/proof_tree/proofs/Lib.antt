@@ -10,6 +10,7 @@ pub mod Spelling
 pub mod OneSymbol
 pub mod LowLeaves
 pub mod Alphabet
+pub mod Stands
 pub mod NoDefects
 pub mod Following
 pub mod Writing

@@ -7,3 +7,4 @@ pub mod Mismatches
 pub mod Spellings
 pub mod Laws
 pub mod Alphabets
+pub mod Standing

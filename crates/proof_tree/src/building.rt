@@ -71,7 +71,7 @@ fn written(
     ensures { IfOk result (λ text. IsTreeText (offer_of menu.now prices.now budget.0 allowed.now) required (sections_of champion.now) text.items) }
 {
     let mut text = Vec::new(alloc);
-    let mut walk = Walk::start();
+    let mut walk = Walk::start(menu, prices, budget, allowed, champion);
     'nodes: loop {
         match walk.step(menu, prices, budget, allowed, required, champion) {
             Step::Signed(sign) => {
@@ -103,7 +103,7 @@ pub fn build_into(
 {
     prove!(menu.len() <= 60);
     let mut count = 0;
-    let mut walk = Walk::start();
+    let mut walk = Walk::start(menu, prices, budget, allowed, champion);
     'nodes: loop {
         match walk.step(menu, prices, budget, allowed, None, champion) {
             Step::Signed(sign) => {

@@ -140,7 +140,7 @@ fn follow(
     ensures fails { IfErr result (λ defect. FirstFailsAt (offer_of menu.now prices.now budget.0 allowed.now) required (sections_of champion.now) text.now (offset_in defect)) }
     ensures defect { IfErr result (λ defect. required ≡ None → IsDefect (offer_of menu.now prices.now budget.0 allowed.now) (sections_of champion.now) text.now defect) }
 {
-    let mut walk = Walk::start();
+    let mut walk = Walk::start(menu, prices, budget, allowed, champion);
     let mut rest = text;
     'nodes: loop {
         let at = offset_of(text, rest);

@@ -6,6 +6,7 @@ mod checking;
 mod defects;
 pub mod laws;
 mod signs;
+mod standing;
 mod symbols;
 mod walk;
 

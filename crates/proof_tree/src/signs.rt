@@ -1,13 +1,17 @@
 // The canonical sign of a node.
-ghost use Rattle.std.specs.Prelude.{◌≡◌, ◌<◌, ◌≤◌, ◌↔◌, ℕ, List, Some, IsTrue, IfSome, IfNone, length};
+ghost use Rattle.std.specs.Prelude.{◌≡◌, ◌≢◌, ◌<◌, ◌≤◌, ◌↔◌, ℕ, List, Some, IsTrue, IfSome, IfNone, length, slice_index_or};
 ghost use Rattle.bundle_rules.specs.Demand.{HasPrices};
 ghost use Rattle.bundle_rules.specs.Menus.{IsMenu};
 ghost use Rattle.bundle_rules.specs.Bundles.{sections_of};
-ghost use Rattle.bundle_bounds.specs.Offers.{offer_of, places_of};
+ghost use Rattle.bundle_bounds.specs.Offers.{Offer, offer_of, places_of};
+ghost use Rattle.bundle_bounds.specs.Opens.{is_open};
 ghost use Rattle.bundle_bounds.specs.Laws.{IsTakable, IsNode};
+ghost use Rattle.bundle_bounds.specs.declared.stems.Stem.{Stem};
+ghost use Rattle.proof_tree.specs.Standing.{IsStemAt};
 ghost use Rattle.proof_tree.specs.Trees.{IsShut, IsSign, GoesOn, HasNoSign};
 
-use bundle_bounds::{Leaf, Node, bound_closes, is_open};
+use crate::standing::{closing_at, is_open_at};
+use bundle_bounds::{Leaf, Node, Stem, is_open};
 use bundle_rules::{Bundle, Menu};
 use market_units::{SectionSet, Tokens};
 
@@ -62,25 +66,14 @@ fn is_shut(
     }
 }
 
-// The sign of a node that goes on.
-fn next_sign(
-    menu: &Menu,
-    prices: &[Tokens],
-    budget: Tokens,
-    allowed: &SectionSet,
-    required: Option<u8>,
-    node: &Node,
-) -> Sign
-    requires prices { HasPrices menu.now prices.now }
-    requires node { IsNode (offer_of menu.now prices.now budget.0 allowed.now) node.now.place (sections_of node.now.chosen) }
-    requires left { node.now.place < length menu.now.places }
-    ensures { (champion : List ℕ) → GoesOn (offer_of menu.now prices.now budget.0 allowed.now) required champion node.now.place (places_of menu.now (sections_of node.now.chosen))
-        → IsSign (offer_of menu.now prices.now budget.0 allowed.now) required champion node.now.place (places_of menu.now (sections_of node.now.chosen)) result }
+// The sign of a node that goes on, by whether its next place is open.
+fn next_sign(required: Option<u8>, node: &Node, is_next_open: bool) -> Sign
+    ensures { (offer : Offer) (champion places : List ℕ) → is_next_open ≡ is_open offer places node.now.place → GoesOn offer required champion node.now.place places → IsSign offer required champion node.now.place places result }
 {
     if is_place(required, node.place) {
         return Sign::Forced;
     }
-    if is_open(menu, prices, budget, allowed, node, node.place) {
+    if is_next_open {
         Sign::Open
     } else {
         Sign::Passed
@@ -107,12 +100,19 @@ pub(crate) fn sign_at(
     required: Option<u8>,
     champion: &Bundle,
     node: &Node,
+    stems: &mut [Stem],
+    at: usize,
 ) -> Option<Sign>
     requires prices { HasPrices menu.now prices.now }
     requires node { IsNode (offer_of menu.now prices.now budget.0 allowed.now) node.now.place (sections_of node.now.chosen) }
     requires within { node.now.place ≤ length menu.now.places }
     requires required { IfSome required (λ place. place < length menu.now.places) }
     requires champion { IsTakable (offer_of menu.now prices.now budget.0 allowed.now) (sections_of champion.now) }
+    requires at { at < length stems.old }
+    requires stem { IsStemAt (offer_of menu.now prices.now budget.0 allowed.now) (sections_of champion.now) stems.old at node.now.place (sections_of node.now.chosen) }
+    ensures size { length stems.new ≡ length stems.old }
+    ensures stem { IsStemAt (offer_of menu.now prices.now budget.0 allowed.now) (sections_of champion.now) stems.new at node.now.place (sections_of node.now.chosen) }
+    ensures others { (i : ℕ) (d : Stem) → i ≢ at → slice_index_or stems.new i d ≡ slice_index_or stems.old i d }
     ensures menu { IsMenu menu.now }
     ensures some { IfSome result (IsSign (offer_of menu.now prices.now budget.0 allowed.now) required (places_of menu.now (sections_of champion.now)) node.now.place (places_of menu.now (sections_of node.now.chosen))) }
     ensures none { IfNone result (HasNoSign (offer_of menu.now prices.now budget.0 allowed.now) required (places_of menu.now (sections_of champion.now)) node.now.place (places_of menu.now (sections_of node.now.chosen))) }
@@ -123,11 +123,13 @@ pub(crate) fn sign_at(
     if is_shut(menu, prices, budget, allowed, required, node) {
         return Some(Sign::Shut);
     }
-    if let Some(leaf) = bound_closes(menu, prices, budget, allowed, node, champion) {
+    let closing = closing_at(stems, at, menu, prices, budget, allowed, champion, node);
+    if let Some(leaf) = closing {
         return Some(Sign::Closed(leaf));
     }
     if node.place >= menu.len() {
         return None;
     }
-    Some(next_sign(menu, prices, budget, allowed, required, node))
+    let is_next_open = is_open_at(stems, at, menu, prices, budget, allowed, champion, node);
+    Some(next_sign(required, node, is_next_open))
 }

@@ -1,5 +1,6 @@
 // The walk of a tree: its nodes one after another, each with its canonical sign.
-ghost use Rattle.std.specs.Prelude.{◌≡◌, ◌<◌, ◌≤◌, ◌+◌, ◌++◌, ◌∷◌, [], ℕ, List, Option, true, IfSome, IfNone, OnSome, length};
+ghost use Rattle.std.specs.Prelude.{◌≡◌, ◌≢◌, ◌<◌, ◌≤◌, ◌+◌, ◌++◌, ◌∷◌, [], ℕ, List, Option, true, IfSome, IfNone, OnSome, length, slice_index_or};
+ghost use Rattle.bundle_bounds.specs.declared.nodes.Node.{Node};
 ghost use Rattle.std.specs.Ordering.{nat_cmp};
 ghost use Rattle.std.specs.FinSet as set;
 ghost use Rattle.market_units.specs.declared.units.Tokens.{Tokens};
@@ -10,14 +11,16 @@ ghost use Rattle.bundle_bounds.specs.Offers.{Offer, offer_of, places_of};
 ghost use Rattle.bundle_bounds.specs.Opens.{is_open};
 ghost use Rattle.bundle_bounds.specs.Laws.{IsTakable, IsNode};
 ghost use Rattle.proof_tree.specs.Steps.{AreWaiting, MayWait, IsStep};
-ghost use Rattle.proof_tree.specs.Trees.{IsSign};
+ghost use Rattle.proof_tree.specs.Trees.{IsSign, HasNoSign};
+ghost use Rattle.proof_tree.specs.Standing.{IsStemAt, HaveStems, AreStanding};
 ghost use Rattle.proof_tree.specs.Texts.{IsShort};
 ghost use Rattle.proof_tree.specs.declared.signs.Sign.{Sign};
 ghost use Rattle.proof_tree.specs.declared.walk.Step.TheVariants.{Signed};
 ghost use Rattle.proof_tree.specs.Walks.{below};
 
 use crate::signs::{Sign, sign_at};
-use bundle_bounds::Node;
+use crate::standing::{pass_at, put_back, take_at};
+use bundle_bounds::{Node, Stem};
 use bundle_rules::{Bundle, Menu};
 use market_units::{SectionSet, Tokens};
 
@@ -36,6 +39,7 @@ pub(crate) enum Step {
 #[derive(Drop)]
 pub(crate) struct Walk {
     waiting: [Node; ROOM],
+    stems: [Stem; ROOM],
     count: usize,
 }
 
@@ -43,9 +47,18 @@ impl Walk {
     ghost use Rattle.proof_tree.specs.Steps.{waiting_of, spots_of};
 
     // The walk that begins at the root.
-    pub(crate) fn start() -> Walk
+    pub(crate) fn start(
+        menu: &Menu,
+        prices: &[Tokens],
+        budget: Tokens,
+        allowed: &SectionSet,
+        champion: &Bundle,
+    ) -> Walk
+        requires prices { HasPrices menu.now prices.now }
+        requires champion { IsTakable (offer_of menu.now prices.now budget.0 allowed.now) (sections_of champion.now) }
         ensures waiting { (menu : MenuData) → spots_of menu (waiting_of result) ≡ (0, []) ∷ [] }
         ensures may_wait { (offer : Offer) → AreWaiting offer result }
+        ensures stems { HaveStems (offer_of menu.now prices.now budget.0 allowed.now) (sections_of champion.now) result }
     {
         let root = Node {
             place: 0,
@@ -53,6 +66,7 @@ impl Walk {
         };
         Walk {
             waiting: [root; ROOM],
+            stems: [Stem::root(menu, prices, budget, allowed, champion); ROOM],
             count: 1,
         }
     }
@@ -71,6 +85,8 @@ impl Walk {
         requires required { IfSome required (λ place. place < length menu.now.places) }
         requires champion { IsTakable (offer_of menu.now prices.now budget.0 allowed.now) (sections_of champion.now) }
         requires waiting { AreWaiting (offer_of menu.now prices.now budget.0 allowed.now) self.old }
+        requires stems { HaveStems (offer_of menu.now prices.now budget.0 allowed.now) (sections_of champion.now) self.old }
+        ensures stems { HaveStems (offer_of menu.now prices.now budget.0 allowed.now) (sections_of champion.now) self.new }
         ensures waiting { AreWaiting (offer_of menu.now prices.now budget.0 allowed.now) self.new }
         ensures short { (sign : Sign) → result ≡ Signed sign → IsShort sign }
         ensures step { IsStep (offer_of menu.now prices.now budget.0 allowed.now) required (places_of menu.now (sections_of champion.now)) (spots_of menu.now (waiting_of self.old)) result (spots_of menu.now (waiting_of self.new)) }
@@ -78,11 +94,128 @@ impl Walk {
         let Some(node) = self.take() else {
             return Step::Ended;
         };
-        let Some(sign) = sign_at(menu, prices, budget, allowed, required, champion, &node) else {
+        let Some(sign) = self.sign_of(menu, prices, budget, allowed, required, champion, &node)
+        else {
             return Step::Unsigned;
         };
+        self.stand_below(menu, prices, budget, allowed, champion, &node, sign);
         self.put_below(menu, &node, sign);
         Step::Signed(sign)
+    }
+
+    // The canonical sign of a node that was taken, whose stem stands behind those of the nodes that wait.
+    fn sign_of(
+        &mut self,
+        menu: &Menu,
+        prices: &[Tokens],
+        budget: Tokens,
+        allowed: &SectionSet,
+        required: Option<u8>,
+        champion: &Bundle,
+        node: &Node,
+    ) -> Option<Sign>
+        requires prices { HasPrices menu.now prices.now }
+        requires node { IsNode (offer_of menu.now prices.now budget.0 allowed.now) node.now.place (sections_of node.now.chosen) }
+        requires within { node.now.place ≤ length menu.now.places }
+        requires required { IfSome required (λ place. place < length menu.now.places) }
+        requires champion { IsTakable (offer_of menu.now prices.now budget.0 allowed.now) (sections_of champion.now) }
+        requires count { self.old.count < 9 }
+        requires stems { HaveStems (offer_of menu.now prices.now budget.0 allowed.now) (sections_of champion.now) self.old }
+        requires stem { IsStemAt (offer_of menu.now prices.now budget.0 allowed.now) (sections_of champion.now) self.old.stems self.old.count node.now.place (sections_of node.now.chosen) }
+        ensures menu { IsMenu menu.now }
+        ensures some { IfSome result (IsSign (offer_of menu.now prices.now budget.0 allowed.now) required (places_of menu.now (sections_of champion.now)) node.now.place (places_of menu.now (sections_of node.now.chosen))) }
+        ensures none { IfNone result (HasNoSign (offer_of menu.now prices.now budget.0 allowed.now) required (places_of menu.now (sections_of champion.now)) node.now.place (places_of menu.now (sections_of node.now.chosen))) }
+        ensures count { self.new.count ≡ self.old.count }
+        ensures same { self.new.waiting ≡ self.old.waiting }
+        ensures stems { HaveStems (offer_of menu.now prices.now budget.0 allowed.now) (sections_of champion.now) self.new }
+        ensures stem { IsStemAt (offer_of menu.now prices.now budget.0 allowed.now) (sections_of champion.now) self.new.stems self.new.count node.now.place (sections_of node.now.chosen) }
+    {
+        let at = self.count;
+        sign_at(
+            menu,
+            prices,
+            budget,
+            allowed,
+            required,
+            champion,
+            node,
+            &mut self.stems,
+            at,
+        )
+    }
+
+    // The stems of the nodes below a node stand behind those of the nodes that wait.
+    fn stand_below(
+        &mut self,
+        menu: &Menu,
+        prices: &[Tokens],
+        budget: Tokens,
+        allowed: &SectionSet,
+        champion: &Bundle,
+        node: &Node,
+        sign: Sign,
+    )
+        requires node { IsNode (offer_of menu.now prices.now budget.0 allowed.now) node.now.place (sections_of node.now.chosen) }
+        requires few { self.old.count ≤ 8 }
+        requires count { self.old.count ≤ length (sections_of node.now.chosen) }
+        requires sign { (required : Option ℕ) × IsSign (offer_of menu.now prices.now budget.0 allowed.now) required (places_of menu.now (sections_of champion.now)) node.now.place (places_of menu.now (sections_of node.now.chosen)) sign }
+        requires stems { HaveStems (offer_of menu.now prices.now budget.0 allowed.now) (sections_of champion.now) self.old }
+        requires stem { IsStemAt (offer_of menu.now prices.now budget.0 allowed.now) (sections_of champion.now) self.old.stems self.old.count node.now.place (sections_of node.now.chosen) }
+        ensures count { self.new.count ≡ self.old.count }
+        ensures same { self.new.waiting ≡ self.old.waiting }
+        ensures stems { HaveStems (offer_of menu.now prices.now budget.0 allowed.now) (sections_of champion.now) self.new }
+        ensures below { AreStanding (offer_of menu.now prices.now budget.0 allowed.now) (sections_of champion.now) node.now sign self.new.stems self.new.count }
+    {
+        prove!(menu.len() <= 60);
+        let at = self.count;
+        match sign {
+            Sign::Champion | Sign::Shut | Sign::Closed(_) => {}
+            Sign::Forced => {
+                take_at(
+                    &mut self.stems,
+                    at,
+                    menu,
+                    prices,
+                    budget,
+                    allowed,
+                    champion,
+                    node,
+                );
+                put_back(&mut self.stems, at);
+            }
+            Sign::Open => {
+                take_at(
+                    &mut self.stems,
+                    at,
+                    menu,
+                    prices,
+                    budget,
+                    allowed,
+                    champion,
+                    node,
+                );
+                pass_at(
+                    &mut self.stems,
+                    at,
+                    menu,
+                    prices,
+                    budget,
+                    allowed,
+                    champion,
+                    node,
+                );
+            }
+            Sign::Passed => pass_at(
+                &mut self.stems,
+                at,
+                menu,
+                prices,
+                budget,
+                allowed,
+                champion,
+                node,
+            ),
+        }
     }
 
     // Takes the next node, and `None` exactly where none waits.
@@ -90,6 +223,10 @@ impl Walk {
         requires { self.old.count ≤ 9 }
         ensures some { IfSome result (λ node. waiting_of self.old ≡ node ∷ waiting_of self.new) }
         ensures few { OnSome result (self.new.count ≤ 8) }
+        ensures one { OnSome result (self.old.count ≡ self.new.count + 1) }
+        ensures node { IfSome result (λ node. node ≡ slice_index_or self.old.waiting self.new.count node) }
+        ensures nodes { self.new.waiting ≡ self.old.waiting }
+        ensures stems { self.new.stems ≡ self.old.stems }
         ensures none { IfNone result (waiting_of self.old ≡ []) }
         ensures same { IfNone result (self.new ≡ self.old) }
     {
@@ -106,6 +243,9 @@ impl Walk {
         ensures count { self.new.count ≡ self.old.count + 1 }
         ensures whole { length self.new.waiting ≡ 9 }
         ensures waiting { waiting_of self.new ≡ node ∷ waiting_of self.old }
+        ensures here { (d : Node) → slice_index_or self.new.waiting self.old.count d ≡ node }
+        ensures others { (i : ℕ) (d : Node) → i ≢ self.old.count → slice_index_or self.new.waiting i d ≡ slice_index_or self.old.waiting i d }
+        ensures stems { self.new.stems ≡ self.old.stems }
     {
         self.waiting[self.count] = node;
         self.count += 1;
@@ -119,6 +259,8 @@ impl Walk {
         ensures may_wait { (prices : List Tokens) (budget : ℕ) (allowed : set.FinSet nat_cmp) (required : Option ℕ) (champion : List ℕ)
             → MayWait (offer_of menu.now prices budget allowed) (node.now ∷ waiting_of self.old) → IsSign (offer_of menu.now prices budget allowed) required champion node.now.place (places_of menu.now (sections_of node.now.chosen)) sign
             → AreWaiting (offer_of menu.now prices budget allowed) self.new }
+        ensures stems { (prices : List Tokens) (budget : ℕ) (allowed : set.FinSet nat_cmp) (champion : List ℕ) → HaveStems (offer_of menu.now prices budget allowed) champion self.old
+            → AreStanding (offer_of menu.now prices budget allowed) champion node.now sign self.old.stems self.old.count → HaveStems (offer_of menu.now prices budget allowed) champion self.new }
         ensures below { spots_of menu.now (waiting_of self.new) ≡ below sign node.now.place (places_of menu.now (sections_of node.now.chosen)) ++ spots_of menu.now (waiting_of self.old) }
     {
         match sign {

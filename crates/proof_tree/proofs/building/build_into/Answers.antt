@@ -17,6 +17,7 @@ nodes-init c =
     let offer = offer_of c.args.menu.now c.args.prices.now c.args.budget.0 c.args.allowed.now in
     record {
       waiting = c.start-walk.ensures.may_wait offer;
+      stems = c.start-walk.ensures.stems;
       written = subst (IsWritten offer None (sections_of c.args.champion.now) []) (sym (c.start-walk.ensures.waiting c.args.menu.now)) (nothing_written offer None (sections_of c.args.champion.now) ((trees_prove_the_best offer (sections_of c.args.champion.now) c.len.ensures.menu c.requires.best.choice).1 c.requires.best));
       within = omega arith;
       size = refl;
@@ -43,6 +44,7 @@ nodes-preserved c =
     let within : c.in_ok-count-in-Signed.count ≤ length c.nodes.room = put.1 in
     record {
       waiting = c.step.ensures.waiting;
+      stems = c.step.ensures.stems;
       written = subst (λ t. IsWritten offer None (sections_of c.args.champion.now) t (spots_of c.args.menu.now (waiting_of c.step.new.self))) (sym (put.2 ∙ ap (λ t. take c.nodes.count c.nodes.room ++ t) symbol_is)) (written_more offer None (sections_of c.args.champion.now) (take c.nodes.count c.nodes.room) (spots_of c.args.menu.now (waiting_of c.nodes.walk)) c.nodes.invariant.written c.in-Signed.sign (spots_of c.args.menu.now (waiting_of c.step.new.self)) step);
       within = omega arith;
       size = c.put_at.ensures.size ∙ c.nodes.invariant.size;

@@ -1,6 +1,7 @@
 use Rattle.std.proofs.Common.{◌≡◌, ◌≤◌, None, length, take, drop}
 use Rattle.bundle_rules.specs.Bundles.{sections_of}
 use Rattle.bundle_bounds.specs.Offers.{offer_of}
+use Rattle.proof_tree.specs.Standing.{HaveStems}
 use Rattle.proof_tree.specs.Steps.{AreWaiting, spots_of, waiting_of, nodes_left}
 use Rattle.proof_tree.proofs.Writing.{IsWritten}
 use Rattle.proof_tree.proofs.building.build_into.Given as goal
@@ -9,6 +10,7 @@ use Rattle.proof_tree.proofs.building.build_into.Given as goal
 abbrev pub invariant-nodes : goal.invariant-nodes
 invariant-nodes l = record {
   waiting : AreWaiting (offer_of l.menu l.prices l.budget.0 l.allowed) l.walk;
+  stems : HaveStems (offer_of l.menu l.prices l.budget.0 l.allowed) (sections_of l.champion) l.walk;
   written : IsWritten (offer_of l.menu l.prices l.budget.0 l.allowed) None (sections_of l.champion) (take l.count l.room) (spots_of l.menu (waiting_of l.walk));
   within : l.count ≤ length l.room;
   size : length l.room ≡ length l.fn.room;

@@ -11,6 +11,7 @@ nodes-init c =
     let offer = offer_of c.args.menu.now c.args.prices.now c.args.budget.0 c.args.allowed.now in
     record {
       waiting = c.start-walk.ensures.may_wait offer;
+      stems = c.start-walk.ensures.stems;
       written = subst (λ t. IsWritten offer c.args.required (sections_of c.args.champion.now) t (spots_of c.args.menu.now (waiting_of c.start-walk.result))) (sym c.new-text.ensures.items) (subst (IsWritten offer c.args.required (sections_of c.args.champion.now) []) (sym (c.start-walk.ensures.waiting c.args.menu.now)) (nothing_written offer c.args.required (sections_of c.args.champion.now) c.requires.tree));
     }
 
@@ -30,6 +31,7 @@ nodes-preserved c =
     let more : c.extend_from_slice.new.self.items ≡ c.nodes.text.items ++ symbol c.in-Signed.sign = c.in_ok-extend_from_slice-in-Signed.ensures.items ∙ ap (λ t. c.nodes.text.items ++ t) (c.as_slice.ensures ∙ c.spell-symbol.ensures.bytes) in
     record {
       waiting = c.step.ensures.waiting;
+      stems = c.step.ensures.stems;
       written = subst (λ t. IsWritten offer c.args.required (sections_of c.args.champion.now) t (spots_of c.args.menu.now (waiting_of c.step.new.self))) (sym more) (written_more offer c.args.required (sections_of c.args.champion.now) c.nodes.text.items (spots_of c.args.menu.now (waiting_of c.nodes.walk)) c.nodes.invariant.written c.in-Signed.sign (spots_of c.args.menu.now (waiting_of c.step.new.self)) step);
     }
 

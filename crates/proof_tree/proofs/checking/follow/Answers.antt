@@ -14,6 +14,7 @@ nodes-init c =
     let offer = offer_of c.args.menu.now c.args.prices.now c.args.budget.0 c.args.allowed.now in
     record {
       waiting = c.start-walk.ensures.may_wait offer;
+      stems = c.start-walk.ensures.stems;
       come = subst (λ ns. HasCome offer c.args.required (sections_of c.args.champion.now) c.args.text.now ns c.args.text.now) (sym (c.start-walk.ensures.waiting c.args.menu.now)) (come_first offer c.args.required (sections_of c.args.champion.now) c.args.text.now);
     }
 
@@ -76,5 +77,6 @@ nodes-preserved c =
     let step = subst (λ s. IsStep offer c.args.required (places_of c.args.menu.now (sections_of c.args.champion.now)) (spots_of c.args.menu.now (waiting_of c.nodes.walk)) s (spots_of c.args.menu.now (waiting_of c.step.new.self))) c.in-Signed.is c.step.ensures.step in
     record {
       waiting = c.step.ensures.waiting;
+      stems = c.step.ensures.stems;
       come = come_more offer c.args.required (sections_of c.args.champion.now) c.args.text.now (spots_of c.args.menu.now (waiting_of c.nodes.walk)) c.nodes.rest.now c.nodes.invariant.come c.in-Signed.sign (spots_of c.args.menu.now (waiting_of c.step.new.self)) c.in_ok-rest-in-Signed.rest.now step c.in_ok-rest-in-Signed.ensures.ok;
     }

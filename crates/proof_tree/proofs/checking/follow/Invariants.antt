@@ -2,6 +2,7 @@ use Rattle.std.proofs.Common.{length}
 use Rattle.bundle_rules.specs.Bundles.{sections_of}
 use Rattle.bundle_bounds.specs.Offers.{offer_of}
 use Rattle.proof_tree.specs.Walks.{HasCome}
+use Rattle.proof_tree.specs.Standing.{HaveStems}
 use Rattle.proof_tree.specs.Steps.{AreWaiting, spots_of, waiting_of}
 use Rattle.proof_tree.proofs.checking.follow.Given as goal
 
@@ -9,6 +10,7 @@ use Rattle.proof_tree.proofs.checking.follow.Given as goal
 abbrev pub invariant-nodes : goal.invariant-nodes
 invariant-nodes l = record {
   waiting : AreWaiting (offer_of l.menu l.prices l.budget.0 l.allowed) l.walk;
+  stems : HaveStems (offer_of l.menu l.prices l.budget.0 l.allowed) (sections_of l.champion) l.walk;
   come : HasCome (offer_of l.menu l.prices l.budget.0 l.allowed) l.required (sections_of l.champion) l.text (spots_of l.menu (waiting_of l.walk)) l.rest;
 }
 

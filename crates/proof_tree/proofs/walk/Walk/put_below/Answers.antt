@@ -1,9 +1,11 @@
-use Rattle.std.proofs.Common.{◌≡◌, ◌<◌, ◌≤◌, ◌+◌, ◌∷◌, ℕ, suc, length, sym, subst, ap, ◌∙◌, arith}
+use Rattle.std.proofs.Common.{◌≡◌, ◌<◌, ◌≤◌, ◌+◌, ◌∷◌, ℕ, suc, length, refl, sym, subst, ap, ◌∙◌, arith}
 use Rattle.bundle_rules.specs.Bundles.{sections_of}
 use Rattle.bundle_bounds.specs.Offers.{offer_of, places_of}
 use Rattle.proof_tree.specs.Trees.{IsSign}
 use Rattle.proof_tree.specs.Steps.{MayWait, waiting_of, spots_of}
 use Rattle.proof_tree.proofs.Stepping.{room_for_two, open_where_forced, wait_with, wait_without, spot_with, spot_without}
+use Rattle.proof_tree.specs.Standing.{IsStemAt, AreStanding}
+use Rattle.proof_tree.proofs.Stands.{stems_more, stem_same}
 use Rattle.proof_tree.proofs.walk.Walk.put_below.Goals as goal
 
 few_more : (count next : ℕ) → count ≤ 8 → next ≡ count + 1 → next ≤ 9
@@ -83,3 +85,27 @@ returns-in-Open-clause-below c =
     let first = spot_with offer c.args.node.now under o.5 sign.0.left c.with_next-in-Open.ensures.menu c.with_next-in-Open.result c.with_next-in-Open.ensures.place c.with_next-in-Open.ensures.chosen in
     let second = spot_without offer c.args.node.now under o.5 sign.0.left c.without_next.result c.without_next.ensures.place c.without_next.ensures.chosen in
     rw (c.in-Open.is, c.put-in-Open-2.ensures.waiting, c.put-in-Open.ensures.waiting) (λ i. first i ∷ second i ∷ spots_of c.args.menu.now under)
+
+pub returns-in-Forced-clause-stems : goal.returns-in-Forced-clause-stems
+returns-in-Forced-clause-stems c = λ prices budget allowed champion have standing.
+    let offer = offer_of c.args.menu.now prices budget allowed in
+    let below = subst (λ s. AreStanding offer champion c.args.node.now s c.args.self.now.stems c.args.self.now.count) c.in-Forced.is standing in
+    stems_more offer champion c.args.self.now c.put.new.self c.with_next.result have c.put.ensures.stems c.put.ensures.count c.put.ensures.others c.put.ensures.here
+    (stem_same offer champion c.args.self.now.stems c.args.self.now.stems c.args.self.now.count _ c.with_next.result.place _ (sections_of c.with_next.result.chosen) refl (sym c.with_next.ensures.place) (sym c.with_next.ensures.chosen) below)
+
+pub returns-in-Passed-clause-stems : goal.returns-in-Passed-clause-stems
+returns-in-Passed-clause-stems c = λ prices budget allowed champion have standing.
+    let offer = offer_of c.args.menu.now prices budget allowed in
+    let below = subst (λ s. AreStanding offer champion c.args.node.now s c.args.self.now.stems c.args.self.now.count) c.in-Passed.is standing in
+    stems_more offer champion c.args.self.now c.put-in-Passed.new.self c.without_next-in-Passed.result have c.put-in-Passed.ensures.stems c.put-in-Passed.ensures.count c.put-in-Passed.ensures.others c.put-in-Passed.ensures.here
+    (stem_same offer champion c.args.self.now.stems c.args.self.now.stems c.args.self.now.count _ c.without_next-in-Passed.result.place _ (sections_of c.without_next-in-Passed.result.chosen) refl (sym c.without_next-in-Passed.ensures.place) (sym c.without_next-in-Passed.ensures.chosen) below)
+
+pub returns-in-Open-clause-stems : goal.returns-in-Open-clause-stems
+returns-in-Open-clause-stems c = λ prices budget allowed champion have standing.
+    let offer = offer_of c.args.menu.now prices budget allowed in
+    let below = subst (λ s. AreStanding offer champion c.args.node.now s c.args.self.now.stems c.args.self.now.count) c.in-Open.is standing in
+    let first = stems_more offer champion c.args.self.now c.put-in-Open.new.self c.without_next.result have c.put-in-Open.ensures.stems c.put-in-Open.ensures.count c.put-in-Open.ensures.others c.put-in-Open.ensures.here
+    (stem_same offer champion c.args.self.now.stems c.args.self.now.stems c.args.self.now.count _ c.without_next.result.place _ (sections_of c.without_next.result.chosen) refl (sym c.without_next.ensures.place) (sym c.without_next.ensures.chosen) below.0) in
+    stems_more offer champion c.put-in-Open.new.self c.put-in-Open-2.new.self c.with_next-in-Open.result first c.put-in-Open-2.ensures.stems c.put-in-Open-2.ensures.count c.put-in-Open-2.ensures.others c.put-in-Open-2.ensures.here
+    (subst (λ at. IsStemAt offer champion c.put-in-Open.new.self.stems at c.with_next-in-Open.result.place (sections_of c.with_next-in-Open.result.chosen)) (sym c.put-in-Open.ensures.count)
+    (stem_same offer champion c.args.self.now.stems c.put-in-Open.new.self.stems (c.args.self.now.count + 1) _ c.with_next-in-Open.result.place _ (sections_of c.with_next-in-Open.result.chosen) (sym c.put-in-Open.ensures.stems) (sym c.with_next-in-Open.ensures.place) (sym c.with_next-in-Open.ensures.chosen) below.1))

@@ -1,0 +1,93 @@
+-- The greatest of each course, added up from the last prospect to the first.
+use Rattle.std.proofs.Common.{◌≡◌, ℕ, ◌+◌, ◌-◌, ◌*◌, ◌<◌, ◌≤◌, ◌≢◌, max, subst, Bool, true, false, ◌==◌, ◌||◌, List, ◌∷◌, length, get_or, set, get_or-set_same, get_or-set_other, drop, drop-cons, add-one, refl, sym, ap, ◌∙◌, arith, inl, inr}
+use Rattle.std.specs.Prelude.{if◌then◌else◌}
+use Rattle.std.proofs.lemmas.Bool.{cases_Bool, cases_order, eq-eqb, ne_eqb}
+use Rattle.bundle_bounds.specs.declared.prospects.Prospect.{Prospect}
+use Rattle.bundle_bounds.specs.declared.prospects.Resource.TheVariants.{Count}
+use Rattle.bundle_bounds.specs.Courses.{has_course, greatest, by_course}
+use Rattle.bundle_bounds.specs.Bounds.{over_price}
+use Rattle.bundle_bounds.proofs.Steps.{by_course-step}
+
+pub drop_here : (ps : List Prospect) (i : ℕ) (d : Prospect) → i < length ps → drop i ps ≡ get_or ps i d ∷ drop (i + 1) ps
+drop_here ps i d low = rw (add-one, drop-cons ps i d) refl
+
+greatest_first : (f : Prospect → ℕ) (p : Prospect) (ps : List Prospect) (c : ℕ) → greatest f c (p ∷ ps) ≡ max (if p.course == c then f p else 0) (greatest f c ps)
+greatest_first f p ps c = elim (cases_Bool (p.course == c)) [
+  | inl same ↦ rw same refl
+  | inr other ↦ rw other (let g : ℕ = greatest f c ps in let goal : g ≡ max 0 g = omega arith in goal)
+]
+
+-- one more is looked at
+pub greatest_more : (f : Prospect → ℕ) (ps : List Prospect) (c i most value more whole : ℕ) (d : Prospect) → i < length ps → max most (greatest f c (drop i ps)) ≡ whole
+    → value ≡ (if (get_or ps i d).course == c then f (get_or ps i d) else 0) → more ≡ max most value → max more (greatest f c (drop (i + 1) ps)) ≡ whole
+greatest_more f ps c i most value more whole d low so_far value_is more_is =
+    let g : ℕ = greatest f c (drop (i + 1) ps) in
+    let h : ℕ = greatest f c (drop i ps) in
+    let v : ℕ = if (get_or ps i d).course == c then f (get_or ps i d) else 0 in
+    let split : h ≡ max v g = ap (greatest f c) (drop_here ps i d low) ∙ greatest_first f (get_or ps i d) (drop (i + 1) ps) c in
+    let so_far' : max most h ≡ whole = so_far in
+    let value_is' : value ≡ v = value_is in
+    let goal : max more g ≡ whole = omega arith in goal
+
+-- one more is added in front
+pub added_front : (f : Prospect → ℕ) (ps : List Prospect) (i sum more : ℕ) (d : Prospect) → i < length ps → sum ≡ by_course f (drop (i + 1) ps)
+    → more ≡ f (get_or ps i d) - greatest f (get_or ps i d).course (drop (i + 1) ps) → sum + more ≡ by_course f (drop i ps)
+added_front f ps i sum more d low sum_is more_is =
+    let p = get_or ps i d in
+    let later : ℕ = by_course f (drop (i + 1) ps) in
+    let here : ℕ = f (get_or ps i d) - greatest f (get_or ps i d).course (drop (i + 1) ps) in
+    let whole : ℕ = by_course f (drop i ps) in
+    let split : whole ≡ here + later = ap (by_course f) (drop_here ps i d low) ∙ by_course-step f (get_or ps i d) (drop (i + 1) ps) in
+    let sum_is' : sum ≡ later = sum_is in
+    let more_is' : more ≡ here = more_is in
+    let goal : sum + more ≡ whole = omega arith in goal
+
+-- one more course is there
+pub there_more : (seen : List Bool) (ps : List Prospect) (i at : ℕ) (d : Prospect) → i < length ps → length seen ≡ 60 → at ≡ (get_or ps i d).course → at < 60
+    → ((course : ℕ) → course < 60 → get_or seen course false ≡ has_course (drop (i + 1) ps) course)
+    → (course : ℕ) → course < 60 → get_or (set seen at true) course false ≡ has_course (drop i ps) course
+there_more seen ps i at d low whole at_is small there course within =
+    let rest : Bool = has_course (drop (i + 1) ps) course in
+    let split : has_course (drop i ps) course ≡ ((get_or ps i d).course == course || has_course (drop (i + 1) ps) course) = ap (λ l. has_course l course) (drop_here ps i d low) in
+    elim (cases_order at course) [
+      | inl same ↦
+          let equal : ((get_or ps i d).course == course) ≡ true = eq-eqb (get_or ps i d).course course (sym at_is ∙ same) in
+          let inside : at < length seen = omega arith in
+          subst (λ n. get_or (set seen at true) n false ≡ has_course (drop i ps) course) same
+          (let read : get_or (set seen at true) at false ≡ true = rw get_or-set_same refl in read ∙ sym (split ∙ rw equal refl))
+      | inr other ↦
+          let apart : at ≢ course = elim other [ inl below ↦ (λ e. absurd (omega arith)) | inr above ↦ (λ e. absurd (omega arith)) ] in
+          let differ : ((get_or ps i d).course == course) ≡ false = ne_eqb (get_or ps i d).course course (λ e. apart (at_is ∙ e)) in
+          let read : get_or (set seen at true) course false ≡ get_or seen course false = get_or-set_other seen at course true false (λ e. apart (sym e)) in
+          read ∙ there course within ∙ sym (split ∙ rw differ refl)
+    ]
+
+-- the sum of all is what the first adds and the sum of the others
+pub record IsWithout (sum here rest : ℕ) : Type 0 where
+  pub fits : here ≤ sum
+  pub left : sum - here ≡ rest
+
+pub sum_without : (f : Prospect → ℕ) (p : Prospect) (ps : List Prospect) (before sum here : ℕ) → sum ≡ before + by_course f (p ∷ ps) → here ≡ f p - greatest f p.course ps → IsWithout sum here (before + by_course f ps)
+sum_without f p ps before sum here sum_is here_is =
+    let whole : ℕ = by_course f (p ∷ ps) in
+    let later : ℕ = by_course f ps in
+    let more : ℕ = f p - greatest f p.course ps in
+    let split : whole ≡ more + later = by_course-step f p ps in
+    let sum_is' : sum ≡ before + whole = sum_is in
+    let here_is' : here ≡ more = here_is in
+    record { fits = omega arith; left = (let goal : sum - here ≡ before + later = omega arith in goal) }
+
+plain_same : (p : Prospect) → over_price Count 0 p ≡ 1000 * p.worth
+plain_same p = omega arith
+
+pub plain_over : over_price Count 0 ≡ (λ p. 1000 * p.worth)
+plain_over = λ i p. plain_same p i
+
+pub plain_without : (p : Prospect) (ps : List Prospect) (sum here : ℕ) → sum ≡ by_course (λ q. 1000 * q.worth) (p ∷ ps) → here ≡ over_price Count 0 p - greatest (over_price Count 0) p.course ps → IsWithout sum here (by_course (λ q. 1000 * q.worth) ps)
+plain_without p ps sum here sum_is here_is =
+    let whole : ℕ = by_course (over_price Count 0) (p ∷ ps) in
+    let later : ℕ = by_course (over_price Count 0) ps in
+    let sum_is' : sum ≡ whole = sum_is ∙ ap (λ f. by_course f (p ∷ ps)) (sym plain_over) in
+    let is = sum_without (over_price Count 0) p ps 0 sum here (let goal : sum ≡ 0 + whole = omega arith in goal) here_is in
+    let left : sum - here ≡ 0 + later = is.left in
+    record { fits = is.fits; left = (let goal : sum - here ≡ later = omega arith in goal) ∙ ap (λ f. by_course f ps) plain_over }

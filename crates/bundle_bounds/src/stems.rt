@@ -1,0 +1,235 @@
+// Nodes that have chosen the same sections.
+ghost use Rattle.std.specs.Prelude.{◌≡◌, ◌<◌, ◌+◌, ◌++◌, ◌∷◌, [], true, IfSome, IfNone, IsTrue, length};
+ghost use Rattle.bundle_rules.specs.Ahead.{is_ahead};
+ghost use Rattle.bundle_rules.specs.Demand.{HasPrices};
+ghost use Rattle.bundle_rules.specs.Wishes.{IsFeasible};
+ghost use Rattle.bundle_rules.specs.Menus.{wishes_of, section_at};
+ghost use Rattle.bundle_rules.specs.Bundles.{sections_of};
+ghost use Rattle.bundle_bounds.specs.Offers.{offer_of, places_of};
+ghost use Rattle.bundle_bounds.specs.Opens.{is_open};
+ghost use Rattle.bundle_bounds.specs.Bounds.{bounds, IsFirstClosing, NoneCloses};
+ghost use Rattle.bundle_bounds.specs.Ahead.{limit_of};
+ghost use Rattle.bundle_bounds.specs.Laws.{IsNode};
+
+use crate::closing::first_with;
+use crate::leaving::{plain_after, tangents_after};
+use crate::nodes::{Leaf, Node};
+use crate::opens::{Rests, collect, rests_of};
+use crate::places::adjustments_with;
+use crate::prospects::{NO_PROSPECTS, Prospect, Resource, at_price};
+use crate::sifting::{rests_after, sift};
+use crate::tangents::Tangents;
+use bundle_rules::{Bundle, Menu, Places, is_ahead, utility};
+use market_units::{SectionSet, Tokens};
+
+// The places of a menu, and the sections of a bundle.
+const ROOM: usize = 60;
+
+const MOST: usize = 8;
+
+/// Nodes that have chosen the same sections, one after another: each has one more place decided than the one before it.
+/// What they share is kept: the open places with their worth, what the chosen ones leave, and what was found of bounds.
+#[derive(Clone, Copy)]
+pub struct Stem {
+    champion: Places,
+    most: i32,
+    chosen: [u8; MOST],
+    count: usize,
+    utility: i32,
+    rests: Rests,
+    limit: i64,
+    room: [Prospect; ROOM],
+    start: usize,
+    plain: u64,
+    tangents: Tangents,
+    is_quiet: bool,
+}
+
+impl Stem {
+    ghost use Rattle.bundle_bounds.specs.Stems.{IsStem};
+
+    /// The stem at the root: no place is decided. There is a price for each section of the menu, each at most 1,000,001.
+    pub fn root(
+        menu: &Menu,
+        prices: &[Tokens],
+        budget: Tokens,
+        allowed: &SectionSet,
+        champion: &Bundle,
+    ) -> Stem
+        requires prices { HasPrices menu.now prices.now }
+        requires champion { IsFeasible (wishes_of menu.now) (sections_of champion.now) }
+        ensures { IsStem (offer_of menu.now prices.now budget.0 allowed.now) (sections_of champion.now) 0 [] result }
+    {
+        let mut room = NO_PROSPECTS;
+        let rests = rests_of(menu, prices, budget, &[]);
+        let start = collect(menu, prices, allowed, rests, &[], 0, &mut room);
+        let plain = at_price(&room[start..], Resource::Count, 0, 0);
+        let most = utility(menu, champion);
+        Stem {
+            champion: Places::of(menu, champion),
+            most,
+            chosen: [0; MOST],
+            count: 0,
+            utility: 0,
+            rests,
+            limit: 1000 * i64::from(most),
+            room,
+            start,
+            plain,
+            tangents: Tangents::none(),
+            is_quiet: false,
+        }
+    }
+
+    /// Whether the next place of its node is open.
+    pub fn is_next_open(
+        &self,
+        menu: &Menu,
+        prices: &[Tokens],
+        budget: Tokens,
+        allowed: &SectionSet,
+        champion: &Bundle,
+        node: &Node,
+    ) -> bool
+        requires stem { IsStem (offer_of menu.now prices.now budget.0 allowed.now) (sections_of champion.now) node.now.place (sections_of node.now.chosen) self.now }
+        requires left { node.now.place < length menu.now.places }
+        ensures { result ≡ is_open (offer_of menu.now prices.now budget.0 allowed.now) (places_of menu.now (sections_of node.now.chosen)) node.now.place }
+    {
+        match &self.room[self.start..] {
+            [] => false,
+            [one, ..] => one.place == node.place,
+        }
+    }
+
+    /// The first bound that closes its node for the champion, as `bound_closes` tells it.
+    pub fn closing(
+        &mut self,
+        menu: &Menu,
+        prices: &[Tokens],
+        budget: Tokens,
+        allowed: &SectionSet,
+        champion: &Bundle,
+        node: &Node,
+    ) -> Option<Leaf>
+        requires node { IsNode (offer_of menu.now prices.now budget.0 allowed.now) node.now.place (sections_of node.now.chosen) }
+        requires champion { IsFeasible (wishes_of menu.now) (sections_of champion.now) }
+        requires stem { IsStem (offer_of menu.now prices.now budget.0 allowed.now) (sections_of champion.now) node.now.place (sections_of node.now.chosen) self.old }
+        ensures first { IfSome result (IsFirstClosing (offer_of menu.now prices.now budget.0 allowed.now) node.now.place (places_of menu.now (sections_of node.now.chosen)) (places_of menu.now (sections_of champion.now))
+            (bounds (offer_of menu.now prices.now budget.0 allowed.now) node.now.place (places_of menu.now (sections_of node.now.chosen)))) }
+        ensures none { IfNone result (NoneCloses (offer_of menu.now prices.now budget.0 allowed.now) node.now.place (places_of menu.now (sections_of node.now.chosen)) (places_of menu.now (sections_of champion.now))
+            (bounds (offer_of menu.now prices.now budget.0 allowed.now) node.now.place (places_of menu.now (sections_of node.now.chosen)))) }
+        ensures stem { IsStem (offer_of menu.now prices.now budget.0 allowed.now) (sections_of champion.now) node.now.place (sections_of node.now.chosen) self.new }
+    {
+        prove!(menu.len() <= 60);
+        if self.is_quiet {
+            return None;
+        }
+        let base = 1000 * i64::from(self.utility);
+        let mut tangents = self.tangents;
+        let open_ones = &self.room[self.start..];
+        let leaf = first_with(
+            base,
+            self.limit,
+            self.rests,
+            open_ones,
+            self.plain,
+            &mut tangents,
+        );
+        self.tangents = tangents;
+        self.is_quiet = leaf.is_none();
+        leaf
+    }
+
+    /// Goes on to the node with the next place decided and not taken.
+    pub fn pass(
+        &mut self,
+        menu: &Menu,
+        prices: &[Tokens],
+        budget: Tokens,
+        allowed: &SectionSet,
+        champion: &Bundle,
+        node: &Node,
+    )
+        requires stem { IsStem (offer_of menu.now prices.now budget.0 allowed.now) (sections_of champion.now) node.now.place (sections_of node.now.chosen) self.old }
+        requires left { node.now.place < length menu.now.places }
+        ensures { IsStem (offer_of menu.now prices.now budget.0 allowed.now) (sections_of champion.now) (node.now.place + 1) (sections_of node.now.chosen) self.new }
+    {
+        prove!(node.place < menu.len());
+        let champions = self.champion.as_slice();
+        let limit = limit_after(self.most, champions, &self.chosen[..self.count], node.place);
+        if !self.is_next_open(menu, prices, budget, allowed, champion, node) {
+            self.is_quiet = is_still_quiet(self.is_quiet, self.limit, limit);
+            self.limit = limit;
+            return;
+        }
+        let open_ones = &self.room[self.start..];
+        let plain = plain_after(open_ones, self.plain);
+        let tangents = tangents_after(open_ones, self.tangents);
+        self.plain = plain;
+        self.tangents = tangents;
+        self.start += 1;
+        self.limit = limit;
+        self.is_quiet = false;
+    }
+
+    /// Writes the stem of the node with the next place decided and taken, which is open, into the other one.
+    pub fn take(
+        &self,
+        menu: &Menu,
+        prices: &[Tokens],
+        budget: Tokens,
+        allowed: &SectionSet,
+        champion: &Bundle,
+        node: &Node,
+        below: &mut Stem,
+    )
+        requires node { IsNode (offer_of menu.now prices.now budget.0 allowed.now) node.now.place (sections_of node.now.chosen) }
+        requires stem { IsStem (offer_of menu.now prices.now budget.0 allowed.now) (sections_of champion.now) node.now.place (sections_of node.now.chosen) self.now }
+        requires left { node.now.place < length menu.now.places }
+        requires open { is_open (offer_of menu.now prices.now budget.0 allowed.now) (places_of menu.now (sections_of node.now.chosen)) node.now.place ≡ true }
+        ensures { IsStem (offer_of menu.now prices.now budget.0 allowed.now) (sections_of champion.now) (node.now.place + 1) (sections_of node.now.chosen ++ section_at menu.now.places node.now.place ∷ []) below.new }
+    {
+        prove!(node.place < menu.len());
+        let rated = menu.rated(node.place);
+        let before = &self.chosen[..self.count];
+        let addition = i32::from(rated.rating) + adjustments_with(menu, before, node.place);
+        let mut places = self.chosen;
+        places[self.count] = node.place;
+        let chosen = &places[..self.count + 1];
+        let rests = rests_after(self.rests, &self.room[self.start]);
+        let later = &self.room[self.start + 1..];
+        let start = sift(menu, chosen, rests, node.place, later, &mut below.room);
+        let plain = at_price(&below.room[start..], Resource::Count, 0, 0);
+        let limit = limit_after(self.most, self.champion.as_slice(), chosen, node.place);
+        below.champion = self.champion;
+        below.most = self.most;
+        below.chosen = places;
+        below.count = self.count + 1;
+        below.utility = self.utility + addition;
+        below.rests = rests;
+        below.limit = limit;
+        below.start = start;
+        below.plain = plain;
+        below.tangents = Tangents::none();
+        below.is_quiet = false;
+    }
+}
+
+// Whether a quiet node is followed by one: nothing changes but the limit, if that does.
+fn is_still_quiet(is_quiet: bool, limit: i64, next: i64) -> bool
+    ensures { IsTrue result → IsTrue is_quiet × (limit ≡ next) }
+{
+    is_quiet && limit == next
+}
+
+// The number below which a bound closes the node with this place decided too.
+fn limit_after(most: i32, champion: &[u8], chosen: &[u8], place: u8) -> i64
+    requires { place < 255 }
+    ensures { result ≡ limit_of most (is_ahead (place + 1) champion.now chosen.now) }
+{
+    if is_ahead(place + 1, champion, chosen) {
+        1000 * (i64::from(most) + 1)
+    } else {
+        1000 * i64::from(most)
+    }
+}
