@@ -15,6 +15,8 @@ use Rattle.demand_api.specs.Crowds.{CrowdData, IsWithin, Student as CrowdStudent
 use Rattle.demand_api.specs.Made.{MakeCrowd, crowd_of, students_of}
 use Rattle.market_menus.specs.MenusOf.{AreMenusOf, IsMenuOf, rated_of}
 use Rattle.market_units.specs.declared.units.Tokens.{Tokens}
+use Rattle.preference_desk.specs.DeskNames.{DeskNames}
+use Rattle.preference_desk.specs.MarketNames.{market_names}
 use Rattle.preference_desk.specs.StudentPreferences.{SectionsBelow, StudentPreferences}
 use Rattle.student_roll.specs.Students.{IsRoll, RollData, Student}
 use Rattle.market_crowd.specs.Crowds.{IsCrowdOf}
@@ -95,3 +97,10 @@ module _ (catalog : CatalogData) (roll : RollData) (wanted : List StudentPrefere
 pub crowd_length : (catalog : List Section) (roll : List Student) (wanted : List StudentPreferences) (seed spread : ℕ) (crowd : CrowdData) → IsCrowdOf catalog roll wanted seed spread crowd → length crowd.students ≡ length roll
 crowd_length catalog roll wanted seed spread crowd is =
     sym (length-map crowd.students (λ (student : CrowdStudent). student.menu)) ∙ menus_length catalog roll wanted (map (λ (student : CrowdStudent). student.menu) crowd.students) is.menus
+
+-- the sections of preferences are those of the catalogue whose names a desk knows
+pub sections_known : (names : DeskNames) (catalog : List Section) (roll : List Student) (wanted : List StudentPreferences) → names ≡ market_names catalog roll → All (SectionsBelow (length names.sections)) wanted
+    → All (SectionsBelow (length catalog)) wanted
+sections_known names catalog roll wanted same below =
+    let long : length names.sections ≡ length catalog = ap (λ (all : DeskNames). length all.sections) same ∙ length-map catalog (λ (section : Section). section.name) in
+    subst (λ (n : ℕ). All (SectionsBelow n) wanted) long below
