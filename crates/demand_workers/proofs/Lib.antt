@@ -1,4 +1,3 @@
 pub mod Counting
-pub mod Recalling
 pub mod Rounds
 pub mod Working

@@ -1,2 +1,1 @@
-pub mod Remembered
 pub mod Rounds

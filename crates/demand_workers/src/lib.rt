@@ -2,13 +2,12 @@
 #![tactic(auto)]
 
 mod answering;
-mod effort;
+mod bench;
 mod pooled_demands;
-mod remembered;
 mod round;
-mod taking;
 mod worker;
 
+pub use bench::Bench;
 pub use pooled_demands::{AnyGate, PooledDemands};
 
 #[cfg(test)]

@@ -16,13 +16,14 @@ ghost use Rattle.preference_desk.specs.MarketNames.{market_names};
 ghost use Rattle.preference_desk.specs.declared.entry.Entry.{Entry};
 ghost use Rattle.session_hall.specs.Streams.{command_count, command_lists};
 
+use crate::gate::Passed;
 use crate::market::{Market, take_market};
 use crate::prices::take_prices;
 use crate::sessions::take_sessions;
 use crate::trouble::Trouble;
 use demand_api::Crowd;
 use demand_text::{Taken, demand_text};
-use demand_workers::PooledDemands;
+use demand_workers::{Bench, PooledDemands};
 use market_crowd::make_crowd;
 use market_edge::{Gate, Shelf};
 use market_units::{NoMemory, Tokens};
@@ -34,13 +35,13 @@ use std::thread::Threads;
 use utility_language::Command;
 
 /// The text of `demand`, or why there is none.
-pub fn demand<R: Threads + Wait + Sync, H: Shelf, G: Gate + Sync>(
+pub fn demand<R: Threads + Wait + Sync, H: Shelf>(
     rt: &R,
     alloc: Global,
     words: &[String],
     workers: u16,
     shelf: &mut H,
-    gate: &G,
+    gate: &(dyn Gate + Sync),
 ) -> Result<Vec<u8>, Trouble>
     requires { HasForm (map string_bytes words.now) (Form.Demand workers) }
     ensures answer { MatchResult result (λ text. IsDone (map string_bytes words.now) (sight H.Shelf shelf.old shelf.new) text.items)
@@ -61,14 +62,14 @@ pub fn demand<R: Threads + Wait + Sync, H: Shelf, G: Gate + Sync>(
 }
 
 // The text of the order in which a desk for this market takes these streams, and of what its crowd then takes at these prices.
-fn text_of<R: Threads + Wait + Sync, G: Gate + Sync>(
+fn text_of<R: Threads + Wait + Sync>(
     rt: &R,
     alloc: Global,
     workers: u16,
     market: &Market,
     prices: &[Tokens],
     streams: &[Vec<Command>],
-    gate: &G,
+    gate: &(dyn Gate + Sync),
 ) -> Result<Vec<u8>, NoMemory>
     requires workers { AreWorkers workers }
     requires in_range { AreInRange market.now.settings }
@@ -80,7 +81,8 @@ fn text_of<R: Threads + Wait + Sync, G: Gate + Sync>(
         × (crowd : CrowdData) × IsClosingCrowd market.now.catalog market.now.roll market.now.settings journal crowd
         × (text.items ≡ texts.demand_text market.now.catalog.sections market.now.roll.students journal (taken_at crowd (map (λ section. section.seats) market.now.catalog.sections) prices.now))) }
 {
-    let closed = hold(rt, alloc, &market.catalog, &market.roll, streams, gate)?;
+    let passed = Passed { gate };
+    let closed = hold(rt, alloc, &market.catalog, &market.roll, streams, &passed)?;
     let crowd = make_crowd(
         alloc,
         &market.catalog,
@@ -101,14 +103,14 @@ fn text_of<R: Threads + Wait + Sync, G: Gate + Sync>(
 }
 
 // What workers find that a crowd takes where its sections have these seats and these prices.
-fn taken_by<R: Threads + Wait + Sync, G: Gate + Sync>(
+fn taken_by<R: Threads + Wait + Sync>(
     rt: &R,
     alloc: Global,
     workers: u16,
     crowd: Crowd,
     seats: &[u16],
     prices: &[Tokens],
-    gate: &G,
+    gate: &(dyn Gate + Sync),
 ) -> Result<Taken, NoMemory>
     requires workers { AreWorkers workers }
     requires crowd { MakeCrowd crowd.menus.items crowd.budgets.items crowd.sections }
@@ -118,6 +120,7 @@ fn taken_by<R: Threads + Wait + Sync, G: Gate + Sync>(
     ensures by { IfOk result (λ taken. IsTakenBy (length (crowd_of crowd.menus.items crowd.budgets.items crowd.sections).students) crowd.sections taken) }
 {
     let crowd = Arc::new(alloc, crowd)?;
-    let mut demands = PooledDemands::make(alloc, workers, crowd, gate)?;
+    let bench = Bench::reserve(alloc, workers)?;
+    let mut demands = PooledDemands::make(bench, crowd, gate);
     Taken::at(rt, alloc, &mut demands, seats, prices)
 }

@@ -26,13 +26,13 @@ use std::thread::Threads;
 /// Does what the words of the command line ask for, and answers how it went. The words are those behind the program's
 /// name. The whole text is made before its first byte is written; a text that the sink does not take whole is a sink
 /// fault, in place of whatever status was to be answered.
-pub fn course_match<R: Threads + Wait + Sync, H: Shelf, K: Sink, G: Gate + Sync>(
+pub fn course_match<R: Threads + Wait + Sync, H: Shelf, K: Sink>(
     rt: &R,
     alloc: Global,
     words: &[String],
     shelf: &mut H,
     sink: &mut K,
-    gate: &G,
+    gate: &(dyn Gate + Sync),
 ) -> Status
     // The status and its text are the outcome of the call, and the sink took that text, all of it unless it fails.
     ensures written { result ≢ Status.SinkFault → (text : List ℕ)
@@ -93,13 +93,13 @@ fn finish<K: Sink>(sink: &mut K, text: &[u8], status: Status) -> Status
 }
 
 // The text to write, or what stops the call.
-fn answer<R: Threads + Wait + Sync, H: Shelf, G: Gate + Sync>(
+fn answer<R: Threads + Wait + Sync, H: Shelf>(
     rt: &R,
     alloc: Global,
     words: &[String],
     form: Form,
     shelf: &mut H,
-    gate: &G,
+    gate: &(dyn Gate + Sync),
 ) -> Result<Vec<u8>, Trouble>
     requires { HasForm (map string_bytes words.now) form }
     ensures answer { MatchResult result (λ text. IsDone (map string_bytes words.now) (sight H.Shelf shelf.old shelf.new) text.items)

@@ -5,6 +5,7 @@
 mod catalog;
 mod cause;
 mod demand;
+mod gate;
 mod host;
 mod inputs;
 mod line;

@@ -12,6 +12,7 @@ ghost use Rattle.preference_text.specs.Texts as texts;
 ghost use Rattle.session_hall.specs.Streams.{command_count, command_lists};
 
 use crate::catalog::take_catalog;
+use crate::gate::Passed;
 use crate::roll::take_roll;
 use crate::sessions::take_sessions;
 use crate::trouble::Trouble;
@@ -29,12 +30,12 @@ use student_roll::Roll;
 use utility_language::Command;
 
 /// The text of `prefer`, or why there is none.
-pub fn prefer<R: Threads + Wait + Sync, H: Shelf, G: Gate + Sync>(
+pub fn prefer<R: Threads + Wait + Sync, H: Shelf>(
     rt: &R,
     alloc: Global,
     words: &[String],
     shelf: &mut H,
-    gate: &G,
+    gate: &(dyn Gate + Sync),
 ) -> Result<Vec<u8>, Trouble>
     requires { HasForm (map string_bytes words.now) Form.Prefer }
     ensures answer { MatchResult result (λ text. IsDone (map string_bytes words.now) (sight H.Shelf shelf.old shelf.new) text.items)
@@ -49,13 +50,13 @@ pub fn prefer<R: Threads + Wait + Sync, H: Shelf, G: Gate + Sync>(
 }
 
 // The text of the journal that a desk for this catalogue and this roll keeps of these streams.
-fn text_of<R: Threads + Wait + Sync, G: Gate + Sync>(
+fn text_of<R: Threads + Wait + Sync>(
     rt: &R,
     alloc: Global,
     catalog: &Catalog,
     roll: &Roll,
     streams: &[Vec<Command>],
-    gate: &G,
+    gate: &(dyn Gate + Sync),
 ) -> Result<Vec<u8>, NoMemory>
     requires sessions { (1 ≤ length streams.now) × (length streams.now ≤ 64) }
     requires commands { command_count streams.now ≤ 200000 }
@@ -63,6 +64,7 @@ fn text_of<R: Threads + Wait + Sync, G: Gate + Sync>(
     ensures { IfOk result (λ text. (journal : List Entry) × IsLegalJournal (market_names catalog.now.sections roll.now.students) journal
         × MergesStreams (command_lists streams.now) journal × (text.items ≡ texts.preferences_text catalog.now.sections roll.now.students journal)) }
 {
-    let closed = hold(rt, alloc, catalog, roll, streams, gate)?;
+    let passed = Passed { gate };
+    let closed = hold(rt, alloc, catalog, roll, streams, &passed)?;
     preferences_text(alloc, catalog, roll, &closed.desk)
 }

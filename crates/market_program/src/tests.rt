@@ -55,14 +55,14 @@ fn run<R: Threads + Wait + Sync + Abort>(
 
 // The same where the shelf's call and the sink's write of these numbers fail, 0 being none, the sink has so much room,
 // and the sessions pass this gate.
-fn run_by<R: Threads + Wait + Sync + Abort, G: Gate + Sync>(
+fn run_by<R: Threads + Wait + Sync + Abort>(
     rt: &R,
     alloc: Global,
     line: &str,
     files: &[File],
     failing: (u64, u64),
     room: usize,
-    gate: &G,
+    gate: &(dyn Gate + Sync),
 ) -> Result<(Status, String), Fail> {
     let mut held = Vec::new(alloc);
     for (name, bytes) in files {

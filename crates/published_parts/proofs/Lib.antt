@@ -1,3 +1,5 @@
 pub mod OneJournals
 pub mod OneCrowds
 pub mod OneBests
+pub mod LowerFirst
+pub mod Asked

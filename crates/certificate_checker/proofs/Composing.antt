@@ -1,0 +1,131 @@
+-- The parts of a check put together.
+use Rattle.std.proofs.Common.{ℕ, suc, ◌≡◌, ◌<◌, ◌≤◌, ◌∙◌, List, [], ◌∷◌, length, map, get_or, refl, ap, sym, subst, arith}
+use Rattle.std.specs.Prelude.{Result, Ok, Err, IfErr, OnOk}
+use Rattle.course_catalog.specs.Sections.{Section}
+use Rattle.student_roll.specs.Students.{Student}
+use Rattle.demand_api.specs.Crowds.{CrowdData, Student as Asked}
+use Rattle.demand_api.specs.Made.{MakeCrowd}
+use Rattle.demand_api.proofs.Takers.{students_length}
+use Rattle.market_certificate.specs.Publications.{IsPublication, Publication}
+use Rattle.market_certificate.specs.declared.refusals.TextRefusal.{TextRefusal}
+use Rattle.market_certificate.specs.declared.refusals.TextRefusal.TheVariants.{Defect}
+use Rattle.market_certificate.specs.declared.refusals.TextRefusal.TheVariants as refusals
+use Rattle.market_certificate.specs.Finding.{Finds, OnDefect}
+use Rattle.market_certificate.specs.Texts.{ArePublished, IsPublished}
+use Rattle.market_crowd.proofs.CrowdFacts.{menus_length}
+use Rattle.utility_language.specs.declared.commands.Command.{Command}
+use Rattle.published_parts.specs.Crowds.{IsCrowdAfter}
+use Rattle.published_parts.specs.Journals.{wanted_in}
+use Rattle.published_parts.specs.Holdings.{demanded, held_after}
+use Rattle.published_parts.specs.Markets.{Market, tables_in}
+use Rattle.certificate_checker.specs.declared.findings.CheckEnd.{CheckEnd}
+use Rattle.certificate_checker.specs.declared.findings.CheckEnd.TheVariants as end
+use Rattle.certificate_checker.specs.declared.findings.Finding.{Finding}
+use Rattle.certificate_checker.specs.declared.findings.Finding.TheVariants.{Allocation, Budget, Infeasible, Journal, NotQuiet, Seats, Text, Tree, Turn, Unaffordable, Used}
+use Rattle.certificate_checker.specs.declared.terms.Terms.{Terms}
+use Rattle.certificate_checker.specs.Certificates.{IsAccepted, IsAllocated, IsTextOf}
+use Rattle.certificate_checker.specs.Findings.{IsFirstFinding, IsFirstIn, IsFirstOf, OnFound, end_of}
+use Rattle.certificate_checker.specs.Firsts.{AllBelow}
+use Rattle.certificate_checker.specs.Orders.{IsOrderFinding}
+use Rattle.certificate_checker.specs.Parts.{CanCheck}
+use Rattle.certificate_checker.specs.Terms.{TermsData, terms_in}
+use Rattle.certificate_checker.specs.Views.{terms_of}
+use Rattle.certificate_checker.proofs.Reading.{length_map}
+
+-- as many students as the roll has
+pub crowd_length : (market : Market) (streams : List (List Command)) (order : List ℕ) (crowd : CrowdData) → IsCrowdAfter market streams order crowd → length crowd.students ≡ length market.roll.students
+crowd_length market streams order crowd is =
+    sym (length_map (λ (student : Asked). student.menu) crowd.students)
+    ∙ menus_length market.catalog.sections market.roll.students (wanted_in market is.journal) (map (λ (student : Asked). student.menu) crowd.students) is.is_crowd.menus
+
+-- a publication may be looked at by the terms of its market
+pub can_check : (market : Market) (streams : List (List Command)) (terms : Terms) (p : Publication) → IsPublication (tables_in market) p → IsCrowdAfter market streams p.order (terms_of terms).crowd → terms_of terms ≡ terms_in market (terms_of terms).crowd
+    → MakeCrowd terms.crowd.menus.items terms.crowd.budgets.items terms.crowd.sections → market.settings.raise ≤ 50 → CanCheck terms p
+can_check market streams terms p is crowd same whole low = record {
+  tables = tables_in market;
+  is_publication = is;
+  students = length_map (λ (student : Student). student.name) market.roll.students ∙ sym (crowd_length market streams p.order (terms_of terms).crowd crowd) ∙ students_length terms.crowd.menus.items terms.crowd.budgets.items whole.same;
+  sections = length_map (λ (section : Section). section.name) market.catalog.sections ∙ sym crowd.is_crowd.sections;
+  whole = whole;
+  seats = ap (λ (t : TermsData). length t.seats) same ∙ length_map (λ (section : Section). section.seats) market.catalog.sections ∙ sym crowd.is_crowd.sections;
+  raise = subst (λ n. n ≤ 50) (sym (ap (λ (t : TermsData). t.raise) same)) low;
+}
+
+-- a finding on the order is the first on the publication
+pub order_first : (market : Market) (streams : List (List Command)) (p : Publication) (finding : Finding) → IsOrderFinding streams p.order finding → IsFirstOf market streams p finding
+order_first market streams p (Journal at) is = is
+order_first market streams p (Text line kind) is = absurd is
+order_first market streams p (Budget number) is = absurd is
+order_first market streams p (Unaffordable number) is = absurd is
+order_first market streams p (Infeasible number) is = absurd is
+order_first market streams p (Tree number defect) is = absurd is
+order_first market streams p (Seats section used free) is = absurd is
+order_first market streams p (Turn turn fault) is = absurd is
+order_first market streams p (NotQuiet turns) is = absurd is
+order_first market streams p (Allocation number) is = absurd is
+order_first market streams p (Used section) is = absurd is
+
+-- and so is one on what is printed
+pub printed_first : (market : Market) (streams : List (List Command)) (p : Publication) (crowd : CrowdData) (finding : Finding) → IsCrowdAfter market streams p.order crowd → IsFirstIn (terms_in market crowd) p finding → IsFirstOf market streams p finding
+printed_first market streams p crowd (Journal at) after is = absurd is.found
+printed_first market streams p crowd (Text line kind) after is = absurd is.found
+printed_first market streams p crowd (Budget number) after is = (crowd, after, is)
+printed_first market streams p crowd (Unaffordable number) after is = (crowd, after, is)
+printed_first market streams p crowd (Infeasible number) after is = (crowd, after, is)
+printed_first market streams p crowd (Tree number defect) after is = (crowd, after, is)
+printed_first market streams p crowd (Seats section used free) after is = (crowd, after, is)
+printed_first market streams p crowd (Turn turn fault) after is = (crowd, after, is)
+printed_first market streams p crowd (NotQuiet turns) after is = (crowd, after, is)
+printed_first market streams p crowd (Allocation number) after is = (crowd, after, is)
+printed_first market streams p crowd (Used section) after is = (crowd, after, is)
+
+-- the first finding on the publication of a text is the first on the text
+pub text_first : (market : Market) (streams : List (List Command)) (p : Publication) (text : List ℕ) (finding : Finding) → IsTextOf market p text → IsFirstOf market streams p finding → IsFirstFinding market streams text finding
+text_first market streams p text (Text line kind) of is = absurd is
+text_first market streams p text (Journal at) of is = (p, of, is)
+text_first market streams p text (Budget number) of is = (p, of, is)
+text_first market streams p text (Unaffordable number) of is = (p, of, is)
+text_first market streams p text (Infeasible number) of is = (p, of, is)
+text_first market streams p text (Tree number defect) of is = (p, of, is)
+text_first market streams p text (Seats section used free) of is = (p, of, is)
+text_first market streams p text (Turn turn fault) of is = (p, of, is)
+text_first market streams p text (NotQuiet turns) of is = (p, of, is)
+text_first market streams p text (Allocation number) of is = (p, of, is)
+text_first market streams p text (Used section) of is = (p, of, is)
+
+-- what is so of each finding is so where a check ends with one
+pub on_found : (P Q : Finding → Type 0) (e : CheckEnd) → ((finding : Finding) → P finding → Q finding) → OnFound e P → OnFound e Q
+on_found P Q (end.Found finding) then is = then finding is
+on_found P Q end.NoMemory then is = tt
+
+-- what is so of a success, and of the finding that a failure tells
+pub on_ok : {E : Type 0} {P Q : Type 0} (r : Result (Unit {0}) E) → (P → Q) → OnOk r P → OnOk r Q
+on_ok (Ok x) then is = then is
+on_ok (Err e) then is = tt
+
+pub err_found : {P Q : Finding → Type 0} (r : Result (Unit {0}) CheckEnd) → ((finding : Finding) → P finding → Q finding) → IfErr r (λ e. OnFound e P) → IfErr r (λ e. OnFound e Q)
+err_found (Ok x) then is = tt
+err_found {P} {Q} (Err e) then is = on_found P Q e then is
+
+-- the first defect of a text that is no publication's is the first finding, and such a text is not accepted
+pub defect_first : (market : Market) (streams : List (List Command)) (text : List ℕ) (refusal : TextRefusal) → OnDefect refusal (Finds (ArePublished (tables_in market)) 1 text) → OnFound (end_of refusal) (IsFirstFinding market streams text)
+defect_first market streams text (Defect line kind) is = is
+defect_first market streams text refusals.NoMemory is = tt
+
+pub defect_refused : (market : Market) (streams : List (List Command)) (text : List ℕ) (refusal : TextRefusal) → OnDefect refusal (λ _ _. ¬ IsPublished (tables_in market) text) → OnFound (end_of refusal) (λ _. ¬ IsAccepted market streams text)
+defect_refused market streams text (Defect line kind) is = λ accepted. is (accepted.publication, accepted.is_text.is_publication, accepted.is_text.written)
+defect_refused market streams text refusals.NoMemory is = tt
+
+-- lists with the same items are one
+same_items : (xs ys : List (List ℕ)) → length xs ≡ length ys → ((k : ℕ) → k < length xs → get_or xs k [] ≡ get_or ys k []) → xs ≡ ys
+same_items [] [] long same = refl
+same_items [] (y ∷ ys) long same = absurd (omega arith)
+same_items (x ∷ xs) [] long same = absurd (omega arith)
+same_items (x ∷ xs) (y ∷ ys) long same =
+    let first : x ≡ y = same 0 (omega arith) in
+    let rest : xs ≡ ys = same_items xs ys (omega arith) (λ k low. same (suc k) (omega arith)) in
+    cc
+
+-- final bundles that are each the held one are the held ones
+pub allocation_is : (p : Publication) (students : ℕ) → length p.allocation ≡ students → length (held_after (demanded p) p.turns) ≡ students → AllBelow students (IsAllocated p) → p.allocation ≡ held_after (demanded p) p.turns
+allocation_is p students long held each = same_items p.allocation (held_after (demanded p) p.turns) (long ∙ sym held) (λ k low. each k (omega arith))

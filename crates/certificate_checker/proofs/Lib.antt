@@ -1,0 +1,12 @@
+pub mod Replaying
+pub mod Progressing
+pub mod Reading
+pub mod Turning
+pub mod Bundling
+pub mod Allocating
+pub mod TurnReading
+pub mod Ranges
+pub mod Composing
+pub mod Refusing
+pub mod Optimal
+pub mod OneText

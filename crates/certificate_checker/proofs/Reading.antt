@@ -1,0 +1,132 @@
+-- What stands at a place of the terms and of a publication.
+use Rattle.std.proofs.Common.{ℕ, zero, suc, ◌≡◌, ◌≢◌, ◌<◌, ◌≤◌, ◌∙◌, Bool, true, false, true≢false, nat_eq, List, [], ◌∷◌, length, map, get_or, refl, ap, sym, subst, inl, inr, arith}
+use Rattle.std.specs.Prelude.{All, IsTrue, nat_lt, not, slice_index}
+use Rattle.std.specs.FinSet as set
+use Rattle.std.specs.Ordering.{nat_cmp}
+use Rattle.std.proofs.lemmas.Bool.Decides.{nat_tests}
+use Rattle.std.proofs.lemmas.List.{get_or-map}
+use Rattle.market_units.specs.declared.units.Tokens.{Tokens}
+use Rattle.bundle_bounds.specs.Offers.{offer_of}
+use Rattle.bundle_rules.specs.Bundles.{sections_of}
+use Rattle.bundle_rules.specs.Existence.Members.{has-cases}
+use Rattle.bundle_rules.specs.Menus.{MenuData}
+use Rattle.bundle_rules.specs.Sets.{has}
+use Rattle.demand_api.specs.Crowds.{Student}
+use Rattle.demand_api.specs.Made.{crowd_of, students_of}
+use Rattle.demand_api.proofs.Takers.{students_length}
+use Rattle.market_certificate.specs.declared.publication.Proved as declared_proved
+use Rattle.market_certificate.specs.declared.publication.Publication as declared
+use Rattle.market_certificate.specs.Publications.{IsProved}
+use Rattle.market_certificate.specs.Views.{proved_of, publication_of}
+use Rattle.certificate_checker.specs.declared.terms.Terms.{Terms}
+use Rattle.certificate_checker.specs.Firsts.{AllBelow}
+use Rattle.certificate_checker.specs.Parts.{CanCheck}
+use Rattle.certificate_checker.specs.Students.{offer_in, proved_in, student_in}
+
+-- two tests of numbers
+pub are_apart : (x y : ℕ) → not (nat_eq x y) ≡ true → x ≢ y
+are_apart x y e = grind (arith, nat_tests)
+
+pub are_same : (x y : ℕ) → not (nat_eq x y) ≡ false → x ≡ y
+are_same x y e = grind (arith, nat_tests)
+
+pub not_true : (b : Bool) → not b ≡ true → b ≡ false
+not_true true e = absurd (true≢false (sym e))
+not_true false e = refl
+
+pub not_false : (b : Bool) → not b ≡ false → b ≡ true
+not_false true e = refl
+not_false false e = absurd (true≢false e)
+
+-- what a test denies
+pub denied : {P : Type 0} (test : Bool) → ((IsTrue test → P) × (P → IsTrue test)) → test ≡ false → ¬ P
+denied test tells e = λ is. true≢false (sym (tells.1 is) ∙ e)
+
+-- a fact about two things, of others that are equal to them
+pub moved : {A B : Type 0} (P : A → B → Type 0) (a a' : A) (b b' : B) → a ≡ a' → b ≡ b' → P a b → P a' b'
+moved {A} {B} P a a' b b' e f is = subst {A = A × B} (λ both. P both.0 both.1) (λ i. (e i, f i)) is
+
+-- so of fewer
+pub fewer : (count more : ℕ) (Is : ℕ → Type 0) → count ≤ more → AllBelow more Is → AllBelow count Is
+fewer count more Is low all = λ n small. all n (omega arith)
+
+-- as many as before
+pub length_map : {A B : Type 0} (f : A → B) (xs : List A) → length (map f xs) ≡ length xs
+length_map f [] = refl
+length_map f (x ∷ xs) = let more = length_map f xs in omega arith
+
+-- the lengths of what is looked at
+pub record HasLengths (terms : Terms) (publication : declared.Publication) : Type 0 where
+  pub drawn : length terms.crowd.budgets.items ≡ length terms.crowd.menus.items
+  pub seats : length terms.seats.items ≡ terms.crowd.sections
+  pub students : length (students_of terms.crowd.menus.items terms.crowd.budgets.items) ≡ length terms.crowd.menus.items
+  pub few : length terms.crowd.menus.items ≤ 2000
+  pub few_sections : terms.crowd.sections ≤ 400
+  pub budgets : length publication.budgets.items ≡ length terms.crowd.menus.items
+  pub prices : length publication.prices.items ≡ terms.crowd.sections
+  pub bundles : length publication.bundles.items ≡ length terms.crowd.menus.items
+  pub allocation : length publication.allocation.items ≡ length terms.crowd.menus.items
+  pub used : length publication.used.items ≡ terms.crowd.sections
+
+pub lengths : (terms : Terms) (publication : declared.Publication) → CanCheck terms (publication_of publication) → HasLengths terms publication
+lengths terms publication is = record {
+  drawn = is.whole.same;
+  seats = is.seats;
+  students = students_length terms.crowd.menus.items terms.crowd.budgets.items is.whole.same;
+  few = is.whole.few;
+  few_sections = is.whole.sections_few;
+  budgets = sym (length_map (λ (t : Tokens). t.0) publication.budgets.items) ∙ is.is_publication.budgets.count ∙ is.students;
+  prices = sym (length_map (λ (t : Tokens). t.0) publication.prices.items) ∙ is.is_publication.prices.count ∙ is.sections;
+  bundles = sym (length_map proved_of publication.bundles.items) ∙ is.is_publication.bundles.count ∙ is.students;
+  allocation = sym (length_map sections_of publication.allocation.items) ∙ is.is_publication.allocation.count ∙ is.students;
+  used = is.is_publication.used.count ∙ is.sections;
+}
+
+-- the student of a number has the menu and the budget at that place
+pub student_at : (menus : List MenuData) (budgets : List Tokens) (k : ℕ) (d : Student) (m : MenuData) (b : Tokens) → length budgets ≡ length menus → k < length menus
+    → get_or (students_of menus budgets) k d ≡ record { menu = get_or menus k m; budget = (get_or budgets k b).0 }
+student_at [] budgets k d m b same low = absurd (omega arith)
+student_at (x ∷ xs) [] k d m b same low = absurd (omega arith)
+student_at (x ∷ xs) (y ∷ ys) zero d m b same low = refl
+student_at (x ∷ xs) (y ∷ ys) (suc k) d m b same low = student_at xs ys k d m b (omega arith) (omega arith)
+
+pub student_is : (menus : List MenuData) (budgets : List Tokens) (sections k : ℕ) (m : MenuData) (b : Tokens) → length budgets ≡ length menus → k < length menus → m ≡ get_or menus k m → b ≡ get_or budgets k b
+    → student_in (crowd_of menus budgets sections) k ≡ record { menu = m; budget = b.0 }
+student_is menus budgets sections k m b same low first second =
+    student_at menus budgets k _ m b same low ∙ (λ i. record { menu = sym first i; budget = (sym second i).0 })
+
+-- the budget that a student draws, and the one that is printed
+pub drawn_is : (menus : List MenuData) (budgets : List Tokens) (sections k : ℕ) (b : Tokens) → length budgets ≡ length menus → k < length menus → b ≡ get_or budgets k b → (student_in (crowd_of menus budgets sections) k).budget ≡ b.0
+drawn_is [] budgets sections k b same low is = absurd (omega arith)
+drawn_is (m ∷ menus) budgets sections k b same low is = ap (λ (s : Student). s.budget) (student_at (m ∷ menus) budgets k _ m b same low) ∙ ap (λ (t : Tokens). t.0) (sym is)
+
+pub printed_is : (tokens : List Tokens) (k : ℕ) (b : Tokens) → k < length tokens → b ≡ get_or tokens k b → get_or (map (λ (t : Tokens). t.0) tokens) k 0 ≡ b.0
+printed_is tokens k b low is = get_or-map (λ (t : Tokens). t.0) tokens k b 0 low ∙ ap (λ (t : Tokens). t.0) (sym is)
+
+-- the bundle and the tree that are printed for a student
+pub proved_is : (publication : declared.Publication) (k : ℕ) (item : declared_proved.Proved) → k < length publication.bundles.items → item ≡ get_or publication.bundles.items k item → proved_in (publication_of publication) k ≡ proved_of item
+proved_is publication k item low is = get_or-map proved_of publication.bundles.items k item _ low ∙ ap proved_of (sym is)
+
+-- what is offered in stage two
+pub offer_is : (menus : List MenuData) (budgets : List Tokens) (sections k : ℕ) (publication : declared.Publication) (m : MenuData) (b : Tokens) (all : set.FinSet nat_cmp) → length budgets ≡ length menus → k < length menus → m ≡ get_or menus k m → b ≡ get_or budgets k b
+    → ((s : ℕ) → set.contains all s ≡ nat_lt s sections) → offer_in (crowd_of menus budgets sections) (publication_of publication) k ≡ offer_of m publication.prices.items b.0 all
+offer_is menus budgets sections k publication m b all same low first second told =
+    let student = student_is menus budgets sections k m b same low first second in
+    λ i. record { menu = (student i).menu; price = slice_index (map (λ (t : Tokens). t.0) publication.prices.items); budget = (student i).budget; allowed = λ s. sym (told s) i }
+
+-- what is so of all items of a list is so of what the list has
+pub so_of_has : (P : ℕ → Type 0) (bundle : List ℕ) → All P bundle → (s : ℕ) → has bundle s ≡ true → P s
+so_of_has P [] all s is = absurd (cc is)
+so_of_has P (x ∷ xs) all s is = elim (has-cases x xs s is) [
+  | inl here ↦ subst P here (all 0 x (omega arith))
+  | inr there ↦ so_of_has P xs (λ k d low. all (suc k) d (omega arith)) s there
+]
+
+-- the sections of a bundle of stage two are the catalogue's
+pub stage_two_below : (terms : Terms) (publication : declared.Publication) (k : ℕ) (item : declared_proved.Proved) → CanCheck terms (publication_of publication) → k < length publication.bundles.items → item ≡ get_or publication.bundles.items k item
+    → All (λ s. s < terms.crowd.sections) (sections_of item.bundle)
+stage_two_below terms publication k item is low read =
+    let proved : IsProved is.tables.sections (get_or (map proved_of publication.bundles.items) k (proved_of item)) = is.is_publication.bundles.each k (proved_of item) (let long = length_map proved_of publication.bundles.items in omega arith) in
+    let same : get_or (map proved_of publication.bundles.items) k (proved_of item) ≡ proved_of item = get_or-map proved_of publication.bundles.items k item (proved_of item) low ∙ ap proved_of (sym read) in
+    let mine : IsProved is.tables.sections (proved_of item) = subst (IsProved is.tables.sections) same proved in
+    λ j d inside. subst (λ n. get_or (sections_of item.bundle) j d < n) is.sections (mine.bundle.of_catalog j d inside)

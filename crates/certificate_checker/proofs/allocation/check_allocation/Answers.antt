@@ -1,0 +1,46 @@
+use Rattle.std.proofs.Common.{◌≡◌, ◌<◌, length, below_more, ap, arith, sym, ◌∙◌}
+use Rattle.bundle_rules.specs.Bundles.{sections_of}
+use Rattle.market_certificate.specs.Views.{publication_of}
+use Rattle.published_parts.specs.Holdings.{demanded, held_after}
+use Rattle.certificate_checker.proofs.Allocating.{are_equal, are_unequal}
+use Rattle.certificate_checker.proofs.Reading.{HasLengths, fewer, length_map, lengths}
+use Rattle.certificate_checker.proofs.Turning.{after_length}
+use Rattle.certificate_checker.proofs.allocation.check_allocation.Goals as goal
+
+pub index-requires-in-loop-place : goal.index-requires-in-loop-place
+index-requires-in-loop-place c =
+    let p = publication_of c.args.publication.now in
+    let long : HasLengths c.args.terms.now c.args.publication.now = lengths c.args.terms.now c.args.publication.now c.requires.terms in
+    let held : length c.args.floor.now.held.items ≡ length c.args.terms.now.crowd.menus.items = sym (length_map sections_of c.args.floor.now.held.items) ∙ ap length c.requires.held ∙ after_length c.args.terms.now c.args.publication.now p.turns c.requires.terms in
+    omega arith
+
+pub returns-then-ne-clause-first : goal.returns-then-ne-clause-first
+returns-then-ne-clause-first c =
+    let p = publication_of c.args.publication.now in
+    let long : HasLengths c.args.terms.now c.args.publication.now = lengths c.args.terms.now c.args.publication.now c.requires.terms in
+    let held : length c.args.floor.now.held.items ≡ length c.args.terms.now.crowd.menus.items = sym (length_map sections_of c.args.floor.now.held.items) ∙ ap length c.requires.held ∙ after_length c.args.terms.now c.args.publication.now p.turns c.requires.terms in
+    let low : c.loop-place.place < length c.args.publication.now.allocation.items = omega arith in
+    let small : c.loop-place.place < length c.args.floor.now.held.items = omega arith in
+    record {
+      before = c.requires.before;
+      found = record {
+        within = omega arith;
+        before = c.loop-place.invariant;
+        fails = are_unequal c.args.publication.now.allocation.items c.args.floor.now.held.items (held_after (demanded p) p.turns) c.loop-place.place c.index.result.now c.index-in-loop-place.result.now low small c.index.ensures c.index-in-loop-place.ensures c.requires.held (sym c.ne.ensures ∙ c.if-ne.true);
+      };
+    }
+
+pub loop-place-preserved : goal.loop-place-preserved
+loop-place-preserved c =
+    let p = publication_of c.args.publication.now in
+    let long : HasLengths c.args.terms.now c.args.publication.now = lengths c.args.terms.now c.args.publication.now c.requires.terms in
+    let held : length c.args.floor.now.held.items ≡ length c.args.terms.now.crowd.menus.items = sym (length_map sections_of c.args.floor.now.held.items) ∙ ap length c.requires.held ∙ after_length c.args.terms.now c.args.publication.now p.turns c.requires.terms in
+    let low : c.loop-place.place < length c.args.publication.now.allocation.items = omega arith in
+    let small : c.loop-place.place < length c.args.floor.now.held.items = omega arith in
+    below_more _ _ c.loop-place.invariant
+    (are_equal c.args.publication.now.allocation.items c.args.floor.now.held.items (held_after (demanded p) p.turns) c.loop-place.place c.index.result.now c.index-in-loop-place.result.now low small c.index.ensures c.index-in-loop-place.ensures c.requires.held (sym c.ne.ensures ∙ c.if-ne.false))
+
+pub returns-clause-ok : goal.returns-clause-ok
+returns-clause-ok c =
+    let long : HasLengths c.args.terms.now c.args.publication.now = lengths c.args.terms.now c.args.publication.now c.requires.terms in
+    (c.requires.before, fewer _ c.loop-place.place _ (omega arith) c.loop-place.invariant)

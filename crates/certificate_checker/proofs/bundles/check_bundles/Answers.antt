@@ -1,0 +1,25 @@
+use Rattle.std.proofs.Common.{◌<◌, length, below_more, arith}
+use Rattle.demand_api.specs.Made.{students_of}
+use Rattle.market_certificate.specs.Views.{publication_of}
+use Rattle.proof_tree.proofs.Following.{err_from}
+use Rattle.certificate_checker.specs.Views.{terms_of}
+use Rattle.certificate_checker.proofs.Bundling.{first_bundle}
+use Rattle.certificate_checker.proofs.Reading.{HasLengths, fewer, lengths}
+use Rattle.certificate_checker.proofs.bundles.check_bundles.Goals as goal
+
+pub returns-in_err-check_bundle-clause-first : goal.returns-in_err-check_bundle-clause-first
+returns-in_err-check_bundle-clause-first c =
+    let terms = c.args.terms.now in
+    let long : HasLengths terms c.args.publication.now = lengths terms c.args.publication.now c.requires.terms in
+    let low : c.loop-student.student < length (students_of terms.crowd.menus.items terms.crowd.budgets.items) = omega arith in
+    err_from c.from_residual.result c.in_err-check_bundle.field-0.0 _ c.from_residual.ensures.1
+    (first_bundle (terms_of terms) (publication_of c.args.publication.now) c.loop-student.student c.in_err-check_bundle.field-0.0 c.requires.before low c.loop-student.invariant c.in_err-check_bundle.ensures.wrong)
+
+pub loop-student-preserved : goal.loop-student-preserved
+loop-student-preserved c = below_more _ _ c.loop-student.invariant c.in_ok-check_bundle.ensures.ok
+
+pub returns-clause-ok : goal.returns-clause-ok
+returns-clause-ok c =
+    let terms = c.args.terms.now in
+    let long : HasLengths terms c.args.publication.now = lengths terms c.args.publication.now c.requires.terms in
+    (c.requires.before, fewer _ c.loop-student.student _ (omega arith) c.loop-student.invariant)

@@ -1,0 +1,53 @@
+use Rattle.std.proofs.Common.{◌≤◌, length, map, subst, sym, arith}
+use Rattle.market_certificate.specs.Tables.{tables_of}
+use Rattle.market_certificate.specs.Views.{publication_of, turn_of}
+use Rattle.published_parts.specs.Markets.{market_of}
+use Rattle.certificate_checker.specs.Certificates.{IsAccepted}
+use Rattle.certificate_checker.specs.Findings.{IsFirstFinding, OnFound}
+use Rattle.certificate_checker.proofs.Composing.{defect_first, defect_refused, err_found, on_ok, text_first}
+use Rattle.certificate_checker.proofs.Ranges.{order_in_text, turns_in_text}
+use Rattle.certificate_checker.proofs.Reading.{length_map}
+use Rattle.certificate_checker.proofs.Refusing.{no_finding}
+use Rattle.certificate_checker.proofs.checking.check.Goals as goal
+
+pub check_publication-requires-clause-entries : goal.check_publication-requires-clause-entries
+check_publication-requires-clause-entries c =
+    let short : length c.in-Ok.publication.order.items ≤ length c.args.text.now = order_in_text (tables_of c.args.catalog.now c.args.roll.now) (publication_of c.in-Ok.publication) c.args.text.now c.in-Ok.ensures.text in
+    let small = c.requires.text in
+    omega arith
+
+pub check_publication-requires-clause-turns : goal.check_publication-requires-clause-turns
+check_publication-requires-clause-turns c =
+    let short = turns_in_text (tables_of c.args.catalog.now c.args.roll.now) (publication_of c.in-Ok.publication) c.args.text.now c.in-Ok.ensures.text in
+    let long = length_map turn_of c.in-Ok.publication.turns.items in
+    let small = c.requires.text in
+    omega arith
+
+pub returns-in-Ok-clause-accepted : goal.returns-in-Ok-clause-accepted
+returns-in-Ok-clause-accepted c =
+    on_ok c.check_publication.result (λ is. record {
+      publication = publication_of c.in-Ok.publication;
+      is_text = record { is_publication = c.in-Ok.ensures.publication; written = c.in-Ok.ensures.text };
+      holds = is;
+    }) c.check_publication.ensures.holds
+
+pub returns-in-Ok-clause-first : goal.returns-in-Ok-clause-first
+returns-in-Ok-clause-first c =
+    err_found c.check_publication.result (λ finding is. text_first (market_of c.args.catalog.now c.args.roll.now c.args.settings.now) _ (publication_of c.in-Ok.publication) c.args.text.now finding
+    (record { is_publication = c.in-Ok.ensures.publication; written = c.in-Ok.ensures.text }) is) c.check_publication.ensures.first
+
+pub returns-in-Ok-clause-refused : goal.returns-in-Ok-clause-refused
+returns-in-Ok-clause-refused c =
+    err_found c.check_publication.result (λ finding is accepted. no_finding (market_of c.args.catalog.now c.args.roll.now c.args.settings.now) _ c.args.text.now finding c.len-few_sections.ensures.kept c.len-few_students.ensures.roll accepted
+    (text_first (market_of c.args.catalog.now c.args.roll.now c.args.settings.now) _ (publication_of c.in-Ok.publication) c.args.text.now finding
+    (record { is_publication = c.in-Ok.ensures.publication; written = c.in-Ok.ensures.text }) is)) c.check_publication.ensures.first
+
+pub returns-in-Err-clause-first : goal.returns-in-Err-clause-first
+returns-in-Err-clause-first c =
+    subst (λ end. OnFound end (IsFirstFinding (market_of c.args.catalog.now c.args.roll.now c.args.settings.now) (map (λ stream. stream.items) c.args.streams.now) c.args.text.now)) (sym c.end_of.ensures)
+    (defect_first (market_of c.args.catalog.now c.args.roll.now c.args.settings.now) _ c.args.text.now c.in-Err.refusal c.in-Err.ensures.defect)
+
+pub returns-in-Err-clause-refused : goal.returns-in-Err-clause-refused
+returns-in-Err-clause-refused c =
+    subst (λ end. OnFound end (λ _. ¬ IsAccepted (market_of c.args.catalog.now c.args.roll.now c.args.settings.now) (map (λ stream. stream.items) c.args.streams.now) c.args.text.now)) (sym c.end_of.ensures)
+    (defect_refused (market_of c.args.catalog.now c.args.roll.now c.args.settings.now) _ c.args.text.now c.in-Err.refusal c.in-Err.ensures.refused)

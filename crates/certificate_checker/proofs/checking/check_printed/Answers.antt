@@ -1,0 +1,15 @@
+use Rattle.std.proofs.Common.{◌∙◌, sym}
+use Rattle.market_certificate.specs.Views.{publication_of}
+use Rattle.certificate_checker.proofs.Composing.{allocation_is}
+use Rattle.certificate_checker.proofs.Reading.{HasLengths, length_map, lengths}
+use Rattle.certificate_checker.proofs.Turning.{after_length}
+use Rattle.bundle_rules.specs.Bundles.{sections_of}
+use Rattle.certificate_checker.proofs.checking.check_printed.Goals as goal
+
+pub check_used-requires-clause-held : goal.check_used-requires-clause-held
+check_used-requires-clause-held c =
+    let terms = c.args.terms.now in
+    let p = publication_of c.args.publication.now in
+    let long : HasLengths terms c.args.publication.now = lengths terms c.args.publication.now c.requires.terms in
+    c.in_ok-check_turns.ensures.held
+    ∙ sym (allocation_is p _ (length_map sections_of c.args.publication.now.allocation.items ∙ long.allocation ∙ sym long.students) (after_length terms c.args.publication.now p.turns c.requires.terms ∙ sym long.students) c.in_ok-check_allocation.ensures.ok.1)

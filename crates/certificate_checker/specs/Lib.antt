@@ -1,0 +1,10 @@
+pub mod Terms
+pub mod Firsts
+pub mod Orders
+pub mod Students
+pub mod Turns
+pub mod Certificates
+pub mod Findings
+pub mod Laws
+pub mod Views
+pub mod Parts

@@ -1,0 +1,42 @@
+-- What the parts of a check go by.
+use Rattle.std.specs.Prelude.{ℕ, ◌≡◌, ◌<◌, ◌≤◌, ◌+◌, ◌*◌, true, false, Bool, List, Some, length, slice_get}
+use Rattle.demand_api.specs.Made.{MakeCrowd}
+use Rattle.market_certificate.specs.Publications.{IsPublication, ProvedTurn, Publication}
+use Rattle.market_certificate.specs.Tables.{Tables}
+use Rattle.certificate_checker.specs.declared.progress.Progress.{Progress}
+use Rattle.certificate_checker.specs.declared.terms.Terms.{Terms}
+use Rattle.certificate_checker.specs.Firsts.{AllBelow}
+use Rattle.certificate_checker.specs.Turns.{HasQuietPass, IsQuietTurn}
+
+-- A publication may be looked at by these terms: a whole crowd, seats for each section, a raise of at most 50 percent, and a publication with
+-- a line for each student and each section.
+pub record CanCheck (terms : Terms) (p : Publication) : Type 0 where
+  pub tables : Tables
+  pub is_publication : IsPublication tables p
+  pub students : length tables.students ≡ length terms.crowd.menus.items
+  pub sections : length tables.sections ≡ terms.crowd.sections
+  pub whole : MakeCrowd terms.crowd.menus.items terms.crowd.budgets.items terms.crowd.sections
+  pub seats : length terms.seats.items ≡ terms.crowd.sections
+  pub raise : terms.raise ≤ 50
+
+-- How far the passes have come after the first turns: so many whole passes, and so many turns of the next one; whether one of these made
+-- a change; and whether some whole pass was without one.
+pub record IsProgress (students : ℕ) (p : Publication) (turns : ℕ) (progress : Progress) : Type 0 where
+  pub number : turns ≡ progress.pass * students + progress.place
+  pub passes : progress.pass ≤ turns
+  pub in_pass : 0 < students → progress.place < students
+  pub changed : progress.changed ≡ true → (place : ℕ) × (place < progress.place) × (¬ IsQuietTurn p (progress.pass * students + place))
+  pub same : progress.changed ≡ false → AllBelow progress.place (λ place. IsQuietTurn p (progress.pass * students + place))
+  pub is_over : progress.over ≡ true → HasQuietPass students p turns
+  pub goes_on : 0 < students → progress.over ≡ false → ¬ HasQuietPass students p turns
+
+-- whether a turn made a change
+pub record MadeChange (p : Publication) (turn : ℕ) (moved : Bool) : Type 0 where
+  pub changed : moved ≡ true → ¬ IsQuietTurn p turn
+  pub same : moved ≡ false → IsQuietTurn p turn
+
+-- where the passes have come so far, the turn has the pass and the student that are due
+pub record IsDueTurn (order : List ℕ) (progress : Progress) (turn : ProvedTurn) : Type 0 where
+  pub goes_on : progress.over ≡ false
+  pub pass : turn.pass ≡ progress.pass + 1
+  pub student : slice_get order progress.place ≡ Some turn.student

@@ -1,0 +1,8 @@
+-- What the terms of a check are seen as.
+use Rattle.demand_api.specs.Made.{crowd_of}
+use Rattle.certificate_checker.specs.declared.terms.Terms as declared
+use Rattle.certificate_checker.specs.Terms.{TermsData}
+
+-- the crowd, the seats and the raise as plain data
+abbrev pub terms_of : declared.Terms → TermsData
+terms_of terms = record { crowd = crowd_of terms.crowd.menus.items terms.crowd.budgets.items terms.crowd.sections; seats = terms.seats.items; raise = terms.raise }

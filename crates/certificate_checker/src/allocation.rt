@@ -1,0 +1,36 @@
+// The final bundles.
+ghost use Rattle.std.specs.Prelude.{◌≡◌, IfErr, OnOk};
+ghost use Rattle.market_certificate.specs.Views.{publication_of};
+ghost use Rattle.published_parts.specs.Holdings.{demanded, held_after};
+ghost use Rattle.certificate_checker.specs.Findings.{HoldsToAllocation, HoldsToTheEnd, IsFirstIn};
+ghost use Rattle.certificate_checker.specs.Parts.{CanCheck};
+ghost use Rattle.held_seats.specs.Floors.{held_on};
+ghost use Rattle.certificate_checker.specs.Views.{terms_of};
+
+use crate::Finding;
+use crate::terms::Terms;
+use held_seats::Floor;
+use market_certificate::Publication;
+use market_units::StudentNo;
+
+// Whether each student's final bundle is the one that it holds after the last turn, on the floor.
+pub(crate) fn check_allocation(
+    terms: &Terms,
+    publication: &Publication,
+    floor: &Floor,
+) -> Result<(), Finding>
+    requires terms { CanCheck terms.now (publication_of publication.now) }
+    requires before { HoldsToTheEnd (terms_of terms.now) (publication_of publication.now) }
+    requires held { held_on floor.now ≡ held_after (demanded (publication_of publication.now)) (publication_of publication.now).turns }
+    ensures ok { OnOk result (HoldsToAllocation (terms_of terms.now) (publication_of publication.now)) }
+    ensures first { IfErr result (IsFirstIn (terms_of terms.now) (publication_of publication.now)) }
+{
+    for place in 0..publication.allocation.len() {
+        if publication.allocation[place] != floor.held[place] {
+            return Err(Finding::Allocation {
+                student: StudentNo(place as u16),
+            });
+        }
+    }
+    Ok(())
+}

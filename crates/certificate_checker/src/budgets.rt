@@ -1,0 +1,27 @@
+// The printed budgets.
+ghost use Rattle.std.specs.Prelude.{IfErr, OnOk};
+ghost use Rattle.market_certificate.specs.Views.{publication_of};
+ghost use Rattle.certificate_checker.specs.Findings.{HoldsToBudgets, IsFirstIn};
+ghost use Rattle.certificate_checker.specs.Parts.{CanCheck};
+ghost use Rattle.certificate_checker.specs.Views.{terms_of};
+
+use crate::Finding;
+use crate::terms::Terms;
+use market_certificate::Publication;
+use market_units::StudentNo;
+
+// Whether each student's printed budget is the one that the seed draws.
+pub(crate) fn check_budgets(terms: &Terms, publication: &Publication) -> Result<(), Finding>
+    requires { CanCheck terms.now (publication_of publication.now) }
+    ensures ok { OnOk result (HoldsToBudgets (terms_of terms.now) (publication_of publication.now)) }
+    ensures first { IfErr result (IsFirstIn (terms_of terms.now) (publication_of publication.now)) }
+{
+    for place in 0..publication.budgets.len() {
+        if publication.budgets[place] != terms.crowd.budgets[place] {
+            return Err(Finding::Budget {
+                student: StudentNo(place as u16),
+            });
+        }
+    }
+    Ok(())
+}

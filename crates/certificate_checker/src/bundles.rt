@@ -1,0 +1,104 @@
+// The printed bundles of stage two, and what is looked for in any bundle.
+ghost use Rattle.std.specs.Prelude.{◌≡◌, ◌↔◌, ◌<◌, ◌≤◌, ◌*◌, ℕ, IsTrue, IfErr, OnOk, All, length, nat_lt, true};
+ghost use Rattle.std.specs.FinSet as set;
+ghost use Rattle.market_lists.specs.Totals.{total};
+ghost use Rattle.bundle_rules.specs.Bundles.{sections_of};
+ghost use Rattle.bundle_rules.specs.Sets.{has};
+ghost use Rattle.bundle_rules.specs.Demand.{IsPriced, price_in};
+ghost use Rattle.bundle_rules.specs.Ordinals.{ordinals};
+ghost use Rattle.bundle_bounds.specs.Offers.{offer_of};
+ghost use Rattle.market_certificate.specs.Views.{publication_of};
+ghost use Rattle.certificate_checker.specs.Findings.{HoldsToBudgets, HoldsToBundles, IsBundleFinding, IsFirstIn};
+ghost use Rattle.certificate_checker.specs.Parts.{CanCheck};
+ghost use Rattle.certificate_checker.specs.Students.{IsAffordable, IsOffered, IsProvedBundle};
+ghost use Rattle.certificate_checker.specs.Views.{terms_of};
+
+use crate::Finding;
+use crate::terms::Terms;
+use bundle_rules::{Bundle, feasible};
+use market_certificate::Publication;
+use market_units::{SectionNo, SectionSet, StudentNo, Tokens};
+use proof_tree::check_tree;
+
+// Whether each student's bundle of stage two is affordable and feasible, and has its tree.
+pub(crate) fn check_bundles(terms: &Terms, publication: &Publication) -> Result<(), Finding>
+    requires terms { CanCheck terms.now (publication_of publication.now) }
+    requires before { HoldsToBudgets (terms_of terms.now) (publication_of publication.now) }
+    ensures ok { OnOk result (HoldsToBundles (terms_of terms.now) (publication_of publication.now)) }
+    ensures first { IfErr result (IsFirstIn (terms_of terms.now) (publication_of publication.now)) }
+{
+    let all = SectionSet::full(terms.crowd.sections);
+    for student in 0..publication.bundles.len() {
+        check_bundle(terms, publication, &all, student)?;
+    }
+    Ok(())
+}
+
+// Whether this student's bundle of stage two is affordable and feasible, and has its tree.
+fn check_bundle(
+    terms: &Terms,
+    publication: &Publication,
+    all: &SectionSet,
+    student: usize,
+) -> Result<(), Finding>
+    requires terms { CanCheck terms.now (publication_of publication.now) }
+    requires all { (s : ℕ) → set.contains all.now s ≡ nat_lt s terms.now.crowd.sections }
+    requires student { student < length terms.now.crowd.menus.items }
+    ensures ok { OnOk result (IsProvedBundle (terms_of terms.now).crowd (publication_of publication.now) student) }
+    ensures wrong { IfErr result (IsBundleFinding (terms_of terms.now).crowd (publication_of publication.now) student) }
+{
+    let menu = &terms.crowd.menus[student];
+    let budget = terms.crowd.budgets[student];
+    let prices = publication.prices.as_slice();
+    let proved = &publication.bundles[student];
+    let number = StudentNo(student as u16);
+    if !is_affordable(prices, budget, &proved.bundle) {
+        return Err(Finding::Unaffordable { student: number });
+    }
+    if !feasible(menu, &proved.bundle) {
+        return Err(Finding::Infeasible { student: number });
+    }
+    match check_tree(menu, prices, budget, all, &proved.bundle, &proved.tree) {
+        Ok(()) => Ok(()),
+        Err(defect) => Err(Finding::Tree {
+            student: number,
+            defect,
+        }),
+    }
+}
+
+// Whether the prices of the bundle sum to at most the budget.
+pub(crate) fn is_affordable(prices: &[Tokens], budget: Tokens, bundle: &Bundle) -> bool
+    requires { All (λ section. IsPriced prices.now section) (sections_of bundle.now) }
+    ensures { IsTrue result ↔ (total (price_in prices.now) (sections_of bundle.now) ≤ budget.0) }
+{
+    price_of(prices, bundle.sections()) <= budget.0
+}
+
+// The sum of the prices of these sections.
+fn price_of(prices: &[Tokens], sections: &[SectionNo]) -> u32
+    requires priced { All (λ section. IsPriced prices.now section.0) sections.now }
+    requires few { length sections.now ≤ 8 }
+    ensures value { result ≡ total (price_in prices.now) (ordinals sections.now) }
+    ensures high { result ≤ 1000001 * length sections.now }
+{
+    match sections {
+        [] => 0,
+        [section, more @ ..] => prices[usize::from(section.0)].0 + price_of(prices, more),
+    }
+}
+
+// Whether each section of the bundle is among the allowed ones.
+pub(crate) fn is_offered(allowed: &SectionSet, bundle: &Bundle) -> bool
+    requires { All (λ section. section < 400) (sections_of bundle.now) }
+    ensures { IsTrue result ↔ ((s : ℕ) → has (sections_of bundle.now) s ≡ true → set.contains allowed.now s ≡ true) }
+{
+    all_allowed(allowed, bundle.sections())
+}
+
+fn all_allowed(allowed: &SectionSet, sections: &[SectionNo]) -> bool
+    requires { All (λ section. section.0 < 400) sections.now }
+    ensures { IsTrue result ↔ All (λ section. IsTrue (set.contains allowed.now section.0)) sections.now }
+{
+    sections.iter().all(|section| allowed.has(*section))
+}

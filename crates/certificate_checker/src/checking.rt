@@ -1,0 +1,118 @@
+// The check.
+ghost use Rattle.std.specs.Prelude.{◌≡◌, ◌≤◌, ◌<◌, ◌^◌, ◌-◌, IfOk, IfErr, OnOk, length, map};
+ghost use Rattle.market_certificate.specs.Publications.{IsPublication};
+ghost use Rattle.market_certificate.specs.Tables.{tables_of};
+ghost use Rattle.market_certificate.specs.Views.{publication_of};
+ghost use Rattle.held_seats.specs.Floors.{IsFloor, held_on};
+ghost use Rattle.published_parts.specs.Holdings.{demanded};
+ghost use Rattle.published_parts.specs.Markets.{market_of};
+ghost use Rattle.certificate_checker.specs.Certificates.{Holds, HoldsOf, IsAccepted};
+ghost use Rattle.certificate_checker.specs.Findings.{IsFirstFinding, IsFirstIn, IsFirstOf, OnFound, end_of};
+ghost use Rattle.certificate_checker.specs.Parts.{CanCheck};
+ghost use Rattle.certificate_checker.specs.Views.{terms_of};
+
+use crate::allocation::check_allocation;
+use crate::budgets::check_budgets;
+use crate::bundles::check_bundles;
+use crate::seats::{check_seats, check_used};
+use crate::terms::{Terms, terms_after};
+use crate::turns::check_turns;
+use crate::{CheckEnd, Finding};
+use course_catalog::Catalog;
+use held_seats::Floor;
+use market_certificate::{Publication, TextRefusal, read_publication};
+use market_settings::Settings;
+use market_units::NoMemory;
+use std::alloc::Global;
+use student_roll::Roll;
+use utility_language::Command;
+
+/// Whether the text is accepted for this market and these streams, one for each session: `Ok` exactly where it is the text
+/// of a publication of which the certificate holds, and else the first finding. Nothing is trusted of whoever wrote the
+/// text, and its prices are not judged. The text has fewer than 4,294,967,295 bytes. `NoMemory` comes where memory is
+/// wanted, and has no other cause.
+pub fn check(
+    alloc: Global,
+    catalog: &Catalog,
+    roll: &Roll,
+    settings: &Settings,
+    streams: &[Vec<Command>],
+    text: &[u8],
+) -> Result<(), CheckEnd>
+    requires text { length text.now < 2 ^ 32 - 1 }
+    requires spread { settings.now.spread ≤ 49 }
+    requires raise { settings.now.raise ≤ 50 }
+    ensures accepted { OnOk result (IsAccepted (market_of catalog.now roll.now settings.now) (map (λ stream. stream.items) streams.now) text.now) }
+    ensures first { IfErr result (λ end. OnFound end (IsFirstFinding (market_of catalog.now roll.now settings.now) (map (λ stream. stream.items) streams.now) text.now)) }
+    ensures refused { IfErr result (λ end. OnFound end (λ _. ¬ IsAccepted (market_of catalog.now roll.now settings.now) (map (λ stream. stream.items) streams.now) text.now)) }
+{
+    let _few_sections = catalog.len();
+    let _few_students = roll.len();
+    match read_publication(alloc, catalog, roll, text) {
+        Ok(publication) => {
+            check_publication(alloc, catalog, roll, settings, streams, &publication)
+        }
+        Err(refusal) => Err(end_of(refusal)),
+    }
+}
+
+// Whether the certificate holds of a publication, or the first finding.
+fn check_publication(
+    alloc: Global,
+    catalog: &Catalog,
+    roll: &Roll,
+    settings: &Settings,
+    streams: &[Vec<Command>],
+    publication: &Publication,
+) -> Result<(), CheckEnd>
+    requires publication { IsPublication (tables_of catalog.now roll.now) (publication_of publication.now) }
+    requires entries { length publication.now.order.items < 2 ^ 32 - 1 }
+    requires turns { length publication.now.turns.items < 2 ^ 32 - 1 }
+    requires spread { settings.now.spread ≤ 49 }
+    requires raise { settings.now.raise ≤ 50 }
+    ensures holds { OnOk result (Holds (market_of catalog.now roll.now settings.now) (map (λ stream. stream.items) streams.now) (publication_of publication.now)) }
+    ensures first { IfErr result (λ end. OnFound end (IsFirstOf (market_of catalog.now roll.now settings.now) (map (λ stream. stream.items) streams.now) (publication_of publication.now))) }
+{
+    let terms = terms_after(alloc, catalog, roll, settings, streams, &publication.order)?;
+    check_printed(alloc, &terms, publication)
+}
+
+// The end of a check of a text that is not read.
+fn end_of(refusal: TextRefusal) -> CheckEnd
+    ensures { result ≡ end_of refusal }
+{
+    match refusal {
+        TextRefusal::Defect { line, kind } => CheckEnd::Found(Finding::Text { line, kind }),
+        TextRefusal::NoMemory => CheckEnd::NoMemory,
+    }
+}
+
+// Whether what is printed is right by these terms, or the first finding.
+fn check_printed(alloc: Global, terms: &Terms, publication: &Publication) -> Result<(), CheckEnd>
+    requires terms { CanCheck terms.now (publication_of publication.now) }
+    requires few { length publication.now.turns.items < 2 ^ 32 - 1 }
+    ensures holds { OnOk result (HoldsOf (terms_of terms.now) (publication_of publication.now)) }
+    ensures first { IfErr result (λ end. OnFound end (IsFirstIn (terms_of terms.now) (publication_of publication.now))) }
+{
+    check_budgets(terms, publication)?;
+    check_bundles(terms, publication)?;
+    let mut floor = stage_two(alloc, terms, publication)?;
+    check_seats(terms, publication, &floor)?;
+    check_turns(alloc, terms, publication, &mut floor)?;
+    check_allocation(terms, publication, &floor)?;
+    check_used(terms, publication, &floor)?;
+    Ok(())
+}
+
+// What is held in stage two.
+fn stage_two(alloc: Global, terms: &Terms, publication: &Publication) -> Result<Floor, NoMemory>
+    requires { CanCheck terms.now (publication_of publication.now) }
+    ensures held { IfOk result (λ floor. held_on floor ≡ demanded (publication_of publication.now)) }
+    ensures floor { IfOk result (λ floor. IsFloor terms.now.seats.items floor) }
+{
+    let mut bundles = Vec::with_capacity(alloc, publication.bundles.len())?;
+    'students: for proved in &publication.bundles {
+        bundles.push(proved.bundle)?;
+    }
+    Floor::open(alloc, &terms.seats, &bundles)
+}

@@ -1,0 +1,19 @@
+//! What holds of accepted texts: each call here does nothing, and its contract is a law.
+ghost use Rattle.certificate_checker.specs.Laws.{AcceptedIsOptimal, NoFindingInAccepted, OneTextForPrices};
+
+/// What is accepted is optimal, whoever printed it. In stage two each student has the best bundle that its budget buys at
+/// the printed prices; at each turn the best that its raised budget buys of what it holds and of what is free; and at its
+/// last turn that is what it holds already. No section has more students than seats, at any time.
+pub fn accepted_is_optimal()
+    ensures { AcceptedIsOptimal }
+{}
+
+/// An accepted text is fixed by its order, start, error and price lines: nothing else in it is free.
+pub fn one_text_for_prices()
+    ensures { OneTextForPrices }
+{}
+
+/// An accepted text has no first finding, so that a check has one answer.
+pub fn no_finding_in_accepted()
+    ensures { NoFindingInAccepted }
+{}

@@ -1,0 +1,20 @@
+//! Whether a published text is accepted: a check that trusts nothing of who published it, and does not judge its prices.
+#![tactic(auto)]
+
+mod allocation;
+mod budgets;
+mod bundles;
+mod checking;
+mod findings;
+pub mod laws;
+mod orders;
+mod progress;
+mod seats;
+mod terms;
+mod turns;
+
+pub use checking::check;
+pub use findings::{CheckEnd, Finding, TurnFault};
+
+#[cfg(test)]
+mod tests;

@@ -1,0 +1,63 @@
+// What a publication is checked by.
+ghost use Rattle.std.specs.Prelude.{◌≡◌, ◌≤◌, ◌<◌, ◌-◌, ◌^◌, IfOk, IfErr, length, map};
+ghost use Rattle.market_units.specs.declared.units.NoMemory.{NoMemory};
+ghost use Rattle.demand_api.specs.Made.{MakeCrowd};
+ghost use Rattle.published_parts.specs.Markets.{market_of};
+ghost use Rattle.published_parts.specs.Crowds.{IsCrowdAfter};
+ghost use Rattle.certificate_checker.specs.Findings.{OnFound};
+ghost use Rattle.certificate_checker.specs.Orders.{IsOrderFinding};
+ghost use Rattle.certificate_checker.specs.Terms.{terms_in};
+ghost use Rattle.certificate_checker.specs.Views.{terms_of};
+
+use crate::CheckEnd;
+use crate::orders::replay;
+use course_catalog::Catalog;
+use demand_api::Crowd;
+use market_crowd::make_crowd;
+use market_settings::Settings;
+use std::alloc::Global;
+use student_roll::Roll;
+use utility_language::Command;
+
+/// What a publication is checked by.
+#[derive(Drop)]
+pub(crate) struct Terms {
+    /// The students with their menus, and their budgets before any raise.
+    pub crowd: Crowd,
+    /// The seats of each section.
+    pub seats: Vec<u16>,
+    /// By how many percent budgets rise in the aftermarket, 0 to 50.
+    pub raise: u8,
+}
+
+// The terms of a market after the commands of an order, or the first entry at which it does not merge the streams.
+pub(crate) fn terms_after(
+    alloc: Global,
+    catalog: &Catalog,
+    roll: &Roll,
+    settings: &Settings,
+    streams: &[Vec<Command>],
+    order: &[u8],
+) -> Result<Terms, CheckEnd>
+    requires few { length order.now < 2 ^ 32 - 1 }
+    requires spread { settings.now.spread ≤ 49 }
+    ensures terms { IfOk result (λ terms. terms_of terms ≡ terms_in (market_of catalog.now roll.now settings.now) (terms_of terms).crowd) }
+    ensures crowd { IfOk result (λ terms. IsCrowdAfter (market_of catalog.now roll.now settings.now) (map (λ stream. stream.items) streams.now) order.now (terms_of terms).crowd) }
+    ensures whole { IfOk result (λ terms. MakeCrowd terms.crowd.menus.items terms.crowd.budgets.items terms.crowd.sections) }
+    ensures fails { IfErr result (λ end. OnFound end (IsOrderFinding (map (λ stream. stream.items) streams.now) order.now)) }
+{
+    let desk = replay(alloc, catalog, roll, streams, order)?;
+    let crowd = make_crowd(
+        alloc,
+        catalog,
+        roll,
+        desk.closed(),
+        settings.seed,
+        settings.spread,
+    )?;
+    Ok(Terms {
+        crowd,
+        seats: catalog.all_seats().to_vec(alloc)?,
+        raise: settings.raise,
+    })
+}

@@ -1,0 +1,37 @@
+// What workers work with.
+ghost use Rattle.std.specs.Prelude.{◌≡◌, ◌≤◌, IfOk, length};
+
+use demand_oracle::Workspace;
+use market_units::{MAX_WORKERS, NoMemory};
+use std::alloc::Global;
+use std::sync::Mutex;
+
+/// A workspace for each of 1 to 16 workers.
+#[derive(Drop)]
+pub struct Bench {
+    workspaces: Vec<Mutex<Workspace>>,
+    ghost some: { 1 ≤ length workspaces.items },
+    ghost few: { length workspaces.items ≤ 16 },
+}
+
+impl Bench {
+    /// Reserves a workspace for each of 1 to 16 workers. The only error is that memory was wanted and not given.
+    pub fn reserve(alloc: Global, workers: u16) -> Result<Bench, NoMemory>
+        requires { (1 ≤ workers) × (workers ≤ MAX_WORKERS) }
+    {
+        let mut workspaces = Vec::with_capacity(alloc, usize::from(workers))?;
+        for _ in 0..workers {
+            let workspace = Workspace::reserve(alloc)?;
+            workspaces.push(Mutex::new(workspace))?;
+        }
+        Ok(Bench { workspaces })
+    }
+
+    // The workspaces.
+    pub(crate) fn workspaces(&self) -> &[Mutex<Workspace>]
+        ensures some { 1 ≤ length result.now }
+        ensures few { length result.now ≤ 16 }
+    {
+        &self.workspaces
+    }
+}
