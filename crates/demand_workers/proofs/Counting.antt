@@ -1,7 +1,7 @@
 -- Counts that grow by one bundle after another.
-use Rattle.std.proofs.Common.{ℕ, zero, suc, ◌≡◌, ◌≢◌, ◌<◌, ◌≤◌, ◌+◌, ◌∙◌, ◌++◌, List, [], ◌∷◌, Vec, Global, length, map, take, drop, replicate, slice_index, slice_index_or, slice_set, refl, ap, sym, subst, arith, inl, inr}
+use Rattle.std.proofs.Common.{ℕ, suc, ◌≡◌, ◌≢◌, ◌<◌, ◌≤◌, ◌+◌, ◌∙◌, ◌++◌, List, [], ◌∷◌, Vec, Global, length, map, take, drop, replicate, slice_index, slice_index_or, slice_set, refl, ap, sym, arith, inl, inr}
 use Rattle.std.proofs.lemmas.Bool.{cases_order}
-use Rattle.std.proofs.lemmas.List.{get_or-replicate, get_or-set_same, get_or-set_other, length-replicate, length-map}
+use Rattle.std.proofs.lemmas.List.{get_or-replicate, get_or-set_same, get_or-set_other, length-replicate, length-map, length-set}
 use Rattle.market_units.specs.declared.units.SectionNo.{SectionNo}
 use Rattle.market_units.specs.declared.units.Tokens.{Tokens}
 use Rattle.market_units.specs.declared.units.StudentNo.{StudentNo}
@@ -69,3 +69,19 @@ pub bundles_found : (crowd asked : CrowdData) (prices : List Tokens) (version : 
 bundles_found crowd asked prices version versions students len new old whole same listed copied told =
     ap (map sections_of) (lent_back len new old whole) ∙ told ∙ ap (λ c. map (λ (student : StudentNo). demand_of c (price_in (slice_index_or versions 0 [])) student.0) students) same
     ∙ ap (λ p. map (λ (student : StudentNo). demand_of crowd (price_in p) student.0) students) (ap (λ l. slice_index_or l 0 []) listed ∙ copied)
+
+-- one version more is counted, and the later ones are not yet
+pub counts_written : (f : ℕ → List ℕ) (found : List (Vec ℕ Global)) (i : ℕ) (v : Vec ℕ Global) → i < length found → ((k : ℕ) (d : Vec ℕ Global) → k < i → k < length found → (slice_index_or found k d).items ≡ f k) → v.items ≡ f i
+    → (k : ℕ) (d : Vec ℕ Global) → k < i + 1 → k < length (slice_set found i v) → (slice_index_or (slice_set found i v) k d).items ≡ f k
+counts_written f found i v low before here k d below within = elim (cases_order k i) [
+  | inl same ↦ rw same (ap (λ (w : Vec ℕ Global). w.items) (get_or-set_same found i v d low) ∙ here)
+  | inr (inl less) ↦ let apart : k ≢ i = omega arith in ap (λ (w : Vec ℕ Global). w.items) (get_or-set_other found i k v d apart) ∙ before k d less (omega arith)
+  | inr (inr more) ↦ absurd (omega arith)
+]
+
+pub counts_left : (zeros : List ℕ) (found : List (Vec ℕ Global)) (i : ℕ) (v : Vec ℕ Global) → ((k : ℕ) (d : Vec ℕ Global) → i ≤ k → k < length found → (slice_index_or found k d).items ≡ zeros)
+    → (k : ℕ) (d : Vec ℕ Global) → i + 1 ≤ k → k < length (slice_set found i v) → (slice_index_or (slice_set found i v) k d).items ≡ zeros
+counts_left zeros found i v before k d later within =
+    let apart : k ≢ i = omega arith in
+    let same : length (slice_set found i v) ≡ length found = length-set found i v in
+    ap (λ (w : Vec ℕ Global). w.items) (get_or-set_other found i k v d apart) ∙ before k d (omega arith) (omega arith)

@@ -1,3 +1,6 @@
 pub mod Counting
+pub mod HolderSums
+pub mod HoldersLeave
+pub mod Recalling
 pub mod Rounds
 pub mod Working

@@ -1,11 +1,11 @@
 -- What a worker finds for a task.
-use Rattle.std.proofs.Common.{ℕ, ◌≡◌, ◌<◌, ◌+◌, ◌-◌, ◌∙◌, List, [], ◌∷◌, ◌++◌, Vec, Global, length, map, slice_index_or, refl, ap, sym, subst, arith}
+use Rattle.std.proofs.Common.{ℕ, ◌≡◌, ◌<◌, ◌∙◌, List, [], Vec, Global, length, slice_index_or, ap, sym}
 use Rattle.std.proofs.lemmas.List.{get_or-map, length-map}
 use Rattle.chronicle.specs.declared.origin.Origin.{Origin}
 use Rattle.market_units.specs.declared.units.Tokens.{Tokens}
 use Rattle.bundle_rules.specs.Demand.{price_in}
 use Rattle.demand_api.specs.Crowds.{CrowdData, demand_of as crowd_demand}
-use Rattle.demand_api.specs.Made.{MakeCrowd, crowd_of}
+use Rattle.demand_api.specs.Made.{crowd_of}
 use Rattle.demand_api.proofs.Takers.{students_length}
 use Rattle.bundle_rules.specs.Menus.{MenuData}
 use Rattle.price_board.specs.declared.shared.Terms.{Terms}

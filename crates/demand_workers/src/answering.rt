@@ -1,8 +1,9 @@
 // What is read from the answers of a board.
-ghost use Rattle.std.specs.Prelude.{◌≡◌, ◌<◌, ◌≤◌, ℕ, All, IfOk, length, map, replicate};
+ghost use Rattle.std.specs.Prelude.{◌≡◌, ◌<◌, ◌≤◌, ℕ, [], All, IfOk, length, map, replicate, slice_index_or};
 ghost use Rattle.bundle_rules.specs.Bundles.{sections_of};
 ghost use Rattle.bundle_rules.specs.Demand.{price_in};
 ghost use Rattle.demand_api.specs.Crowds.{IsCrowd, counts};
+ghost use Rattle.demand_workers.specs.Remembered.{AreTaken};
 ghost use Rattle.price_board.specs.Settling.{ask_of};
 ghost use Rattle.price_board.specs.Terms.{version_count, student_count, prices_of, demand_of};
 
@@ -25,16 +26,17 @@ fn bundle_of(answers: &Answers, version: u8, student: StudentNo) -> Bundle
     }
 }
 
-// Writes what each listed student takes at the first version, of which all bundles were asked.
-pub(crate) fn read_bundles(answers: &Answers, students: &[StudentNo], bundles: &mut [Bundle])
-    requires version { 1 ≤ version_count answers.now.terms }
-    requires students { All (λ student. student.0 < student_count answers.now.terms) students.now }
-    requires counts { ask_of answers.now.terms.asks 0 ≡ Ask.Counts }
-    requires same { length bundles.old ≡ length students.now }
-    ensures { map sections_of bundles.new ≡ map (λ student. demand_of answers.now.terms 0 student.0) students.now }
+// Writes what each student takes at a version of which all bundles were asked.
+pub(crate) fn read_all(answers: &Answers, version: u8, bundles: &mut [Bundle])
+    requires crowd { IsCrowd answers.now.terms.crowd }
+    requires version { version < version_count answers.now.terms }
+    requires counts { ask_of answers.now.terms.asks version ≡ Ask.Counts }
+    requires same { length bundles.old ≡ student_count answers.now.terms }
+    ensures len { length bundles.new ≡ length bundles.old }
+    ensures taken { AreTaken answers.now.terms.crowd (slice_index_or answers.now.terms.versions version []) bundles.new }
 {
-    for place in 0..students.len() {
-        bundles[place] = bundle_of(answers, 0, students[place]);
+    for place in 0..bundles.len() {
+        bundles[place] = bundle_of(answers, version, StudentNo(place as u16));
     }
 }
 

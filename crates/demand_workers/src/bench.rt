@@ -9,6 +9,7 @@ use std::sync::Mutex;
 /// A workspace for each of 1 to 16 workers.
 #[derive(Drop)]
 pub struct Bench {
+    pub(crate) alloc: Global,
     workspaces: Vec<Mutex<Workspace>>,
     ghost some: { 1 ≤ length workspaces.items },
     ghost few: { length workspaces.items ≤ 16 },
@@ -24,7 +25,7 @@ impl Bench {
             let workspace = Workspace::reserve(alloc)?;
             workspaces.push(Mutex::new(workspace))?;
         }
-        Ok(Bench { workspaces })
+        Ok(Bench { alloc, workspaces })
     }
 
     // The workspaces.

@@ -3,8 +3,12 @@
 
 mod answering;
 mod bench;
+mod effort;
+mod leaving;
 mod pooled_demands;
+mod remembered;
 mod round;
+mod taking;
 mod worker;
 
 pub use bench::Bench;

@@ -1,12 +1,18 @@
 // Demands of a crowd that workers find.
-ghost use Rattle.std.specs.Prelude.{◌≡◌, ◌≤◌, IfOk, length};
+ghost use Rattle.std.specs.Prelude.{◌≡◌, ◌<◌, ◌≤◌, All, IfOk, length};
 ghost use Rattle.std.specs.Arc.{arc_value};
+ghost use Rattle.demand_api.specs.Asking.{ArePricesFor};
 ghost use Rattle.price_board.specs.Openings.{IsMade};
+ghost use Rattle.demand_workers.specs.Remembered.{AreRemembered, AreTaken};
 ghost use Rattle.demand_workers.specs.Rounds.{data_of};
 
 use crate::Bench;
-use crate::answering::{count_versions, read_bundles, zero_counts};
+use crate::answering::{count_versions, read_all, zero_counts};
+use crate::effort::{few_at, few_at_all, few_listed};
+use crate::leaving::least_for_each;
+use crate::remembered::Remembered;
 use crate::round::ask_workers;
+use crate::taking::{count_each, count_takers, take_all, take_listed};
 use bundle_rules::Bundle;
 use demand_api::{Crowd, Demands};
 use market_edge::Gate;
@@ -19,8 +25,9 @@ use std::thread::Threads;
 /// A gate of any kind, which all workers pass.
 pub type AnyGate<'g> = &'g (dyn Gate + Sync);
 
-/// A crowd that is asked by 1 to 16 workers, each with a workspace of its own. They draw the tasks of a call from one board, each in a
-/// thread of its own where one can be started, and pass the gate before their first draw and after each post. Its one form is
+/// A crowd that is asked by the workers of a bench, each with a workspace of its own. They draw the tasks of a call from one board, each
+/// in a thread of its own where one can be started, and pass the gate before their first draw and after each post. Where what is
+/// remembered of earlier calls leaves few students to ask, the caller's own thread asks them, without a board. Its one form is
 /// `PooledDemands<AnyGate>`, which `make` gives.
 #[derive(Drop)]
 pub struct PooledDemands<G> {
@@ -28,7 +35,9 @@ pub struct PooledDemands<G> {
     bench: Bench,
     gate: G,
     asked: u64,
+    remembered: Remembered,
     ghost made: { IsMade (arc_value crowd) },
+    ghost right: { AreRemembered (data_of (arc_value crowd)) remembered.prices.items remembered.bundles.items },
 }
 
 impl<'g> PooledDemands<AnyGate<'g>> {
@@ -42,12 +51,95 @@ impl<'g> PooledDemands<AnyGate<'g>> {
         ensures crowd { ⟦<PooledDemands<AnyGate<'g>> as Demands>⟧.crowd result ≡ data_of (arc_value crowd) }
         ensures asked { ⟦<PooledDemands<AnyGate<'g>> as Demands>⟧.asked result ≡ 0 }
     {
+        let remembered = Remembered::nothing(bench.alloc);
         PooledDemands {
             crowd,
             bench,
             gate,
             asked: 0,
+            remembered,
         }
+    }
+
+    // What each student takes at these prices.
+    fn all_bundles<R: Threads + Wait + Sync>(
+        &self,
+        rt: &R,
+        alloc: Global,
+        prices: &[Tokens],
+    ) -> Result<Vec<Bundle>, NoMemory>
+        requires prices { ArePricesFor (data_of (arc_value self.now.crowd)) prices.now }
+        ensures len { IfOk result (λ bundles. length bundles.items ≡ length (arc_value self.now.crowd).menus.items) }
+        ensures taken { IfOk result (λ bundles. AreTaken (data_of (arc_value self.now.crowd)) prices.now bundles.items) }
+    {
+        let mut bundles = vec![in alloc; Bundle::empty(); self.crowd.menus.len()]?;
+        if few_at(&self.remembered, &self.crowd, prices) {
+            let mut workspace = self.bench.workspaces()[0].lock(rt);
+            take_all(
+                &mut workspace,
+                &self.remembered,
+                &self.crowd,
+                prices,
+                &mut bundles,
+            );
+            return Ok(bundles);
+        }
+        let version = prices.to_vec(alloc)?;
+        let asks = vec![in alloc; Ask::Counts; 1]?;
+        let answers = ask_workers(
+            rt,
+            alloc,
+            &self.crowd,
+            &[version],
+            asks,
+            self.bench.workspaces(),
+            &self.remembered,
+            self.gate,
+        )?;
+        read_all(&answers, 0, &mut bundles);
+        Ok(bundles)
+    }
+
+    // Remembers what each student takes at these prices.
+    fn recall<R: Threads + Wait + Sync>(
+        &mut self,
+        rt: &R,
+        alloc: Global,
+        prices: &[Tokens],
+    ) -> Result<(), NoMemory>
+        requires prices { ArePricesFor (data_of (arc_value self.old.crowd)) prices.now }
+        ensures crowd { self.new.crowd ≡ self.old.crowd }
+        ensures asked { self.new.asked ≡ self.old.asked }
+        ensures prices { IfOk result (λ done. self.new.remembered.prices.items ≡ prices.now) }
+        ensures all { IfOk result (λ done. length self.new.remembered.bundles.items ≡ length (arc_value self.old.crowd).menus.items) }
+    {
+        let copy = prices.to_vec(alloc)?;
+        let bundles = self.all_bundles(rt, alloc, prices)?;
+        self.remembered = Remembered {
+            prices: copy,
+            bundles,
+        };
+        Ok(())
+    }
+
+    // Remembers what each student takes at these prices, where many of the listed ones have to be asked.
+    fn recall_for<R: Threads + Wait + Sync>(
+        &mut self,
+        rt: &R,
+        alloc: Global,
+        prices: &[Tokens],
+        students: &[StudentNo],
+    ) -> Result<(), NoMemory>
+        requires prices { ArePricesFor (data_of (arc_value self.old.crowd)) prices.now }
+        requires students { All (λ student. student.0 < length (arc_value self.old.crowd).menus.items) students.now }
+        requires few { length students.now ≤ 2000 }
+        ensures crowd { self.new.crowd ≡ self.old.crowd }
+        ensures asked { self.new.asked ≡ self.old.asked }
+    {
+        if few_listed(&self.remembered, &self.crowd, prices, students) {
+            return Ok(());
+        }
+        self.recall(rt, alloc, prices)
     }
 }
 
@@ -72,8 +164,22 @@ impl Demands for PooledDemands<AnyGate<'_>> {
         batch: &[Vec<Tokens>],
     ) -> Result<Vec<Vec<u32>>, NoMemory> {
         self.asked = self.asked.saturating_add(1);
-        let students = self.students();
         let mut found = zero_counts(alloc, batch.len(), self.crowd.sections)?;
+        if few_at_all(&self.remembered, &self.crowd, batch) {
+            let mut workspace = self.bench.workspaces()[0].lock(rt);
+            count_each(
+                &mut workspace,
+                &self.remembered,
+                &self.crowd,
+                batch,
+                &mut found,
+            );
+            return Ok(found);
+        }
+        let students = self.students();
+        let last = batch.len() - 1;
+        let prices = batch[last].to_vec(alloc)?;
+        let mut bundles = vec![in alloc; Bundle::empty(); usize::from(students)]?;
         let asks = vec![in alloc; Ask::Counts; batch.len()]?;
         let answers = ask_workers(
             rt,
@@ -82,9 +188,12 @@ impl Demands for PooledDemands<AnyGate<'_>> {
             batch,
             asks,
             self.bench.workspaces(),
+            &self.remembered,
             self.gate,
         )?;
         count_versions(&answers, students, &mut found);
+        read_all(&answers, last as u8, &mut bundles);
+        self.remembered = Remembered { prices, bundles };
         Ok(found)
     }
 
@@ -97,18 +206,16 @@ impl Demands for PooledDemands<AnyGate<'_>> {
     ) -> Result<Vec<Bundle>, NoMemory> {
         self.asked = self.asked.saturating_add(1);
         let mut bundles = vec![in alloc; Bundle::empty(); students.len()]?;
-        let version = prices.to_vec(alloc)?;
-        let asks = vec![in alloc; Ask::Counts; 1]?;
-        let answers = ask_workers(
-            rt,
-            alloc,
+        self.recall_for(rt, alloc, prices, students)?;
+        let mut workspace = self.bench.workspaces()[0].lock(rt);
+        take_listed(
+            &mut workspace,
+            &self.remembered,
             &self.crowd,
-            &[version],
-            asks,
-            self.bench.workspaces(),
-            self.gate,
-        )?;
-        read_bundles(&answers, students, &mut bundles);
+            prices,
+            students,
+            &mut bundles,
+        );
         Ok(bundles)
     }
 
@@ -121,6 +228,17 @@ impl Demands for PooledDemands<AnyGate<'_>> {
         limit: u32,
     ) -> Result<bool, NoMemory> {
         self.asked = self.asked.saturating_add(1);
+        if few_at(&self.remembered, &self.crowd, prices) {
+            let mut workspace = self.bench.workspaces()[0].lock(rt);
+            let takers = count_takers(
+                &mut workspace,
+                &self.remembered,
+                &self.crowd,
+                prices,
+                section,
+            );
+            return Ok(takers > limit);
+        }
         let version = prices.to_vec(alloc)?;
         let asks = vec![in alloc; Ask::Exceeds { section, limit }; 1]?;
         let answers = ask_workers(
@@ -130,6 +248,7 @@ impl Demands for PooledDemands<AnyGate<'_>> {
             &[version],
             asks,
             self.bench.workspaces(),
+            &self.remembered,
             self.gate,
         )?;
         match answers.exceeds(0) {
@@ -145,24 +264,8 @@ impl Demands for PooledDemands<AnyGate<'_>> {
         prices: &[Tokens],
         pairs: &[(SectionNo, u32)],
     ) -> Result<Vec<Tokens>, NoMemory> {
-        let mut found = Vec::new(alloc);
-        let mut trial = prices.to_vec(alloc)?;
-        for (section, limit) in pairs {
-            let place = usize::from(section.0);
-            let mut low = prices[place].0;
-            let mut high = self.top().0;
-            while low < high {
-                let middle = low + (high - low) / 2;
-                trial[place] = Tokens(middle);
-                if self.exceeds(rt, alloc, &trial, *section, *limit)? {
-                    low = middle + 1;
-                } else {
-                    high = middle;
-                }
-            }
-            trial[place] = prices[place];
-            found.push(Tokens(low))?;
-        }
-        Ok(found)
+        self.recall(rt, alloc, prices)?;
+        let mut workspace = self.bench.workspaces()[0].lock(rt);
+        least_for_each(alloc, &mut workspace, &self.remembered, &self.crowd, pairs)
     }
 }

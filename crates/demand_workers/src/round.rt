@@ -3,8 +3,10 @@ ghost use Rattle.std.specs.Prelude.{◌≡◌, ◌≤◌, ◌<◌, ℕ, All, IfO
 ghost use Rattle.std.specs.Arc.{arc_value};
 ghost use Rattle.price_board.specs.Openings.{IsAskOf, IsMade};
 ghost use Rattle.price_board.specs.Seats.{IsFree, IsFinished};
+ghost use Rattle.demand_workers.specs.Remembered.{AreRemembered};
 ghost use Rattle.demand_workers.specs.Rounds.{data_of, prices_of, AreVersionsFor, IsBoardOf};
 
+use crate::remembered::Remembered;
 use crate::worker::work;
 use demand_api::Crowd;
 use demand_oracle::Workspace;
@@ -25,8 +27,10 @@ pub(crate) fn ask_workers<R: Threads + Wait + Sync>(
     versions: &[Vec<Tokens>],
     asks: Vec<Ask>,
     workspaces: &[Mutex<Workspace>],
+    remembered: &Remembered,
     gate: &(dyn Gate + Sync),
 ) -> Result<Answers, NoMemory>
+    requires remembered { AreRemembered (data_of (arc_value crowd.now)) remembered.now.prices.items remembered.now.bundles.items }
     requires crowd { IsMade (arc_value crowd.now) }
     requires versions { AreVersionsFor (data_of (arc_value crowd.now)) versions.now }
     requires some { 1 ≤ length versions.now }
@@ -49,6 +53,7 @@ pub(crate) fn ask_workers<R: Threads + Wait + Sync>(
         &board,
         seats.as_mut_slice(),
         workspaces,
+        remembered,
         crowd,
         versions,
         gate,
@@ -74,10 +79,12 @@ fn work_all<R: Threads + Wait + Sync>(
     board: &Board,
     seats: &mut [BoardSeat],
     workspaces: &[Mutex<Workspace>],
+    remembered: &Remembered,
     crowd: &Crowd,
     versions: &[Vec<Tokens>],
     gate: &(dyn Gate + Sync),
 )
+    requires remembered { AreRemembered (data_of crowd.now) remembered.now.prices.items remembered.now.bundles.items }
     requires crowd { IsMade crowd.now }
     requires versions { AreVersionsFor (data_of crowd.now) versions.now }
     requires board { IsBoardOf (data_of crowd.now) versions.now board.now }
@@ -94,8 +101,19 @@ fn work_all<R: Threads + Wait + Sync>(
         seats,
         threads,
         &|n, seat|
-            requires { (n < length workspaces.now) × (seat.now.number < 16) × IsFree board.now seat.now × IsMade crowd.now × AreVersionsFor (data_of crowd.now) versions.now × IsBoardOf (data_of crowd.now) versions.now board.now }
+            requires { (n < length workspaces.now) × (seat.now.number < 16) × IsFree board.now seat.now × AreRemembered (data_of crowd.now) remembered.now.prices.items remembered.now.bundles.items × IsMade crowd.now × AreVersionsFor (data_of crowd.now) versions.now × IsBoardOf (data_of crowd.now) versions.now board.now }
             ensures { IsFinished board.entry.now seat.exit.now × (seat.exit.now.number ≡ seat.entry.now.number) }
-        { work(rt, board, seat, &workspaces[n], crowd, versions, gate) },
+        {
+            work(
+                rt,
+                board,
+                seat,
+                &workspaces[n],
+                remembered,
+                crowd,
+                versions,
+                gate,
+            )
+        },
     );
 }

@@ -1,4 +1,4 @@
-use Rattle.std.proofs.Common.{◌≡◌, ◌<◌, ◌∙◌, ℕ, length, sym, subst}
+use Rattle.std.proofs.Common.{◌∙◌, length, sym, subst}
 use Rattle.std.specs.Arc.{arc_value}
 use Rattle.demand_api.specs.declared.crowd.Crowd.{Crowd}
 use Rattle.price_board.specs.Openings.{IsRound, terms_of}

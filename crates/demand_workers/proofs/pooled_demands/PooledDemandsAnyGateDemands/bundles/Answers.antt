@@ -1,10 +1,17 @@
-use Rattle.std.proofs.Common.{rules}
+use Rattle.std.proofs.Common.{◌<◌, ◌∙◌, ℕ, All, length, ap, sym, subst}
 use Rattle.std.specs.Arc.{arc_value}
-use Rattle.demand_workers.specs.Rounds.{data_of}
-use Rattle.demand_workers.proofs.Counting.{bundles_found}
+use Rattle.market_units.specs.declared.units.StudentNo.{StudentNo}
+use Rattle.demand_api.specs.declared.crowd.Crowd.{Crowd}
+use Rattle.demand_api.proofs.Takers.{students_length}
 use Rattle.demand_workers.proofs.pooled_demands.PooledDemandsAnyGateDemands.bundles.Goals as goal
 
-pub returns-clause-value : goal.returns-clause-value
-returns-clause-value g c =
-    bundles_found (data_of (arc_value c.args.self.now.crowd)) c.in_ok-answers.answers.terms.crowd c.args.prices.now c.in_ok-version.version c.in_ok-answers.answers.terms.versions c.args.students.now c.in_ok-bundles.bundles.len c.read_bundles.new.bundles c.in_ok-bundles.bundles.items
-    (search rules) c.in_ok-answers.ensures.crowd c.in_ok-answers.ensures.versions (search rules) c.read_bundles.ensures
+pub recall_for-requires-clause-students : goal.recall_for-requires-clause-students
+recall_for-requires-clause-students g c κs within =
+    let crowd = arc_value c.args.self.now.crowd in
+    subst (λ (n : ℕ). All (λ (student : StudentNo). student.0 < n) c.args.students.now) (students_length crowd.menus.items crowd.budgets.items c.args.self.now.made.same) c.requires.range
+
+pub take_listed-requires-clause-students : goal.take_listed-requires-clause-students
+take_listed-requires-clause-students g c =
+    let crowd = arc_value c.args.self.now.crowd in
+    subst (λ (w : Crowd). All (λ (student : StudentNo). student.0 < length w.menus.items) c.args.students.now) (sym (c.deref.ensures ∙ ap arc_value c.recall_for.ensures.crowd))
+    (subst (λ (n : ℕ). All (λ (student : StudentNo). student.0 < n) c.args.students.now) (students_length crowd.menus.items crowd.budgets.items c.args.self.now.made.same) c.requires.range)

@@ -5,7 +5,7 @@ use Rattle.bundle_rules.specs.Bundles.{sections_of}
 use Rattle.demand_api.specs.Crowds.{demand_of}
 use Rattle.demand_api.proofs.Takers.{priced_at, found_demand}
 use Rattle.demand_workers.specs.Rounds.{data_of}
-use Rattle.demand_workers.proofs.worker.taken.Goals as goal
+use Rattle.demand_workers.proofs.taking.asked.Goals as goal
 
 pub demand-requires : goal.demand-requires
 demand-requires c =

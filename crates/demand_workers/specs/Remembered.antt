@@ -1,0 +1,21 @@
+-- What is remembered of a crowd.
+use Rattle.std.specs.Prelude.{ℕ, ◌<◌, ◌≤◌, ◌≡◌, List, All, length, slice_index_or}
+use Rattle.market_units.specs.declared.units.Tokens.{Tokens}
+use Rattle.bundle_rules.specs.declared.bundle.Bundle.{Bundle}
+use Rattle.bundle_rules.specs.declared.menu.Rated.{Rated}
+use Rattle.bundle_rules.specs.Bundles.{sections_of}
+use Rattle.bundle_rules.specs.Demand.{price_in}
+use Rattle.demand_api.specs.Crowds.{CrowdData, demand_of}
+
+-- each of these bundles is what the student of its place takes at the prices
+abbrev pub AreTaken : CrowdData → List Tokens → List Bundle → Type 0
+AreTaken crowd prices bundles = (student : ℕ) (d : Bundle) → student < length bundles → sections_of (slice_index_or bundles student d) ≡ demand_of crowd (price_in prices) student
+
+-- bundles of the first students, of all or of none, that they take at these prices, and if there is one, a price for each section
+pub record AreRemembered (crowd : CrowdData) (prices : List Tokens) (bundles : List Bundle) : Type 0 where
+  pub sized : 0 < length bundles → length prices ≡ crowd.sections
+  pub taken : AreTaken crowd prices bundles
+
+-- no section at these places became cheaper
+abbrev pub NoneIsCheaper : List Rated → List Tokens → List Tokens → Type 0
+NoneIsCheaper places before after = All (λ rated. price_in before rated.section.0 ≤ price_in after rated.section.0) places

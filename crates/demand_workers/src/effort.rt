@@ -1,0 +1,72 @@
+// How many students have to be asked.
+ghost use Rattle.std.specs.Prelude.{◌<◌, ◌≤◌, All, length};
+ghost use Rattle.demand_api.specs.Asking.{ArePricesFor};
+ghost use Rattle.price_board.specs.Openings.{IsMade};
+ghost use Rattle.demand_workers.specs.Remembered.{AreRemembered};
+ghost use Rattle.demand_workers.specs.Rounds.{data_of, AreVersionsFor};
+
+use crate::remembered::Remembered;
+use demand_api::Crowd;
+use market_units::{StudentNo, Tokens};
+
+// A call of which at most one part in so many has to be asked is answered by the caller's own thread: a draw and a post of a shared board,
+// and the start of a thread, take about as long as the other parts.
+const FEW: usize = 4;
+
+// Whether few of the students have to be asked, at all versions together.
+pub(crate) fn few_at_all(remembered: &Remembered, crowd: &Crowd, versions: &[Vec<Tokens>]) -> bool
+    requires remembered { AreRemembered (data_of crowd.now) remembered.now.prices.items remembered.now.bundles.items }
+    requires crowd { IsMade crowd.now }
+    requires versions { AreVersionsFor (data_of crowd.now) versions.now }
+    requires few { length versions.now ≤ 16 }
+{
+    let mut asked = 0;
+    for prices in versions {
+        asked += asked_at(remembered, crowd, prices);
+    }
+    asked * FEW <= versions.len() * crowd.menus.len()
+}
+
+// Whether few of the students have to be asked.
+pub(crate) fn few_at(remembered: &Remembered, crowd: &Crowd, prices: &[Tokens]) -> bool
+    requires remembered { AreRemembered (data_of crowd.now) remembered.now.prices.items remembered.now.bundles.items }
+    requires crowd { IsMade crowd.now }
+    requires prices { ArePricesFor (data_of crowd.now) prices.now }
+{
+    asked_at(remembered, crowd, prices) * FEW <= crowd.menus.len()
+}
+
+// Whether few of the listed students have to be asked, of all in the crowd.
+pub(crate) fn few_listed(
+    remembered: &Remembered,
+    crowd: &Crowd,
+    prices: &[Tokens],
+    students: &[StudentNo],
+) -> bool
+    requires remembered { AreRemembered (data_of crowd.now) remembered.now.prices.items remembered.now.bundles.items }
+    requires crowd { IsMade crowd.now }
+    requires prices { ArePricesFor (data_of crowd.now) prices.now }
+    requires students { All (λ student. student.0 < length crowd.now.menus.items) students.now }
+    requires few { length students.now ≤ 2000 }
+{
+    let mut asked = 0;
+    for student in students {
+        asked += usize::from(remembered.kept(crowd, prices, *student).is_none());
+    }
+    asked * FEW <= crowd.menus.len()
+}
+
+// How many students have to be asked.
+fn asked_at(remembered: &Remembered, crowd: &Crowd, prices: &[Tokens]) -> usize
+    requires remembered { AreRemembered (data_of crowd.now) remembered.now.prices.items remembered.now.bundles.items }
+    requires crowd { IsMade crowd.now }
+    requires prices { ArePricesFor (data_of crowd.now) prices.now }
+    ensures { result ≤ 2000 }
+{
+    let mut asked = 0;
+    for place in 0..crowd.menus.len() {
+        let student = StudentNo(place as u16);
+        asked += usize::from(remembered.kept(crowd, prices, student).is_none());
+    }
+    asked
+}

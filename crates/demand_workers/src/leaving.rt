@@ -1,0 +1,152 @@
+// Least prices, by the prices at which holders leave a section.
+ghost use Rattle.std.specs.Prelude.{◌≡◌, ◌<◌, ◌≤◌, ◌-◌, ℕ, All, IfOk, length, true};
+ghost use Rattle.std.specs.BinaryHeap.{IsHeap, heap_items};
+ghost use Rattle.std.specs.Ordering.{nat_cmp, ordering_then};
+ghost use Rattle.bundle_rules.specs.Bundles.{sections_of};
+ghost use Rattle.bundle_rules.specs.Demand.{price_in};
+ghost use Rattle.bundle_rules.specs.Sets.{has};
+ghost use Rattle.demand_api.specs.Asking.{ArePricesFor};
+ghost use Rattle.demand_api.specs.Crowds.{top, demand_of};
+ghost use Rattle.demand_api.specs.Prices.{IsLeastFrom, AreLeastPrices};
+ghost use Rattle.price_board.specs.Openings.{IsMade};
+ghost use Rattle.demand_workers.specs.Leaving.{leaves, takes, AreLeft};
+ghost use Rattle.demand_workers.specs.Remembered.{AreRemembered};
+ghost use Rattle.demand_workers.specs.Rounds.{data_of};
+
+use crate::remembered::{Remembered, cost_of};
+use crate::taking::asked;
+use bundle_rules::Bundle;
+use demand_api::Crowd;
+use demand_oracle::Workspace;
+use market_units::{MAX_PRICE, NoMemory, SectionNo, SectionSet, StudentNo, Tokens};
+use std::alloc::Global;
+use std::collections::BinaryHeap;
+
+// A holder of a section: how far below the greatest price it does not keep what it holds any more, and its number. So the greatest is the
+// first to leave.
+type Holder = (u32, u16);
+
+// For each pair of a section and a limit the least price of the section from its remembered one up at which at most so many students take it,
+// the other prices as remembered. What each student takes at the remembered prices is remembered.
+pub(crate) fn least_for_each(
+    alloc: Global,
+    workspace: &mut Workspace,
+    remembered: &Remembered,
+    crowd: &Crowd,
+    pairs: &[(SectionNo, u32)],
+) -> Result<Vec<Tokens>, NoMemory>
+    requires remembered { AreRemembered (data_of crowd.now) remembered.now.prices.items remembered.now.bundles.items }
+    requires all { length remembered.now.bundles.items ≡ length crowd.now.menus.items }
+    requires crowd { IsMade crowd.now }
+    requires prices { ArePricesFor (data_of crowd.now) remembered.now.prices.items }
+    requires sections { All (λ pair. pair.0.0 < crowd.now.sections) pairs.now }
+    ensures { IfOk result (λ found. AreLeastPrices (data_of crowd.now) (price_in remembered.now.prices.items) pairs.now found.items) }
+{
+    let mut found = Vec::new(alloc);
+    let mut trial = remembered.prices.as_slice().to_vec(alloc)?;
+    for (section, limit) in pairs {
+        let least = least_price(
+            alloc, workspace, remembered, crowd, &mut trial, *section, *limit,
+        )?;
+        found.push(least)?;
+    }
+    Ok(found)
+}
+
+// The least price of the section for one limit. The trial has the remembered prices, also afterwards. As long as there are too many holders,
+// the first of them to leave is asked at the price from which it does not keep what it holds: it holds the section from then on up to another
+// price, or leaves.
+fn least_price(
+    alloc: Global,
+    workspace: &mut Workspace,
+    remembered: &Remembered,
+    crowd: &Crowd,
+    trial: &mut [Tokens],
+    section: SectionNo,
+    limit: u32,
+) -> Result<Tokens, NoMemory>
+    requires remembered { AreRemembered (data_of crowd.now) remembered.now.prices.items remembered.now.bundles.items }
+    requires all { length remembered.now.bundles.items ≡ length crowd.now.menus.items }
+    requires crowd { IsMade crowd.now }
+    requires prices { ArePricesFor (data_of crowd.now) remembered.now.prices.items }
+    requires section { section.0 < crowd.now.sections }
+    requires trial { trial.old ≡ remembered.now.prices.items }
+    ensures trial { IfOk result (λ least. trial.new ≡ remembered.now.prices.items) }
+    ensures least { IfOk result (λ least. IsLeastFrom (price_in remembered.now.prices.items section.0) (data_of crowd.now) (price_in remembered.now.prices.items) section.0 limit least.0) }
+{
+    let allowed = SectionSet::full(crowd.sections);
+    let place = usize::from(section.0);
+    let present = trial[place];
+    let mut least = present;
+    let mut holders = holders_of(alloc, remembered, crowd, section)?;
+    while holders.len() > limit as usize {
+        let Some(first) = holders.pop() else {
+            unreachable!();
+        };
+        least = Tokens(MAX_PRICE - first.0);
+        trial[place] = least;
+        let student = StudentNo(first.1);
+        let bundle = asked(workspace, crowd, trial, &allowed, student);
+        if !bundle.has(section) {
+            continue;
+        }
+        let holder = holder_of(crowd, trial, section, student, &bundle);
+        holders.push(holder)?;
+    }
+    trial[place] = present;
+    Ok(least)
+}
+
+// All who hold the section at the remembered prices.
+fn holders_of(
+    alloc: Global,
+    remembered: &Remembered,
+    crowd: &Crowd,
+    section: SectionNo,
+) -> Result<BinaryHeap<Holder>, NoMemory>
+    requires remembered { AreRemembered (data_of crowd.now) remembered.now.prices.items remembered.now.bundles.items }
+    requires all { length remembered.now.bundles.items ≡ length crowd.now.menus.items }
+    requires crowd { IsMade crowd.now }
+    requires prices { ArePricesFor (data_of crowd.now) remembered.now.prices.items }
+    requires section { section.0 < crowd.now.sections }
+    ensures heap { IfOk result (λ holders. IsHeap (λ a b. ordering_then (nat_cmp a.0 b.0) (nat_cmp a.1 b.1)) (heap_items holders)) }
+    ensures left { IfOk result (λ holders. AreLeft (data_of crowd.now) (price_in remembered.now.prices.items) section.0 (price_in remembered.now.prices.items section.0) (heap_items holders)) }
+{
+    let mut holders = BinaryHeap::new(alloc);
+    for place in 0..crowd.menus.len() {
+        let bundle = remembered.bundles[place];
+        if !bundle.has(section) {
+            continue;
+        }
+        let student = StudentNo(place as u16);
+        let holder = holder_of(crowd, &remembered.prices, section, student, &bundle);
+        holders.push(holder)?;
+    }
+    Ok(holders)
+}
+
+// The holder with its bundle at these prices: it keeps the bundle as long as the section costs no more than what is left of the budget besides.
+fn holder_of(
+    crowd: &Crowd,
+    prices: &[Tokens],
+    section: SectionNo,
+    student: StudentNo,
+    bundle: &Bundle,
+) -> Holder
+    requires crowd { IsMade crowd.now }
+    requires prices { ArePricesFor (data_of crowd.now) prices.now }
+    requires section { section.0 < crowd.now.sections }
+    requires student { student.0 < length crowd.now.menus.items }
+    requires taken { sections_of bundle.now ≡ demand_of (data_of crowd.now) (price_in prices.now) student.0 }
+    requires holds { has (sections_of bundle.now) section.0 ≡ true }
+    ensures student { result.1 ≡ student.0 }
+    ensures room { result.0 ≤ 1000001 }
+    ensures later { price_in prices.now section.0 < leaves result }
+    ensures capped { leaves result ≤ top (data_of crowd.now) }
+    ensures still { takes (data_of crowd.now) (price_in prices.now) section.0 (leaves result - 1) student.0 ≡ true }
+{
+    let cost = cost_of(prices, bundle.sections());
+    let left = crowd.budgets[usize::from(student.0)].0 - cost;
+    let last = prices[usize::from(section.0)].0 + left;
+    (MAX_PRICE - (last + 1), student.0)
+}

@@ -1,0 +1,99 @@
+// What is remembered of a crowd, and which of it serves at other prices.
+ghost use Rattle.std.specs.Prelude.{◌≡◌, ◌<◌, ◌≤◌, ◌*◌, ◌↔◌, ℕ, All, IfSome, IsTrue, length};
+ghost use Rattle.bundle_rules.specs.Bundles.{sections_of};
+ghost use Rattle.bundle_rules.specs.Demand.{price_in, IsPriced};
+ghost use Rattle.bundle_rules.specs.Ordinals.{ordinals};
+ghost use Rattle.market_lists.specs.Totals.{total};
+ghost use Rattle.demand_api.specs.Asking.{ArePricesFor};
+ghost use Rattle.demand_api.specs.Crowds.{CrowdData, demand_of};
+ghost use Rattle.price_board.specs.Openings.{IsMade};
+ghost use Rattle.demand_workers.specs.Remembered.{AreRemembered, NoneIsCheaper};
+ghost use Rattle.demand_workers.specs.Rounds.{data_of};
+
+use bundle_rules::{Bundle, Rated};
+use demand_api::Crowd;
+use market_units::{SectionNo, StudentNo, Tokens};
+use std::alloc::Global;
+
+/// Prices, and what each student of a crowd takes at them, or nothing.
+#[derive(Drop)]
+pub(crate) struct Remembered {
+    pub prices: Vec<Tokens>,
+    pub bundles: Vec<Bundle>,
+}
+
+impl Remembered {
+    // Nothing. It takes no memory.
+    pub(crate) fn nothing(alloc: Global) -> Remembered
+        ensures { (crowd : CrowdData) → AreRemembered crowd result.prices.items result.bundles.items }
+    {
+        Remembered {
+            prices: Vec::new(alloc),
+            bundles: Vec::new(alloc),
+        }
+    }
+
+    // What is remembered of the student, where the student takes the same at these prices: the bundle is still affordable, and no section
+    // of the menu became cheaper.
+    pub(crate) fn kept(
+        &self,
+        crowd: &Crowd,
+        prices: &[Tokens],
+        student: StudentNo,
+    ) -> Option<Bundle>
+        requires remembered { AreRemembered (data_of crowd.now) self.now.prices.items self.now.bundles.items }
+        requires crowd { IsMade crowd.now }
+        requires prices { ArePricesFor (data_of crowd.now) prices.now }
+        requires student { student.0 < length crowd.now.menus.items }
+        ensures { IfSome result (λ bundle. sections_of bundle ≡ demand_of (data_of crowd.now) (price_in prices.now) student.0) }
+    {
+        let place = usize::from(student.0);
+        if place >= self.bundles.len() {
+            return None;
+        }
+        let bundle = self.bundles[place];
+        if cost_of(prices, bundle.sections()) > crowd.budgets[place].0 {
+            return None;
+        }
+        if !none_is_cheaper(crowd.menus[place].places(), &self.prices, prices) {
+            return None;
+        }
+        Some(bundle)
+    }
+}
+
+// What these sections cost together.
+pub(crate) fn cost_of(prices: &[Tokens], sections: &[SectionNo]) -> u32
+    requires priced { All (λ section. IsPriced prices.now section.0) sections.now }
+    requires few { length sections.now ≤ 8 }
+    ensures value { result ≡ total (price_in prices.now) (ordinals sections.now) }
+    ensures high { result ≤ 1000001 * length sections.now }
+{
+    match sections {
+        [] => 0,
+        [section, more @ ..] => prices[usize::from(section.0)].0 + cost_of(prices, more),
+    }
+}
+
+// Whether no section at these places became cheaper.
+fn none_is_cheaper(places: &[Rated], before: &[Tokens], after: &[Tokens]) -> bool
+    requires before { All (λ rated. rated.section.0 < length before.now) places.now }
+    requires after { All (λ rated. rated.section.0 < length after.now) places.now }
+    ensures { IsTrue result ↔ NoneIsCheaper places.now before.now after.now }
+{
+    match places {
+        [] => true,
+        [rated, more @ ..] => {
+            is_no_cheaper(rated.section, before, after) && none_is_cheaper(more, before, after)
+        }
+    }
+}
+
+fn is_no_cheaper(section: SectionNo, before: &[Tokens], after: &[Tokens]) -> bool
+    requires before { section.0 < length before.now }
+    requires after { section.0 < length after.now }
+    ensures { IsTrue result ↔ (price_in before.now section.0 ≤ price_in after.now section.0) }
+{
+    let place = usize::from(section.0);
+    before[place].0 <= after[place].0
+}

@@ -1,0 +1,174 @@
+// What students take, found in one thread: remembered where that serves, else asked.
+ghost use Rattle.std.specs.Prelude.{◌≡◌, ◌<◌, ◌≤◌, ℕ, All, length, map, nat_lt, replicate};
+ghost use Rattle.std.specs.FinSet as set;
+ghost use Rattle.bundle_rules.specs.Bundles.{sections_of};
+ghost use Rattle.bundle_rules.specs.Demand.{price_in};
+ghost use Rattle.demand_api.specs.Asking.{ArePricesFor};
+ghost use Rattle.demand_api.specs.Crowds.{count, counts, demand_of};
+ghost use Rattle.price_board.specs.Openings.{IsMade};
+ghost use Rattle.demand_workers.specs.Remembered.{AreRemembered, AreTaken};
+ghost use Rattle.demand_workers.specs.Rounds.{data_of, prices_of, AreVersionsFor};
+
+use crate::remembered::Remembered;
+use bundle_rules::Bundle;
+use demand_api::{Crowd, count_bundle};
+use demand_oracle::{Workspace, demand};
+use market_units::{SectionNo, SectionSet, StudentNo, Tokens};
+
+// What a student takes at these prices, of all sections.
+pub(crate) fn taken(
+    workspace: &mut Workspace,
+    remembered: &Remembered,
+    crowd: &Crowd,
+    prices: &[Tokens],
+    allowed: &SectionSet,
+    student: StudentNo,
+) -> Bundle
+    requires remembered { AreRemembered (data_of crowd.now) remembered.now.prices.items remembered.now.bundles.items }
+    requires crowd { IsMade crowd.now }
+    requires prices { ArePricesFor (data_of crowd.now) prices.now }
+    requires allowed { (s : ℕ) → set.contains allowed.now s ≡ nat_lt s crowd.now.sections }
+    requires student { student.0 < length crowd.now.menus.items }
+    ensures { sections_of result ≡ demand_of (data_of crowd.now) (price_in prices.now) student.0 }
+{
+    match remembered.kept(crowd, prices, student) {
+        Some(bundle) => bundle,
+        None => asked(workspace, crowd, prices, allowed, student),
+    }
+}
+
+// The same, asked.
+pub(crate) fn asked(
+    workspace: &mut Workspace,
+    crowd: &Crowd,
+    prices: &[Tokens],
+    allowed: &SectionSet,
+    student: StudentNo,
+) -> Bundle
+    requires crowd { IsMade crowd.now }
+    requires prices { ArePricesFor (data_of crowd.now) prices.now }
+    requires allowed { (s : ℕ) → set.contains allowed.now s ≡ nat_lt s crowd.now.sections }
+    requires student { student.0 < length crowd.now.menus.items }
+    ensures { sections_of result ≡ demand_of (data_of crowd.now) (price_in prices.now) student.0 }
+{
+    let place = usize::from(student.0);
+    demand(
+        workspace,
+        &crowd.menus[place],
+        prices,
+        crowd.budgets[place],
+        allowed,
+    )
+}
+
+// Writes what each listed student takes.
+pub(crate) fn take_listed(
+    workspace: &mut Workspace,
+    remembered: &Remembered,
+    crowd: &Crowd,
+    prices: &[Tokens],
+    students: &[StudentNo],
+    bundles: &mut [Bundle],
+)
+    requires remembered { AreRemembered (data_of crowd.now) remembered.now.prices.items remembered.now.bundles.items }
+    requires crowd { IsMade crowd.now }
+    requires prices { ArePricesFor (data_of crowd.now) prices.now }
+    requires students { All (λ student. student.0 < length crowd.now.menus.items) students.now }
+    requires same { length bundles.old ≡ length students.now }
+    ensures { map sections_of bundles.new ≡ map (λ student. demand_of (data_of crowd.now) (price_in prices.now) student.0) students.now }
+{
+    let allowed = SectionSet::full(crowd.sections);
+    for place in 0..students.len() {
+        let student = students[place];
+        bundles[place] = taken(workspace, remembered, crowd, prices, &allowed, student);
+    }
+}
+
+// Writes what each student takes.
+pub(crate) fn take_all(
+    workspace: &mut Workspace,
+    remembered: &Remembered,
+    crowd: &Crowd,
+    prices: &[Tokens],
+    bundles: &mut [Bundle],
+)
+    requires remembered { AreRemembered (data_of crowd.now) remembered.now.prices.items remembered.now.bundles.items }
+    requires crowd { IsMade crowd.now }
+    requires prices { ArePricesFor (data_of crowd.now) prices.now }
+    requires same { length bundles.old ≡ length crowd.now.menus.items }
+    ensures len { length bundles.new ≡ length bundles.old }
+    ensures taken { AreTaken (data_of crowd.now) prices.now bundles.new }
+{
+    let allowed = SectionSet::full(crowd.sections);
+    for place in 0..bundles.len() {
+        let student = StudentNo(place as u16);
+        bundles[place] = taken(workspace, remembered, crowd, prices, &allowed, student);
+    }
+}
+
+// Counts, from 0, how many students take each section at each version.
+pub(crate) fn count_each(
+    workspace: &mut Workspace,
+    remembered: &Remembered,
+    crowd: &Crowd,
+    versions: &[Vec<Tokens>],
+    found: &mut [Vec<u32>],
+)
+    requires remembered { AreRemembered (data_of crowd.now) remembered.now.prices.items remembered.now.bundles.items }
+    requires crowd { IsMade crowd.now }
+    requires versions { AreVersionsFor (data_of crowd.now) versions.now }
+    requires same { length found.old ≡ length versions.now }
+    requires zeros { All (λ counts. counts.items ≡ replicate crowd.now.sections 0) found.old }
+    ensures { map (λ counts. counts.items) found.new ≡ map (λ prices. counts (data_of crowd.now) (price_in prices)) (prices_of versions.now) }
+{
+    for (version, counts) in found.iter_mut().enumerate() {
+        count_all(workspace, remembered, crowd, &versions[version], counts);
+    }
+}
+
+// Counts, from 0, how many students take each section.
+fn count_all(
+    workspace: &mut Workspace,
+    remembered: &Remembered,
+    crowd: &Crowd,
+    prices: &[Tokens],
+    found: &mut [u32],
+)
+    requires remembered { AreRemembered (data_of crowd.now) remembered.now.prices.items remembered.now.bundles.items }
+    requires crowd { IsMade crowd.now }
+    requires prices { ArePricesFor (data_of crowd.now) prices.now }
+    requires zeros { found.old ≡ replicate crowd.now.sections 0 }
+    ensures { found.new ≡ counts (data_of crowd.now) (price_in prices.now) }
+{
+    let allowed = SectionSet::full(crowd.sections);
+    for place in 0..crowd.menus.len() {
+        let student = StudentNo(place as u16);
+        let bundle = taken(workspace, remembered, crowd, prices, &allowed, student);
+        count_bundle(found, bundle.sections());
+    }
+}
+
+// How many students take the section.
+pub(crate) fn count_takers(
+    workspace: &mut Workspace,
+    remembered: &Remembered,
+    crowd: &Crowd,
+    prices: &[Tokens],
+    section: SectionNo,
+) -> u32
+    requires remembered { AreRemembered (data_of crowd.now) remembered.now.prices.items remembered.now.bundles.items }
+    requires crowd { IsMade crowd.now }
+    requires prices { ArePricesFor (data_of crowd.now) prices.now }
+    ensures { result ≡ count (data_of crowd.now) (price_in prices.now) section.0 }
+{
+    let allowed = SectionSet::full(crowd.sections);
+    let mut count = 0;
+    for place in 0..crowd.menus.len() {
+        let student = StudentNo(place as u16);
+        let bundle = taken(workspace, remembered, crowd, prices, &allowed, student);
+        if bundle.has(section) {
+            count += 1;
+        }
+    }
+    count
+}
