@@ -149,6 +149,44 @@ fn each_worker_passes_the_gate(rt: HostRuntime) -> Result<(), Fail> {
     Ok(())
 }
 
+// The one count of one version.
+fn only<R: Abort>(rt: &R, found: &[Vec<u32>]) -> u32 {
+    assert_eq!(rt; found.len(), 1);
+    assert_eq!(rt; found[0].len(), 1);
+    found[0][0]
+}
+
+// How many take the section at 102, then at 103, then for nothing, and how many bundles the workers posted for each.
+fn counts_in_turn<R: Abort + Threads + Wait + Sync>(
+    rt: &R,
+    alloc: Global,
+) -> Result<[(u32, u64); 3], Fail> {
+    let crowd = four_students(rt, alloc)?;
+    let first = [at(alloc, 102)?];
+    let second = [at(alloc, 103)?];
+    let third = [at(alloc, 0)?];
+    assert!(rt; all_have_prices(&crowd, &first));
+    assert!(rt; all_have_prices(&crowd, &second));
+    assert!(rt; all_have_prices(&crowd, &third));
+    let gate = CountingGate::new();
+    let mut demands = PooledDemands::make(Bench::reserve(alloc, 2)?, crowd, &gate);
+    let found = demands.counts(rt, alloc, &first)?;
+    let at_first = (only(rt, &found), gate.take().1);
+    let found = demands.counts(rt, alloc, &second)?;
+    let at_second = (only(rt, &found), gate.take().1);
+    let found = demands.counts(rt, alloc, &third)?;
+    let at_third = (only(rt, &found), gate.take().1);
+    Ok([at_first, at_second, at_third])
+}
+
+// At the second prices three students keep what is remembered, so that the caller asks the fourth; at the third nothing is kept.
+#[test]
+fn few_are_asked_without_workers(rt: HostRuntime) -> Result<(), Fail> {
+    let found = counts_in_turn(&rt, rt.alloc())?;
+    assert_eq!(rt; found, [(2, 4), (1, 0), (4, 4)]);
+    Ok(())
+}
+
 // Which of the last student, the first, and the third twice take the section at 102.
 fn bundles_by<R: Abort + Threads + Wait + Sync>(
     rt: &R,
