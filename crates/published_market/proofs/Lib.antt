@@ -13,3 +13,4 @@ pub mod HeldStages
 pub mod Found
 pub mod Telling
 pub mod Existing
+pub mod Merged

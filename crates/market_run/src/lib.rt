@@ -1,0 +1,14 @@
+//! A market that workers run, from what its sessions say or from a closed desk: the text that it publishes, or its
+//! summary.
+#![tactic(auto)]
+
+mod gate;
+mod held;
+mod running;
+mod texts;
+
+pub use held::{HeldEnd, held_summary, held_text};
+pub use texts::{made_summary, published_text};
+
+#[cfg(test)]
+mod tests;

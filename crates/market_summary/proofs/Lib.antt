@@ -1,0 +1,4 @@
+pub mod Totals
+pub mod TenLines
+pub mod Worths
+pub mod SomeOutcomes
