@@ -1,7 +1,7 @@
 ghost use Rattle.std.specs.Prelude.{◌≡◌, ◌≤◌, All, IsTrue};
 ghost use Rattle.market_certificate.specs.Publications.{IsSession};
 ghost use Rattle.market_settings.specs.Settings.{AreInRange};
-ghost use Rattle.preference_desk.specs.DeskView.{names_of};
+ghost use Rattle.preference_desk.specs.DeskView.{entries_of, names_of};
 ghost use Rattle.published_parts.specs.Markets.{market_of, names_in};
 
 use super::*;
@@ -34,6 +34,13 @@ fn are_sessions(journal: &[Entry]) -> bool
     }
 }
 
+// Whether each entry of the desk is of a session from 1 to 64.
+fn has_sessions(desk: &Desk) -> bool
+    ensures { IsTrue result → All (λ entry. IsSession entry.session) (entries_of desk.now) }
+{
+    are_sessions(desk.journal())
+}
+
 // Says each command at the desk, in this session.
 fn say_each(rt: &impl Abort, desk: &mut Desk, session: u16, commands: &[Command])
     ensures { names_of desk.new ≡ names_of desk.old }
@@ -58,7 +65,7 @@ fn text_by<R: Abort + Threads + Wait + Sync>(
     requires names { names_of desk.now ≡ names_in (market_of catalog.now roll.now settings.now) }
     requires settings { AreInRange settings.now }
 {
-    assert!(rt; are_sessions(desk.journal()));
+    assert!(rt; has_sessions(desk));
     match published_text(rt, alloc, workers, catalog, roll, settings, desk, &OpenGate) {
         Ok(text) => Ok(text),
         Err(PublishEnd::NoPrices { least }) => Err(least),
@@ -100,7 +107,7 @@ fn summary_by<R: Abort + Threads + Wait + Sync>(
     requires names { names_of desk.now ≡ names_in (market_of catalog.now roll.now settings.now) }
     requires settings { AreInRange settings.now }
 {
-    assert!(rt; are_sessions(desk.journal()));
+    assert!(rt; has_sessions(desk));
     made_summary(rt, alloc, workers, catalog, roll, settings, desk, &OpenGate).expect(rt, "prices")
 }
 

@@ -1,5 +1,5 @@
 -- What is published of a market is an outcome of its crowd.
-use Rattle.std.proofs.Common.{ℕ, List, subst}
+use Rattle.std.proofs.Common.{List, subst}
 use Rattle.demand_api.specs.Crowds.{CrowdData}
 use Rattle.preference_desk.specs.declared.entry.Entry.{Entry}
 use Rattle.market_certificate.specs.Publications.{Publication}

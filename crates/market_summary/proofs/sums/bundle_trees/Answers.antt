@@ -1,4 +1,4 @@
-use Rattle.std.proofs.Common.{ℕ, ◌≡◌, ◌<◌, ◌∙◌, length, ap, arith}
+use Rattle.std.proofs.Common.{◌≡◌, ◌<◌, ◌∙◌, length, ap, arith}
 use Rattle.market_certificate.specs.Publications.{Proved as Told}
 use Rattle.market_certificate.specs.Views.{proved_of}
 use Rattle.market_certificate.specs.declared.publication.Proved.{Proved}

@@ -1,4 +1,4 @@
-use Rattle.std.proofs.Common.{ℕ, ◌≡◌, ◌<◌, ◌∙◌, length, ap, arith}
+use Rattle.std.proofs.Common.{◌≡◌, ◌<◌, ◌∙◌, length, ap, arith}
 use Rattle.market_certificate.specs.Publications.{ProvedTurn as Told}
 use Rattle.market_certificate.specs.Views.{turn_of}
 use Rattle.market_certificate.specs.declared.publication.ProvedTurn.{ProvedTurn}

@@ -3,7 +3,6 @@ use Rattle.std.proofs.lemmas.Int.{ints}
 use Rattle.std.specs.Prelude.{codes}
 use Rattle.std.specs.Fmt.{decimal, signed_decimal}
 use Rattle.bundle_rules.specs.Bundles.{sections_of}
-use Rattle.demand_api.specs.Crowds.{Student}
 use Rattle.demand_api.specs.Made.{students_of}
 use Rattle.demand_api.proofs.Takers.{students_length}
 use Rattle.market_certificate.specs.Publications.{Proved, ProvedTurn}
@@ -11,7 +10,6 @@ use Rattle.market_certificate.specs.Views.{proved_of, publication_of, turn_of}
 use Rattle.market_lists.specs.Totals.{total}
 use Rattle.published_market.specs.Publishing.{lengths_of}
 use Rattle.market_summary.specs.Summaries.{line, worth_of}
-use Rattle.market_summary.specs.Sums.{worth_by_menus}
 use Rattle.market_summary.proofs.TenLines.{ten_lines}
 use Rattle.market_summary.proofs.Worths.{rated_last, worth_told}
 use Rattle.market_summary.proofs.text.summary_text.Goals as goal
