@@ -1,5 +1,5 @@
 -- What is told of a desk's journal, once it merges the streams.
-use Rattle.std.proofs.Common.{ℕ, ◌≡◌, ◌≤◌, ◌∙◌, List, Global, length, refl, subst, sym, arith}
+use Rattle.std.proofs.Common.{ℕ, ◌≡◌, ◌≤◌, List, Global, length, refl, subst, sym, arith}
 use Rattle.std.specs.Prelude.{All, Vec}
 use Rattle.std.proofs.lemmas.List.{length-map}
 use Rattle.demand_api.specs.Crowds.{CrowdData}
