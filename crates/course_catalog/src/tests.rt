@@ -1,3 +1,5 @@
+ghost use Rattle.std.specs.Prelude.{◌≡◌, length};
+
 use super::*;
 use market_units::{Name, SectionNo, read_name};
 use std::alloc::Global;
@@ -165,14 +167,10 @@ fn name(text: &[u8]) -> Result<Name, Fail> {
     }
 }
 
-// Three sections, of which the first and the third have one course, and the second overlaps the third.
-fn is_told(rt: &impl Abort, alloc: Global, text: &[u8]) -> Result<(), Fail> {
-    let Ok(catalog) = read(alloc, text) else {
-        return Err(Fail::from("refused"));
-    };
-    if catalog.len() != 3 {
-        return Err(Fail::from("not three sections"));
-    }
+// The seats, the credits and the courses of three sections, and the last one's name.
+fn are_told(rt: &impl Abort, catalog: &Catalog)
+    requires { length catalog.now.sections ≡ 3 }
+{
     let (a, b, c) = (SectionNo(0), SectionNo(1), SectionNo(2));
     assert_eq!(rt; catalog.name(c).bytes(), b"a-Z_0.9".as_slice());
     assert_eq!(rt; catalog.all_seats(), [2, 0, 9999].as_slice());
@@ -188,12 +186,37 @@ fn is_told(rt: &impl Abort, alloc: Global, text: &[u8]) -> Result<(), Fail> {
         (catalog.course(a), catalog.course(b), catalog.course(c)),
         (0, 1, 0)
     );
-    assert!(rt;
-        catalog.clash(a, c) && catalog.clash(c, b) && !catalog.clash(a, b) && !catalog.clash(a, a)
-    );
-    assert_eq!(rt; catalog.find(&name(b"B")?), Some(b));
+}
+
+// The first and the third have one course, and the second overlaps the third.
+fn clash(rt: &impl Abort, catalog: &Catalog)
+    requires { length catalog.now.sections ≡ 3 }
+{
+    let (a, b, c) = (SectionNo(0), SectionNo(1), SectionNo(2));
+    assert!(rt; catalog.clash(a, c));
+    assert!(rt; catalog.clash(c, b));
+    assert!(rt; !catalog.clash(a, b));
+    assert!(rt; !catalog.clash(a, a));
+}
+
+// A section is found by its name, and a course is none.
+fn are_found(rt: &impl Abort, catalog: &Catalog) -> Result<(), Fail> {
+    assert_eq!(rt; catalog.find(&name(b"B")?), Some(SectionNo(1)));
     assert_eq!(rt; catalog.find(&name(b"AA")?), None);
     Ok(())
+}
+
+// Three sections, as they are told.
+fn is_told(rt: &impl Abort, alloc: Global, text: &[u8]) -> Result<(), Fail> {
+    let Ok(catalog) = read(alloc, text) else {
+        return Err(Fail::from("refused"));
+    };
+    if catalog.len() != 3 {
+        return Err(Fail::from("not three sections"));
+    }
+    are_told(rt, &catalog);
+    clash(rt, &catalog);
+    are_found(rt, &catalog)
 }
 
 // A catalogue of version 1, of which each section runs in the whole term.
@@ -232,6 +255,26 @@ fn what_is_told(rt: HostRuntime) -> Result<(), Fail> {
     )
 }
 
+// Two halves of the term, and the whole.
+fn parts_are_told(rt: &impl Abort, catalog: &Catalog)
+    requires { length catalog.now.sections ≡ 4 }
+{
+    let (a, b, d) = (SectionNo(0), SectionNo(1), SectionNo(3));
+    assert_eq!(rt; catalog.version(), 2);
+    assert!(rt; catalog.parts(a) == Parts::FIRST_HALF);
+    assert!(rt; catalog.parts(b) == Parts::SECOND_HALF);
+    assert_eq!(rt; catalog.parts(d), Parts::WHOLE_TERM);
+}
+
+// Sections clash that have a course in common, or a half and an hour.
+fn clash_in_parts(rt: &impl Abort, catalog: &Catalog)
+    requires { length catalog.now.sections ≡ 4 }
+{
+    let (a, b, c, d) = (SectionNo(0), SectionNo(1), SectionNo(2), SectionNo(3));
+    assert!(rt; !catalog.clash(a, b) && !catalog.clash(b, c) && !catalog.clash(c, d));
+    assert!(rt; catalog.clash(a, c) && catalog.clash(d, a) && catalog.clash(b, d));
+}
+
 #[test]
 fn parts_of_the_term(rt: HostRuntime) -> Result<(), Fail> {
     let text = table(
@@ -245,12 +288,8 @@ fn parts_of_the_term(rt: HostRuntime) -> Result<(), Fail> {
     if catalog.len() != 4 {
         return Err(Fail::from("not four sections"));
     }
-    let (a, b, c, d) = (SectionNo(0), SectionNo(1), SectionNo(2), SectionNo(3));
-    assert_eq!(rt; catalog.version(), 2);
-    assert!(rt; catalog.parts(a) == Parts::FIRST_HALF && catalog.parts(b) == Parts::SECOND_HALF);
-    assert_eq!(rt; catalog.parts(d), Parts::WHOLE_TERM);
-    assert!(rt; !catalog.clash(a, b) && !catalog.clash(b, c) && !catalog.clash(c, d));
-    assert!(rt; catalog.clash(a, c) && catalog.clash(d, a) && catalog.clash(b, d));
+    parts_are_told(&rt, &catalog);
+    clash_in_parts(&rt, &catalog);
     Ok(())
 }
 
