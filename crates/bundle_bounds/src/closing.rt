@@ -12,7 +12,7 @@ ghost use Rattle.bundle_bounds.specs.declared.prospects.Resource.{Resource};
 use crate::Leaf;
 use crate::known::Known;
 use crate::opens::Rests;
-use crate::prospects::{Prospect, Resource, at_price, takes};
+use crate::prospects::{Prospect, Resource, at_price, at_two_prices, takes};
 use crate::tangents::{Tangent, Tangents};
 
 // The leaf of a resource by a place.
@@ -73,13 +73,12 @@ fn is_below(
         return false;
     }
     let price = worth / taken;
-    let sum = at_price(all, resource, rest, price);
+    let (sum, next) = at_two_prices(all, resource, rest, price);
     let bound = base + sum as i64;
     if bound < limit {
         return true;
     }
     if price < 20_000_000 {
-        let next = at_price(all, resource, rest, price + 1);
         known.learn(price, sum, next, margin(base, limit, sum));
         *last = Some(Tangent { price, sum, next });
     }

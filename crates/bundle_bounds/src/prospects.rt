@@ -50,7 +50,7 @@ pub(crate) fn takes(prospect: &Prospect, resource: Resource) -> u64
 // What is left of 1000 times the worth at this price of what is taken.
 pub(crate) fn over_price(prospect: &Prospect, resource: Resource, price: u64) -> u64
     requires modest { IsModest prospect.now }
-    requires price { price ≤ 20000000 }
+    requires price { price ≤ 20000001 }
     ensures value { result ≡ over_price resource price prospect.now }
     ensures high { result ≤ 20000000 }
 {
@@ -88,6 +88,50 @@ fn add_up(prospects: &[Prospect], resource: Resource, price: u64) -> u64
     sum
 }
 
+// What `at_price` is at this price, and what it is at the next.
+pub(crate) fn at_two_prices(
+    prospects: &[Prospect],
+    resource: Resource,
+    rest: u32,
+    price: u64,
+) -> (u64, u64)
+    requires modest { All IsModest prospects.now }
+    requires few { length prospects.now ≤ 60 }
+    requires price { price ≤ 20000000 }
+    ensures here { result.0 ≡ at_price resource rest price prospects.now }
+    ensures after { result.1 ≡ at_price resource rest (price + 1) prospects.now }
+    ensures high { result.0 ≤ 20000000 * rest + 20000000 * 60 }
+{
+    let (here, after) = add_up_twice(prospects, resource, price);
+    let rest = u64::from(rest);
+    (price * rest + here, (price + 1) * rest + after)
+}
+
+// For each course the most that is left over the price, added up; and the same at the next price.
+fn add_up_twice(prospects: &[Prospect], resource: Resource, price: u64) -> (u64, u64)
+    requires modest { All IsModest prospects.now }
+    requires few { length prospects.now ≤ 60 }
+    requires price { price ≤ 20000000 }
+    ensures here { result.0 ≡ by_course (over_price resource price) prospects.now }
+    ensures after { result.1 ≡ by_course (over_price resource (price + 1)) prospects.now }
+    ensures high { result.0 ≤ 20000000 * length prospects.now }
+    ensures after_high { result.1 ≤ 20000000 * length prospects.now }
+{
+    let mut is_there = [false; COURSES];
+    let mut sum = 0;
+    let mut next = 0;
+    for index in (0..prospects.len()).rev() {
+        let prospect = &prospects[index];
+        let more = &prospects[index + 1..];
+        let course = usize::from(prospect.course);
+        let is_alone = !is_there[course];
+        sum += added(prospect, more, resource, price, is_alone);
+        next += added(prospect, more, resource, price + 1, is_alone);
+        is_there[course] = true;
+    }
+    (sum, next)
+}
+
 // How much a prospect in front of others adds to the greatest of each course. One that is alone is the only one of its
 // course.
 pub(crate) fn added(
@@ -99,7 +143,7 @@ pub(crate) fn added(
 ) -> u64
     requires one_modest { IsModest prospect.now }
     requires modest { All IsModest more.now }
-    requires price { price ≤ 20000000 }
+    requires price { price ≤ 20000001 }
     requires alone { IsTrue is_alone → has_course more.now prospect.now.course ≡ false }
     ensures value { result ≡ over_price resource price prospect.now - greatest (over_price resource price) prospect.now.course more.now }
     ensures high { result ≤ 20000000 }
@@ -114,7 +158,7 @@ pub(crate) fn added(
 // The most that is left over the price by one of a course.
 fn greatest_of(prospects: &[Prospect], resource: Resource, price: u64, course: u8) -> u64
     requires modest { All IsModest prospects.now }
-    requires price { price ≤ 20000000 }
+    requires price { price ≤ 20000001 }
     ensures { result ≡ greatest (over_price resource price) course prospects.now }
 {
     let mut most = 0;
@@ -127,7 +171,7 @@ fn greatest_of(prospects: &[Prospect], resource: Resource, price: u64, course: u
 // What is left over the price by a prospect of the course, 0 by one of another.
 fn value_in(prospect: &Prospect, resource: Resource, price: u64, course: u8) -> u64
     requires modest { IsModest prospect.now }
-    requires price { price ≤ 20000000 }
+    requires price { price ≤ 20000001 }
     ensures { result ≡ (if prospect.now.course == course then over_price resource price prospect.now else 0) }
 {
     if prospect.course == course {

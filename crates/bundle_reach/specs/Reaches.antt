@@ -32,3 +32,4 @@ pub record IsReach (offer : Offer) (reach : Reach) : Type 0 where
   pub lightest : IsLightest offer reach.lightest
   pub hopes : HoldsHopes offer reach.hopes 0
   pub covers : HoldsCovers offer reach.multipliers reach.most 0
+  pub free : HoldsCovers offer reach.free reach.most_free 0

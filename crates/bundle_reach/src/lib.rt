@@ -3,6 +3,7 @@
 #![tactic(auto)]
 
 mod branch;
+mod draft;
 pub mod laws;
 mod multipliers;
 mod places;

@@ -64,7 +64,7 @@ struct Line {
     taken: u64,
 }
 
-// Multipliers at which little can be reached.
+// Multipliers at which little can be reached: of both resources, and of credits alone.
 pub(crate) fn multipliers_at(
     menu: &Menu,
     prices: &[Tokens],
@@ -72,7 +72,7 @@ pub(crate) fn multipliers_at(
     allowed: &SectionSet,
     hopes: &[[u16; PLACES]; ROWS],
     lightest: u32,
-) -> Multipliers
+) -> (Multipliers, Multipliers)
     requires prices { HasPrices menu.now prices.now }
     requires lightest { lightest ≤ 100 }
 {
@@ -85,13 +85,11 @@ pub(crate) fn multipliers_at(
         money: 0,
         credits: 0,
     };
+    let credits = u32::from(menu.credits());
     let paid = meeting_multiplier(items, count, Scarce::Money, free, budget.0);
-    meeting_multiplier(
-        items,
-        count,
-        Scarce::Credits,
-        paid,
-        u32::from(menu.credits()),
+    (
+        meeting_multiplier(items, count, Scarce::Credits, paid, credits),
+        meeting_multiplier(items, count, Scarce::Credits, free, credits),
     )
 }
 

@@ -12,6 +12,7 @@ ghost use Rattle.bundle_bounds.specs.Closings.{MayClose};
 ghost use Rattle.bundle_reach.specs.Covers.{IsAdded};
 
 use crate::branch::Branch;
+use crate::draft::Draft;
 use crate::multipliers::{Multipliers, multipliers_at};
 use crate::places::{fitting, hopes_of};
 use crate::tables::{COUNTS, MILLION, PLACES, ROWS, lightest, put_hopes, put_most};
@@ -24,26 +25,32 @@ const ENOUGH: u64 = 1 << 62;
 /// What the places from each one on can still add at one demand.
 #[derive(Drop)]
 pub struct Reach {
-    multipliers: Multipliers,
     lightest: u32,
     hopes: [[u16; PLACES]; ROWS],
+    // What can be added at multipliers of both resources, and where money is not counted: the lesser number is told.
+    multipliers: Multipliers,
     most: [[u64; COUNTS]; ROWS],
+    free: Multipliers,
+    most_free: [[u64; COUNTS]; ROWS],
     ghost light: { lightest ≤ 100 },
 }
 
 impl Reach {
-    ghost use Rattle.bundle_reach.specs.Reaches.{IsReach};
+    ghost use Rattle.bundle_reach.specs.Reaches.{HoldsCovers, IsReach};
 
     /// A table that was measured for no demand yet: `closes` promises nothing before `measure`.
     pub fn empty() -> Reach {
+        let nothing = Multipliers {
+            money: 0,
+            credits: 0,
+        };
         Reach {
-            multipliers: Multipliers {
-                money: 0,
-                credits: 0,
-            },
             lightest: 0,
             hopes: [[0; PLACES]; ROWS],
+            multipliers: nothing,
             most: [[0; COUNTS]; ROWS],
+            free: nothing,
+            most_free: [[0; COUNTS]; ROWS],
         }
     }
 
@@ -55,7 +62,7 @@ impl Reach {
     {
         self.lightest = lightest(menu, allowed);
         put_hopes(menu, allowed, &mut self.hopes);
-        self.multipliers = multipliers_at(
+        let (multipliers, free) = multipliers_at(
             menu,
             prices,
             budget,
@@ -63,13 +70,23 @@ impl Reach {
             &self.hopes,
             self.lightest,
         );
+        self.multipliers = multipliers;
+        self.free = free;
         put_most(
             menu,
             prices,
             allowed,
-            self.multipliers,
+            multipliers,
             &self.hopes,
             &mut self.most,
+        );
+        put_most(
+            menu,
+            prices,
+            allowed,
+            free,
+            &self.hopes,
+            &mut self.most_free,
         );
     }
 
@@ -94,9 +111,10 @@ impl Reach {
         is_below(added, lacking + 1) && branch.is_behind(champion)
     }
 
-    /// A branch that begins well: each section that more is promised with, and that may be taken, is taken.
-    /// A search that begins with it as its champion closes most nodes at once. The table is one that was measured for
-    /// the same menu, prices, budget and allowed sections; with another the branch may be worth little.
+    /// A branch that begins well: its sections are chosen one after another, each the one that adds most for what it
+    /// takes, of those that fit. A search that begins with it as its champion closes most nodes at once. The table is one
+    /// that was measured for the same menu, prices, budget and allowed sections; with another the branch may be worth
+    /// little.
     pub fn first_champion(
         &self,
         menu: &Menu,
@@ -108,48 +126,12 @@ impl Reach {
         ensures branch { IsBranch menu.now (price_in prices.now) result }
         ensures takable { IsTakable (offer_of menu.now prices.now budget.0 allowed.now) (chosen_of result) }
     {
+        let draft = Draft::of(menu, prices, budget, allowed, self.multipliers);
         let mut branch = Branch::root();
         while branch.node.place < menu.len() {
-            branch = self.followed(menu, prices, budget, allowed, branch);
+            branch = followed(menu, prices, budget, allowed, &draft, branch);
         }
         branch
-    }
-
-    // The branch with the next section, where more is promised with it and it may be taken, and else without it.
-    fn followed(
-        &self,
-        menu: &Menu,
-        prices: &[Tokens],
-        budget: Tokens,
-        allowed: &SectionSet,
-        branch: Branch,
-    ) -> Branch
-        requires prices { HasPrices menu.now prices.now }
-        requires branch { IsBranch menu.now (price_in prices.now) branch }
-        requires node { IsNode (offer_of menu.now prices.now budget.0 allowed.now) branch.node.place (chosen_of branch) }
-        requires next { branch.node.place < length menu.now.places }
-        ensures branch { IsBranch menu.now (price_in prices.now) result }
-        ensures node { IsNode (offer_of menu.now prices.now budget.0 allowed.now) result.node.place (chosen_of result) }
-        ensures place { result.node.place ≡ branch.node.place + 1 }
-    {
-        prove!(branch.node.place < menu.len());
-        if !self.promises_more(menu, &branch) {
-            return branch.without_next();
-        }
-        if !branch.may_take(menu, prices, budget, allowed, branch.node.place) {
-            return branch.without_next();
-        }
-        branch.with_next(menu, prices)
-    }
-
-    // Whether the places from the next one on can add more than those after it.
-    fn promises_more(&self, menu: &Menu, branch: &Branch) -> bool
-        requires menu { IsMenu menu.now }
-        requires next { branch.now.node.place < length menu.now.places }
-    {
-        let count = self.fitting(menu, branch);
-        let place = usize::from(branch.node.place);
-        self.most[place][count] > self.most[place + 1][count]
     }
 
     // How many more sections fit the course cap and the credits of the lightest.
@@ -174,14 +156,66 @@ impl Reach {
             → IsAdded (offer_of menu.now prices budget.0 allowed) branch.now.node.place (chosen_of branch.now) result }
         ensures low { pos 0 ≤ℤ result }
     {
+        let priced = self.added_at(menu, budget, branch, self.multipliers, &self.most);
+        let free = self.added_at(menu, budget, branch, self.free, &self.most_free);
+        if priced < free {
+            return priced as i64;
+        }
+        free as i64
+    }
+
+    // The same, of a table at some multipliers.
+    fn added_at(
+        &self,
+        menu: &Menu,
+        budget: Tokens,
+        branch: &Branch,
+        multipliers: Multipliers,
+        most: &[[u64; COUNTS]; ROWS],
+    ) -> u64
+        requires menu { IsMenu menu.now }
+        requires place { branch.now.node.place ≤ length menu.now.places }
+        ensures value { (prices : List Tokens) (allowed : set.FinSet nat_cmp) → IsReach (offer_of menu.now prices budget.0 allowed) self.now
+            → HoldsCovers (offer_of menu.now prices budget.0 allowed) multipliers most.now 0
+            → IsBranch menu.now (price_in prices) branch.now → IsNode (offer_of menu.now prices budget.0 allowed) branch.now.node.place (chosen_of branch.now)
+            → IsAdded (offer_of menu.now prices budget.0 allowed) branch.now.node.place (chosen_of branch.now) (pos result) }
+        ensures high { result ≤ 2 ^ 62 }
+    {
         let budget_left = branch.budget_left(budget);
         let credits_left = branch.credits_left(menu);
         let count = self.fitting(menu, branch);
-        let paid = self.multipliers.money * u64::from(budget_left)
-            + self.multipliers.credits * u64::from(credits_left);
-        let most = self.most[usize::from(branch.node.place)][count];
-        paid.saturating_add(most).min(ENOUGH) as i64
+        let paid = multipliers.money * u64::from(budget_left)
+            + multipliers.credits * u64::from(credits_left);
+        let most = most[usize::from(branch.node.place)][count];
+        paid.saturating_add(most).min(ENOUGH)
     }
+}
+
+// The branch with the next section, where the draft has it and it may be taken, and else without it.
+fn followed(
+    menu: &Menu,
+    prices: &[Tokens],
+    budget: Tokens,
+    allowed: &SectionSet,
+    draft: &Draft,
+    branch: Branch,
+) -> Branch
+    requires prices { HasPrices menu.now prices.now }
+    requires branch { IsBranch menu.now (price_in prices.now) branch }
+    requires node { IsNode (offer_of menu.now prices.now budget.0 allowed.now) branch.node.place (chosen_of branch) }
+    requires next { branch.node.place < length menu.now.places }
+    ensures branch { IsBranch menu.now (price_in prices.now) result }
+    ensures node { IsNode (offer_of menu.now prices.now budget.0 allowed.now) result.node.place (chosen_of result) }
+    ensures place { result.node.place ≡ branch.node.place + 1 }
+{
+    prove!(branch.node.place < menu.len());
+    if !draft.has(branch.node.place) {
+        return branch.without_next();
+    }
+    if !branch.may_take(menu, prices, budget, allowed, branch.node.place) {
+        return branch.without_next();
+    }
+    branch.with_next(menu, prices)
 }
 
 // What a champion's worth has more than a utility and what is hoped for.

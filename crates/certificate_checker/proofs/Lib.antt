@@ -10,3 +10,5 @@ pub mod Composing
 pub mod Refusing
 pub mod Optimal
 pub mod OneText
+pub mod Naming
+pub mod Telling

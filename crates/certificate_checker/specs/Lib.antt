@@ -8,3 +8,4 @@ pub mod Findings
 pub mod Laws
 pub mod Views
 pub mod Parts
+pub mod Words

@@ -10,6 +10,7 @@ ghost use Rattle.certificate_checker.specs.Certificates.{Holds, HoldsOf, IsAccep
 ghost use Rattle.certificate_checker.specs.Findings.{IsFirstFinding, IsFirstIn, IsFirstOf, OnFound, end_of};
 ghost use Rattle.certificate_checker.specs.Parts.{CanCheck};
 ghost use Rattle.certificate_checker.specs.Views.{terms_of};
+ghost use Rattle.certificate_checker.specs.Words.{IsNamedIn};
 
 use crate::allocation::check_allocation;
 use crate::budgets::check_budgets;
@@ -29,8 +30,8 @@ use utility_language::Command;
 
 /// Whether the text is accepted for this market and these streams, one for each session: `Ok` exactly where it is the text
 /// of a publication of which the certificate holds, and else the first finding. Nothing is trusted of whoever wrote the
-/// text, and its prices are not judged. The text has fewer than 4,294,967,295 bytes. `NoMemory` comes where memory is
-/// wanted, and has no other cause.
+/// text, and its prices are not judged. Whom a finding names is on the roll, or in the catalogue. The text has fewer than
+/// 4,294,967,295 bytes. `NoMemory` comes where memory is wanted, and has no other cause.
 pub fn check(
     alloc: Global,
     catalog: &Catalog,
@@ -45,6 +46,7 @@ pub fn check(
     ensures accepted { OnOk result (IsAccepted (market_of catalog.now roll.now settings.now) (map (λ stream. stream.items) streams.now) text.now) }
     ensures first { IfErr result (λ end. OnFound end (IsFirstFinding (market_of catalog.now roll.now settings.now) (map (λ stream. stream.items) streams.now) text.now)) }
     ensures refused { IfErr result (λ end. OnFound end (λ _. ¬ IsAccepted (market_of catalog.now roll.now settings.now) (map (λ stream. stream.items) streams.now) text.now)) }
+    ensures named { IfErr result (λ end. OnFound end (IsNamedIn (tables_of catalog.now roll.now))) }
 {
     let _few_sections = catalog.len();
     let _few_students = roll.len();

@@ -12,9 +12,11 @@ mod progress;
 mod seats;
 mod terms;
 mod turns;
+mod words;
 
 pub use checking::check;
 pub use findings::{CheckEnd, Finding, TurnFault};
+pub use words::finding_line;
 
 #[cfg(test)]
 mod tests;

@@ -30,8 +30,12 @@ const TICKET: usize = 1;
 // How many tickets may be before one that is watched for, the one that is served among them.
 const NEAR: u64 = 2;
 
-// How often a thread looks before it sleeps.
-const LOOKS: u32 = 100;
+// How often a thread looks before it sleeps, with the processor's pause between: about as long as a sleeping thread
+// takes to wake, so that two threads which wait for each other do not fall asleep in turn.
+const LOOKS: u32 = 2000;
+
+// How many pauses of the processor a call stands back for another thread.
+const PAUSES: u32 = 100;
 
 /// An object that threads share, with the history of their calls. Calls take turns by ticket; a thread that is not
 /// served yet sleeps at the bell of its ticket, which is rung when its turn comes. Contracts see it as its `Origin`.
@@ -218,11 +222,25 @@ impl<O: Object> Chronicle<O> {
     {
         let number = seat.number;
         let place = &mut seat.place;
+        self.give_way();
         let ticket = self.draw(place);
         self.wait(rt, place, ticket);
         let reply = self.act(place, number, request);
         self.pass(place, number, &request, &reply);
         reply
+    }
+
+    // Stands back for a moment where another thread is in its turn and nobody waits. That thread then makes its next
+    // calls with all that they touch at hand; two threads that do nothing but call would else fetch it at each call.
+    fn give_way(&self) {
+        let drawn = self.table.shared.peek(TICKET);
+        let served = self.table.shared.peek(SERVING);
+        if drawn.wrapping_sub(served) != 1 {
+            return;
+        }
+        for _ in 0..PAUSES {
+            hint::spin_loop();
+        }
     }
 
     // Draws a ticket.

@@ -18,7 +18,7 @@ mod adder;
 const CALLS: u64 = 50;
 
 // How long a step takes that makes the other threads sleep, in looks of theirs.
-const SLOW: u32 = 2000;
+const SLOW: u32 = 6000;
 
 // How long the threads may take, in milliseconds, before the test fails.
 const PATIENCE: u32 = 30_000;

@@ -12,7 +12,7 @@ use Rattle.market_words.specs.Forms.{inputs_of}
 use Rattle.market_words.proofs.OneForm.{one_form}
 use Rattle.market_host.specs.declared.cause.Cause.{Cause}
 use Rattle.market_host.specs.declared.status.Status.{Status}
-use Rattle.market_host.specs.declared.status.Status.TheVariants.{Done, Usage, ShelfFault, Refused, TooLong, SinkFault, OutOfMemory}
+use Rattle.market_host.specs.declared.status.Status.TheVariants.{Done, Usage, ShelfFault, Refused, TooLong, NoPrices, SinkFault, OutOfMemory}
 use Rattle.market_host.specs.declared.trouble.Trouble.{Trouble}
 use Rattle.market_host.specs.declared.trouble.Trouble.TheVariants as trouble
 use Rattle.market_host.specs.Completeness.{CanBeDone, EndsWork}
@@ -117,6 +117,7 @@ completes words seen Usage text can outcome = absurd (outcome.0 can.0 can.1)
 completes words seen (ShelfFault n) text can outcome = memory_alone words seen (trouble.ShelfFault n) text can outcome
 completes words seen (Refused n row cause) text can outcome = memory_alone words seen (trouble.Refused n row cause) text can outcome
 completes words seen (TooLong n) text can outcome = memory_alone words seen (trouble.TooLong n) text can outcome
+completes words seen (NoPrices least) text can outcome = tt
 completes words seen OutOfMemory text can outcome = tt
 completes words seen SinkFault text can outcome = absurd outcome
 

@@ -2,7 +2,7 @@
 use Rattle.std.proofs.Common.{ℕ, ◌≡◌, ◌≤◌, ◌+◌, ◌-◌, List, [], ◌∷◌, length, take, drop, get_or, map, arith, ap, sym, subst, ◌∙◌, refl, Global}
 use Rattle.std.specs.Prelude.{Option, Result, Ok, Err, String, Vec}
 use Rattle.std.specs.String.{string_bytes}
-use Rattle.std.proofs.lemmas.List.{length-drop, length-map, length-take-le, take_all}
+use Rattle.std.proofs.lemmas.List.{length-map}
 use Rattle.course_catalog.specs.Catalog.{CatalogData}
 use Rattle.course_catalog.specs.Reading.{catalog_of}
 use Rattle.course_catalog.specs.Sections.{Section}
@@ -26,15 +26,18 @@ use Rattle.price_sheet.specs.declared.refusal.PriceRefusal.{PriceRefusal}
 use Rattle.table_records.specs.Columns.{◌>>=◌}
 use Rattle.table_records.specs.Reading.{TableData, reading}
 use Rattle.table_records.specs.Records.{records_of}
+use Rattle.published_parts.specs.Crowds.{IsCrowdIn}
+use Rattle.published_parts.specs.Markets.{market_of}
 use Rattle.session_hall.specs.Streams.{command_lists}
 use Rattle.student_roll.specs.Rolls.{roll_of}
 use Rattle.student_roll.specs.Students.{RollData}
 use Rattle.utility_language.specs.declared.commands.Command.{Command}
+use Rattle.market_host.specs.declared.status.Status.TheVariants.{Done}
 use Rattle.market_host.specs.Inputs.{AreRead}
 use Rattle.market_host.specs.Kinds.{Catalog, OpensMarket, Prices, Roll, Settings}
-use Rattle.market_host.specs.Markets.{IsClosingCrowd, IsHeld}
+use Rattle.market_host.specs.Markets.{IsHeld}
 use Rattle.market_host.specs.Marks.{without_mark}
-use Rattle.market_host.specs.Outcomes.{IsDone, IsLastAtEnd}
+use Rattle.market_host.specs.Outcomes.{IsLastAtEnd, IsOutcome}
 use Rattle.market_host.specs.Reading.{AreReadSessions, IsRead}
 use Rattle.market_host.specs.Sights.{Sight}
 use Rattle.market_host.proofs.InputTroubles.{front_read}
@@ -42,6 +45,7 @@ use Rattle.market_host.proofs.MarketFacts.{market_third}
 use Rattle.market_host.proofs.ReadOut.{behind_at_end}
 use Rattle.market_host.proofs.SessionsRead.{sessions_read}
 use Rattle.market_host.proofs.Shelves.{seen_from}
+use Rattle.market_host.proofs.WordFacts.{three_words, word_at, words_behind}
 
 -- `demand` begins as a market does
 pub opens_demand : (workers : ℕ) → OpensMarket (Demand workers)
@@ -55,39 +59,17 @@ length-demand words workers has =
     let few : length has.4 ≤ 64 = has.7.1 in
     (omega arith, omega arith)
 
--- how many sessions the words name
-pub length-sessions : (words : List (String Global)) → length (map string_bytes (take (length words - 6) (drop 6 words))) ≡ length words - 6
-length-sessions words =
-    let rest : length (drop 6 words) ≡ length words - 6 = length-drop 6 words in
-    length-map (take (length words - 6) (drop 6 words)) string_bytes ∙ length-take-le (length words - 6) (drop 6 words) (omega arith)
-
 -- its first inputs are the words behind the workers
 pub market-demand : (words : List (String Global)) (workers : ℕ) (a b c : String Global) → 7 ≤ length words → a ≡ get_or words 2 a → b ≡ get_or words 3 b → c ≡ get_or words 4 c
     → inputs_of (Demand workers) (map string_bytes words) ≡ string_bytes a ∷ string_bytes b ∷ string_bytes c ∷ drop 5 (map string_bytes words)
-market-demand (u ∷ v ∷ w ∷ x ∷ y ∷ more) workers a b c some p q r = cc
-market-demand (u ∷ v ∷ w ∷ x ∷ []) workers a b c some p q r = absurd (omega arith)
-market-demand (u ∷ v ∷ w ∷ []) workers a b c some p q r = absurd (omega arith)
-market-demand (u ∷ v ∷ []) workers a b c some p q r = absurd (omega arith)
-market-demand (u ∷ []) workers a b c some p q r = absurd (omega arith)
-market-demand [] workers a b c some p q r = absurd (omega arith)
-
-behind_market : (words : List (String Global)) (d : String Global) → 7 ≤ length words → d ≡ get_or words 5 d
-    → drop 5 (map string_bytes words) ≡ string_bytes d ∷ map string_bytes (take (length words - 6) (drop 6 words))
-behind_market (u ∷ v ∷ w ∷ x ∷ y ∷ z ∷ more) d some p =
-    let all : take (length (u ∷ v ∷ w ∷ x ∷ y ∷ z ∷ more) - 6) more ≡ more = take_all (length (u ∷ v ∷ w ∷ x ∷ y ∷ z ∷ more) - 6) more (omega arith) in
-    cc
-behind_market (u ∷ v ∷ w ∷ x ∷ y ∷ []) d some p = absurd (omega arith)
-behind_market (u ∷ v ∷ w ∷ x ∷ []) d some p = absurd (omega arith)
-behind_market (u ∷ v ∷ w ∷ []) d some p = absurd (omega arith)
-behind_market (u ∷ v ∷ []) d some p = absurd (omega arith)
-behind_market (u ∷ []) d some p = absurd (omega arith)
-behind_market [] d some p = absurd (omega arith)
+market-demand words workers a b c some p q r = three_words words a b c (omega arith) p q r
 
 -- its inputs are the words behind the workers
 pub inputs-demand : (words : List (String Global)) (workers : ℕ) (a b c d : String Global) → 7 ≤ length words → a ≡ get_or words 2 a → b ≡ get_or words 3 b → c ≡ get_or words 4 c → d ≡ get_or words 5 d
     → inputs_of (Demand workers) (map string_bytes words) ≡ string_bytes a ∷ string_bytes b ∷ string_bytes c ∷ string_bytes d ∷ map string_bytes (take (length words - 6) (drop 6 words))
 inputs-demand words workers a b c d some p q r s =
-    market-demand words workers a b c some p q r ∙ ap (λ (more : List (List ℕ)). string_bytes a ∷ string_bytes b ∷ string_bytes c ∷ more) (behind_market words d some s)
+    market-demand words workers a b c some p q r
+    ∙ ap (λ (more : List (List ℕ)). string_bytes a ∷ string_bytes b ∷ string_bytes c ∷ more) (word_at words 5 d (omega arith) s ∙ ap (λ (more : List (List ℕ)). string_bytes d ∷ more) (words_behind words 6))
 
 as_many : (sections : List Section) (prices : List Tokens) (read : Result (TableData Priced) PriceRefusal) → (read >>= (λ rows. Ok (map (price_listed rows.rows) (names_of sections)))) ≡ Ok (map (λ price. price.0) prices)
     → length prices ≡ length sections
@@ -114,9 +96,9 @@ pub demand_done : (words : List (List ℕ)) (workers : ℕ) (before : List ℕ �
     (rules : SettingsData) (listed : List Tokens) (streams : List (Vec Command Global)) (text : List ℕ) → HasForm words (Demand workers) → inputs_of (Demand workers) words ≡ a ∷ b ∷ c ∷ d ∷ names → 1 ≤ length names
     → IsRead Catalog held a (λ bytes. catalog_of bytes ≡ Ok offered) → IsRead Roll held b (λ bytes. roll_of bytes ≡ Ok enrolled) → IsRead Settings held c (λ bytes. settings_of (without_mark bytes) ≡ Ok rules)
     → IsRead Prices held d (λ bytes. prices_of offered.sections bytes ≡ Ok (map (λ price. price.0) listed)) → seen.held ≡ held → AreReadSessions held names sessions streams room → IsLastAtEnd seen names
-    → ((journal : List Entry) × IsLegalJournal (market_names offered.sections enrolled.students) journal × MergesStreams (command_lists streams) journal × (crowd : CrowdData) × IsClosingCrowd offered enrolled rules journal crowd
+    → ((journal : List Entry) × IsLegalJournal (market_names offered.sections enrolled.students) journal × MergesStreams (command_lists streams) journal × (crowd : CrowdData) × IsCrowdIn (market_of offered enrolled rules) journal crowd
     × (text ≡ demand_text offered.sections enrolled.students journal (taken_at crowd (map (λ (section : Section). section.seats) offered.sections) listed)))
-    → IsDone words (seen_from held before seen) text
+    → IsOutcome words (seen_from held before seen) Done text
 demand_done words workers before seen held a b c d names sessions room offered enrolled rules listed streams text has inputs some first second third fourth same are ended (journal, legal, merges, crowd, closing, told) =
     let front : AreRead (Demand workers) held (a ∷ b ∷ c ∷ d ∷ []) (first.0 ∷ second.0 ∷ third.0 ∷ fourth.0 ∷ []) = prices_fourth workers held a b c d offered enrolled rules listed first second third fourth in
     let all : AreRead (Demand workers) held (a ∷ b ∷ c ∷ d ∷ names) (first.0 ∷ second.0 ∷ third.0 ∷ fourth.0 ∷ sessions) =
@@ -149,7 +131,7 @@ demand_done words workers before seen held a b c d names sessions room offered e
 pub told_whole : (offered : CatalogData) (enrolled : RollData) (rules : SettingsData) (names : DeskNames) (wanted : List StudentPreferences) (entries said journal : List Entry) (crowd : CrowdData) (seats : List ℕ) (listed : List Tokens) (taken : TakenData)
     (text : List ℕ) → names ≡ market_names offered.sections enrolled.students → wanted ≡ closed_preferences names entries → entries ≡ journal → said ≡ entries → IsCrowdOf offered.sections enrolled.students wanted rules.seed rules.spread crowd
     → seats ≡ map (λ (section : Section). section.seats) offered.sections → taken ≡ taken_at crowd seats listed → text ≡ demand_text offered.sections enrolled.students said taken
-    → IsClosingCrowd offered enrolled rules journal crowd × (text ≡ demand_text offered.sections enrolled.students journal (taken_at crowd (map (λ (section : Section). section.seats) offered.sections) listed))
+    → IsCrowdIn (market_of offered enrolled rules) journal crowd × (text ≡ demand_text offered.sections enrolled.students journal (taken_at crowd (map (λ (section : Section). section.seats) offered.sections) listed))
 told_whole offered enrolled rules names wanted entries said journal crowd seats listed taken text named after same spoken is sat took told =
     let all : DeskNames = market_names offered.sections enrolled.students in
     let closes : wanted ≡ closed_preferences all journal = after ∙ ap (λ (n : DeskNames). closed_preferences n entries) named ∙ ap (closed_preferences all) same in

@@ -3,13 +3,16 @@ pub mod DemandFacts
 pub mod InputTroubles
 pub mod LineTexts
 pub mod ListedSections
+pub mod MakeFacts
 pub mod MarketFacts
 pub mod PreferFacts
 pub mod QuoteFacts
 pub mod QuoteWords
 pub mod ReadOut
+pub mod RunFacts
 pub mod SessionsRead
 pub mod Shelves
 pub mod Stops
 pub mod StreamFacts
+pub mod WordFacts
 pub mod ZeroPrices

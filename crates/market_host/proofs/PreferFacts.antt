@@ -2,7 +2,7 @@
 use Rattle.std.proofs.Common.{ℕ, ◌≡◌, ◌≤◌, ◌+◌, ◌-◌, List, [], ◌∷◌, length, take, drop, get_or, map, arith, ap, sym, subst, ◌∙◌, refl, Global}
 use Rattle.std.specs.Prelude.{Option, Ok, String, Vec}
 use Rattle.std.specs.String.{string_bytes}
-use Rattle.std.proofs.lemmas.List.{length-drop, length-map, length-take-le, take_all}
+use Rattle.std.proofs.lemmas.List.{length-map}
 use Rattle.course_catalog.specs.Reading.{catalog_of}
 use Rattle.course_catalog.specs.Catalog.{CatalogData}
 use Rattle.student_roll.specs.Rolls.{roll_of}
@@ -16,9 +16,10 @@ use Rattle.preference_desk.specs.MarketNames.{market_names}
 use Rattle.preference_text.specs.Texts.{preferences_text}
 use Rattle.session_hall.specs.Streams.{command_lists}
 use Rattle.utility_language.specs.declared.commands.Command.{Command}
+use Rattle.market_host.specs.declared.status.Status.TheVariants.{Done}
 use Rattle.market_host.specs.Inputs.{AreRead}
 use Rattle.market_host.specs.Kinds.{Catalog, Roll}
-use Rattle.market_host.specs.Outcomes.{IsDone, IsLastAtEnd}
+use Rattle.market_host.specs.Outcomes.{IsLastAtEnd, IsOutcome}
 use Rattle.market_host.specs.Markets.{IsHeld}
 use Rattle.market_host.specs.Reading.{AreReadSessions, IsRead}
 use Rattle.market_host.specs.Sights.{Sight}
@@ -26,6 +27,7 @@ use Rattle.market_host.proofs.InputTroubles.{roll_second}
 use Rattle.market_host.proofs.ReadOut.{behind_at_end}
 use Rattle.market_host.proofs.SessionsRead.{sessions_read}
 use Rattle.market_host.proofs.Shelves.{seen_from}
+use Rattle.market_host.proofs.WordFacts.{word_at, words_behind}
 
 -- the words of `prefer`: the verb, a catalogue, a roll, and 1 to 64 sessions
 pub length-prefer : (words : List (String Global)) → HasForm (map string_bytes words) Prefer → (4 ≤ length words) × (length words ≤ 67)
@@ -35,27 +37,15 @@ length-prefer words (catalog, roll, sessions, is, count) =
     let few : length sessions ≤ 64 = count.1 in
     (omega arith, omega arith)
 
--- how many sessions the words name
-pub length-sessions : (words : List (String Global)) → length (map string_bytes (take (length words - 3) (drop 3 words))) ≡ length words - 3
-length-sessions words =
-    let rest : length (drop 3 words) ≡ length words - 3 = length-drop 3 words in
-    length-map (take (length words - 3) (drop 3 words)) string_bytes ∙ length-take-le (length words - 3) (drop 3 words) (omega arith)
-
 -- its first input is the word behind the verb
 pub first-prefer : (words : List (String Global)) (a : String Global) → 4 ≤ length words → a ≡ get_or words 1 a → inputs_of Prefer (map string_bytes words) ≡ string_bytes a ∷ drop 2 (map string_bytes words)
-first-prefer [] a some p = absurd (omega arith)
-first-prefer (w ∷ []) a some p = absurd (omega arith)
-first-prefer (w ∷ x ∷ more) a some p = ap (λ (n : String Global). string_bytes n ∷ map string_bytes more) (sym p)
+first-prefer words a some p = word_at words 1 a (omega arith) p
 
 -- its inputs are the words behind the verb
 pub inputs-prefer : (words : List (String Global)) (a b : String Global) → 4 ≤ length words → a ≡ get_or words 1 a → b ≡ get_or words 2 b
     → inputs_of Prefer (map string_bytes words) ≡ string_bytes a ∷ string_bytes b ∷ map string_bytes (take (length words - 3) (drop 3 words))
-inputs-prefer [] a b some p q = absurd (omega arith)
-inputs-prefer (w ∷ []) a b some p q = absurd (omega arith)
-inputs-prefer (w ∷ x ∷ []) a b some p q = absurd (omega arith)
-inputs-prefer (w ∷ x ∷ y ∷ more) a b some p q =
-    let all : take (length (w ∷ x ∷ y ∷ more) - 3) more ≡ more = take_all (length (w ∷ x ∷ y ∷ more) - 3) more (omega arith) in
-    cc
+inputs-prefer words a b some p q =
+    first-prefer words a some p ∙ ap (λ (more : List (List ℕ)). string_bytes a ∷ more) (word_at words 2 b (omega arith) q ∙ ap (λ (more : List (List ℕ)). string_bytes b ∷ more) (words_behind words 3))
 
 -- the journal and the preferences of what was read were printed
 pub prefer_done : (words : List (List ℕ)) (before : List ℕ → ℕ) (seen : Sight) (held : Option Holding) (a b : List ℕ) (names sessions : List (List ℕ)) (room : ℕ) (offered : CatalogData) (enrolled : RollData)
@@ -63,7 +53,7 @@ pub prefer_done : (words : List (List ℕ)) (before : List ℕ → ℕ) (seen : 
     → IsRead Catalog held a (λ bytes. catalog_of bytes ≡ Ok offered) → IsRead Roll held b (λ bytes. roll_of bytes ≡ Ok enrolled) → seen.held ≡ held → AreReadSessions held names sessions streams room
     → IsLastAtEnd seen names
     → ((journal : List Entry) × IsLegalJournal (market_names offered.sections enrolled.students) journal × MergesStreams (command_lists streams) journal × (text ≡ preferences_text offered.sections enrolled.students journal))
-    → IsDone words (seen_from held before seen) text
+    → IsOutcome words (seen_from held before seen) Done text
 prefer_done words before seen held a b names sessions room offered enrolled streams text has inputs some first second same are ended (journal, legal, merges, printed) =
     let front : AreRead Prefer held (a ∷ b ∷ []) (first.0 ∷ second.0 ∷ []) = roll_second Prefer held a b offered enrolled refl (omega arith) refl first second in
     let all : AreRead Prefer held (a ∷ b ∷ names) (first.0 ∷ second.0 ∷ sessions) =

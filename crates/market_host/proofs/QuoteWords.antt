@@ -13,9 +13,10 @@ use Rattle.market_words.specs.Forms.{HasForm, inputs_of}
 use Rattle.student_roll.specs.Students.{single_student}
 use Rattle.utility_language.specs.declared.commands.Command.{Command}
 use Rattle.utility_language.specs.Commands.{AreCommands}
+use Rattle.market_host.specs.declared.status.Status.TheVariants.{Done}
 use Rattle.market_host.specs.Inputs.{AreRead}
 use Rattle.market_host.specs.Kinds.{Catalog, Session}
-use Rattle.market_host.specs.Outcomes.{IsDone}
+use Rattle.market_host.specs.Outcomes.{IsOutcome}
 use Rattle.market_host.specs.Quotes.{IsQuote}
 use Rattle.market_host.specs.Reading.{IsRead}
 use Rattle.market_host.specs.Sessions.{command_count, session_text}
@@ -49,7 +50,7 @@ inputs-quote (w ∷ x ∷ y ∷ more) name credits courses a b six p q = cc
 pub quote_done : (words : List (List ℕ)) (before : List ℕ → ℕ) (seen : Sight) (held : Option Holding) (a b : List ℕ) (name : Name) (credits courses : ℕ) (offered : CatalogData) (commands : List Command)
     (text : List ℕ) → HasForm words (Quote name credits courses) → inputs_of (Quote name credits courses) words ≡ a ∷ b ∷ [] → IsRead Catalog held a (λ bytes. catalog_of bytes ≡ Ok offered)
     → seen.held ≡ held → IsRead Session seen.held b (λ bytes. AreCommands (session_text bytes) commands × (command_count bytes ≤ 200000)) → IsAtEnd seen b
-    → IsQuote offered.sections (single_student (name_bytes name) credits courses) commands text → IsDone words (seen_from held before seen) text
+    → IsQuote offered.sections (single_student (name_bytes name) credits courses) commands text → IsOutcome words (seen_from held before seen) Done text
 quote_done words before seen held a b name credits courses offered commands text has inputs first same other ended quoted =
     let form = Quote name credits courses in
     let second = subst (λ h. IsRead Session h b (λ bytes. AreCommands (session_text bytes) commands × (command_count bytes ≤ 200000))) same other in

@@ -4,7 +4,7 @@ use Rattle.market_edge.specs.Faults.{Rose}
 use Rattle.market_words.specs.declared.words.Form.{Form}
 use Rattle.market_words.specs.Forms.{HasForm, inputs_of}
 use Rattle.market_host.specs.declared.status.Status.{Status}
-use Rattle.market_host.specs.declared.status.Status.TheVariants.{Done, Usage, ShelfFault, Refused, TooLong, SinkFault, OutOfMemory}
+use Rattle.market_host.specs.declared.status.Status.TheVariants.{Done, Usage, ShelfFault, Refused, TooLong, NoPrices, SinkFault, OutOfMemory}
 use Rattle.market_host.specs.Inputs.{AreInOrder, AreTold}
 use Rattle.market_host.specs.Sights.{Sight}
 
@@ -15,9 +15,10 @@ CanBeDone words seen =
     × (texts : List (List ℕ)) × AreTold seen.held (inputs_of form words) texts × AreInOrder form [] texts
     × All (λ name. ¬ Rose (seen.before name) (seen.after name)) (inputs_of form words)
 
--- the status is one that the work ends with, or that of want of memory
+-- The status is one that the work ends with, or that of want of memory. Which one it is with which the work ends is said by the outcome.
 abbrev pub EndsWork : Status → Type 0
 EndsWork Done = ⊤
+EndsWork (NoPrices least) = ⊤
 EndsWork OutOfMemory = ⊤
 EndsWork Usage = ⊥
 EndsWork (ShelfFault number) = ⊥

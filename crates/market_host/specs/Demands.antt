@@ -9,8 +9,10 @@ use Rattle.market_settings.specs.Settings.{settings_of}
 use Rattle.market_units.specs.declared.units.Tokens.{Tokens}
 use Rattle.preference_desk.specs.declared.entry.Entry.{Entry}
 use Rattle.price_sheet.specs.Sheets.{prices_of}
+use Rattle.published_parts.specs.Crowds.{IsCrowdIn}
+use Rattle.published_parts.specs.Markets.{market_of}
 use Rattle.student_roll.specs.Students.{RollData}
-use Rattle.market_host.specs.Markets.{IsClosingCrowd, IsHeld}
+use Rattle.market_host.specs.Markets.{IsHeld}
 use Rattle.market_host.specs.Marks.{without_mark}
 
 -- The text tells one journal of a market that was held on these inputs, and what the crowd of its students takes at the prices, as they were
@@ -25,7 +27,7 @@ pub record IsDemandOf (catalog roll settings prices : List ℕ) (sessions : List
   pub listed : List Tokens
   pub prices_say : prices_of offered.sections prices ≡ Ok (map (λ price. price.0) listed)
   pub crowd : CrowdData
-  pub closing : IsClosingCrowd offered enrolled rules journal crowd
+  pub closing : IsCrowdIn (market_of offered enrolled rules) journal crowd
   pub told : text ≡ demand_text offered.sections enrolled.students journal (taken_at crowd (map (λ section. section.seats) offered.sections) listed)
 
 -- what is printed for the texts of a catalogue, a roll, settings, prices and sessions

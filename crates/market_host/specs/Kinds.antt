@@ -1,7 +1,7 @@
 -- The kinds of inputs. Limits, grammars and faults go by kind; a form says which kinds its inputs have.
 use Rattle.std.specs.Prelude.{ℕ, ◌≡◌, zero, suc, List, [], ◌∷◌}
 use Rattle.market_words.specs.declared.words.Form.{Form}
-use Rattle.market_words.specs.declared.words.Form.TheVariants.{Demand, Prefer, Quote}
+use Rattle.market_words.specs.declared.words.Form.TheVariants.{Demand, Make, Prefer, Quote, Run}
 
 pub data Kind : Type 0 where
   Catalog : Kind
@@ -15,6 +15,8 @@ abbrev pub front_of : Form → List Kind
 front_of (Quote name credits courses) = Catalog ∷ []
 front_of Prefer = Catalog ∷ Roll ∷ []
 front_of (Demand workers) = Catalog ∷ Roll ∷ Settings ∷ Prices ∷ []
+front_of (Run workers) = Catalog ∷ Roll ∷ Settings ∷ []
+front_of (Make workers seed students sections accept) = []
 
 -- the first three inputs of a form are a catalogue, a roll and settings
 abbrev pub OpensMarket : Form → Type 0
@@ -25,6 +27,8 @@ abbrev pub streams_of : Form → Kind
 streams_of (Quote name credits courses) = Session
 streams_of Prefer = Session
 streams_of (Demand workers) = Session
+streams_of (Run workers) = Session
+streams_of (Make workers seed students sections accept) = Session
 
 -- the kind of the input that stands behind so many others, where these kinds stand in front of streams of that kind
 abbrev pub kind_behind : List Kind → Kind → ℕ → Kind

@@ -1,9 +1,11 @@
 pub mod Completeness
 pub mod Demands
+pub mod Endings
 pub mod Ends
 pub mod Inputs
 pub mod Kinds
 pub mod Lines
+pub mod Makes
 pub mod Markets
 pub mod Marks
 pub mod Outcomes
@@ -11,6 +13,7 @@ pub mod Preferences
 pub mod Quotes
 pub mod Reading
 pub mod Refusals
+pub mod Runs
 pub mod Sessions
 pub mod Sights
 pub mod Statuses

@@ -27,6 +27,10 @@ cause_words (Range key) = codes "range of " ++ key_name key
 abbrev pub usage_line : List ℕ
 usage_line = codes "usage: run, check, prefer, demand, quote, make\n"
 
+-- the line that says that no prices are found, with the least error
+abbrev pub no_prices_line : ℕ → List ℕ
+no_prices_line least = codes "no prices: least error " ++ decimal least ++ codes "\n"
+
 -- the line that says what stops a call
 abbrev pub line_of : Trouble → List ℕ
 line_of (ShelfFault input) = codes "input " ++ decimal input ++ codes " can not be read\n"

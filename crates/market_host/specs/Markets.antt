@@ -1,17 +1,24 @@
--- A market that was held: its desk's journal, and who may be asked for a bundle after it.
+-- The market that the inputs of a call are, and a market that was held: its desk's journal.
 use Rattle.std.specs.Prelude.{ℕ, ◌≡◌, List, Ok}
 use Rattle.course_catalog.specs.Catalog.{CatalogData}
 use Rattle.course_catalog.specs.Reading.{catalog_of}
-use Rattle.demand_api.specs.Crowds.{CrowdData}
-use Rattle.market_crowd.specs.Crowds.{IsCrowdOf}
-use Rattle.market_settings.specs.declared.reader.Settings.{Settings}
+use Rattle.market_settings.specs.Settings.{settings_of}
+use Rattle.published_parts.specs.Markets.{Market}
 use Rattle.student_roll.specs.Rolls.{roll_of}
 use Rattle.student_roll.specs.Students.{RollData}
 use Rattle.utility_language.specs.declared.commands.Command.{Command}
 use Rattle.preference_desk.specs.declared.entry.Entry.{Entry}
-use Rattle.preference_desk.specs.Journals.{IsLegalJournal, MergesStreams, closed_preferences}
+use Rattle.preference_desk.specs.Journals.{IsLegalJournal, MergesStreams}
 use Rattle.preference_desk.specs.MarketNames.{market_names}
+use Rattle.market_host.specs.Marks.{without_mark}
 use Rattle.market_host.specs.Sessions.{AreStreams}
+
+-- the texts of a catalogue, a roll and settings stand for this market, and what its sessions say are these streams
+pub record IsMarketOf (catalog roll settings : List ℕ) (sessions : List (List ℕ)) (market : Market) (streams : List (List Command)) : Type 0 where
+  pub catalog_says : catalog_of catalog ≡ Ok market.catalog
+  pub roll_says : roll_of roll ≡ Ok market.roll
+  pub settings_say : settings_of (without_mark settings) ≡ Ok market.settings
+  pub sessions_say : AreStreams sessions streams
 
 -- A market was held on these inputs: the texts stand for this catalogue and this roll, and the journal is one that a desk for them keeps, in
 -- which each session said its commands in their order.
@@ -20,8 +27,3 @@ pub record IsHeld (catalog roll : List ℕ) (sessions : List (List ℕ)) (offere
   pub roll_says : roll_of roll ≡ Ok enrolled
   pub legal : IsLegalJournal (market_names offered.sections enrolled.students) journal
   pub merged : (streams : List (List Command)) × AreStreams sessions streams × MergesStreams streams journal
-
--- the crowd of a market's students, who want what the journal ends with, with the budgets that the settings draw
-abbrev pub IsClosingCrowd : CatalogData → RollData → Settings → List Entry → CrowdData → Type 0
-IsClosingCrowd offered enrolled settings journal crowd =
-    IsCrowdOf offered.sections enrolled.students (closed_preferences (market_names offered.sections enrolled.students) journal) settings.seed settings.spread crowd

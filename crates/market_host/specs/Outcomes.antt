@@ -1,18 +1,23 @@
 -- The outcome of a call: a status and the text that it writes, with all that must hold of them, by cases of the status.
 use Rattle.std.specs.Prelude.{ℕ, ◌≡◌, List, [], ◌∷◌, ◌++◌}
+use Rattle.made_run.specs.Made.{IsMadeSummary}
 use Rattle.market_units.specs.Name.{name_bytes}
 use Rattle.market_words.specs.declared.words.Form.{Form}
-use Rattle.market_words.specs.declared.words.Form.TheVariants.{Demand, Prefer, Quote}
+use Rattle.market_words.specs.declared.words.Form.TheVariants.{Demand, Make, Prefer, Quote, Run}
 use Rattle.market_words.specs.Forms.{HasForm, HasNoForm, inputs_of}
 use Rattle.market_host.specs.declared.status.Status.{Status}
-use Rattle.market_host.specs.declared.status.Status.TheVariants.{Done, Usage, ShelfFault, Refused, TooLong, SinkFault, OutOfMemory}
+use Rattle.market_host.specs.declared.status.Status.TheVariants.{Done, Usage, ShelfFault, Refused, TooLong, NoPrices, SinkFault, OutOfMemory}
 use Rattle.market_host.specs.declared.trouble.Trouble.{Trouble}
 use Rattle.market_host.specs.declared.trouble.Trouble.TheVariants as trouble
+use Rattle.market_host.specs.declared.ended.Ended.{Ended}
 use Rattle.market_host.specs.Demands.{PrintsDemand}
+use Rattle.market_host.specs.Endings.{bytes_of}
 use Rattle.market_host.specs.Inputs.{AreRead}
 use Rattle.market_host.specs.Lines.{line_of, usage_line}
+use Rattle.market_host.specs.Makes.{TellsMadeUnpriced}
 use Rattle.market_host.specs.Preferences.{PrintsPreferences}
 use Rattle.market_host.specs.Quotes.{PrintsQuote}
+use Rattle.market_host.specs.Runs.{PrintsRun, TellsUnpriced}
 use Rattle.market_host.specs.Sights.{Sight}
 use Rattle.market_host.specs.Troubles.{HasTrouble, IsAtEnd}
 
@@ -21,16 +26,26 @@ abbrev pub Prints : Form → List (List ℕ) → List ℕ → Type 0
 Prints (Quote name credits courses) texts text = PrintsQuote (name_bytes name) credits courses texts text
 Prints Prefer texts text = PrintsPreferences texts text
 Prints (Demand workers) texts text = PrintsDemand texts text
+Prints (Run workers) texts text = PrintsRun texts text
+Prints (Make workers seed students sections accept) texts text = IsMadeSummary seed students sections accept text
+
+-- the text that a form writes that finds no prices, where its inputs have these texts and this is the least error
+abbrev pub TellsNoPrices : Form → List (List ℕ) → ℕ → List ℕ → Type 0
+TellsNoPrices (Quote name credits courses) texts least text = ⊥
+TellsNoPrices Prefer texts least text = ⊥
+TellsNoPrices (Demand workers) texts least text = ⊥
+TellsNoPrices (Run workers) texts least text = TellsUnpriced texts least text
+TellsNoPrices (Make workers seed students sections accept) texts least text = TellsMadeUnpriced seed students sections accept least text
 
 -- the last of these inputs, where there is one, was read to its end
 abbrev pub IsLastAtEnd : Sight → List (List ℕ) → Type 0
 IsLastAtEnd seen inputs = (earlier : List (List ℕ)) (last : List ℕ) → inputs ≡ earlier ++ last ∷ [] → IsAtEnd seen last
 
--- the words have a form, all its inputs were read, and this is the text that it prints for them
-abbrev pub IsDone : List (List ℕ) → Sight → List ℕ → Type 0
-IsDone words seen text =
+-- the words have a form, all its inputs were read, and P holds of the form and their texts
+abbrev pub IsWorkedOut : List (List ℕ) → Sight → (Form → List (List ℕ) → Type 0) → Type 0
+IsWorkedOut words seen P =
     (form : Form) × HasForm words form
-    × (texts : List (List ℕ)) × AreRead form seen.held (inputs_of form words) texts × IsLastAtEnd seen (inputs_of form words) × Prints form texts text
+    × (texts : List (List ℕ)) × AreRead form seen.held (inputs_of form words) texts × IsLastAtEnd seen (inputs_of form words) × P form texts
 
 -- the words have a form, this stops its call, and the text is the line that says so
 abbrev pub IsStopped : List (List ℕ) → Sight → Trouble → List ℕ → Type 0
@@ -38,10 +53,15 @@ IsStopped words seen stop text = (form : Form) × HasForm words form × HasTroub
 
 -- The outcome of a call with these words, of which this is seen of the shelf. A sink fault is no outcome, but stands for one.
 abbrev pub IsOutcome : List (List ℕ) → Sight → Status → List ℕ → Type 0
-IsOutcome words seen Done text = IsDone words seen text
+IsOutcome words seen Done text = IsWorkedOut words seen (λ form texts. Prints form texts text)
+IsOutcome words seen (NoPrices least) text = IsWorkedOut words seen (λ form texts. TellsNoPrices form texts least text)
 IsOutcome words seen Usage text = HasNoForm words × (text ≡ usage_line)
 IsOutcome words seen (ShelfFault number) text = IsStopped words seen (trouble.ShelfFault number) text
 IsOutcome words seen (Refused number row cause) text = IsStopped words seen (trouble.Refused number row cause) text
 IsOutcome words seen (TooLong number) text = IsStopped words seen (trouble.TooLong number) text
 IsOutcome words seen OutOfMemory text = IsStopped words seen trouble.OutOfMemory text
 IsOutcome words seen SinkFault text = ⊥
+
+-- the outcome of a call whose inputs were read and are in order
+abbrev pub IsEnded : List (List ℕ) → Sight → Ended → Type 0
+IsEnded words seen ended = IsOutcome words seen ended.status (bytes_of ended.output)

@@ -6,16 +6,19 @@ ghost use Rattle.demand_api.specs.Crowds.{CrowdData};
 ghost use Rattle.demand_text.specs.Taken.{IsTakenBy, taken_at};
 ghost use Rattle.demand_text.specs.Texts as texts;
 ghost use Rattle.market_host.specs.Lines.{line_of};
-ghost use Rattle.market_host.specs.Markets.{IsClosingCrowd};
-ghost use Rattle.market_host.specs.Outcomes.{IsDone, IsStopped};
+ghost use Rattle.market_host.specs.Outcomes.{IsEnded, IsStopped};
 ghost use Rattle.market_host.specs.Sights.{sight};
 ghost use Rattle.market_settings.specs.Settings.{AreInRange};
 ghost use Rattle.market_words.specs.Forms.{AreWorkers, HasForm};
 ghost use Rattle.preference_desk.specs.Journals.{IsLegalJournal, MergesStreams};
 ghost use Rattle.preference_desk.specs.MarketNames.{market_names};
 ghost use Rattle.preference_desk.specs.declared.entry.Entry.{Entry};
+ghost use Rattle.published_parts.specs.Crowds.{IsCrowdIn};
+ghost use Rattle.published_parts.specs.Markets.{market_of};
 ghost use Rattle.session_hall.specs.Streams.{command_count, command_lists};
 
+use crate::Status;
+use crate::ended::{Ended, Output};
 use crate::gate::Passed;
 use crate::market::{Market, take_market};
 use crate::prices::take_prices;
@@ -42,9 +45,9 @@ pub fn demand<R: Threads + Wait + Sync, H: Shelf>(
     workers: u16,
     shelf: &mut H,
     gate: &(dyn Gate + Sync),
-) -> Result<Vec<u8>, Trouble>
+) -> Result<Ended, Trouble>
     requires { HasForm (map string_bytes words.now) (Form.Demand workers) }
-    ensures answer { MatchResult result (λ text. IsDone (map string_bytes words.now) (sight H.Shelf shelf.old shelf.new) text.items)
+    ensures answer { MatchResult result (IsEnded (map string_bytes words.now) (sight H.Shelf shelf.old shelf.new))
         (λ stop. IsStopped (map string_bytes words.now) (sight H.Shelf shelf.old shelf.new) stop (line_of stop)) }
     ensures holds { H.holds shelf.new ≡ H.holds shelf.old }
     ensures later { (other : List ℕ) → H.faults shelf.old other ≤ H.faults shelf.new other }
@@ -58,7 +61,11 @@ pub fn demand<R: Threads + Wait + Sync, H: Shelf>(
     )?;
     let prices = take_prices(alloc, shelf, words[5].as_str(), 4, &market.catalog)?;
     let streams = take_sessions(alloc, shelf, &words[6..], 5)?;
-    Ok(text_of(rt, alloc, workers, &market, &prices, &streams, gate)?)
+    let text = text_of(rt, alloc, workers, &market, &prices, &streams, gate)?;
+    Ok(Ended {
+        status: Status::Done,
+        output: Output::Text(text),
+    })
 }
 
 // The text of the order in which a desk for this market takes these streams, and of what its crowd then takes at these prices.
@@ -78,7 +85,7 @@ fn text_of<R: Threads + Wait + Sync>(
     requires commands { command_count streams.now ≤ 200000 }
     ensures { IfOk result (λ text. (journal : List Entry) × IsLegalJournal (market_names market.now.catalog.sections market.now.roll.students) journal
         × MergesStreams (command_lists streams.now) journal
-        × (crowd : CrowdData) × IsClosingCrowd market.now.catalog market.now.roll market.now.settings journal crowd
+        × (crowd : CrowdData) × IsCrowdIn (market_of market.now.catalog market.now.roll market.now.settings) journal crowd
         × (text.items ≡ texts.demand_text market.now.catalog.sections market.now.roll.students journal (taken_at crowd (map (λ section. section.seats) market.now.catalog.sections) prices.now))) }
 {
     let passed = Passed { gate };

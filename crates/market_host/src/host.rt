@@ -7,15 +7,18 @@ ghost use Rattle.market_words.specs.Forms.{HasForm};
 ghost use Rattle.market_host.specs.Completeness.{CanBeDone, EndsWork};
 ghost use Rattle.market_host.specs.Ends.{IsReadOutAt};
 ghost use Rattle.market_host.specs.Lines.{line_of};
-ghost use Rattle.market_host.specs.Outcomes.{IsDone, IsOutcome, IsStopped};
+ghost use Rattle.market_host.specs.Outcomes.{IsEnded, IsOutcome, IsStopped};
 ghost use Rattle.market_host.specs.Sights.{sight};
 ghost use Rattle.market_host.specs.declared.trouble.Trouble.TheVariants as trouble;
 
 use crate::Status;
 use crate::demand::demand;
+use crate::ended::Ended;
 use crate::line::{line_for, usage};
+use crate::make::make;
 use crate::prefer::prefer;
 use crate::quote::quote;
+use crate::run::run;
 use crate::trouble::Trouble;
 use market_edge::{Gate, Shelf, Sink, SinkFault, write_whole};
 use market_words::{Form, read_words};
@@ -46,7 +49,7 @@ pub fn course_match<R: Threads + Wait + Sync, H: Shelf, K: Sink>(
     // Where every input is held and in order and no fault is counted, the work is ended, or memory is wanted.
     ensures complete { CanBeDone (map string_bytes words.now) (sight H.Shelf shelf.old shelf.new) → ¬ Rose (K.faults sink.old) (K.faults sink.new) → EndsWork result }
 
-    // Where the work is done, the last input was read to its end, and where an input is refused, that one.
+    // Where the work is ended, the last input was read to its end, and where an input is refused, that one.
     ensures read_out { IsReadOutAt (map string_bytes words.now) (sight H.Shelf shelf.old shelf.new) result }
 
     // What the shelf holds stays, and no count of faults falls.
@@ -58,7 +61,7 @@ pub fn course_match<R: Threads + Wait + Sync, H: Shelf, K: Sink>(
         return finish(sink, usage().as_bytes(), Status::Usage);
     };
     match answer(rt, alloc, words, form, shelf, gate) {
-        Ok(text) => finish(sink, &text, Status::Done),
+        Ok(ended) => finish(sink, ended.output.as_bytes(), ended.status),
         Err(trouble) => finish(sink, line_for(trouble).as_bytes(), trouble.status()),
     }
 }
@@ -92,7 +95,7 @@ fn finish<K: Sink>(sink: &mut K, text: &[u8], status: Status) -> Status
     }
 }
 
-// The text to write, or what stops the call.
+// How the call ends, or what stops it.
 fn answer<R: Threads + Wait + Sync, H: Shelf>(
     rt: &R,
     alloc: Global,
@@ -100,9 +103,9 @@ fn answer<R: Threads + Wait + Sync, H: Shelf>(
     form: Form,
     shelf: &mut H,
     gate: &(dyn Gate + Sync),
-) -> Result<Vec<u8>, Trouble>
+) -> Result<Ended, Trouble>
     requires { HasForm (map string_bytes words.now) form }
-    ensures answer { MatchResult result (λ text. IsDone (map string_bytes words.now) (sight H.Shelf shelf.old shelf.new) text.items)
+    ensures answer { MatchResult result (IsEnded (map string_bytes words.now) (sight H.Shelf shelf.old shelf.new))
         (λ stop. IsStopped (map string_bytes words.now) (sight H.Shelf shelf.old shelf.new) stop (line_of stop)) }
     ensures holds { H.holds shelf.new ≡ H.holds shelf.old }
     ensures later { (other : List ℕ) → H.faults shelf.old other ≤ H.faults shelf.new other }
@@ -115,5 +118,13 @@ fn answer<R: Threads + Wait + Sync, H: Shelf>(
         } => quote(alloc, words, shelf, name, credits, courses),
         Form::Prefer => prefer(rt, alloc, words, shelf, gate),
         Form::Demand { workers } => demand(rt, alloc, words, workers, shelf, gate),
+        Form::Run { workers } => run(rt, alloc, words, workers, shelf, gate),
+        Form::Make {
+            workers,
+            seed,
+            students,
+            sections,
+            accept,
+        } => Ok(make(rt, alloc, workers, seed, students, sections, accept, gate)?),
     }
 }

@@ -1,79 +1,29 @@
 // The lines of calls that are stopped, made without memory.
-ghost use Rattle.std.specs.Prelude.{◌≡◌, ◌≤◌, ◌+◌, ◌++◌, [], List, ℕ, length, take, codes};
+ghost use Rattle.std.specs.Prelude.{◌≡◌, ◌≤◌, ◌+◌, ◌++◌, length, codes};
 ghost use Rattle.std.specs.Fmt.{decimal};
 ghost use Rattle.market_settings.specs.Keys.{key_name};
-ghost use Rattle.market_host.specs.Lines.{cause_words, line_of, usage_line};
+ghost use Rattle.market_host.specs.Lines.{cause_words, line_of, no_prices_line, usage_line};
 
 use crate::Cause;
 use crate::trouble::Trouble;
 use market_settings::Key;
-use market_units::put_number;
-use std::marker::Model;
-
-// More than any line of a status has.
-const ROOM: usize = 128;
-
-/// A line that grows at its end. Contracts see it as its bytes.
-#[derive(Drop)]
-pub struct Line {
-    room: [u8; 128],
-    count: usize,
-}
-
-impl Model for Line {
-    ghost Value = { List ℕ };
-
-    ghost view = { λ line. take line.count line.room };
-
-    ghost invariant = { λ line. line.count ≤ 128 };
-}
-
-impl Line {
-    fn empty() -> Line
-        ensures { result ≡ [] }
-    {
-        Line {
-            room: [0; ROOM],
-            count: 0,
-        }
-    }
-
-    /// The bytes of the line.
-    pub fn as_bytes(&self) -> &[u8]
-        ensures { result.now ≡ self.now }
-    {
-        &self.room[..self.count]
-    }
-
-    // The line with a text behind it.
-    fn with(self, text: &[u8]) -> Line
-        requires { length self + length text.now ≤ 128 }
-        ensures { result ≡ self ++ text.now }
-    {
-        let mut room = self.room;
-        let count = self.count;
-        let end = count + text.len();
-        room[count..end].copy_from_slice(text);
-        Line { room, count: end }
-    }
-
-    // The line with a number behind it.
-    fn with_number(self, number: u64) -> Line
-        requires { length self + 20 ≤ 128 }
-        ensures line { result ≡ self ++ decimal number }
-        ensures short { length result ≤ length self + 20 }
-    {
-        let mut digits = [0; 20];
-        let count = put_number(number, &mut digits);
-        self.with(&digits[..count])
-    }
-}
+use status_line::Line;
 
 /// The line of words that have no form.
 pub fn usage() -> Line
     ensures { result ≡ usage_line }
 {
     Line::empty().with(b"usage: run, check, prefer, demand, quote, make\n")
+}
+
+/// The line that says that no prices are found, with the least error.
+pub fn no_prices(least: u64) -> Line
+    ensures { result ≡ no_prices_line least }
+{
+    Line::empty()
+        .with(b"no prices: least error ")
+        .with_number(least)
+        .with(b"\n")
 }
 
 /// The line that says what stops a call.

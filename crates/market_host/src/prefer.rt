@@ -2,7 +2,7 @@
 ghost use Rattle.std.specs.Prelude.{◌≡◌, ◌≤◌, List, ℕ, length, map, MatchResult, IfOk};
 ghost use Rattle.std.specs.String.{string_bytes};
 ghost use Rattle.market_host.specs.Lines.{line_of};
-ghost use Rattle.market_host.specs.Outcomes.{IsDone, IsStopped};
+ghost use Rattle.market_host.specs.Outcomes.{IsEnded, IsStopped};
 ghost use Rattle.market_host.specs.Sights.{sight};
 ghost use Rattle.market_host.specs.Sessions.{AreStreams};
 ghost use Rattle.market_words.specs.Forms.{HasForm};
@@ -11,7 +11,9 @@ ghost use Rattle.preference_desk.specs.MarketNames.{market_names};
 ghost use Rattle.preference_text.specs.Texts as texts;
 ghost use Rattle.session_hall.specs.Streams.{command_count, command_lists};
 
+use crate::Status;
 use crate::catalog::take_catalog;
+use crate::ended::{Ended, Output};
 use crate::gate::Passed;
 use crate::roll::take_roll;
 use crate::sessions::take_sessions;
@@ -36,9 +38,9 @@ pub fn prefer<R: Threads + Wait + Sync, H: Shelf>(
     words: &[String],
     shelf: &mut H,
     gate: &(dyn Gate + Sync),
-) -> Result<Vec<u8>, Trouble>
+) -> Result<Ended, Trouble>
     requires { HasForm (map string_bytes words.now) Form.Prefer }
-    ensures answer { MatchResult result (λ text. IsDone (map string_bytes words.now) (sight H.Shelf shelf.old shelf.new) text.items)
+    ensures answer { MatchResult result (IsEnded (map string_bytes words.now) (sight H.Shelf shelf.old shelf.new))
         (λ stop. IsStopped (map string_bytes words.now) (sight H.Shelf shelf.old shelf.new) stop (line_of stop)) }
     ensures holds { H.holds shelf.new ≡ H.holds shelf.old }
     ensures later { (other : List ℕ) → H.faults shelf.old other ≤ H.faults shelf.new other }
@@ -46,7 +48,11 @@ pub fn prefer<R: Threads + Wait + Sync, H: Shelf>(
     let catalog = take_catalog(alloc, shelf, words[1].as_str(), 1)?;
     let roll = take_roll(alloc, shelf, words[2].as_str(), 2)?;
     let streams = take_sessions(alloc, shelf, &words[3..], 3)?;
-    Ok(text_of(rt, alloc, &catalog, &roll, &streams, gate)?)
+    let text = text_of(rt, alloc, &catalog, &roll, &streams, gate)?;
+    Ok(Ended {
+        status: Status::Done,
+        output: Output::Text(text),
+    })
 }
 
 // The text of the journal that a desk for this catalogue and this roll keeps of these streams.

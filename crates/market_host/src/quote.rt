@@ -5,7 +5,7 @@ ghost use Rattle.bundle_rules.specs.Bundles.{sections_of};
 ghost use Rattle.bundle_rules.specs.Demand.{IsBest};
 ghost use Rattle.bundle_rules.specs.Menus.{wishes_of};
 ghost use Rattle.market_host.specs.Lines.{line_of};
-ghost use Rattle.market_host.specs.Outcomes.{IsDone, IsStopped};
+ghost use Rattle.market_host.specs.Outcomes.{IsEnded, IsStopped};
 ghost use Rattle.market_host.specs.Sights.{sight};
 ghost use Rattle.market_host.specs.Quotes.{IsQuote, state_of_new_desk};
 ghost use Rattle.market_units.specs.Name.{name_bytes};
@@ -14,7 +14,9 @@ ghost use Rattle.preference_desk.specs.DeskView.{names_of, state_of};
 ghost use Rattle.preference_desk.specs.MarketNames.{market_names};
 ghost use Rattle.student_roll.specs.Students.{single_student};
 
+use crate::Status;
 use crate::catalog::take_catalog;
+use crate::ended::{Ended, Output};
 use crate::session::take_session;
 use crate::text::text_of;
 use crate::trouble::Trouble;
@@ -38,16 +40,20 @@ pub fn quote<H: Shelf>(
     name: Name,
     credits: u16,
     courses: u8,
-) -> Result<Vec<u8>, Trouble>
+) -> Result<Ended, Trouble>
     requires { HasForm (map string_bytes words.now) (Form.Quote name credits courses) }
-    ensures answer { MatchResult result (λ text. IsDone (map string_bytes words.now) (sight H.Shelf shelf.old shelf.new) text.items)
+    ensures answer { MatchResult result (IsEnded (map string_bytes words.now) (sight H.Shelf shelf.old shelf.new))
         (λ stop. IsStopped (map string_bytes words.now) (sight H.Shelf shelf.old shelf.new) stop (line_of stop)) }
     ensures holds { H.holds shelf.new ≡ H.holds shelf.old }
     ensures later { (other : List ℕ) → H.faults shelf.old other ≤ H.faults shelf.new other }
 {
     let catalog = take_catalog(alloc, shelf, words[1].as_str(), 1)?;
     let commands = take_session(alloc, shelf, words[2].as_str(), 2, MAX_COMMANDS)?;
-    Ok(best_text(alloc, &catalog, &commands, name, credits, courses)?)
+    let text = best_text(alloc, &catalog, &commands, name, credits, courses)?;
+    Ok(Ended {
+        status: Status::Done,
+        output: Output::Text(text),
+    })
 }
 
 // The two lines that tell the best bundle after these commands and its utility.

@@ -17,6 +17,8 @@ pub enum Status {
     Refused { input: u16, row: u32, cause: Cause },
     /// This input has more bytes than its limit, or brings the commands of all sessions above 200,000.
     TooLong { input: u16 },
+    /// No prices are found: this least error exceeds what the settings accept.
+    NoPrices { least: u64 },
     /// The sink did not take the whole text of the status that was to be answered.
     SinkFault,
     /// There was not enough memory.
@@ -34,6 +36,7 @@ impl Status {
             Status::ShelfFault { .. } => 2,
             Status::Refused { .. } => 3,
             Status::TooLong { .. } => 4,
+            Status::NoPrices { .. } => 5,
             Status::SinkFault => 6,
             Status::OutOfMemory => 7,
         }

@@ -13,8 +13,10 @@ mod demand;
 mod faults;
 mod gates;
 mod limits;
+mod make;
 mod prefer;
 mod quote;
+mod runs;
 
 const HEADER: &[u8] = b"section,course,seats,credits,meetings\n";
 
@@ -105,12 +107,13 @@ fn each_status_has_its_number(rt: HostRuntime) {
         row: 3,
         cause: Cause::Header,
     };
-    let cases: [(Status, u8); 7] = [
+    let cases: [(Status, u8); 8] = [
         (Status::Done, 0),
         (Status::Usage, 1),
         (Status::ShelfFault { input: 1 }, 2),
         (refused, 3),
         (Status::TooLong { input: 4 }, 4),
+        (Status::NoPrices { least: 9 }, 5),
         (Status::SinkFault, 6),
         (Status::OutOfMemory, 7),
     ];
@@ -133,6 +136,10 @@ fn no_form(rt: HostRuntime) -> Result<(), Fail> {
         "demand 17 CAT STU SET PRICES S1",
         "demand 02 CAT STU SET PRICES S1",
         "demand 2 CAT STU SET PRICES",
+        "run 0 CAT STU SET S1",
+        "run 2 CAT STU SET",
+        "make 2 7 0 2 0",
+        "make 2 7 2 2 1000000000001",
     ] {
         let files = [("CAT", TWO), ("STU", ANN), ("S1", TIE)];
         let (found, written) = run(&rt, alloc, line, &files)?;

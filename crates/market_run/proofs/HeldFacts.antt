@@ -3,7 +3,7 @@ use Rattle.std.proofs.Common.{ℕ, ◌≡◌, ◌≤◌, List, Global, length, r
 use Rattle.std.specs.Prelude.{All, Vec}
 use Rattle.std.proofs.lemmas.List.{length-map}
 use Rattle.demand_api.specs.Crowds.{CrowdData}
-use Rattle.market_certificate.specs.Publications.{IsSession, Publication}
+use Rattle.market_certificate.specs.Publications.{IsPublication, IsSession, Publication}
 use Rattle.market_certificate.specs.Texts.{text_of}
 use Rattle.market_summary.specs.Summaries.{summary_text}
 use Rattle.preference_desk.specs.declared.entry.Entry.{Entry}
@@ -24,11 +24,11 @@ sessions_held streams entries steps are merges few =
     merged_sessions (command_lists streams) entries (subst (MergesStreams (command_lists streams)) (sym are) merges) low
 
 pub text_held : (market : Market) (streams : List (List Command)) (entries steps : List Entry) (text : List ℕ) → entries ≡ steps → IsLegalJournal (names_in market) steps → MergesStreams streams steps
-    → ((lengths : Lengths) × (p : Publication) × IsPublicationOf market entries lengths p × (text ≡ text_of (tables_in market) p)) → (order : List ℕ) × IsPublishedText market streams order text
+    → ((lengths : Lengths) × (p : Publication) × IsPublicationOf market entries lengths p × IsPublication (tables_in market) p × (text ≡ text_of (tables_in market) p)) → (order : List ℕ) × IsPublishedText market streams order text
 text_held market streams entries steps text are legal merges is = (
   sessions_of entries,
-  subst (IsPublishedText market streams (sessions_of entries)) (sym is.3)
-      (text_published market streams entries is.0 is.1 (subst (IsLegalJournal (names_in market)) (sym are) legal) (subst (MergesStreams streams) (sym are) merges) is.2),
+  subst (IsPublishedText market streams (sessions_of entries)) (sym is.4)
+      (text_published market streams entries is.0 is.1 (subst (IsLegalJournal (names_in market)) (sym are) legal) (subst (MergesStreams streams) (sym are) merges) is.2 is.3),
 )
 
 pub unpriced_held : (market : Market) (streams : List (List Command)) (entries steps : List Entry) (least : ℕ) → entries ≡ steps → IsLegalJournal (names_in market) steps → MergesStreams streams steps

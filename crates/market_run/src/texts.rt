@@ -1,7 +1,7 @@
 // The texts of a market that was run.
 ghost use Rattle.std.specs.Prelude.{◌≡◌, ◌≤◌, ℕ, Err, IfOk, All};
 ghost use Rattle.demand_api.specs.Crowds.{CrowdData};
-ghost use Rattle.market_certificate.specs.Publications.{IsSession, Publication};
+ghost use Rattle.market_certificate.specs.Publications.{IsPublication, IsSession, Publication};
 ghost use Rattle.market_certificate.specs.Texts.{text_of};
 ghost use Rattle.market_settings.specs.Settings.{AreInRange};
 ghost use Rattle.market_summary.specs.Summaries.{summary_text};
@@ -42,6 +42,7 @@ pub fn published_text<R: Threads + Wait + Sync>(
     requires settings { AreInRange settings.now }
     ensures text { IfOk result (λ text. (lengths : Lengths) × (p : Publication)
         × IsPublicationOf (market_of catalog.now roll.now settings.now) (entries_of desk.now) lengths p
+        × IsPublication (tables_in (market_of catalog.now roll.now settings.now)) p
         × (text.items ≡ text_of (tables_in (market_of catalog.now roll.now settings.now)) p)) }
     ensures no_prices { (least : ℕ) → result ≡ Err (PublishEnd.NoPrices least) → HasNoPrices (market_of catalog.now roll.now settings.now) (entries_of desk.now) least }
 {

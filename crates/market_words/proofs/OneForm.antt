@@ -1,18 +1,22 @@
 -- Words have one form at most.
-use Rattle.std.proofs.Common.{ℕ, ◌≡◌, ◌≤◌, List, [], ◌∷◌, get_or, refl, sym, ap, ◌∙◌, arith}
+use Rattle.std.proofs.Common.{ℕ, ◌≡◌, ◌≢◌, ◌≤◌, ◌^◌, ◌-◌, List, [], ◌∷◌, Global, get_or, length, map, refl, sym, ap, ◌∙◌, arith}
 use Rattle.std.specs.Fmt.{decimal}
-use Rattle.std.specs.Prelude.{codes}
+use Rattle.std.specs.Prelude.{codes, String}
+use Rattle.std.specs.String.{string_bytes}
 use Rattle.std.proofs.lemmas.Fmt.{decimal_injective}
 use Rattle.market_units.proofs.EqualNames.{same_name}
 use Rattle.market_words.specs.declared.words.Form.{Form}
-use Rattle.market_words.specs.declared.words.Form.TheVariants.{Demand, Prefer, Quote}
+use Rattle.market_words.specs.declared.words.Form.TheVariants.{Demand, Make, Prefer, Quote, Run}
 use Rattle.market_words.specs.Forms.{HasForm}
+use Rattle.market_words.proofs.WordLists.{make_words}
 
 -- the first byte of a form's first word
 byte_of : Form → ℕ
 byte_of (Quote name credits courses) = 113
 byte_of Prefer = 112
 byte_of (Demand workers) = 100
+byte_of (Run workers) = 114
+byte_of (Make workers seed students sections accept) = 109
 
 first_byte : List (List ℕ) → ℕ
 first_byte [] = 0
@@ -23,20 +27,32 @@ unfolding byte_of first_byte
 begins words (Quote name credits courses) has = ap first_byte has.2
 begins words Prefer has = ap first_byte has.3
 begins words (Demand workers) has = ap first_byte has.5
+begins words (Run workers) has = ap first_byte has.4
+begins words (Make workers seed students sections accept) has = ap first_byte has.0
 
 -- forms of the same words begin with the same byte
 same_byte : (words : List (List ℕ)) (one other : Form) → HasForm words one → HasForm words other → byte_of one ≡ byte_of other
 same_byte words one other a b = sym (begins words one a) ∙ begins words other b
 
--- where the words of `demand` have a form, there is some worker
-pub some_worker : (word : List ℕ) (more : List (List ℕ)) (n : ℕ) → n ≤ 16 → word ≡ decimal n → (form : Form) → HasForm (codes "demand" ∷ word ∷ more) form → 1 ≤ n
+-- forms that begin with different bytes are not of the same words
+apart : (words : List (List ℕ)) (one other : Form) → byte_of one ≢ byte_of other → HasForm words one → HasForm words other → ⊥
+apart words one other differ a b = differ (same_byte words one other a b)
+
+-- a word that spells a number from the least to the most
+abbrev pub Spells : List ℕ → ℕ → ℕ → Type 0
+Spells word least most = (n : ℕ) × (least ≤ n) × (n ≤ most) × (word ≡ decimal n)
+
+-- where the words behind `make` have a form, they spell numbers in their ranges
+pub make_spells : (words : List (String Global)) (workers seed students sections accept : String Global) → length words ≡ 5
+    → workers ≡ get_or words 0 workers → seed ≡ get_or words 1 seed → students ≡ get_or words 2 students → sections ≡ get_or words 3 sections → accept ≡ get_or words 4 accept
+    → (form : Form) → HasForm (codes "make" ∷ map string_bytes words) form
+    → Spells (string_bytes workers) 1 16 × Spells (string_bytes seed) 0 (2 ^ 64 - 1) × Spells (string_bytes students) 1 2000 × Spells (string_bytes sections) 1 400 × Spells (string_bytes accept) 0 (10 ^ 12)
 unfolding byte_of first_byte
-some_worker word more n small is (Demand workers) has =
-    let e = has.5 in
-    let same : n ≡ workers = decimal_injective n workers (omega arith) (omega (arith, has.6)) cc in
-    omega (arith, has.6)
-some_worker word more n small is (Quote name credits courses) has = let e : ◌≡◌ {A = ℕ} 100 113 = begins (codes "demand" ∷ word ∷ more) (Quote name credits courses) has in absurd (omega arith)
-some_worker word more n small is Prefer has = let e : ◌≡◌ {A = ℕ} 100 112 = begins (codes "demand" ∷ word ∷ more) Prefer has in absurd (omega arith)
+make_spells words w d t s x is f g h i j (Make workers seed students sections accept) has =
+    let five = make_words words w d t s x is f g h i j in
+    let same = has.0 in
+    ((workers, omega (arith, has.1), omega (arith, has.1), cc), (seed, omega arith, omega (arith, has.2), cc), (students, omega (arith, has.3), omega (arith, has.4), cc), (sections, omega (arith, has.5), omega (arith, has.6), cc), (accept, omega arith, omega (arith, has.7), cc))
+make_spells words w d t s x is f g h i j form has = absurd (omega (arith, begins (codes "make" ∷ map string_bytes words) form has))
 
 -- words have one form at most
 pub one_form : (words : List (List ℕ)) (one other : Form) → HasForm words one → HasForm words other → one ≡ other
@@ -52,9 +68,16 @@ one_form words (Demand workers) (Demand workers') a b =
     let e = sym a.5 ∙ b.5 in
     let same : workers ≡ workers' = decimal_injective workers workers' (omega (arith, a.6)) (omega (arith, b.6)) cc in
     cc
-one_form words (Quote name credits courses) Prefer a b = let e : ◌≡◌ {A = ℕ} 113 112 = same_byte words (Quote name credits courses) Prefer a b in absurd (omega arith)
-one_form words (Quote name credits courses) (Demand workers) a b = let e : ◌≡◌ {A = ℕ} 113 100 = same_byte words (Quote name credits courses) (Demand workers) a b in absurd (omega arith)
-one_form words Prefer (Quote name credits courses) a b = let e : ◌≡◌ {A = ℕ} 112 113 = same_byte words Prefer (Quote name credits courses) a b in absurd (omega arith)
-one_form words Prefer (Demand workers) a b = let e : ◌≡◌ {A = ℕ} 112 100 = same_byte words Prefer (Demand workers) a b in absurd (omega arith)
-one_form words (Demand workers) (Quote name credits courses) a b = let e : ◌≡◌ {A = ℕ} 100 113 = same_byte words (Demand workers) (Quote name credits courses) a b in absurd (omega arith)
-one_form words (Demand workers) Prefer a b = let e : ◌≡◌ {A = ℕ} 100 112 = same_byte words (Demand workers) Prefer a b in absurd (omega arith)
+one_form words (Run workers) (Run workers') a b =
+    let e = sym a.4 ∙ b.4 in
+    let same : workers ≡ workers' = decimal_injective workers workers' (omega (arith, a.5)) (omega (arith, b.5)) cc in
+    cc
+one_form words (Make workers seed students sections accept) (Make workers' seed' students' sections' accept') a b =
+    let e = sym a.0 ∙ b.0 in
+    let w : workers ≡ workers' = decimal_injective workers workers' (omega (arith, a.1)) (omega (arith, b.1)) cc in
+    let d : seed ≡ seed' = decimal_injective seed seed' (omega (arith, a.2)) (omega (arith, b.2)) cc in
+    let t : students ≡ students' = decimal_injective students students' (omega (arith, a.4)) (omega (arith, b.4)) cc in
+    let c : sections ≡ sections' = decimal_injective sections sections' (omega (arith, a.6)) (omega (arith, b.6)) cc in
+    let x : accept ≡ accept' = decimal_injective accept accept' (omega (arith, a.7)) (omega (arith, b.7)) cc in
+    cc
+one_form words one other a b = absurd (apart words one other (λ e. omega (arith, e)) a b)

@@ -1,8 +1,9 @@
 -- Lists of words, by their first items.
-use Rattle.std.proofs.Common.{ℕ, ◌≡◌, ◌≤◌, ◌-◌, List, [], ◌∷◌, length, get_or, take, drop, arith, refl, map, ap, sym, ◌∙◌, Global}
-use Rattle.std.proofs.lemmas.List.{length-map, take_all}
+use Rattle.std.proofs.Common.{ℕ, suc, ◌≡◌, ◌≤◌, ◌-◌, List, [], ◌∷◌, length, get_or, take, drop, arith, refl, map, ap, sym, ◌∙◌, Global}
+use Rattle.std.proofs.lemmas.List.{take_all}
 use Rattle.std.specs.Prelude.{String}
 use Rattle.std.specs.String.{string_bytes}
+use Rattle.market_words.specs.Forms.{AreSessions}
 
 first_item : {X : Type 0} (xs : List X) (a : X) → 1 ≤ length xs → xs ≡ get_or xs 0 a ∷ take (length xs - 1) (drop 1 xs)
 first_item (x ∷ xs) a some = ap (λ more. x ∷ more) (sym (take_all (length (x ∷ xs) - 1) xs (omega arith)))
@@ -13,30 +14,44 @@ pub verb_first : (words : List (String Global)) (verb : String Global) → 1 ≤
     → map string_bytes words ≡ string_bytes verb ∷ map string_bytes (take (length words - 1) (drop 1 words))
 verb_first words verb some is = ap (λ ws. map string_bytes ws) (first_item words verb some) ∙ cc
 
-five_items : {X : Type 0} (xs : List X) (a b c d : X) → length xs ≡ 5 → xs ≡ get_or xs 0 a ∷ get_or xs 1 a ∷ get_or xs 2 b ∷ get_or xs 3 c ∷ get_or xs 4 d ∷ []
-five_items (p ∷ q ∷ r ∷ s ∷ t ∷ []) a b c d is = refl
-five_items xs a b c d is = absurd (omega arith)
+five_items : {X : Type 0} (xs : List X) (a b c d e : X) → length xs ≡ 5 → xs ≡ get_or xs 0 a ∷ get_or xs 1 b ∷ get_or xs 2 c ∷ get_or xs 3 d ∷ get_or xs 4 e ∷ []
+five_items (p ∷ q ∷ r ∷ s ∷ t ∷ []) a b c d e is = refl
+five_items xs a b c d e is = absurd (omega arith)
 
 -- the words behind `quote`
 pub quote_words : (words : List (String Global)) (name credits courses : String Global) → length words ≡ 5
     → name ≡ get_or words 2 name → credits ≡ get_or words 3 credits → courses ≡ get_or words 4 courses
     → map string_bytes words ≡ string_bytes (get_or words 0 name) ∷ string_bytes (get_or words 1 name) ∷ string_bytes name ∷ string_bytes credits ∷ string_bytes courses ∷ []
-quote_words words name credits courses is n c k = ap (λ ws. map string_bytes ws) (five_items words name name credits courses is) ∙ cc
+quote_words words name credits courses is n c k = ap (λ ws. map string_bytes ws) (five_items words name name name credits courses is) ∙ cc
 
--- the words behind `prefer`
-pub prefer_words : (words : List (String Global)) → 3 ≤ length words → length words ≤ 66
-    → (catalog roll : List ℕ) × (sessions : List (List ℕ)) × (map string_bytes words ≡ catalog ∷ roll ∷ sessions) × (1 ≤ length sessions) × (length sessions ≤ 64)
-prefer_words (a ∷ b ∷ more) some few = (string_bytes a, string_bytes b, map string_bytes more, refl, omega (arith, length-map more string_bytes), omega (arith, length-map more string_bytes))
-prefer_words (a ∷ []) some few = absurd (omega arith)
-prefer_words [] some few = absurd (omega arith)
+-- the words behind `make`
+pub make_words : (words : List (String Global)) (workers seed students sections accept : String Global) → length words ≡ 5
+    → workers ≡ get_or words 0 workers → seed ≡ get_or words 1 seed → students ≡ get_or words 2 students → sections ≡ get_or words 3 sections → accept ≡ get_or words 4 accept
+    → map string_bytes words ≡ string_bytes workers ∷ string_bytes seed ∷ string_bytes students ∷ string_bytes sections ∷ string_bytes accept ∷ []
+make_words words w d t s x is f g h i j = ap (λ ws. map string_bytes ws) (five_items words w d t s x is) ∙ cc
 
--- the words behind `demand`
-pub demand_words : (words : List (String Global)) (workers : String Global) → 6 ≤ length words → length words ≤ 69 → workers ≡ get_or words 0 workers
-    → (catalog roll settings prices : List ℕ) × (sessions : List (List ℕ)) × (map string_bytes words ≡ string_bytes workers ∷ catalog ∷ roll ∷ settings ∷ prices ∷ sessions) × (1 ≤ length sessions) × (length sessions ≤ 64)
-demand_words (w ∷ a ∷ b ∷ c ∷ d ∷ more) workers some few is =
-    (string_bytes a, string_bytes b, string_bytes c, string_bytes d, map string_bytes more, cc, omega (arith, length-map more string_bytes), omega (arith, length-map more string_bytes))
-demand_words (w ∷ a ∷ b ∷ c ∷ []) workers some few is = absurd (omega arith)
-demand_words (w ∷ a ∷ b ∷ []) workers some few is = absurd (omega arith)
-demand_words (w ∷ a ∷ []) workers some few is = absurd (omega arith)
-demand_words (w ∷ []) workers some few is = absurd (omega arith)
-demand_words [] workers some few is = absurd (omega arith)
+-- words with an input and then sessions begin with that input
+one_named : (before : ℕ) (words : List (List ℕ)) → AreSessions (drop (suc before) words) → (name : List ℕ) × (more : List (List ℕ)) × (words ≡ name ∷ more) × AreSessions (drop before more)
+one_named before (name ∷ more) are = (name, more, refl, are)
+one_named before [] are = absurd (omega arith)
+
+-- two inputs and then sessions
+pub two_named : (words : List (List ℕ)) → AreSessions (drop 2 words) → (a b : List ℕ) × (sessions : List (List ℕ)) × (words ≡ a ∷ b ∷ sessions) × AreSessions sessions
+two_named words are =
+    let a = one_named 1 words are in
+    let b = one_named 0 a.1 a.3 in
+    (a.0, b.0, b.1, cc, b.3)
+
+-- three inputs and then sessions
+pub three_named : (words : List (List ℕ)) → AreSessions (drop 3 words) → (a b c : List ℕ) × (sessions : List (List ℕ)) × (words ≡ a ∷ b ∷ c ∷ sessions) × AreSessions sessions
+three_named words are =
+    let a = one_named 2 words are in
+    let more = two_named a.1 a.3 in
+    (a.0, more.0, more.1, more.2, cc, more.4)
+
+-- four inputs and then sessions
+pub four_named : (words : List (List ℕ)) → AreSessions (drop 4 words) → (a b c d : List ℕ) × (sessions : List (List ℕ)) × (words ≡ a ∷ b ∷ c ∷ d ∷ sessions) × AreSessions sessions
+four_named words are =
+    let a = one_named 3 words are in
+    let more = three_named a.1 a.3 in
+    (a.0, more.0, more.1, more.2, more.3, cc, more.5)

@@ -1,9 +1,9 @@
 -- The forms of the command line. A word is its bytes.
-use Rattle.std.specs.Prelude.{ℕ, ◌≡◌, ◌≤◌, List, [], ◌∷◌, codes, drop, length, take}
+use Rattle.std.specs.Prelude.{ℕ, ◌≡◌, ◌≤◌, ◌<◌, ◌^◌, List, [], ◌∷◌, codes, drop, length, take}
 use Rattle.std.specs.Fmt.{decimal}
 use Rattle.market_units.specs.Name.{name_bytes}
 use Rattle.market_words.specs.declared.words.Form.{Form}
-use Rattle.market_words.specs.declared.words.Form.TheVariants.{Demand, Prefer, Quote}
+use Rattle.market_words.specs.declared.words.Form.TheVariants.{Demand, Make, Prefer, Quote, Run}
 
 -- words that name sessions: 1 to 64
 abbrev pub AreSessions : List (List ℕ) → Type 0
@@ -13,7 +13,8 @@ AreSessions sessions = (1 ≤ length sessions) × (length sessions ≤ 64)
 abbrev pub AreWorkers : ℕ → Type 0
 AreWorkers workers = (1 ≤ workers) × (workers ≤ 16)
 
--- these words ask for this: `quote CAT SES NAME CREDITS COURSES`, `prefer CAT STU SES..`, `demand W CAT STU SET PRICES SES..`
+-- these words ask for this: `quote CAT SES NAME CREDITS COURSES`, `prefer CAT STU SES..`, `demand W CAT STU SET PRICES SES..`,
+-- `run W CAT STU SET SES..`, `make W SEED STUDENTS SECTIONS ACCEPT`
 abbrev pub HasForm : List (List ℕ) → Form → Type 0
 HasForm words (Quote name credits courses) =
     (catalog : List ℕ) × (session : List ℕ)
@@ -25,6 +26,12 @@ HasForm words Prefer =
 HasForm words (Demand workers) =
     (catalog : List ℕ) × (roll : List ℕ) × (settings : List ℕ) × (prices : List ℕ) × (sessions : List (List ℕ))
     × (words ≡ codes "demand" ∷ decimal workers ∷ catalog ∷ roll ∷ settings ∷ prices ∷ sessions) × AreWorkers workers × AreSessions sessions
+HasForm words (Run workers) =
+    (catalog : List ℕ) × (roll : List ℕ) × (settings : List ℕ) × (sessions : List (List ℕ))
+    × (words ≡ codes "run" ∷ decimal workers ∷ catalog ∷ roll ∷ settings ∷ sessions) × AreWorkers workers × AreSessions sessions
+HasForm words (Make workers seed students sections accept) =
+    (words ≡ codes "make" ∷ decimal workers ∷ decimal seed ∷ decimal students ∷ decimal sections ∷ decimal accept ∷ [])
+    × AreWorkers workers × (seed < 2 ^ 64) × (1 ≤ students) × (students ≤ 2000) × (1 ≤ sections) × (sections ≤ 400) × (accept ≤ 10 ^ 12)
 
 -- these words ask for nothing
 abbrev pub HasNoForm : List (List ℕ) → Type 0
@@ -35,3 +42,5 @@ abbrev pub inputs_of : Form → List (List ℕ) → List (List ℕ)
 inputs_of (Quote name credits courses) words = take 2 (drop 1 words)
 inputs_of Prefer words = drop 1 words
 inputs_of (Demand workers) words = drop 2 words
+inputs_of (Run workers) words = drop 2 words
+inputs_of (Make workers seed students sections accept) words = []

@@ -1,10 +1,12 @@
 // The words of the command line.
-ghost use Rattle.std.specs.Prelude.{◌≡◌, ◌↔◌, ◌∷◌, codes, map, IfSome, IfNone, IsTrue};
+ghost use Rattle.std.specs.Prelude.{◌≡◌, ◌≢◌, ◌≤◌, ◌↔◌, ◌∷◌, ℕ, codes, drop, map, IfSome, IfNone, IsTrue};
+ghost use Rattle.std.specs.Fmt.{decimal};
 ghost use Rattle.std.specs.String.{string_bytes};
 ghost use Rattle.market_words.specs.Forms.{AreSessions, HasForm, HasNoForm};
 
 use market_units::{
-    MAX_COURSES, MAX_CREDITS, MAX_SESSIONS, MAX_WORKERS, Name, read_name, read_number,
+    MAX_ACCEPT, MAX_COURSES, MAX_CREDITS, MAX_SECTIONS, MAX_SESSIONS, MAX_STUDENTS, MAX_WORKERS,
+    Name, read_name, read_number,
 };
 
 /// What the words of the command line ask for. The words that name inputs are not kept.
@@ -24,6 +26,19 @@ pub enum Form {
     Demand {
         workers: u16,
     },
+    /// `run W CAT STU SET SES..`: the whole market of 1 to 64 sessions, held by 1 to 16 workers.
+    Run {
+        workers: u16,
+    },
+    /// `make W SEED STUDENTS SECTIONS ACCEPT`: the summary of a made market of 1 to 2,000 students and 1 to 400
+    /// sections, held by 1 to 16 workers, with a clearing error of at most `accept`, 0 to 10^12. The seed is any.
+    Make {
+        workers: u16,
+        seed: u64,
+        students: u16,
+        sections: u16,
+        accept: u64,
+    },
 }
 
 /// What the words ask for, or `None` exactly where they are none of the forms. It takes no memory.
@@ -42,6 +57,12 @@ pub fn read_words(words: &[String]) -> Option<Form>
     }
     if verb.as_str() == "demand" {
         return read_demand(more);
+    }
+    if verb.as_str() == "run" {
+        return read_run(more);
+    }
+    if verb.as_str() == "make" {
+        return read_make(more);
     }
     None
 }
@@ -69,10 +90,7 @@ fn read_prefer(more: &[String]) -> Option<Form>
     ensures form { IfSome result (HasForm (codes "prefer" ∷ map string_bytes more.now)) }
     ensures none { IfNone result (HasNoForm (codes "prefer" ∷ map string_bytes more.now)) }
 {
-    let [_, _, sessions @ ..] = more else {
-        return None;
-    };
-    if !are_sessions(sessions) {
+    if !are_inputs(more, 2) {
         return None;
     }
     Some(Form::Prefer)
@@ -83,14 +101,11 @@ fn read_demand(more: &[String]) -> Option<Form>
     ensures form { IfSome result (HasForm (codes "demand" ∷ map string_bytes more.now)) }
     ensures none { IfNone result (HasNoForm (codes "demand" ∷ map string_bytes more.now)) }
 {
-    let [workers, _, _, _, _, sessions @ ..] = more else {
+    let [workers, inputs @ ..] = more else {
         return None;
     };
-    let workers = read_number(workers.as_bytes(), u64::from(MAX_WORKERS))?;
-    if workers < 1 {
-        return None;
-    }
-    if !are_sessions(sessions) {
+    let workers = read_between(workers.as_bytes(), 1, u64::from(MAX_WORKERS))?;
+    if !are_inputs(inputs, 4) {
         return None;
     }
     Some(Form::Demand {
@@ -98,9 +113,62 @@ fn read_demand(more: &[String]) -> Option<Form>
     })
 }
 
-// Whether these words name sessions: 1 to 64 of them.
-fn are_sessions(words: &[String]) -> bool
-    ensures { IsTrue result ↔ AreSessions (map string_bytes words.now) }
+// What the words behind `run` ask for.
+fn read_run(more: &[String]) -> Option<Form>
+    ensures form { IfSome result (HasForm (codes "run" ∷ map string_bytes more.now)) }
+    ensures none { IfNone result (HasNoForm (codes "run" ∷ map string_bytes more.now)) }
 {
-    !words.is_empty() && words.len() <= usize::from(MAX_SESSIONS)
+    let [workers, inputs @ ..] = more else {
+        return None;
+    };
+    let workers = read_between(workers.as_bytes(), 1, u64::from(MAX_WORKERS))?;
+    if !are_inputs(inputs, 3) {
+        return None;
+    }
+    Some(Form::Run {
+        workers: workers as u16,
+    })
+}
+
+// What the words behind `make` ask for.
+fn read_make(more: &[String]) -> Option<Form>
+    ensures form { IfSome result (HasForm (codes "make" ∷ map string_bytes more.now)) }
+    ensures none { IfNone result (HasNoForm (codes "make" ∷ map string_bytes more.now)) }
+{
+    let [workers, seed, students, sections, accept] = more else {
+        return None;
+    };
+    let workers = read_between(workers.as_bytes(), 1, u64::from(MAX_WORKERS))?;
+    let seed = read_number(seed.as_bytes(), u64::MAX)?;
+    let students = read_between(students.as_bytes(), 1, u64::from(MAX_STUDENTS))?;
+    let sections = read_between(sections.as_bytes(), 1, u64::from(MAX_SECTIONS))?;
+    let accept = read_number(accept.as_bytes(), MAX_ACCEPT)?;
+    Some(Form::Make {
+        workers: workers as u16,
+        seed,
+        students: students as u16,
+        sections: sections as u16,
+        accept,
+    })
+}
+
+// The number from `least` to `most` that the bytes spell, or `None` exactly where they spell none.
+fn read_between(bytes: &[u8], least: u64, most: u64) -> Option<u64>
+    ensures least { IfSome result (λ n. least ≤ n) }
+    ensures most { IfSome result (λ n. n ≤ most) }
+    ensures spelled { IfSome result (λ n. bytes.now ≡ decimal n) }
+    ensures none { IfNone result ((n : ℕ) → least ≤ n → n ≤ most → bytes.now ≢ decimal n) }
+{
+    let number = read_number(bytes, most)?;
+    if number < least {
+        return None;
+    }
+    Some(number)
+}
+
+// Whether these words name so many inputs, and then sessions: 1 to 64 of them.
+fn are_inputs(words: &[String], before: usize) -> bool
+    ensures { IsTrue result ↔ AreSessions (drop before (map string_bytes words.now)) }
+{
+    words.len() > before && words.len() - before <= usize::from(MAX_SESSIONS)
 }

@@ -127,6 +127,11 @@ fn put_at(room: &mut [u8], count: usize, bytes: &[u8]) -> Option<usize>
     if bytes.len() > room.len() - count {
         return None;
     }
+    // Most symbols are one byte, for which a copy of a slice would cost more than the rest of this.
+    if let [byte] = bytes {
+        room[count] = *byte;
+        return Some(count + 1);
+    }
     let next = count + bytes.len();
     room[count..next].copy_from_slice(bytes);
     Some(next)

@@ -184,7 +184,8 @@ fn each_defect_at_its_place(rt: HostRuntime) -> Result<(), Fail> {
     Ok(())
 }
 
-// The forced tree of the section alone is this text; cut by its last byte, it fails there.
+// The forced tree of the section alone is this text, each of whose symbols is one byte: with another symbol there, or
+// cut there, it fails there.
 fn has_forced_tree<R: Abort>(
     rt: &R,
     alloc: Global,
@@ -206,10 +207,16 @@ fn has_forced_tree<R: Abort>(
         rt, "memory",
     );
     assert!(rt; built.as_slice() == text);
-    let cut = &text[..text.len().saturating_sub(1)];
-    match check_forced(menu, prices, budget, &allowed, section, &champion, cut) {
-        Ok(()) => panic!(rt; "cut short"),
-        Err(at) => assert!(rt; at as usize == cut.len()),
+    'symbols: for (at, symbol) in text.iter().enumerate() {
+        let mut spoiled = text.to_vec(alloc).expect(rt, "memory");
+        spoiled[at] = if *symbol == b'n' { b'+' } else { b'n' };
+        for other in [spoiled.as_slice(), &text[..at]] {
+            let checked = check_forced(menu, prices, budget, &allowed, section, &champion, other);
+            match checked {
+                Ok(()) => panic!(rt; "no tree is taken for one, at {at}"),
+                Err(found) => assert_eq!(rt; found as usize, at),
+            }
+        }
     }
 }
 

@@ -4,7 +4,7 @@ use Rattle.std.specs.Prelude.{All}
 use Rattle.utility_language.specs.declared.commands.Command.{Command}
 use Rattle.preference_desk.specs.declared.entry.Entry.{Entry}
 use Rattle.preference_desk.specs.Journals.{IsLegalJournal, MergesStreams}
-use Rattle.market_certificate.specs.Publications.{IsSession, Publication}
+use Rattle.market_certificate.specs.Publications.{IsPublication, IsSession, Publication}
 use Rattle.market_certificate.specs.Texts.{text_of}
 use Rattle.published_parts.specs.Journals.{sessions_of}
 use Rattle.published_parts.specs.Markets.{Market, names_in, tables_in}
@@ -18,9 +18,9 @@ merged_sessions streams journal merges few k d inside =
 
 -- what is published after it is the published text of its order
 pub text_published : (market : Market) (streams : List (List Command)) (journal : List Entry) (lengths : Lengths) (p : Publication) → IsLegalJournal (names_in market) journal → MergesStreams streams journal → IsPublicationOf market journal lengths p
-    → IsPublishedText market streams (sessions_of journal) (text_of (tables_in market) p)
-text_published market streams journal lengths p legal merges is =
-    (p, record { journal = journal; is_journal = record { sessions = refl; legal = legal; merges = merges }; lengths = lengths; publication = is }, refl)
+    → IsPublication (tables_in market) p → IsPublishedText market streams (sessions_of journal) (text_of (tables_in market) p)
+text_published market streams journal lengths p legal merges is ranges =
+    (p, record { journal = journal; is_journal = record { sessions = refl; legal = legal; merges = merges }; lengths = lengths; publication = is }, ranges, refl)
 
 -- where no prices are found after it, its order is unpriced
 pub order_unpriced : (market : Market) (streams : List (List Command)) (journal : List Entry) (least : ℕ) → IsLegalJournal (names_in market) journal → MergesStreams streams journal → HasNoPrices market journal least

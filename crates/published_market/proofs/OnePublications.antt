@@ -101,7 +101,7 @@ one_publication searched aftermarket market streams order p q is so =
     one_after searched aftermarket market so.journal is.lengths so.lengths p q (published_after market streams order p so.journal is so.is_journal) so.publication
 
 pub one_text : OneIsFound → OneAftermarket → OnePublishedText
-one_text searched aftermarket market streams order text alike (p, is, written) (q, so, spelt) = written ∙ ap (text_of (tables_in market)) (one_publication searched aftermarket market streams order p q is so) ∙ sym spelt
+one_text searched aftermarket market streams order text alike (p, is, _, written) (q, so, _, spelt) = written ∙ ap (text_of (tables_in market)) (one_publication searched aftermarket market streams order p q is so) ∙ sym spelt
 
 -- where no prices are found after a journal, that is so of its crowd
 none_for : (market : Market) (journal : List Entry) (crowd : CrowdData) (least : ℕ) → IsCrowdIn market journal crowd → HasNoPrices market journal least → FindsNone crowd (seats_in market) market.settings least

@@ -11,7 +11,7 @@ use Rattle.aftermarket_stage.specs.Passes.{IsAftermarket}
 use Rattle.aftermarket_stage.specs.Turns.{Terms, TurnData}
 use Rattle.preference_desk.specs.declared.entry.Entry.{Entry}
 use Rattle.utility_language.specs.declared.commands.Command.{Command}
-use Rattle.market_certificate.specs.Publications.{Publication}
+use Rattle.market_certificate.specs.Publications.{IsPublication, Publication}
 use Rattle.market_certificate.specs.Texts.{text_of}
 use Rattle.published_parts.specs.Markets.{Market, names_in, seats_in, tables_in}
 use Rattle.published_parts.specs.Journals.{IsJournalOf, sessions_of}
@@ -70,9 +70,9 @@ pub record IsPublished (market : Market) (streams : List (List Command)) (order 
   pub lengths : Lengths
   pub publication : IsPublicationOf market journal lengths p
 
--- the text of that publication
+-- the text of that publication, which is within the ranges of such texts
 abbrev pub IsPublishedText : Market → List (List Command) → List ℕ → List ℕ → Type 0
-IsPublishedText market streams order text = (p : Publication) × IsPublished market streams order p × (text ≡ text_of (tables_in market) p)
+IsPublishedText market streams order text = (p : Publication) × IsPublished market streams order p × IsPublication (tables_in market) p × (text ≡ text_of (tables_in market) p)
 
 -- nothing is published of a market for want of prices, where the sessions say these streams in this order, and this is the least error
 abbrev pub IsUnpriced : Market → List (List Command) → List ℕ → ℕ → Type 0

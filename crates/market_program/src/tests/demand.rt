@@ -22,7 +22,7 @@ pub(super) const EQUAL: &[u8] =
 const MARKED: &[u8] =
     b"\xef\xbb\xbf{\"seed\":0,\"spread\":0,\"accept\":9,\"turns\":0,\"tabu\":5,\"patience\":3,\"steps\":[1],\"raise\":10}";
 
-const RATED: &[u8] = b"rate s1 X 50\nrate s2 X 50\nrate s3 X 50\nrate s4 X 50\n";
+pub(super) const RATED: &[u8] = b"rate s1 X 50\nrate s2 X 50\nrate s3 X 50\nrate s4 X 50\n";
 
 // What the case shows, the roll, the settings, the prices, the number of the status, and the text.
 type Case = (
@@ -187,16 +187,16 @@ const REFUSED_SETTINGS: [Case; 7] = [
     ),
 ];
 
-const TERM: &[u8] =
+pub(super) const TERM: &[u8] =
     b"section,course,seats,credits,meetings\nA,ACCT,1,1,M0900-1020;W0900-1020\nB,BIOL,2,1,M1020-1140\nC,CHEM,2,1,T0900-1020\nD,ACCT,1,1,M1000-1100\n";
 
-const THREE_STUDENTS: &[u8] =
+pub(super) const THREE_STUDENTS: &[u8] =
     b"student,budget,credits,courses\nann,100,10,2\nbob,101,10,2\ncat,102,10,2\n";
 
-const SPREAD: &[u8] =
+pub(super) const SPREAD: &[u8] =
     br#"{"seed":0,"spread":2,"accept":1,"turns":5,"tabu":5,"patience":3,"steps":[1],"raise":10}"#;
 
-const ORDINARY: &[u8] =
+pub(super) const ORDINARY: &[u8] =
     b"rate ann A 60\nrate ann B 30\nrate bob A 50\nrate bob C 40\npair bob A C 10\nrate cat A 20\nrate cat D 45\nclose\n";
 
 const OF_A_TERM: [Case; 2] = [
@@ -260,7 +260,7 @@ fn refused_settings_and_prices(rt: HostRuntime) -> Result<(), Fail> {
 }
 
 // The orders of two sessions with two commands each.
-const ORDERS: [&str; 6] = [
+pub(super) const ORDERS: [&str; 6] = [
     "order 1 1 2 2\n",
     "order 1 2 1 2\n",
     "order 1 2 2 1\n",

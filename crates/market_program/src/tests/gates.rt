@@ -1,5 +1,5 @@
 // Sessions and workers that meet, and how often they pass the gate.
-use super::demand::{EQUAL, FIRST as OF_FIRST, FOUR, SEAT, SECOND as OF_SECOND, is_lawful};
+use super::demand::{EQUAL, FIRST as OF_FIRST, FOUR, ORDERS, SEAT, SECOND as OF_SECOND, is_lawful};
 use super::*;
 use market_edge::Stop;
 use std::sync::atomic::{AtomicU64, Ordering};
@@ -180,5 +180,88 @@ fn two_workers_post_at_once(rt: HostRuntime) -> Result<(), Fail> {
     let (_, of_second) = gate.second_worker.counts();
     assert!(rt; of_first > 0 && of_second > 0);
     assert!(rt; of_first.saturating_add(of_second) >= 4);
+    Ok(())
+}
+
+// Behind the order, the text of the four students of one seat.
+const PUBLISHED: &str =
+    "budget s1 100\nbudget s2 101\nbudget s3 102\nbudget s4 103\nstart X 0\nerror 9\nprice X 103\nbundle s1 [] -*\nbundle s2 [] -*\nbundle s3 [] -*\nbundle s4 [X] +*n\nturn 1 s4 [X] +*n\nturn 1 s3 [] -*\nturn 1 s2 [] -*\nturn 1 s1 [] -*\nfinal s1 []\nfinal s2 []\nfinal s3 []\nfinal s4 [X]\nused X 1 1\nend\n";
+
+// Whether a text is what is published in a lawful order.
+fn is_published(text: &str) -> bool {
+    let Some(rest) = text.strip_prefix("course-match 1\n") else {
+        return false;
+    };
+    ORDERS
+        .iter()
+        .any(|order| rest.strip_prefix(*order) == Some(PUBLISHED))
+}
+
+// In one run sessions meet and workers meet.
+#[test]
+fn sessions_and_workers_of_a_run_post_at_once(rt: HostRuntime) -> Result<(), Fail> {
+    let gate = MeetingGate::new();
+    let files = [
+        ("CAT", SEAT),
+        ("STU", FOUR),
+        ("SET", EQUAL),
+        ("S1", OF_FIRST),
+        ("S2", OF_SECOND),
+    ];
+    let line = "run 2 CAT STU SET S1 S2";
+    let (status, text) = run_by(&rt, rt.alloc(), line, &files, (0, 0), 1000, &gate)?;
+    assert_eq!(rt; status, Status::Done);
+    assert!(rt; is_published(text.as_str()), "{text}");
+    assert_eq!(rt; count_of(&gate.missed), 0);
+    assert_eq!(rt; gate.first.counts(), (1, 2));
+    assert_eq!(rt; gate.second.counts(), (1, 2));
+    assert_eq!(rt; count_of(&gate.others), 0);
+    let (_, of_first) = gate.first_worker.counts();
+    let (_, of_second) = gate.second_worker.counts();
+    assert!(rt; of_first > 0 && of_second > 0);
+    assert!(rt; of_first.saturating_add(of_second) >= 4);
+    Ok(())
+}
+
+// Counts the stops of two sessions and of all workers, and lets each pass.
+#[derive(Drop)]
+struct CountingGate {
+    first: Passes,
+    second: Passes,
+    workers: Passes,
+    others: AtomicU64,
+}
+
+impl Gate for CountingGate {
+    fn pass(&self, stop: Stop) {
+        match stop {
+            Stop::SessionStart(1) => count_one(&self.first.starts),
+            Stop::SessionStart(2) => count_one(&self.second.starts),
+            Stop::SessionCall(1) => count_one(&self.first.calls),
+            Stop::SessionCall(2) => count_one(&self.second.calls),
+            Stop::WorkerStart(_) => count_one(&self.workers.starts),
+            Stop::WorkerCall(_) => count_one(&self.workers.calls),
+            _ => count_one(&self.others),
+        }
+    }
+}
+
+// The sessions and the workers of a made market pass the gate too: each student rates two sections and pairs them.
+#[test]
+fn a_made_market_passes_the_gate(rt: HostRuntime) -> Result<(), Fail> {
+    let gate = CountingGate {
+        first: Passes::none(),
+        second: Passes::none(),
+        workers: Passes::none(),
+        others: AtomicU64::new(0),
+    };
+    let line = "make 2 7 2 2 0";
+    let (status, _) = run_by(&rt, rt.alloc(), line, &[], (0, 0), 1000, &gate)?;
+    assert_eq!(rt; status, Status::Done);
+    assert_eq!(rt; gate.first.counts(), (1, 3));
+    assert_eq!(rt; gate.second.counts(), (1, 3));
+    let (_, calls) = gate.workers.counts();
+    assert!(rt; calls >= 2);
+    assert_eq!(rt; count_of(&gate.others), 0);
     Ok(())
 }

@@ -123,3 +123,13 @@ fn an_input_is_too_long(rt: HostRuntime) -> Result<(), Fail> {
     }
     Ok(())
 }
+
+// The catalogue of a market that is run has the same limit.
+#[test]
+fn a_catalogue_of_run_is_too_long(rt: HostRuntime) -> Result<(), Fail> {
+    let alloc = rt.alloc();
+    let bytes = vec![in alloc; b' '; 16_777_217]?;
+    let files = [("LONG", bytes.as_slice())];
+    let line = "run 2 LONG STU SET S1";
+    run_long(&rt, alloc, line, &files, "input 1 is too long\n")
+}

@@ -4,7 +4,9 @@ use Rattle.market_certificate.specs.Views.{publication_of, turn_of}
 use Rattle.published_parts.specs.Markets.{market_of}
 use Rattle.certificate_checker.specs.Certificates.{IsAccepted}
 use Rattle.certificate_checker.specs.Findings.{IsFirstFinding, OnFound}
+use Rattle.certificate_checker.specs.Words.{IsNamedIn}
 use Rattle.certificate_checker.proofs.Composing.{defect_first, defect_refused, err_found, on_ok, text_first}
+use Rattle.certificate_checker.proofs.Naming.{defect_named, named_in}
 use Rattle.certificate_checker.proofs.Ranges.{order_in_text, turns_in_text}
 use Rattle.certificate_checker.proofs.Reading.{length_map}
 use Rattle.certificate_checker.proofs.Refusing.{no_finding}
@@ -51,3 +53,13 @@ pub returns-in-Err-clause-refused : goal.returns-in-Err-clause-refused
 returns-in-Err-clause-refused c =
     subst (λ end. OnFound end (λ _. ¬ IsAccepted (market_of c.args.catalog.now c.args.roll.now c.args.settings.now) (map (λ stream. stream.items) c.args.streams.now) c.args.text.now)) (sym c.end_of.ensures)
     (defect_refused (market_of c.args.catalog.now c.args.roll.now c.args.settings.now) _ c.args.text.now c.in-Err.refusal c.in-Err.ensures.refused)
+
+pub returns-in-Ok-clause-named : goal.returns-in-Ok-clause-named
+returns-in-Ok-clause-named c =
+    err_found c.check_publication.result (λ finding is. named_in (market_of c.args.catalog.now c.args.roll.now c.args.settings.now) (map (λ stream. stream.items) c.args.streams.now) c.args.text.now finding
+    (text_first (market_of c.args.catalog.now c.args.roll.now c.args.settings.now) _ (publication_of c.in-Ok.publication) c.args.text.now finding
+    (record { is_publication = c.in-Ok.ensures.publication; written = c.in-Ok.ensures.text }) is)) c.check_publication.ensures.first
+
+pub returns-in-Err-clause-named : goal.returns-in-Err-clause-named
+returns-in-Err-clause-named c =
+    subst (λ end. OnFound end (IsNamedIn (tables_of c.args.catalog.now c.args.roll.now))) (sym c.end_of.ensures) (defect_named (tables_of c.args.catalog.now c.args.roll.now) c.in-Err.refusal)

@@ -6,11 +6,12 @@ use Rattle.market_lists.specs.Totals.{total}
 use Rattle.market_words.specs.declared.words.Form.TheVariants.{Demand}
 use Rattle.market_host.specs.Sessions.{command_count}
 use Rattle.market_host.specs.Sights.{sight}
-use Rattle.market_host.proofs.DemandFacts.{demand_done, inputs-demand, length-demand, length-sessions, market-demand, opens_demand, prices_fourth, prices_length}
+use Rattle.market_host.proofs.DemandFacts.{demand_done, inputs-demand, length-demand, market-demand, opens_demand, prices_fourth, prices_length}
 use Rattle.market_host.proofs.MarketFacts.{market_third}
 use Rattle.market_host.proofs.SessionsRead.{streams_of_names}
 use Rattle.market_host.proofs.Stops.{market_stops, prices_stop, sessions_stop}
 use Rattle.market_host.proofs.StreamFacts.{count_of_sessions}
+use Rattle.market_host.proofs.WordFacts.{length-words}
 use Rattle.market_host.proofs.demand.demand.Goals as goal
 
 pub bounds-words-5 : goal.bounds-words-5
@@ -79,7 +80,7 @@ pub text_of-requires-clause-sessions : goal.text_of-requires-clause-sessions
 text_of-requires-clause-sessions g c κs within =
     let read = c.in_ok-streams.ensures.read in
     let long = length-demand c.args.words.now c.args.workers c.requires in
-    let names : length (map string_bytes (take (length c.args.words.now - 6) (drop 6 c.args.words.now))) ≡ length c.args.words.now - 6 = length-sessions c.args.words.now in
+    let names : length (map string_bytes (take (length c.args.words.now - 6) (drop 6 c.args.words.now))) ≡ length c.args.words.now - 6 = length-words c.args.words.now 6 (omega (arith, long.0)) in
     let count = streams_of_names (g.H.Shelf.holds c.take_prices.new.shelf) (map string_bytes (take (length c.args.words.now - 6) (drop 6 c.args.words.now))) read.0 c.in_ok-streams.streams.items read.1 read.2 in
     rw c.deref-2.ensures.value (omega (arith, count, names, long.0), omega (arith, count, names, long.1))
 
@@ -89,9 +90,9 @@ text_of-requires-clause-commands g c κs within =
     let count : total command_count read.0 ≡ total vec_len c.in_ok-streams.streams.items = count_of_sessions read.0 c.in_ok-streams.streams.items read.2.commands in
     rw c.deref-2.ensures.value (omega (arith, count, read.2.count))
 
-pub returns-in_err-text_of-clause-answer : goal.returns-in_err-text_of-clause-answer
-returns-in_err-text_of-clause-answer g c =
-    let p = err_from_is_err_and c.from_residual-in_err-text_of.result c.from_residual-in_err-text_of.ensures.1 in
+pub returns-in_err-text-clause-answer : goal.returns-in_err-text-clause-answer
+returns-in_err-text-clause-answer g c =
+    let p = err_from_is_err_and c.from_residual-in_err-text.result c.from_residual-in_err-text.ensures.1 in
     rw (p.1, p.2) (Demand c.args.workers, c.requires, tt, refl)
 
 pub returns-clause-answer : goal.returns-clause-answer
@@ -100,7 +101,7 @@ returns-clause-answer g c =
     let names = map string_bytes (take (length c.args.words.now - 6) (drop 6 c.args.words.now)) in
     let long = length-demand c.args.words.now c.args.workers c.requires in
     let named = inputs-demand c.args.words.now c.args.workers c.index-words-2.result c.index-words-3.result c.index-words-4.result c.index-words-5.result long.0 c.index-words-2.is c.index-words-3.is c.index-words-4.is c.index-words-5.is in
-    let count : length (map string_bytes (take (length c.args.words.now - 6) (drop 6 c.args.words.now))) ≡ length c.args.words.now - 6 = length-sessions c.args.words.now in
+    let count : length (map string_bytes (take (length c.args.words.now - 6) (drop 6 c.args.words.now))) ≡ length c.args.words.now - 6 = length-words c.args.words.now 6 (omega (arith, long.0)) in
     let said = c.in_ok-market.ensures in
     let first = rw c.as_str.ensures.value at said.catalog in
     let second = rw c.as_str-2.ensures.value at said.roll in
@@ -110,4 +111,4 @@ returns-clause-answer g c =
     demand_done words c.args.workers (g.H.Shelf.faults c.args.shelf.now) (sight g.H.Shelf c.take_prices.new.shelf c.take_sessions.new.shelf) (g.H.Shelf.holds c.args.shelf.now)
     (string_bytes c.index-words-2.result) (string_bytes c.index-words-3.result) (string_bytes c.index-words-4.result) (string_bytes c.index-words-5.result) names read.0 read.1
     c.in_ok-market.market.catalog c.in_ok-market.market.roll c.in_ok-market.market.settings c.in_ok-prices.prices.items c.in_ok-streams.streams.items _ c.requires named (omega (arith, count, long.0)) first second third fourth
-    (c.in_ok-prices.ensures.holds ∙ said.holds) read.2 c.in_ok-streams.ensures.end (rw (c.deref.ensures.value, c.deref-2.ensures.value) at c.in_ok-text_of.ensures)
+    (c.in_ok-prices.ensures.holds ∙ said.holds) read.2 c.in_ok-streams.ensures.end (rw (c.deref.ensures.value, c.deref-2.ensures.value) at c.in_ok-text.ensures)

@@ -8,10 +8,11 @@ use Rattle.market_host.specs.Kinds.{Catalog, Roll}
 use Rattle.market_host.specs.Sessions.{command_count}
 use Rattle.market_host.specs.Sights.{sight}
 use Rattle.market_host.proofs.InputTroubles.{catalog_first, none_read, roll_second}
-use Rattle.market_host.proofs.PreferFacts.{first-prefer, inputs-prefer, length-prefer, length-sessions, prefer_done}
+use Rattle.market_host.proofs.PreferFacts.{first-prefer, inputs-prefer, length-prefer, prefer_done}
 use Rattle.market_host.proofs.SessionsRead.{streams_of_names}
 use Rattle.market_host.proofs.Stops.{input_stops, sessions_stop}
 use Rattle.market_host.proofs.StreamFacts.{count_of_sessions}
+use Rattle.market_host.proofs.WordFacts.{length-words}
 use Rattle.market_host.proofs.prefer.prefer.Goals as goal
 
 pub bounds-words-2 : goal.bounds-words-2
@@ -58,7 +59,7 @@ pub text_of-requires-clause-sessions : goal.text_of-requires-clause-sessions
 text_of-requires-clause-sessions g c κs within =
     let read = c.in_ok-streams.ensures.read in
     let long = length-prefer c.args.words.now c.requires in
-    let names : length (map string_bytes (take (length c.args.words.now - 3) (drop 3 c.args.words.now))) ≡ length c.args.words.now - 3 = length-sessions c.args.words.now in
+    let names : length (map string_bytes (take (length c.args.words.now - 3) (drop 3 c.args.words.now))) ≡ length c.args.words.now - 3 = length-words c.args.words.now 3 (omega (arith, long.0)) in
     let count = streams_of_names (g.H.Shelf.holds c.take_roll.new.shelf) (map string_bytes (take (length c.args.words.now - 3) (drop 3 c.args.words.now))) read.0 c.in_ok-streams.streams.items read.1 read.2 in
     rw c.deref.ensures.value (omega (arith, count, names, long.0), omega (arith, count, names, long.1))
 
@@ -68,9 +69,9 @@ text_of-requires-clause-commands g c κs within =
     let count : total command_count read.0 ≡ total vec_len c.in_ok-streams.streams.items = count_of_sessions read.0 c.in_ok-streams.streams.items read.2.commands in
     rw c.deref.ensures.value (omega (arith, count, read.2.count))
 
-pub returns-in_err-text_of-clause-answer : goal.returns-in_err-text_of-clause-answer
-returns-in_err-text_of-clause-answer g c =
-    let p = err_from_is_err_and c.from_residual-in_err-text_of.result c.from_residual-in_err-text_of.ensures.1 in
+pub returns-in_err-text-clause-answer : goal.returns-in_err-text-clause-answer
+returns-in_err-text-clause-answer g c =
+    let p = err_from_is_err_and c.from_residual-in_err-text.result c.from_residual-in_err-text.ensures.1 in
     rw (p.1, p.2) (Prefer, c.requires, tt, refl)
 
 pub returns-clause-answer : goal.returns-clause-answer
@@ -79,10 +80,10 @@ returns-clause-answer g c =
     let names = map string_bytes (take (length c.args.words.now - 3) (drop 3 c.args.words.now)) in
     let long = length-prefer c.args.words.now c.requires in
     let named = inputs-prefer c.args.words.now c.index-words-1.result c.index-words-2.result long.0 c.index-words-1.is c.index-words-2.is in
-    let count : length (map string_bytes (take (length c.args.words.now - 3) (drop 3 c.args.words.now))) ≡ length c.args.words.now - 3 = length-sessions c.args.words.now in
+    let count : length (map string_bytes (take (length c.args.words.now - 3) (drop 3 c.args.words.now))) ≡ length c.args.words.now - 3 = length-words c.args.words.now 3 (omega (arith, long.0)) in
     let first = rw c.as_str.ensures.value at c.in_ok-catalog.ensures.read in
     let second = rw (c.as_str-2.ensures.value, c.in_ok-catalog.ensures.holds) at c.in_ok-roll.ensures.read in
     let read = rw (c.in_ok-roll.ensures.holds, c.in_ok-catalog.ensures.holds) at c.in_ok-streams.ensures.read in
     prefer_done words (g.H.Shelf.faults c.args.shelf.now) (sight g.H.Shelf c.take_roll.new.shelf c.take_sessions.new.shelf) (g.H.Shelf.holds c.args.shelf.now) (string_bytes c.index-words-1.result)
     (string_bytes c.index-words-2.result) names read.0 read.1 _ _ c.in_ok-streams.streams.items _ c.requires named (omega (arith, count, long.0)) first second
-    (c.in_ok-roll.ensures.holds ∙ c.in_ok-catalog.ensures.holds) read.2 c.in_ok-streams.ensures.end (rw c.deref.ensures.value at c.in_ok-text_of.ensures)
+    (c.in_ok-roll.ensures.holds ∙ c.in_ok-catalog.ensures.holds) read.2 c.in_ok-streams.ensures.end (rw c.deref.ensures.value at c.in_ok-text.ensures)

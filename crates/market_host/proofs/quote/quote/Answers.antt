@@ -43,9 +43,9 @@ best_text-requires-clause-few g c =
     let many : length c.in_ok-commands.commands.items ≡ command_count read.0 = count_of_session read.0 c.in_ok-commands.commands.items read.3.0 in
     rw c.deref.ensures.value (omega (arith, many, read.3.1))
 
-pub returns-in_err-best_text-clause-answer : goal.returns-in_err-best_text-clause-answer
-returns-in_err-best_text-clause-answer g c =
-    let p = err_from_is_err_and c.from_residual-in_err-best_text.result c.from_residual-in_err-best_text.ensures.1 in
+pub returns-in_err-text-clause-answer : goal.returns-in_err-text-clause-answer
+returns-in_err-text-clause-answer g c =
+    let p = err_from_is_err_and c.from_residual-in_err-text.result c.from_residual-in_err-text.ensures.1 in
     rw (p.1, p.2) (Quote c.args.name c.args.credits c.args.courses, c.requires, tt, refl)
 
 pub returns-clause-answer : goal.returns-clause-answer
@@ -57,4 +57,4 @@ returns-clause-answer g c =
     let ended = rw c.as_str-2.ensures.value at c.in_ok-commands.ensures.end in
     quote_done (map string_bytes c.args.words.now) (g.H.Shelf.faults c.args.shelf.now) (sight g.H.Shelf c.take_catalog.new.shelf c.take_session.new.shelf) (g.H.Shelf.holds c.args.shelf.now)
     (string_bytes c.index-words-1.result) (string_bytes c.index-words-2.result) c.args.name c.args.credits c.args.courses _ c.in_ok-commands.commands.items _ c.requires named first c.in_ok-catalog.ensures.holds second ended
-    (rw c.deref.ensures.value at c.in_ok-best_text.ensures)
+    (rw c.deref.ensures.value at c.in_ok-text.ensures)

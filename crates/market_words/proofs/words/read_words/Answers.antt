@@ -18,3 +18,13 @@ pub returns-then-eq-3-clause-form : goal.returns-then-eq-3-clause-form
 returns-then-eq-3-clause-form c =
     let verb : string_bytes c.verb-item.result ≡ codes "demand" = search rules in
     rw (verb_first c.args.words.now c.verb-item.result (omega arith) c.verb-item.is, verb) c.read_demand.ensures.form
+
+pub returns-then-eq-4-clause-form : goal.returns-then-eq-4-clause-form
+returns-then-eq-4-clause-form c =
+    let verb : string_bytes c.verb-item.result ≡ codes "run" = search rules in
+    rw (verb_first c.args.words.now c.verb-item.result (omega arith) c.verb-item.is, verb) c.read_run.ensures.form
+
+pub returns-then-eq-5-clause-form : goal.returns-then-eq-5-clause-form
+returns-then-eq-5-clause-form c =
+    let verb : string_bytes c.verb-item.result ≡ codes "make" = search rules in
+    rw (verb_first c.args.words.now c.verb-item.result (omega arith) c.verb-item.is, verb) c.read_make.ensures.form

@@ -1,0 +1,12 @@
+//! What holds of published texts: each call here does nothing, and its contract is a law.
+ghost use Rattle.accepted_publications.specs.Laws.{CertificateOfPublished, PublishedIsAccepted};
+
+/// The certificate holds of whatever a market publishes, for whatever order its sessions' commands are taken in.
+pub fn certificate_of_published()
+    ensures { CertificateOfPublished }
+{}
+
+/// So its text is accepted by whoever checks it for the same market and the same sessions.
+pub fn published_is_accepted()
+    ensures { PublishedIsAccepted }
+{}

@@ -1,0 +1,46 @@
+use Rattle.std.proofs.Common.{◌≡◌, ◌+◌, ◌*◌, ◌-◌, ℕ, length, ap, ◌∙◌, arith, inl, inr, refl}
+use Rattle.std.specs.Prelude.{ℤ, pos, ◌+ℤ◌, ◌*ℤ◌, ◌≤ℤ◌, ◌^◌}
+use Rattle.std.proofs.lemmas.Int.{ints}
+use Rattle.std.proofs.lemmas.Bool.{cases_lt}
+use Rattle.bundle_rules.specs.Menus.{wishes_of}
+use Rattle.bundle_rules.specs.Wishes.{utility}
+use Rattle.bundle_bounds.specs.Offers.{offer_of, places_of}
+use Rattle.bundle_bounds.specs.Opens.{budget_left, credits_left}
+use Rattle.bundle_reach.specs.Branches.{chosen_of}
+use Rattle.bundle_reach.specs.Covers.{hoped_of}
+use Rattle.bundle_reach.specs.Reaches.{number_at}
+use Rattle.bundle_reach.proofs.Openings.{budget_kept, credits_kept}
+use Rattle.bundle_reach.proofs.Sound.{reach_is_sound, fits_count}
+use Rattle.bundle_reach.proofs.reach.Reach.added_at.Goals as goal
+
+pub returns-clause-value : goal.returns-clause-value
+returns-clause-value c prices allowed reach covers is node bundle may completes =
+    let menu = c.args.menu.now in
+    let offer = offer_of menu prices c.args.budget.0 allowed in
+    let branch = c.args.branch.now in
+    let k : ℕ = branch.node.place in
+    let chosen = chosen_of branch in
+    let cs = places_of menu chosen in
+    let multipliers = c.args.multipliers in
+    let budget : c.budget_left-budget_left.result ≡ budget_left offer cs = c.budget_left-budget_left.ensures ∙ budget_kept offer c.requires.menu branch is node in
+    let credits : c.credits_left-credits_left.result ≡ credits_left offer cs = c.credits_left-credits_left.ensures.value ∙ credits_kept offer c.requires.menu branch is node in
+    let count : ℕ = c.fitting-count.result in
+    let fits = fits_count offer k chosen bundle c.args.self.now.lightest (menu.courses - length chosen) (menu.credits - branch.credits) count c.requires.menu node may completes reach.lightest refl (credits_kept offer c.requires.menu branch is node) c.fitting-count.ensures.enough in
+    let most : ℕ = number_at c.args.most.now k count in
+    let covered = covers k count (omega arith) c.requires.place (omega arith) in
+    let sound = reach_is_sound offer multipliers k chosen bundle count most c.requires.menu node may completes fits covered in
+    let u : ℤ = utility (wishes_of menu) bundle in
+    let h : ℤ = hoped_of offer k cs in
+    let p : ℕ = multipliers.money * budget_left offer cs in
+    let l : ℕ = multipliers.credits * credits_left offer cs in
+    let sound' : (pos 1000000 *ℤ u) ≤ℤ (h +ℤ pos ((p + l) + most)) = sound in
+    let budget' : c.from.result ≡ budget_left offer cs = c.from.ensures ∙ budget in
+    let credits' : c.from-2.result ≡ credits_left offer cs = c.from-2.ensures ∙ credits in
+    let paid : multipliers.money * c.from.result + multipliers.credits * c.from-2.result ≡ p + l = rw (budget', credits') refl in
+    let read : number_at c.args.most.now c.from-3.result count ≡ most = ap (λ n. number_at c.args.most.now n count) c.from-3.ensures in
+    elim (cases_lt c.min.result (2 ^ 62)) [
+      | inl less ↦
+          let whole : c.min.result ≡ (p + l) + most = omega arith in
+          inr (rw whole sound')
+      | inr enough ↦ inl (omega (arith, ints))
+    ]

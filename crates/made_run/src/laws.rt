@@ -1,0 +1,33 @@
+//! What holds of made markets that are run: each call here does nothing, and its contract is a law.
+ghost use Rattle.made_run.specs.Laws.{OneMadeError, OneMadeSummary, SummaryIsPriced};
+
+use aftermarket_stage::laws::one_aftermarket;
+use apart_sessions::laws::orders_close_alike;
+use published_market::laws::{one_least_error, one_publication, published_is_priced};
+use tabu_search::laws::one_is_found;
+
+/// A made market has one summary, in whatever order the commands of its sessions are taken.
+pub fn one_made_summary()
+    ensures { OneMadeSummary }
+{
+    one_aftermarket();
+    one_is_found();
+    one_publication();
+    orders_close_alike();
+}
+
+/// Where it finds no prices, it has one least error.
+pub fn one_made_error()
+    ensures { OneMadeError }
+{
+    one_least_error();
+    orders_close_alike();
+}
+
+/// It never has both.
+pub fn summary_is_priced()
+    ensures { SummaryIsPriced }
+{
+    published_is_priced();
+    orders_close_alike();
+}

@@ -1,0 +1,45 @@
+// The summary of a made market.
+ghost use Rattle.std.specs.Prelude.{List, ℕ, IfOk};
+ghost use Rattle.market_host.specs.Outcomes.{IsEnded};
+ghost use Rattle.market_host.specs.Sights.{Sight};
+ghost use Rattle.market_words.specs.Forms.{HasForm};
+
+use crate::Status;
+use crate::ended::{Ended, Output};
+use crate::line::no_prices;
+use made_run::made_summary;
+use market_edge::Gate;
+use market_units::NoMemory;
+use market_words::Form;
+use published_market::PublishEnd;
+use std::alloc::Global;
+use std::sync::Wait;
+use std::thread::Threads;
+
+/// The summary of the market that `make` makes of these numbers and runs, or the least error where no prices are found.
+/// It reads no input, so that nothing but memory can be wanted.
+pub fn make<R: Threads + Wait + Sync>(
+    rt: &R,
+    alloc: Global,
+    workers: u16,
+    seed: u64,
+    students: u16,
+    sections: u16,
+    accept: u64,
+    gate: &(dyn Gate + Sync),
+) -> Result<Ended, NoMemory>
+    requires { (words : List (List ℕ)) × HasForm words (Form.Make workers seed students sections accept) }
+    ensures { IfOk result (λ ended. (words : List (List ℕ)) (seen : Sight) → HasForm words (Form.Make workers seed students sections accept) → IsEnded words seen ended) }
+{
+    match made_summary(rt, alloc, workers, seed, students, sections, accept, gate) {
+        Ok(text) => Ok(Ended {
+            status: Status::Done,
+            output: Output::Text(text),
+        }),
+        Err(PublishEnd::NoPrices { least }) => Ok(Ended {
+            status: Status::NoPrices { least },
+            output: Output::Line(no_prices(least)),
+        }),
+        Err(PublishEnd::NoMemory) => Err(NoMemory),
+    }
+}

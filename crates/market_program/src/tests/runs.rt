@@ -1,0 +1,153 @@
+// `run` over texts in memory.
+use super::demand::{
+    EQUAL, FIRST, FOUR, ORDERS, ORDINARY, RATED, SEAT, SECOND, SPREAD, TERM, THREE_STUDENTS,
+};
+use super::*;
+
+// Each number of workers gives the same bytes.
+const LINES: [&str; 3] = [
+    "run 1 CAT STU SET S1",
+    "run 2 CAT STU SET S1",
+    "run 16 CAT STU SET S1",
+];
+
+// The settings that accept no error above 8.
+const STRICT: &[u8] =
+    br#"{"seed":0,"spread":0,"accept":8,"turns":0,"tabu":5,"patience":3,"steps":[1],"raise":10}"#;
+
+const CARRIED: &[u8] = b"student,budget,credits,courses,carry\nu,100,10,1,0\nv,100,10,1,5\n";
+
+const ACCEPT_ONE: &[u8] =
+    br#"{"seed":0,"spread":0,"accept":1,"turns":0,"tabu":5,"patience":3,"steps":[1],"raise":10}"#;
+
+// What the case shows, the catalogue, the roll, the settings, the session, the number of the status, and the text.
+type Case = (
+    &'static str,
+    &'static [u8],
+    &'static [u8],
+    &'static [u8],
+    &'static [u8],
+    u8,
+    &'static str,
+);
+
+const CASES: [Case; 6] = [
+    (
+        "an ordinary term",
+        TERM,
+        THREE_STUDENTS,
+        SPREAD,
+        ORDINARY,
+        0,
+        "course-match 1\norder 1 1 1 1 1 1 1 1\nbudget ann 104\nbudget bob 103\nbudget cat 102\nstart A 0\nstart B 0\nstart C 0\nstart D 0\nerror 1\nprice A 104\nprice B 0\nprice C 0\nprice D 0\nbundle ann [A,B] ++*nn\nbundle bob [C] -+*n\nbundle cat [D] -+*n\nturn 1 ann [A,B] ++*nn\nturn 1 bob [C] -+*n\nturn 1 cat [D] -+*n\nfinal ann [A,B]\nfinal bob [C]\nfinal cat [D]\nused A 1 1\nused B 1 2\nused C 1 2\nused D 1 1\nend\n",
+    ),
+    (
+        "four students of one seat",
+        SEAT,
+        FOUR,
+        EQUAL,
+        RATED,
+        0,
+        "course-match 1\norder 1 1 1 1\nbudget s1 100\nbudget s2 101\nbudget s3 102\nbudget s4 103\nstart X 0\nerror 9\nprice X 103\nbundle s1 [] -*\nbundle s2 [] -*\nbundle s3 [] -*\nbundle s4 [X] +*n\nturn 1 s4 [X] +*n\nturn 1 s3 [] -*\nturn 1 s2 [] -*\nturn 1 s1 [] -*\nfinal s1 []\nfinal s2 []\nfinal s3 []\nfinal s4 [X]\nused X 1 1\nend\n",
+    ),
+    (
+        "the least error is not accepted",
+        SEAT,
+        FOUR,
+        STRICT,
+        RATED,
+        5,
+        "order 1 1 1 1\nno prices: least error 9\n",
+    ),
+    (
+        "carried tokens raise the budget",
+        SEAT,
+        CARRIED,
+        ACCEPT_ONE,
+        b"rate u X 50\nrate v X 50\n",
+        0,
+        "course-match 2\norder 1 1\nbudget u 100\nbudget v 105\nstart X 0\nerror 1\nprice X 101\nbundle u [] -*\nbundle v [X] +*n\nturn 1 v [X] +*n\nturn 1 u [] -*\nfinal u []\nfinal v [X]\nused X 1 1\nend\n",
+    ),
+    (
+        "no sections",
+        b"section,course,seats,credits,meetings\n",
+        THREE_STUDENTS,
+        SPREAD,
+        ORDINARY,
+        0,
+        "course-match 1\norder 1 1 1 1 1 1 1 1\nbudget ann 104\nbudget bob 103\nbudget cat 102\nerror 0\nbundle ann [] *\nbundle bob [] *\nbundle cat [] *\nturn 1 ann [] *\nturn 1 bob [] *\nturn 1 cat [] *\nfinal ann []\nfinal bob []\nfinal cat []\nend\n",
+    ),
+    (
+        "settings that are no object",
+        SEAT,
+        FOUR,
+        b"[]",
+        RATED,
+        3,
+        "input 3 row 0: not an object\n",
+    ),
+];
+
+// Each case has its answer, with each number of workers.
+#[test]
+fn markets_are_run(rt: HostRuntime) -> Result<(), Fail> {
+    let alloc = rt.alloc();
+    for (shows, catalogue, roll, settings, session, status, text) in CASES {
+        let files = [
+            ("CAT", catalogue),
+            ("STU", roll),
+            ("SET", settings),
+            ("S1", session),
+        ];
+        for line in LINES {
+            let (found, written) = run(&rt, alloc, line, &files)?;
+            assert_eq!(rt; found.number(), status, "{shows}: {line}");
+            assert_eq!(rt; written.as_str(), text, "{shows}: {line}");
+        }
+    }
+    Ok(())
+}
+
+// The order and the least error of two sessions.
+#[test]
+fn two_sessions_without_prices(rt: HostRuntime) -> Result<(), Fail> {
+    let alloc = rt.alloc();
+    let files = [
+        ("CAT", SEAT),
+        ("STU", FOUR),
+        ("SET", STRICT),
+        ("S1", FIRST),
+        ("S2", SECOND),
+    ];
+    let (status, written) = run(&rt, alloc, "run 2 CAT STU SET S1 S2", &files)?;
+    assert_eq!(rt; status, Status::NoPrices { least: 9 });
+    let is_lawful = ORDERS.iter().any(|order| {
+        written.as_str().strip_prefix(*order) == Some("no prices: least error 9\n")
+    });
+    assert!(rt; is_lawful, "{written}");
+    Ok(())
+}
+
+// Each input that fails at its last read, and a sink that fails behind the line of the order.
+#[test]
+fn failures_of_run(rt: HostRuntime) -> Result<(), Fail> {
+    let alloc = rt.alloc();
+    let files = [("CAT", SEAT), ("STU", FOUR), ("SET", STRICT), ("S1", RATED)];
+    let line = "run 2 CAT STU SET S1";
+    let texts = [
+        (3, 2, "input 1 can not be read\n"),
+        (6, 2, "input 2 can not be read\n"),
+        (9, 2, "input 3 can not be read\n"),
+        (12, 2, "input 4 can not be read\n"),
+        (13, 5, "order 1 1 1 1\nno prices: least error 9\n"),
+    ];
+    for (call, number, text) in texts {
+        let (status, written) = run_by(&rt, alloc, line, &files, (call, 0), 1000, &OpenGate)?;
+        assert_eq!(rt; status.number(), number, "{call}");
+        assert_eq!(rt; written.as_str(), text, "{call}");
+    }
+    let (status, written) = run_by(&rt, alloc, line, &files, (0, 0), 14, &OpenGate)?;
+    assert_eq!(rt; status, Status::SinkFault);
+    assert_eq!(rt; written.as_str(), "order 1 1 1 1\n");
+    Ok(())
+}
