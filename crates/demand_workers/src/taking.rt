@@ -7,7 +7,7 @@ ghost use Rattle.demand_api.specs.Asking.{ArePricesFor};
 ghost use Rattle.demand_api.specs.Crowds.{count, counts, demand_of};
 ghost use Rattle.price_board.specs.Openings.{IsMade};
 ghost use Rattle.demand_workers.specs.Remembered.{AreRemembered, AreTaken};
-ghost use Rattle.demand_workers.specs.Rounds.{data_of, prices_of, AreVersionsFor};
+ghost use Rattle.demand_workers.specs.Rounds.{data_of};
 
 use crate::remembered::Remembered;
 use bundle_rules::Bundle;
@@ -106,28 +106,8 @@ pub(crate) fn take_all(
     }
 }
 
-// Counts, from 0, how many students take each section at each version.
-pub(crate) fn count_each(
-    workspace: &mut Workspace,
-    remembered: &Remembered,
-    crowd: &Crowd,
-    versions: &[Vec<Tokens>],
-    found: &mut [Vec<u32>],
-)
-    requires remembered { AreRemembered (data_of crowd.now) remembered.now.prices.items remembered.now.bundles.items }
-    requires crowd { IsMade crowd.now }
-    requires versions { AreVersionsFor (data_of crowd.now) versions.now }
-    requires same { length found.old ≡ length versions.now }
-    requires zeros { All (λ counts. counts.items ≡ replicate crowd.now.sections 0) found.old }
-    ensures { map (λ counts. counts.items) found.new ≡ map (λ prices. counts (data_of crowd.now) (price_in prices)) (prices_of versions.now) }
-{
-    for (version, counts) in found.iter_mut().enumerate() {
-        count_all(workspace, remembered, crowd, &versions[version], counts);
-    }
-}
-
 // Counts, from 0, how many students take each section.
-fn count_all(
+pub(crate) fn count_all(
     workspace: &mut Workspace,
     remembered: &Remembered,
     crowd: &Crowd,
