@@ -1,9 +1,10 @@
 // Demands of a crowd that workers find.
-ghost use Rattle.std.specs.Prelude.{◌≡◌, ◌<◌, ◌≤◌, All, IfOk, length};
+ghost use Rattle.std.specs.Prelude.{◌≡◌, ◌<◌, ◌≤◌, [], ◌∷◌, All, IfOk, length};
 ghost use Rattle.std.specs.Arc.{arc_value};
 ghost use Rattle.bundle_rules.specs.Demand.{price_in};
 ghost use Rattle.demand_api.specs.Asking.{ArePricesFor};
 ghost use Rattle.demand_api.specs.Crowds.{counts};
+ghost use Rattle.demand_api.specs.Prices.{AreLeastPrices};
 ghost use Rattle.price_board.specs.Openings.{IsMade};
 ghost use Rattle.demand_workers.specs.Remembered.{AreRemembered, AreTaken};
 ghost use Rattle.demand_workers.specs.Rounds.{data_of};
@@ -11,7 +12,8 @@ ghost use Rattle.demand_workers.specs.Rounds.{data_of};
 use crate::Bench;
 use crate::answering::read_all;
 use crate::effort::{few_at, few_listed};
-use crate::leaving::least_for_each;
+use crate::leaving::{least_for_each, least_price};
+use crate::raised::raised_memory;
 use crate::remembered::Remembered;
 use crate::round::ask_workers;
 use crate::taking::{count_all, count_takers, take_all, take_listed};
@@ -162,6 +164,49 @@ impl<'g> PooledDemands<AnyGate<'g>> {
         self.recall(rt, alloc, prices)
     }
 
+    // The least price of one section at which at most so many take it, the other prices as remembered. What is taken there is
+    // remembered: whoever raises the price asks for it next.
+    fn least_alone<R: Threads + Wait + Sync>(
+        &mut self,
+        rt: &R,
+        alloc: Global,
+        section: SectionNo,
+        limit: u32,
+    ) -> Result<Vec<Tokens>, NoMemory>
+        requires all { length self.old.remembered.bundles.items ≡ length (arc_value self.old.crowd).menus.items }
+        requires prices { ArePricesFor (data_of (arc_value self.old.crowd)) self.old.remembered.prices.items }
+        requires section { section.0 < (arc_value self.old.crowd).sections }
+        ensures crowd { self.new.crowd ≡ self.old.crowd }
+        ensures asked { self.new.asked ≡ self.old.asked }
+        ensures least { IfOk result (λ found. AreLeastPrices (data_of (arc_value self.old.crowd)) (price_in self.old.remembered.prices.items) ((section, limit) ∷ []) found.items) }
+    {
+        let mut trial = self.remembered.prices.as_slice().to_vec(alloc)?;
+        let (least, memory) = {
+            let mut workspace = self.bench.workspaces()[0].lock(rt);
+            let walk = least_price(
+                alloc,
+                &mut workspace,
+                &self.remembered,
+                &self.crowd,
+                &mut trial,
+                section,
+                limit,
+            )?;
+            let memory = raised_memory(
+                alloc,
+                &mut workspace,
+                &self.remembered,
+                &self.crowd,
+                section,
+                &walk,
+            )?;
+            (walk.least, memory)
+        };
+        let found = vec![in alloc; least; 1]?;
+        self.remembered = memory;
+        Ok(found)
+    }
+
     // How many students take each section at these prices. What they take is remembered where nothing was: of several
     // versions that lie about one, that one may serve for the others.
     fn counted<R: Threads + Wait + Sync>(
@@ -301,6 +346,9 @@ impl Demands for PooledDemands<AnyGate<'_>> {
         pairs: &[(SectionNo, u32)],
     ) -> Result<Vec<Tokens>, NoMemory> {
         self.recall(rt, alloc, prices)?;
+        if let [(section, limit)] = pairs {
+            return self.least_alone(rt, alloc, *section, *limit);
+        }
         let mut workspace = self.bench.workspaces()[0].lock(rt);
         least_for_each(alloc, &mut workspace, &self.remembered, &self.crowd, pairs)
     }
