@@ -15,7 +15,8 @@ use Rattle.demand_api.specs.Crowds.{CrowdData, Student, holders}
 use Rattle.aftermarket_stage.specs.Turns.{IsQuiet, IsTurn, TurnData, after_turns}
 use Rattle.market_certificate.specs.Publications.{Proved, Publication}
 use Rattle.market_settings.specs.declared.reader.Settings.{Settings}
-use Rattle.published_parts.specs.Holdings.{demanded, may_choose, tokens}
+use Rattle.published_parts.specs.Holdings.{demanded, tokens}
+use Rattle.held_seats.specs.Choices.{may_choose}
 use Rattle.published_parts.specs.Markets.{names_in, seats_in}
 use Rattle.published_parts.specs.Journals.{IsJournalOf}
 use Rattle.published_parts.specs.Offers.{IsProvedBest, IsProvedDemand, all_sections, offer_to}

@@ -20,10 +20,10 @@ use Rattle.demand_api.specs.declared.crowd.Crowd.{Crowd}
 use Rattle.demand_api.proofs.Takers.{crowd_made, students_length}
 use Rattle.demand_api.proofs.Halving.{price_at}
 use Rattle.aftermarket_stage.specs.declared.turns.Turn.{Turn}
-use Rattle.held_seats.specs.Choices.{may_choose}
-use Rattle.aftermarket_stage.specs.Turns.{Terms, TurnData, IsTurn, after_turn, after_turns, EachTurn, IsQuiet, AreHeldWithin}
+use Rattle.held_seats.specs.Choices.{AreHeldWithin, may_choose}
+use Rattle.aftermarket_stage.specs.Turns.{Terms, TurnData, IsTurn, after_turn, after_turns, EachTurn, IsQuiet}
 use Rattle.aftermarket_stage.specs.Passes.{due_of, IsPass, IsAftermarket}
-use Rattle.aftermarket_stage.specs.After.{terms_of, turn_of, turns_of, ArePriced}
+use Rattle.aftermarket_stage.specs.After.{terms_of, turn_of, turns_of, AreSectionPrices}
 use Rattle.held_seats.specs.Floors.{AreBelow}
 use Rattle.aftermarket_stage.specs.HeldChoices.{AreChoices, AreTerms}
 use Rattle.aftermarket_stage.specs.Runs.{IsBestAt, HasTurned, HaveTurned}
@@ -43,7 +43,7 @@ student_here (m ∷ ms) (b ∷ bs) zero menu budget same low is has_it =
 student_here (m ∷ ms) (b ∷ bs) (suc i) menu budget same low is has_it = student_here ms bs i menu budget (omega arith) (omega arith) is has_it
 
 -- each section of a menu has a price
-pub menu_priced : (menus : List MenuData) (budgets : List Tokens) (sections : ℕ) (prices : List Tokens) (i : ℕ) (menu : MenuData) → MakeCrowd menus budgets sections → ArePriced sections prices → i < length menus → menu ≡ slice_index_or menus i menu → HasPrices menu prices
+pub menu_priced : (menus : List MenuData) (budgets : List Tokens) (sections : ℕ) (prices : List Tokens) (i : ℕ) (menu : MenuData) → MakeCrowd menus budgets sections → AreSectionPrices sections prices → i < length menus → menu ≡ slice_index_or menus i menu → HasPrices menu prices
 menu_priced menus budgets sections prices i menu make are low is =
     rw is λ k d inside.
     let below : (slice_index_or (slice_index_or menus i menu).places k d).section.0 < sections = make.within i menu low k d inside in

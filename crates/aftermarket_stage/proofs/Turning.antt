@@ -13,11 +13,12 @@ use Rattle.bundle_rules.specs.Existence.Orders.{compared, not_both_preferred, no
 use Rattle.bundle_rules.proofs.BestValue.{best-is}
 use Rattle.budget_draw.specs.Budgets.{raised_by}
 use Rattle.demand_api.specs.Crowds.{Student, CrowdData, IsCrowd, IsWithin, demand, demands, holders}
-use Rattle.held_seats.specs.Choices.{is_free, may_choose}
-use Rattle.aftermarket_stage.specs.Turns.{Terms, TurnData, IsTurn, after_turn, after_turns, EachTurn, IsQuiet, AreHeldWithin}
+use Rattle.held_seats.specs.Choices.{AreHeldWithin, is_free, may_choose}
+use Rattle.aftermarket_stage.specs.Turns.{Terms, TurnData, IsTurn, after_turn, after_turns, EachTurn, IsQuiet}
 use Rattle.aftermarket_stage.specs.HeldChoices.{HoldsChoice, AreChoices}
 use Rattle.aftermarket_stage.specs.Laws.{start_of, IsImproved}
-use Rattle.held_seats.proofs.Gets.{get-set_same, get-set_other, set_again, set_past, holders_set}
+use Rattle.held_seats.proofs.Gets.{get-set_same, get-set_other, set_again, set_past}
+use Rattle.demand_api.proofs.Holders.{holders_set}
 use Rattle.aftermarket_stage.proofs.Ranks.{rank_falls, rated_below, left, left_set}
 
 -- a choice of some sections is one of all

@@ -13,7 +13,7 @@ abbrev pub terms_of : Crowd → List ℕ → List Tokens → ℕ → Terms
 terms_of crowd seats prices raise = record { crowd = crowd_of crowd.menus.items crowd.budgets.items crowd.sections; seats = seats; prices = prices; raise = raise }
 
 -- one price for each section, each at most 1,000,001
-pub record ArePriced (sections : ℕ) (prices : List Tokens) : Type 0 where
+pub record AreSectionPrices (sections : ℕ) (prices : List Tokens) : Type 0 where
   pub same : length prices ≡ sections
   pub high : All (λ price. price.0 ≤ 1000001) prices
 

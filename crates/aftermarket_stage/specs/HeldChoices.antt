@@ -11,7 +11,7 @@ use Rattle.demand_api.specs.Crowds.{Student, CrowdData}
 use Rattle.demand_api.specs.Made.{MakeCrowd}
 use Rattle.demand_api.specs.declared.crowd.Crowd.{Crowd}
 use Rattle.aftermarket_stage.specs.Turns.{Terms}
-use Rattle.aftermarket_stage.specs.After.{ArePriced}
+use Rattle.aftermarket_stage.specs.After.{AreSectionPrices}
 
 -- a student and what it holds: a bundle that it may take and afford with the raise
 pub record HoldsChoice (terms : Terms) (held : List (List ℕ)) (who : Student) (place : ℕ) : Type 0 where
@@ -28,7 +28,7 @@ pub record AreChoices (terms : Terms) (held : List (List ℕ)) : Type 0 where
 pub record AreTerms (crowd : Crowd) (seats : List ℕ) (prices : List Tokens) (raise : ℕ) : Type 0 where
   pub whole : MakeCrowd crowd.menus.items crowd.budgets.items crowd.sections
   pub seats_each : length seats ≡ crowd.sections
-  pub prices_each : ArePriced crowd.sections prices
+  pub prices_each : AreSectionPrices crowd.sections prices
   pub raise_low : raise ≤ 50
 
 -- where sections are known of a student, the bundle that it holds is the best of these within its raised budget

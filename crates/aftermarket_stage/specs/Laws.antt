@@ -4,7 +4,8 @@ use Rattle.bundle_rules.specs.Menus.{wishes_of}
 use Rattle.bundle_rules.specs.Preferences.{IsPreferred}
 use Rattle.bundle_rules.specs.Demand.{price_in}
 use Rattle.demand_api.specs.Crowds.{Student, IsCrowd, demands}
-use Rattle.aftermarket_stage.specs.Turns.{Terms, TurnData, after_turns, IsQuiet, AreHeldWithin}
+use Rattle.aftermarket_stage.specs.Turns.{Terms, TurnData, after_turns, IsQuiet}
+use Rattle.held_seats.specs.Choices.{AreHeldWithin}
 use Rattle.aftermarket_stage.specs.Passes.{IsAftermarket}
 
 -- what each student takes at the prices, before any raise: where the aftermarket starts

@@ -1,11 +1,11 @@
 -- The turns of the aftermarket: what is the best that may be chosen at a turn, and what is held after it. Held bundles stand in file order.
-use Rattle.std.specs.Prelude.{ℕ, ◌<◌, ◌≤◌, ◌≡◌, Bool, List, [], ◌∷◌, Some, slice_get, slice_index, slice_set, ⊤}
+use Rattle.std.specs.Prelude.{ℕ, ◌≡◌, Bool, List, [], ◌∷◌, Some, slice_get, slice_set, ⊤}
 use Rattle.market_units.specs.declared.units.Tokens.{Tokens}
 use Rattle.bundle_rules.specs.Menus.{wishes_of}
 use Rattle.bundle_rules.specs.Demand.{price_in, IsBest}
 use Rattle.held_seats.specs.Choices.{may_choose}
 use Rattle.budget_draw.specs.Budgets.{raised_by}
-use Rattle.demand_api.specs.Crowds.{Student, CrowdData, holders}
+use Rattle.demand_api.specs.Crowds.{Student, CrowdData}
 
 -- what the aftermarket goes by: the crowd with its budgets before any raise, the seats and the stage-two price of each section, and the raise in percent
 pub record Terms : Type 0 where
@@ -45,7 +45,3 @@ EachTurn Wanted held (turn ∷ turns) = Wanted held turn × EachTurn Wanted (aft
 -- a turn without a change: the student's bundle is the one that it holds
 abbrev pub IsQuiet : List (List ℕ) → TurnData → Type 0
 IsQuiet held turn = slice_get held turn.student ≡ Some turn.bundle
-
--- no section has more holders than seats
-abbrev pub AreHeldWithin : ℕ → List ℕ → List (List ℕ) → Type 0
-AreHeldWithin sections seats held = (s : ℕ) → s < sections → holders s held ≤ slice_index seats s

@@ -4,7 +4,7 @@ ghost use Rattle.std.specs.FinSet as set;
 ghost use Rattle.bundle_rules.specs.Sets.{has};
 ghost use Rattle.bundle_rules.specs.Bundles.{sections_of};
 ghost use Rattle.demand_api.specs.Made.{MakeCrowd, crowd_of};
-ghost use Rattle.aftermarket_stage.specs.After.{ArePriced, terms_of};
+ghost use Rattle.aftermarket_stage.specs.After.{AreSectionPrices, terms_of};
 ghost use Rattle.aftermarket_stage.specs.HeldChoices.{AreKnown, IsSettled};
 ghost use Rattle.aftermarket_stage.specs.Runs.{IsBestAt};
 
@@ -50,7 +50,7 @@ impl Chooser {
         place: usize,
     ) -> Bundle
         requires crowd { MakeCrowd crowd.now.menus.items crowd.now.budgets.items crowd.now.sections }
-        requires prices { ArePriced crowd.now.sections prices.now }
+        requires prices { AreSectionPrices crowd.now.sections prices.now }
         requires raise { raise ≤ 50 }
         requires place { place < length crowd.now.menus.items }
         requires students { length held.now ≡ length crowd.now.menus.items }

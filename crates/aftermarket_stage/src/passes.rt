@@ -5,9 +5,10 @@ ghost use Rattle.bundle_rules.specs.Demand.{price_in};
 ghost use Rattle.bundle_rules.specs.Places.{places_from};
 ghost use Rattle.demand_api.specs.Crowds.{demands, holders};
 ghost use Rattle.demand_api.specs.Made.{MakeCrowd, crowd_of};
-ghost use Rattle.aftermarket_stage.specs.Turns.{AreHeldWithin, after_turns};
+ghost use Rattle.aftermarket_stage.specs.Turns.{after_turns};
+ghost use Rattle.held_seats.specs.Choices.{AreHeldWithin};
 ghost use Rattle.aftermarket_stage.specs.Passes.{IsAftermarket};
-ghost use Rattle.aftermarket_stage.specs.After.{ArePriced, terms_of, turns_of};
+ghost use Rattle.aftermarket_stage.specs.After.{AreSectionPrices, terms_of, turns_of};
 ghost use Rattle.held_seats.specs.Floors.{AreBelow, IsFloor, held_on};
 ghost use Rattle.aftermarket_stage.specs.HeldChoices.{AreChoices, AreKnown, AreTerms};
 ghost use Rattle.aftermarket_stage.specs.Runs.{HasTurned, HaveTurned};
@@ -49,7 +50,7 @@ pub fn aftermarket(
 ) -> Result<After, NoMemory>
     requires crowd { MakeCrowd crowd.now.menus.items crowd.now.budgets.items crowd.now.sections }
     requires seats { length seats.now ≡ crowd.now.sections }
-    requires prices { ArePriced crowd.now.sections prices.now }
+    requires prices { AreSectionPrices crowd.now.sections prices.now }
     requires demands { map sections_of bundles.now ≡ demands (crowd_of crowd.now.menus.items crowd.now.budgets.items crowd.now.sections) (price_in prices.now) }
     requires within { AreHeldWithin crowd.now.sections seats.now (map sections_of bundles.now) }
     requires raise { raise ≤ 50 }

@@ -4,8 +4,8 @@ ghost use Rattle.bundle_rules.specs.Bundles.{sections_of};
 ghost use Rattle.bundle_rules.specs.Demand.{price_in};
 ghost use Rattle.demand_api.specs.Crowds.{demands, holders};
 ghost use Rattle.demand_api.specs.Made.{MakeCrowd, crowd_of};
-ghost use Rattle.aftermarket_stage.specs.Turns.{AreHeldWithin};
-ghost use Rattle.aftermarket_stage.specs.After.{ArePriced};
+ghost use Rattle.held_seats.specs.Choices.{AreHeldWithin};
+ghost use Rattle.aftermarket_stage.specs.After.{AreSectionPrices};
 
 use super::*;
 use bundle_rules::{Bundle, Menu, Rated, best_plain};
@@ -18,7 +18,7 @@ use std::test::Fail;
 // What each student takes, by trying every choice.
 fn taken(alloc: Global, crowd: &Crowd, prices: &[Tokens]) -> Result<Vec<Bundle>, NoMemory>
     requires crowd { MakeCrowd crowd.now.menus.items crowd.now.budgets.items crowd.now.sections }
-    requires prices { ArePriced crowd.now.sections prices.now }
+    requires prices { AreSectionPrices crowd.now.sections prices.now }
     ensures { IfOk result (λ bundles. map sections_of bundles.items ≡ demands (crowd_of crowd.now.menus.items crowd.now.budgets.items crowd.now.sections) (price_in prices.now)) }
 {
     let allowed = SectionSet::full(crowd.sections);
@@ -31,7 +31,7 @@ fn taken(alloc: Global, crowd: &Crowd, prices: &[Tokens]) -> Result<Vec<Bundle>,
 }
 
 fn are_priced(sections: u16, prices: &[Tokens]) -> bool
-    ensures { IsTrue result → ArePriced sections prices.now }
+    ensures { IsTrue result → AreSectionPrices sections prices.now }
 {
     prices.len() == usize::from(sections) && none_too_high(prices)
 }

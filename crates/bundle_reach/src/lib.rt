@@ -12,4 +12,4 @@ mod tables;
 
 pub use branch::Branch;
 pub use multipliers::Multipliers;
-pub use reach::Reach;
+pub use reach::{Reach, begun_with};

@@ -16,7 +16,7 @@ use crate::draft::Draft;
 use crate::multipliers::{Multipliers, multipliers_at};
 use crate::places::{fitting, hopes_of};
 use crate::tables::{COUNTS, MILLION, PLACES, ROWS, lightest, put_hopes, put_most};
-use bundle_rules::Menu;
+use bundle_rules::{Bundle, Menu};
 use market_units::{SectionSet, Tokens};
 
 // More than can be added at any node, in millionths of a point of utility.
@@ -129,7 +129,8 @@ impl Reach {
         let draft = Draft::of(menu, prices, budget, allowed, self.multipliers);
         let mut branch = Branch::root();
         while branch.node.place < menu.len() {
-            branch = followed(menu, prices, budget, allowed, &draft, branch);
+            let is_wanted = draft.has(branch.node.place);
+            branch = followed(menu, prices, budget, allowed, is_wanted, branch);
         }
         branch
     }
@@ -191,13 +192,34 @@ impl Reach {
     }
 }
 
-// The branch with the next section, where the draft has it and it may be taken, and else without it.
+/// A branch that has of a bundle what may be taken, place by place. A search that begins with it as its champion is
+/// short where the bundle is nearly the best.
+pub fn begun_with(
+    menu: &Menu,
+    prices: &[Tokens],
+    budget: Tokens,
+    allowed: &SectionSet,
+    bundle: &Bundle,
+) -> Branch
+    requires { HasPrices menu.now prices.now }
+    ensures branch { IsBranch menu.now (price_in prices.now) result }
+    ensures takable { IsTakable (offer_of menu.now prices.now budget.0 allowed.now) (chosen_of result) }
+{
+    let mut branch = Branch::root();
+    while branch.node.place < menu.len() {
+        let is_wanted = bundle.has(menu.rated(branch.node.place).section);
+        branch = followed(menu, prices, budget, allowed, is_wanted, branch);
+    }
+    branch
+}
+
+// The branch with the next section, where it is wanted and may be taken, and else without it.
 fn followed(
     menu: &Menu,
     prices: &[Tokens],
     budget: Tokens,
     allowed: &SectionSet,
-    draft: &Draft,
+    is_wanted: bool,
     branch: Branch,
 ) -> Branch
     requires prices { HasPrices menu.now prices.now }
@@ -209,7 +231,7 @@ fn followed(
     ensures place { result.node.place ≡ branch.node.place + 1 }
 {
     prove!(branch.node.place < menu.len());
-    if !draft.has(branch.node.place) {
+    if !is_wanted {
         return branch.without_next();
     }
     if !branch.may_take(menu, prices, budget, allowed, branch.node.place) {

@@ -9,7 +9,8 @@ use Rattle.market_certificate.specs.Publications.{Proved, ProvedTurn, Publicatio
 use Rattle.market_certificate.specs.Texts.{text_of}
 use Rattle.utility_language.specs.declared.commands.Command.{Command}
 use Rattle.published_parts.specs.Crowds.{IsCrowdAfter}
-use Rattle.published_parts.specs.Holdings.{demanded, held_after, may_choose}
+use Rattle.published_parts.specs.Holdings.{demanded, held_after}
+use Rattle.held_seats.specs.Choices.{may_choose}
 use Rattle.published_parts.specs.Markets.{Market, seats_in, tables_in}
 use Rattle.published_parts.specs.Offers.{IsProvedBest, offer_to}
 use Rattle.published_parts.proofs.OneBests.{one_best, one_proof}

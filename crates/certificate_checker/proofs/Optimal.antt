@@ -17,12 +17,13 @@ use Rattle.bundle_rules.proofs.Agreements.{best_agrees}
 use Rattle.course_catalog.specs.Sections.{Section}
 use Rattle.student_roll.specs.Students.{Student}
 use Rattle.demand_api.specs.Crowds.{CrowdData, Student as Asked, holders}
-use Rattle.held_seats.proofs.Gets.{holders_set}
+use Rattle.demand_api.proofs.Holders.{holders_set}
 use Rattle.market_certificate.specs.Publications.{IsProved, Proved, ProvedTurn, Publication}
 use Rattle.proof_tree.proofs.Complete.{trees_prove_the_best}
 use Rattle.proof_tree.specs.Texts.{IsTreeText}
 use Rattle.utility_language.specs.declared.commands.Command.{Command}
-use Rattle.published_parts.specs.Holdings.{AreWithinSeats, demanded, held_after, may_choose}
+use Rattle.published_parts.specs.Holdings.{AreWithinSeats, demanded, held_after}
+use Rattle.held_seats.specs.Choices.{may_choose}
 use Rattle.published_parts.specs.Journals.{wishes_in}
 use Rattle.published_parts.specs.Markets.{Market, seats_in, tables_in}
 use Rattle.published_parts.specs.Offers.{all_sections}

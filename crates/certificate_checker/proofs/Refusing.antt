@@ -18,12 +18,12 @@ use Rattle.market_certificate.proofs.OneText.{one_publication}
 use Rattle.market_menus.specs.MenusOf.{AreMenusOf}
 use Rattle.preference_desk.specs.declared.entry.Entry.{Entry}
 use Rattle.preference_desk.specs.DeskNames.{DeskNames}
-use Rattle.preference_desk.specs.Journals.{commands_of_session}
+use Rattle.preference_desk.specs.Journals.{commands_of_session, sessions_of}
 use Rattle.preference_desk.specs.StudentPreferences.{StudentPreferences}
 use Rattle.proof_tree.proofs.NoDefects.{no_defect_in_a_tree}
 use Rattle.utility_language.specs.declared.commands.Command.{Command}
 use Rattle.published_parts.specs.Crowds.{IsCrowdAfter}
-use Rattle.published_parts.specs.Journals.{IsJournalOf, sessions_of, wanted_in}
+use Rattle.published_parts.specs.Journals.{IsJournalOf, wanted_in}
 use Rattle.published_parts.specs.Markets.{Market, tables_in}
 use Rattle.published_parts.proofs.OneCrowds.{one_crowd_after}
 use Rattle.certificate_checker.specs.declared.findings.Finding.{Finding}
@@ -37,7 +37,8 @@ use Rattle.certificate_checker.specs.Orders.{FailsToMerge, HasCommand, commands_
 use Rattle.certificate_checker.specs.Students.{offer_in, proved_in, student_in}
 use Rattle.certificate_checker.specs.Terms.{TermsData, terms_in}
 use Rattle.certificate_checker.specs.Turns.{IsRightTurn, turn_in, turn_offer}
-use Rattle.certificate_checker.proofs.Replaying.{others_none, own_first, said_own}
+use Rattle.certificate_checker.proofs.Replaying.{said_own}
+use Rattle.published_parts.proofs.OneJournals.{others_none, own_first}
 
 -- what a session says is as many commands as it has entries
 said_length : (journal : List Entry) (n : ℕ) → length (commands_of_session n journal) ≡ said n (sessions_of journal)

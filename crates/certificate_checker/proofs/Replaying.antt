@@ -1,5 +1,5 @@
 -- The commands of an order, entered one after another.
-use Rattle.std.proofs.Common.{ℕ, ◌≡◌, ◌≢◌, ◌<◌, ◌≤◌, ◌+◌, ◌-◌, ◌∙◌, true, false, cond, nat_eq, List, [], ◌∷◌, ◌++◌, length, map, take, get_or, replicate, refl, ap, sym, subst, inl, inr, arith}
+use Rattle.std.proofs.Common.{ℕ, ◌≡◌, ◌≢◌, ◌<◌, ◌≤◌, ◌+◌, ◌-◌, ◌∙◌, false, nat_eq, List, [], ◌∷◌, ◌++◌, length, take, get_or, replicate, refl, ap, sym, subst, inl, inr, arith}
 use Rattle.std.specs.Prelude.{All, slice_index_or}
 use Rattle.std.proofs.lemmas.Bool.Decides.{eqb_tells, nat_tests}
 use Rattle.std.proofs.lemmas.List.{get_or-replicate, get_or-set_other, get_or-set_same, length-replicate, length-set, map-append, take_all, take_more}
@@ -10,9 +10,8 @@ use Rattle.utility_language.specs.declared.commands.Command.{Command}
 use Rattle.preference_desk.specs.declared.entry.Entry.{Entry}
 use Rattle.preference_desk.specs.declared.reply.Reply.{Reply}
 use Rattle.preference_desk.specs.Entries.{entry_of}
-use Rattle.preference_desk.specs.Journals.{MergesStreams, commands_of_session}
-use Rattle.published_parts.specs.Journals.{sessions_of}
-use Rattle.market_lists.specs.Merges.{part_of}
+use Rattle.preference_desk.specs.Journals.{commands_of_session, MergesStreams, sessions_of}
+use Rattle.published_parts.proofs.OneJournals.{others_none, own_first}
 use Rattle.certificate_checker.specs.Firsts.{AllBelow, FailsFirstAt}
 use Rattle.certificate_checker.specs.Orders.{HasCommand, HasNext, IsNextCommand, SaidAll, SaysAll, commands_in, said}
 
@@ -36,16 +35,6 @@ replayed_none streams order = record {
   commands = λ k low. ap (λ n. take n (slice_index_or streams k [])) (sym (get_or-replicate (length streams) k 0 0 low));
   before = λ n low. absurd (omega arith);
 }
-
--- an entry's own session says its command first, and any other says nothing
-pub own_first : (x : Entry) (more : List Entry) (n : ℕ) → x.session ≡ n → commands_of_session n (x ∷ more) ≡ x.command ∷ commands_of_session n more
-own_first x more n own =
-    let test : nat_eq x.session n ≡ true = grind (arith, nat_tests) in
-    ap (λ t. map (λ (entry : Entry). entry.command) (cond t (x ∷ part_of (λ (entry : Entry). entry.session) n more) (part_of (λ (entry : Entry). entry.session) n more))) test
-
-pub others_none : (x : Entry) (more : List Entry) (n : ℕ) → nat_eq x.session n ≡ false → commands_of_session n (x ∷ more) ≡ commands_of_session n more
-others_none x more n test =
-    ap (λ t. map (λ (entry : Entry). entry.command) (cond t (x ∷ part_of (λ (entry : Entry). entry.session) n more) (part_of (λ (entry : Entry). entry.session) n more))) test
 
 -- the commands of a session with one entry more: its own, or another's
 own_last : (xs : List Entry) (e : Entry) (n : ℕ) → e.session ≡ n → commands_of_session n (xs ++ e ∷ []) ≡ commands_of_session n xs ++ e.command ∷ []

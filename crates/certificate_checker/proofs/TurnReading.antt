@@ -22,7 +22,7 @@ use Rattle.market_certificate.specs.Views.{publication_of, turn_of}
 use Rattle.proof_tree.specs.declared.defects.TreeDefect.{TreeDefect}
 use Rattle.proof_tree.specs.Defects.{IsDefect}
 use Rattle.proof_tree.specs.Texts.{IsTreeText}
-use Rattle.published_parts.specs.Holdings.{may_choose}
+use Rattle.held_seats.specs.Choices.{may_choose}
 use Rattle.certificate_checker.specs.declared.findings.Finding.{Finding}
 use Rattle.certificate_checker.specs.declared.findings.Finding.TheVariants.{Allocation, Budget, Infeasible, Journal, NotQuiet, Seats, Text, Tree, Turn, Unaffordable, Used}
 use Rattle.certificate_checker.specs.declared.findings.TurnFault.TheVariants as fault

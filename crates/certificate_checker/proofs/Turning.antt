@@ -25,7 +25,8 @@ use Rattle.market_certificate.specs.declared.publication.ProvedTurn as declared_
 use Rattle.market_certificate.specs.declared.publication.Publication as declared
 use Rattle.market_certificate.specs.Publications.{IsTurn, ProvedTurn, Publication, Proved}
 use Rattle.market_certificate.specs.Views.{proved_of, publication_of, turn_of}
-use Rattle.published_parts.specs.Holdings.{demanded, held_after, may_choose}
+use Rattle.published_parts.specs.Holdings.{demanded, held_after}
+use Rattle.held_seats.specs.Choices.{may_choose}
 use Rattle.certificate_checker.specs.declared.progress.Progress.{Progress}
 use Rattle.certificate_checker.specs.declared.terms.Terms.{Terms}
 use Rattle.certificate_checker.specs.Parts.{CanCheck, IsDueTurn, IsProgress, MadeChange}

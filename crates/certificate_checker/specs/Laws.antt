@@ -7,7 +7,8 @@ use Rattle.student_roll.specs.Students.{IsRoll}
 use Rattle.market_certificate.specs.Publications.{ProvedTurn, Publication}
 use Rattle.preference_desk.specs.declared.entry.Entry.{Entry}
 use Rattle.utility_language.specs.declared.commands.Command.{Command}
-use Rattle.published_parts.specs.Holdings.{AreWithinSeats, demanded, held_after, may_choose}
+use Rattle.published_parts.specs.Holdings.{AreWithinSeats, demanded, held_after}
+use Rattle.held_seats.specs.Choices.{may_choose}
 use Rattle.published_parts.specs.Journals.{IsJournalOf, wishes_in}
 use Rattle.published_parts.specs.Markets.{Market, names_in, seats_in}
 use Rattle.published_parts.specs.Offers.{all_sections}

@@ -6,7 +6,8 @@ use Rattle.bundle_bounds.specs.Offers.{Offer}
 use Rattle.demand_api.specs.Crowds.{CrowdData}
 use Rattle.market_certificate.specs.Publications.{ProvedTurn, Publication}
 use Rattle.proof_tree.specs.Texts.{IsTreeText}
-use Rattle.published_parts.specs.Holdings.{demanded, held_after, may_choose}
+use Rattle.published_parts.specs.Holdings.{demanded, held_after}
+use Rattle.held_seats.specs.Choices.{may_choose}
 use Rattle.published_parts.specs.Offers.{offer_to}
 use Rattle.certificate_checker.specs.Terms.{TermsData}
 use Rattle.certificate_checker.specs.Firsts.{AllBelow}

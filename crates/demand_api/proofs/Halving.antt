@@ -60,6 +60,16 @@ with_here price s p = let here : (s == s) ≡ true = grind (arith, nat_tests) in
 pub with_there : (price : ℕ → ℕ) (s p t : ℕ) → t ≢ s → with_price price s p t ≡ price t
 with_there price s p t other = let there : (t == s) ≡ false = ne_eqb t s other in rw there refl
 
+-- the count at the present price
+pub count_present : (crowd : CrowdData) (price : ℕ → ℕ) (s : ℕ) → count crowd (with_price price s (price s)) s ≡ count crowd price s
+count_present crowd price s = count_same crowd (with_price price s (price s)) price s same
+  where
+    same : (t : ℕ) → with_price price s (price s) t ≡ price t
+    same t = elim (cases_Bool (t == s)) [
+      | inl here ↦ let e : t ≡ s = grind (arith, nat_tests) in rw e (with_here price s (price s))
+      | inr there ↦ with_there price s (price s) t (λ e. grind (arith, nat_tests))
+    ]
+
 -- a higher price of one section
 pub with_raised : (price : ℕ → ℕ) (s p q : ℕ) → p ≤ q → IsRaised s (with_price price s p) (with_price price s q)
 with_raised price s p q more = record {

@@ -6,3 +6,5 @@ pub mod Choosing
 pub mod Bundles
 pub mod Takers
 pub mod Pairs
+pub mod Uncounting
+pub mod Holders

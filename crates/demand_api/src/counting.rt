@@ -1,5 +1,5 @@
 // Counts of all sections at once.
-ghost use Rattle.std.specs.Prelude.{◌≡◌, ◌<◌, ◌+◌, ◌^◌, ℕ, All, length};
+ghost use Rattle.std.specs.Prelude.{◌≡◌, ◌<◌, ◌≤◌, ◌+◌, ◌^◌, ℕ, All, length, slice_index};
 ghost use Rattle.bundle_rules.specs.Sets.{IsAscending};
 ghost use Rattle.bundle_rules.specs.Ordinals.{ordinals};
 ghost use Rattle.demand_api.specs.Counting.{HasCounted};
@@ -20,6 +20,23 @@ pub fn count_bundle(counts: &mut [u32], sections: &[SectionNo])
         [section, more @ ..] => {
             counts[usize::from(section.0)] += 1;
             count_bundle(counts, more);
+        }
+    }
+}
+
+/// Takes one from the count of each section of a bundle. The sections are ascending and have a count, of at least 1.
+pub fn uncount_bundle(counts: &mut [u32], sections: &[SectionNo])
+    requires range { All (λ section. section.0 < length counts.old) sections.now }
+    requires set { IsAscending (ordinals sections.now) }
+    requires counted { All (λ section. 1 ≤ slice_index counts.old section.0) sections.now }
+    ensures len { length counts.new ≡ length counts.old }
+    ensures each { (s : ℕ) → s < length counts.old → HasCounted counts.new counts.old (ordinals sections.now) s }
+{
+    match sections {
+        [] => {}
+        [section, more @ ..] => {
+            uncount_bundle(counts, more);
+            counts[usize::from(section.0)] -= 1;
         }
     }
 }

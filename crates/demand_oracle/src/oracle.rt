@@ -15,7 +15,7 @@ ghost use Rattle.demand_oracle.specs.Search.{wanted_by, IsBetter};
 ghost use Rattle.demand_oracle.specs.Waiting.{IsChampion, MayWait, before_waiting, HasStepped};
 
 use crate::pending::Pending;
-use bundle_reach::{Branch, Reach};
+use bundle_reach::{Branch, Reach, begun_with};
 use bundle_rules::{Bundle, Menu, prefers};
 use market_units::{NoMemory, SectionNo, SectionSet, Tokens};
 use std::alloc::Global;
@@ -81,7 +81,38 @@ pub fn demand(
     requires { HasPrices menu.now prices.now }
     ensures { IsBest (wishes_of menu.now) (price_in prices.now) budget.0 (set.contains allowed.now) (sections_of result) }
 {
-    search(&mut workspace.frames, menu, prices, budget, allowed, None)
+    search(
+        &mut workspace.frames,
+        menu,
+        prices,
+        budget,
+        allowed,
+        None,
+        None,
+    )
+}
+
+/// The same, found sooner where this bundle, or what may be taken of it, is nearly the best. Any bundle is right.
+pub fn demand_from(
+    workspace: &mut Workspace,
+    menu: &Menu,
+    prices: &[Tokens],
+    budget: Tokens,
+    allowed: &SectionSet,
+    first: &Bundle,
+) -> Bundle
+    requires { HasPrices menu.now prices.now }
+    ensures { IsBest (wishes_of menu.now) (price_in prices.now) budget.0 (set.contains allowed.now) (sections_of result) }
+{
+    search(
+        &mut workspace.frames,
+        menu,
+        prices,
+        budget,
+        allowed,
+        None,
+        Some(first),
+    )
 }
 
 /// The best bundle with a given section: the feasible one of allowed sections with this one among them, of price sum at
@@ -115,13 +146,15 @@ pub fn demand_with(
         budget,
         allowed,
         Some(place),
+        None,
     );
     Some(bundle)
 }
 
 // The best bundle, of those with the section of a place where one is given, which may be taken alone: the root is looked
-// at first, and while branches are left, the next one. Each of the two demands has its own copy of the machine code of
-// this and of what it calls, so that the plain one asks nothing about a given place.
+// at first, and while branches are left, the next one. Where a first bundle is told, the search may begin with it. Each
+// of the demands has its own copy of the machine code of this and of what it calls, so that the plain one asks nothing
+// about a given place.
 #[inline(always)]
 fn search(
     frames: &mut Frames,
@@ -130,6 +163,7 @@ fn search(
     budget: Tokens,
     allowed: &SectionSet,
     given: Option<u8>,
+    first: Option<&Bundle>,
 ) -> Bundle
     requires prices { HasPrices menu.now prices.now }
     requires none { frames.old.pending ≡ [] }
@@ -141,7 +175,7 @@ fn search(
     frames.opened = 0;
     frames.reach.measure(menu, prices, budget, allowed);
     let reach = &frames.reach;
-    let mut champion = first_champion(reach, menu, prices, budget, allowed, given);
+    let mut champion = first_champion(reach, menu, prices, budget, allowed, given, first);
     let mut next = Some(Branch::root());
     while let Some(branch) = next {
         next = step(
@@ -159,7 +193,7 @@ fn search(
 }
 
 // The champion that a search begins with: the section of the given place alone, and where none is given a branch that
-// begins well.
+// begins well, of the first bundle where it is worth no less.
 #[inline(always)]
 fn first_champion(
     reach: &Reach,
@@ -168,6 +202,7 @@ fn first_champion(
     budget: Tokens,
     allowed: &SectionSet,
     given: Option<u8>,
+    first: Option<&Bundle>,
 ) -> Branch
     requires prices { HasPrices menu.now prices.now }
     requires given { IfSome given (λ place. place < length menu.now.places) }
@@ -176,8 +211,37 @@ fn first_champion(
 {
     match given {
         Some(place) => Branch::alone(menu, prices, place),
-        None => reach.first_champion(menu, prices, budget, allowed),
+        None => {
+            let drafted = reach.first_champion(menu, prices, budget, allowed);
+            from_first(menu, prices, budget, allowed, first, drafted)
+        }
     }
+}
+
+// The branch, or that of the first bundle where it is told and worth no less.
+#[inline(always)]
+fn from_first(
+    menu: &Menu,
+    prices: &[Tokens],
+    budget: Tokens,
+    allowed: &SectionSet,
+    first: Option<&Bundle>,
+    branch: Branch,
+) -> Branch
+    requires prices { HasPrices menu.now prices.now }
+    requires branch { IsBranch menu.now (price_in prices.now) branch }
+    requires takable { IsTakable (offer_of menu.now prices.now budget.0 allowed.now) (chosen_of branch) }
+    ensures branch { IsBranch menu.now (price_in prices.now) result }
+    ensures takable { IsTakable (offer_of menu.now prices.now budget.0 allowed.now) (chosen_of result) }
+{
+    let Some(bundle) = first else {
+        return branch;
+    };
+    let begun = begun_with(menu, prices, budget, allowed, bundle);
+    if begun.utility() >= branch.utility() {
+        return begun;
+    }
+    branch
 }
 
 // Looks at a branch, and tells the branch to look at after it, or `None` where none is left. The chosen sections are

@@ -156,6 +156,9 @@ fn what_trying_all_choices_finds(rt: HostRuntime) -> Result<(), Fail> {
             best_plain(&menu, &prices, budget, &allowed),
             "at turn {turn}"
         );
+        let first = chosen(&menu, u32::from(made(&mut seed, 4096)));
+        let again = demand_from(&mut workspace, &menu, &prices, budget, &allowed, &first);
+        assert!(rt; again == best, "at turn {turn}");
     }
     Ok(())
 }

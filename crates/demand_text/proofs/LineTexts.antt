@@ -1,23 +1,18 @@
 -- Lines of names, one more of them.
-use Rattle.std.proofs.Common.{ℕ, ◌≡◌, ◌==◌, ◌+◌, ◌<◌, List, [], ◌∷◌, ◌++◌, cond, length, map, take, get_or, ap, sym, arith, ◌∙◌, append_assoc}
-use Rattle.std.specs.Prelude.{Option, Some, option_map, slice_get}
-use Rattle.std.specs.List.{join_with_byte}
+use Rattle.std.proofs.Common.{ℕ, ◌≡◌, ◌+◌, ◌<◌, List, [], ◌∷◌, ◌++◌, length, map, take, get_or, ap, sym, arith, ◌∙◌, append_assoc}
+use Rattle.std.specs.Prelude.{Some, option_map, slice_get}
 use Rattle.std.proofs.lemmas.List.{get_or-map, get_or_default, length-map}
 use Rattle.bundle_rules.specs.Bundles.{sections_of}
 use Rattle.bundle_rules.specs.declared.bundle.Bundle.{Bundle}
-use Rattle.course_catalog.specs.Sections.{Section, no_section, section_at}
+use Rattle.course_catalog.specs.Sections.{Section, section_at}
 use Rattle.market_certificate.specs.Lines.{joined}
-use Rattle.market_certificate.specs.Tables.{name_at, section_names}
+use Rattle.market_certificate.specs.Tables.{section_names}
 use Rattle.market_certificate.specs.Texts.{each_line}
-use Rattle.market_certificate.proofs.Joins.{bundle_more, each_more, joined_append, text_more, value_at}
-use Rattle.market_units.specs.declared.units.SectionNo.{SectionNo}
+use Rattle.market_certificate.proofs.Joins.{each_more, joined_append, text_more, value_at}
 use Rattle.preference_desk.proofs.CopyLemmas.{read_at}
 use Rattle.student_roll.specs.Students.{Student, names_of, no_student}
+use Rattle.text_fields.proofs.SectionNames.{section_name}
 use Rattle.demand_text.specs.Texts.{count_line, taken_line}
-
--- the name of a section is that of its place
-pub section_name : (sections : List Section) (s : ℕ) → s < length sections → (section_at sections s).name ≡ name_at (section_names sections) s
-section_name sections s inside = sym (get_or-map (λ (section : Section). section.name) sections s no_section [] inside)
 
 -- the name of a student is that of its place
 student_name : (students : List Student) (n : ℕ) (name : List ℕ) → n < length students → option_map (λ (student : Student). student.name) (slice_get students n) ≡ Some name → name ≡ get_or (names_of students) n []
@@ -47,13 +42,6 @@ pub count_more : (sections : List Section) (counts : List ℕ) (n : ℕ) (name :
     → new ≡ begun ++ joined (each_line count_line (take (n + 1) (section_names sections)) (take (n + 1) counts))
 count_more sections counts n name count begun text new same inside named is so put =
     line_more count_line (section_names sections) counts n name count begun text new (omega (arith, length-map sections (λ (section : Section). section.name))) (omega arith) (named ∙ section_name sections n inside) is so put
-
--- the names of a bundle's sections, one more
-pub section_more : (sections : List Section) (items : List SectionNo) (bundle : List ℕ) (k : ℕ) (section : SectionNo) (begun text comma new name : List ℕ) → map (λ (s : SectionNo). s.0) items ≡ bundle → k < length items → section ≡ get_or items k section
-    → section.0 < length sections → text ≡ begun ++ join_with_byte 44 (map (name_at (section_names sections)) (take k bundle)) → comma ≡ text ++ cond (k == 0) [] (44 ∷ []) → new ≡ comma ++ name → name ≡ (section_at sections section.0).name
-    → new ≡ begun ++ join_with_byte 44 (map (name_at (section_names sections)) (take (k + 1) bundle))
-section_more sections items bundle k section begun text comma new name same inside is within so parted put named =
-    bundle_more (section_names sections) items bundle k section begun text comma new same inside is so parted (put ∙ ap (λ bytes. comma ++ bytes) (named ∙ section_name sections section.0 within))
 
 -- the bundle at an index is that of the student's number, whatever stands for no bundle
 pub bundle_at : (bundles : List Bundle) (n index : ℕ) (bundle : Bundle) → n < length bundles → index ≡ n → bundle ≡ get_or bundles index bundle → (d : Bundle) → bundle ≡ get_or bundles n d

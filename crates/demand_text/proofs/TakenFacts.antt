@@ -9,8 +9,8 @@ use Rattle.bundle_rules.specs.Sets.{has}
 use Rattle.bundle_rules.specs.Existence.Members.{has-here, has-there}
 use Rattle.clearing_error.specs.Errors.{error}
 use Rattle.demand_api.specs.Asking.{ArePricesFor}
-use Rattle.demand_api.specs.Crowds.{CrowdData, IsCrowd, counts, demand, demand_of, demands, holders, top}
-use Rattle.demand_api.proofs.Counts.{counts_by_top, demands_by_top, same_up_to}
+use Rattle.demand_api.specs.Crowds.{CrowdData, counts, demands, holders, top}
+use Rattle.demand_api.proofs.Counts.{demands_by_top, same_up_to}
 use Rattle.demand_api.proofs.Takers.{demand_within}
 use Rattle.market_units.specs.declared.units.Tokens.{Tokens}
 use Rattle.own_price.specs.Holding.{HeldData, Holds}

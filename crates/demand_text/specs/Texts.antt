@@ -1,17 +1,14 @@
 -- The text of what a crowd takes at given prices.
-use Rattle.std.specs.Prelude.{ℕ, List, [], ◌∷◌, ◌++◌, codes, map}
+use Rattle.std.specs.Prelude.{ℕ, List, [], ◌∷◌, ◌++◌, codes}
 use Rattle.std.specs.Fmt.{decimal}
 use Rattle.course_catalog.specs.Sections.{Section}
 use Rattle.market_certificate.specs.Lines.{joined, spaced}
 use Rattle.market_certificate.specs.Tables.{section_names}
 use Rattle.market_certificate.specs.Texts.{bundle_text, each_line, error_line, order_line}
+use Rattle.preference_desk.specs.Journals.{sessions_of}
 use Rattle.preference_desk.specs.declared.entry.Entry.{Entry}
 use Rattle.student_roll.specs.Students.{Student, names_of}
 use Rattle.demand_text.specs.Taken.{TakenData}
-
--- the sessions of a journal's entries, in their order
-abbrev pub order_of : List Entry → List ℕ
-order_of journal = map (λ (entry : Entry). entry.session) journal
 
 -- the line of what a student takes: its name, and the names of the sections
 abbrev pub taken_line : List (List ℕ) → List ℕ → List ℕ → List ℕ
@@ -25,7 +22,7 @@ count_line name count = spaced (codes "count" ∷ name ∷ decimal count ∷ [])
 abbrev pub demand_text : List Section → List Student → List Entry → TakenData → List ℕ
 demand_text sections students journal taken =
     joined (
-    order_line (order_of journal)
+    order_line (sessions_of journal)
     ∷ (each_line (taken_line (section_names sections)) (names_of students) taken.bundles
     ++ (each_line count_line (section_names sections) taken.counts
     ++ error_line taken.error ∷ []))

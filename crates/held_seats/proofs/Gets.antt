@@ -1,8 +1,7 @@
 -- Items of a list that one of them is written into.
-use Rattle.std.proofs.Common.{ℕ, zero, suc, ◌≡◌, ◌≢◌, ◌<◌, ◌+◌, List, [], ◌∷◌, length, Some, None, arith, refl, ap}
-use Rattle.std.specs.Prelude.{slice_get, slice_set, if◌then◌else◌}
-use Rattle.bundle_rules.specs.Sets.{has}
-use Rattle.demand_api.specs.Crowds.{holders}
+use Rattle.std.proofs.Common.{ℕ, zero, suc, ◌≡◌, ◌≢◌, ◌<◌, List, [], ◌∷◌, length, Some, None, arith, refl, ap}
+use Rattle.std.specs.Prelude.{slice_get, slice_set}
+pub use Rattle.demand_api.proofs.Holders.{holders_set}
 
 pub get-set_same : {X : Type 0} (xs : List X) (i : ℕ) (a : X) → i < length xs → slice_get (slice_set xs i a) i ≡ Some a
 get-set_same [] i a low = absurd (omega arith)
@@ -27,13 +26,3 @@ pub set_past : {X : Type 0} (xs : List X) (i : ℕ) (a : X) → slice_get xs i �
 set_past [] i a is = refl
 set_past (x ∷ xs) zero a is = absurd (cc is)
 set_past (x ∷ xs) (suc i) a is = ap (λ ys. x ∷ ys) (set_past xs i a is)
-
--- one more holder where the new bundle has the section, one fewer where the old one had it
-pub holders_set : (s : ℕ) (held : List (List ℕ)) (i : ℕ) (before after : List ℕ) → slice_get held i ≡ Some before
-    → holders s (slice_set held i after) + (if has before s then 1 else 0) ≡ holders s held + (if has after s then 1 else 0)
-holders_set s [] i before after is = absurd (cc is)
-holders_set s (x ∷ xs) zero before after is =
-    let same : x ≡ before = cc is in
-    let e = ap {B = ℕ} (λ b. if has b s then 1 else 0) same in
-    omega (arith, e)
-holders_set s (x ∷ xs) (suc i) before after is = omega (arith, holders_set s xs i before after is)

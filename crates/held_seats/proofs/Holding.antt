@@ -1,29 +1,27 @@
 -- What is held, with its counts, as one bundle changes.
-use Rattle.std.proofs.Common.{ℕ, zero, suc, ◌≡◌, ◌≢◌, ◌<◌, ◌≤◌, ◌+◌, ◌-◌, ◌||◌, ◌&&◌, ◌==◌, ◌++◌, Bool, nat_eq, true, false, List, [], ◌∷◌, length, map, take, drop, All, Some, arith, refl, sym, ◌∙◌, ap, subst, inl, inr}
+use Rattle.std.proofs.Common.{ℕ, zero, suc, ◌≡◌, ◌<◌, ◌≤◌, ◌+◌, ◌||◌, ◌&&◌, ◌++◌, Bool, nat_eq, true, false, List, [], ◌∷◌, length, map, take, drop, All, Some, arith, refl, sym, ◌∙◌, ap, subst, inl, inr}
 use Rattle.std.specs.Prelude.{option_map, slice_get, slice_index, slice_index_or, slice_set, nat_lt, if◌then◌else◌}
 use Rattle.std.specs.Ordering.{nat_cmp}
 use Rattle.std.specs.FinSet as set
 use Rattle.std.proofs.lemmas.Bool.{cases_Bool, cases_lt, false≢true}
 use Rattle.std.proofs.lemmas.Bool.Decides.{nat_tests}
 use Rattle.std.specs.Cmp.Lexicographic.{pointwise}
-use Rattle.std.proofs.lemmas.List.{get_or-set_same, get_or-set_other, get_or-map}
+use Rattle.std.proofs.lemmas.List.{get_or-map}
 use Rattle.std.proofs.lemmas.Option.{slice_get_within, get_or_from_slice_get, slice_get-map, slice_get_read}
 use Rattle.market_units.specs.declared.units.SectionNo.{SectionNo}
 use Rattle.bundle_rules.specs.declared.bundle.Bundle.{Bundle}
 use Rattle.bundle_rules.specs.Bundles.{sections_of}
-use Rattle.bundle_rules.specs.Sets.{has, IsAscending}
+use Rattle.bundle_rules.specs.Sets.{has}
 use Rattle.bundle_rules.specs.Ordinals.{ordinals}
 use Rattle.bundle_rules.specs.Places.{places_from}
 use Rattle.bundle_rules.specs.Existence.Members.{has-cases}
-use Rattle.bundle_rules.specs.Existence.Orders.{none_below}
-use Rattle.bundle_rules.proofs.Firsts.{first_rest}
 use Rattle.demand_api.specs.Crowds.{holders}
 use Rattle.demand_api.specs.Counting.{HasCounted}
 use Rattle.demand_api.proofs.Takers.{AreCounts, listed_in, holders_few, index_same, lent_back, listed_by_place}
 use Rattle.held_seats.specs.Choices.{is_free, may_choose}
 use Rattle.held_seats.specs.Floors.{AreBelow}
 use Rattle.held_seats.proofs.Freeing.{Tells, no_seats}
-use Rattle.held_seats.proofs.Gets.{holders_set}
+use Rattle.demand_api.proofs.Holders.{holders_set}
 
 -- a bundle's sections have a count of 1 at least
 pub holds_one : (s : ℕ) (held : List (List ℕ)) (i : ℕ) (bundle : List ℕ) → slice_get held i ≡ Some bundle → has bundle s ≡ true → 1 ≤ holders s held
@@ -49,51 +47,6 @@ below_at n held i bundle below there s in_it =
     let low = slice_get_within held i bundle there in
     let here = get_or_from_slice_get held i bundle bundle there in
     below i bundle low s (ap (λ b. has b s) here ∙ in_it)
-
--- one fewer at the first section, and then at the others
-discounted_first : (before after : List ℕ) (x : SectionNo) (rest : List SectionNo) (s : ℕ) → IsAscending (ordinals (x ∷ rest)) → x.0 < length before → 1 ≤ slice_index before x.0
-    → HasCounted after (slice_set before x.0 (slice_index before x.0 - 1)) (ordinals rest) s → HasCounted after before (ordinals (x ∷ rest)) s
-discounted_first before after x rest s up low some counted = elim (cases_Bool (x.0 == s)) [
-  | inl here ↦
-      let e : s ≡ x.0 = grind (arith, nat_tests) in
-      let none : has (ordinals rest) s ≡ false = none_below x.0 (ordinals rest) up.0 s (omega arith) in
-      let value : slice_index (slice_set before x.0 (slice_index before x.0 - 1)) s ≡ slice_index before s - 1 = rw e (get_or-set_same before x.0 (slice_index before x.0 - 1) 0 low) in
-      let enough : 1 ≤ slice_index before s = rw e some in
-      let so_far : slice_index (slice_set before x.0 (slice_index before x.0 - 1)) s ≡ slice_index after s + 0 = rw none at counted in
-      rw here (omega (arith, value, so_far, enough))
-  | inr there ↦
-      let other : s ≢ x.0 = λ e. grind (arith, nat_tests) in
-      let value : slice_index (slice_set before x.0 (slice_index before x.0 - 1)) s ≡ slice_index before s = get_or-set_other before x.0 s (slice_index before x.0 - 1) 0 other in
-      rw there (sym value ∙ counted)
-]
-
-pub discounted_slice : (before after : List ℕ) (sections : List SectionNo) (place s : ℕ) → 1 ≤ length sections → IsAscending (ordinals sections) → place ≡ (slice_index_or sections 0 (record { 0 = 0 })).0 → place < length before → 1 ≤ slice_index before place
-    → HasCounted after (slice_set before place (slice_index before place - 1)) (ordinals (take (length sections - 1) (drop 1 sections))) s → HasCounted after before (ordinals sections) s
-discounted_slice before after sections place s some up at low enough counted =
-    let first : SectionNo = slice_index_or sections 0 (record { 0 = 0 }) in
-    let rest : List SectionNo = take (length sections - 1) (drop 1 sections) in
-    let whole : sections ≡ first ∷ rest = first_rest sections (record { 0 = 0 }) some in
-    subst (λ ss. HasCounted after before (ordinals ss) s) (sym whole)
-    (discounted_first before after first rest s (subst (λ ss. IsAscending (ordinals ss)) whole up) (subst (λ p. p < length before) at low) (subst (λ p. 1 ≤ slice_index before p) at enough)
-    (subst (λ p. HasCounted after (slice_set before p (slice_index before p - 1)) (ordinals rest) s) at counted))
-
--- the other sections are counted once at least after the first is discounted
-pub still_counted : (before : List ℕ) (sections : List SectionNo) (place : ℕ) → 1 ≤ length sections → IsAscending (ordinals sections) → place ≡ (slice_index_or sections 0 (record { 0 = 0 })).0 → All (λ section. 1 ≤ slice_index before section.0) sections
-    → All (λ section. 1 ≤ slice_index (slice_set before place (slice_index before place - 1)) section.0) (take (length sections - 1) (drop 1 sections))
-still_counted before sections place some up at all =
-    let first : SectionNo = slice_index_or sections 0 (record { 0 = 0 }) in
-    let rest : List SectionNo = take (length sections - 1) (drop 1 sections) in
-    let whole : sections ≡ first ∷ rest = first_rest sections (record { 0 = 0 }) some in
-    subst (λ p. All (λ section. 1 ≤ slice_index (slice_set before p (slice_index before p - 1)) section.0) rest) (sym at)
-    (others first rest (subst (λ ss. IsAscending (ordinals ss)) whole up) (subst (λ ss. All (λ section. 1 ≤ slice_index before section.0) ss) whole all))
-  where
-    others : (x : SectionNo) (ss : List SectionNo) → IsAscending (ordinals (x ∷ ss)) → All (λ section. 1 ≤ slice_index before section.0) (x ∷ ss) → All (λ section. 1 ≤ slice_index (slice_set before x.0 (slice_index before x.0 - 1)) section.0) ss
-    others x ss ascending each k d low =
-        let there : has (ordinals ss) (slice_index_or ss k d).0 ≡ true = listed_in ss k d low in
-        let apart : (slice_index_or ss k d).0 ≢ x.0 = λ e. false≢true (sym (none_below x.0 (ordinals ss) ascending.0 (slice_index_or ss k d).0 (omega arith)) ∙ there) in
-        let same = get_or-set_other before x.0 (slice_index_or ss k d).0 (slice_index before x.0 - 1) 0 apart in
-        let one : 1 ≤ slice_index before (slice_index_or ss k d).0 = each (suc k) d (let h : suc k < suc (length ss) = omega arith in h) in
-        omega (arith, same, one)
 
 -- the counts where a bundle was given up and another was taken
 pub counts_after : (n : ℕ) (held : List (List ℕ)) (i : ℕ) (before after : List ℕ) (old between new : List ℕ) → AreCounts n held old → slice_get held i ≡ Some before → length between ≡ length old → length new ≡ length between
@@ -209,21 +162,6 @@ recounted n i len held before after old lent between lent' new gone come are the
     counts_after n held i before after old between new are there (kept ∙ ap length same) (kept' ∙ ap length back)
     (λ s low. subst (λ l. HasCounted between l before s) same (subst (λ b. HasCounted between lent b s) listed (fewer s (let e = ap length same in omega (arith, e, low)))))
     (λ s low. subst (λ l. HasCounted l new after s) back (subst (λ b. HasCounted lent' new b s) listed' (more s (let e = ap length back in omega (arith, e, low)))))
-
--- what holds of all sections of a list, and that they ascend, holds behind the first
-pub rest_all : (P : SectionNo → Type 0) (sections : List SectionNo) → 1 ≤ length sections → All P sections → All P (take (length sections - 1) (drop 1 sections))
-rest_all P sections some all =
-    let whole = first_rest sections (record { 0 = 0 }) some in
-    later (slice_index_or sections 0 (record { 0 = 0 })) (take (length sections - 1) (drop 1 sections)) (subst (All P) whole all)
-  where
-    later : (x : SectionNo) (xs : List SectionNo) → All P (x ∷ xs) → All P xs
-    later x xs each k d low = each (suc k) d (let h : suc k < suc (length xs) = omega arith in h)
-
-pub rest_ascending : (sections : List SectionNo) → 1 ≤ length sections → IsAscending (ordinals sections) → IsAscending (ordinals (take (length sections - 1) (drop 1 sections)))
-rest_ascending sections some up =
-    let whole = first_rest sections (record { 0 = 0 }) some in
-    let split : IsAscending (ordinals (slice_index_or sections 0 (record { 0 = 0 }) ∷ take (length sections - 1) (drop 1 sections))) = subst (λ ss. IsAscending (ordinals ss)) whole up in
-    split.1
 
 -- what was told by lent counts and a lent list is told by the counts and the bundle
 pub told_by : (seats read new : List ℕ) (free result : set.FinSet nat_cmp) (sections : List SectionNo) (bundle : List ℕ) → read ≡ new → ordinals sections ≡ bundle → Tells (λ s. nat_lt (slice_index read s) (slice_index seats s)) free (ordinals sections) result

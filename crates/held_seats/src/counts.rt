@@ -1,10 +1,9 @@
 // How many students hold each section, and which sections are free.
 ghost use Rattle.std.specs.Prelude.{◌≡◌, ◌<◌, ◌≤◌, ◌||◌, ℕ, IfOk, All, length, map, nat_lt, slice_index, if◌then◌else◌};
 ghost use Rattle.std.specs.FinSet as set;
-ghost use Rattle.bundle_rules.specs.Sets.{has, IsAscending};
+ghost use Rattle.bundle_rules.specs.Sets.{has};
 ghost use Rattle.bundle_rules.specs.Ordinals.{ordinals};
 ghost use Rattle.bundle_rules.specs.Bundles.{sections_of};
-ghost use Rattle.demand_api.specs.Counting.{HasCounted};
 ghost use Rattle.demand_api.proofs.Takers.{AreCounts};
 ghost use Rattle.held_seats.specs.Floors.{AreBelow};
 
@@ -28,23 +27,6 @@ pub(crate) fn count_all(
         count_bundle(&mut counts, bundle.sections());
     }
     Ok(counts)
-}
-
-// Takes one from the count of each section of a bundle. Each of them is counted at least once.
-pub(crate) fn discount_bundle(counts: &mut [u32], sections: &[SectionNo])
-    requires range { All (λ section. section.0 < length counts.old) sections.now }
-    requires set { IsAscending (ordinals sections.now) }
-    requires counted { All (λ section. 1 ≤ slice_index counts.old section.0) sections.now }
-    ensures len { length counts.new ≡ length counts.old }
-    ensures each { (s : ℕ) → s < length counts.old → HasCounted counts.new counts.old (ordinals sections.now) s }
-{
-    match sections {
-        [] => {}
-        [section, more @ ..] => {
-            counts[usize::from(section.0)] -= 1;
-            discount_bundle(counts, more);
-        }
-    }
 }
 
 // The free sections: those with fewer holders than seats.

@@ -6,9 +6,9 @@ ghost use Rattle.bundle_rules.specs.Bundles.{sections_of};
 ghost use Rattle.held_seats.specs.Choices.{may_choose};
 ghost use Rattle.held_seats.specs.Floors.{AreBelow, IsFloor, held_on};
 
-use crate::counts::{count_all, discount_bundle, free_sections, freed, with_all};
+use crate::counts::{count_all, free_sections, freed, with_all};
 use bundle_rules::Bundle;
-use demand_api::count_bundle;
+use demand_api::{count_bundle, uncount_bundle};
 use market_units::{NoMemory, SectionSet};
 use std::alloc::Global;
 
@@ -82,7 +82,7 @@ impl Floor {
         ensures floor { IsFloor seats.now self.new }
     {
         let before = self.held[place];
-        discount_bundle(&mut self.used, before.sections());
+        uncount_bundle(&mut self.used, before.sections());
         count_bundle(&mut self.used, bundle.sections());
         let free = freed(self.free, &self.used, seats, before.sections());
         self.free = freed(free, &self.used, seats, bundle.sections());

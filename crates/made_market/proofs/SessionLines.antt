@@ -1,5 +1,5 @@
 -- The sessions of a made market have no more commands than lines.
-use Rattle.std.proofs.Common.{ℕ, zero, suc, ◌≡◌, ◌+◌, ◌*◌, ◌%◌, ◌^◌, ◌<◌, ◌≤◌, Bool, true, false, List, [], ◌∷◌, ◌++◌, length, map, refl, ap, subst, sym, ◌∙◌, arith, append_assoc, mod-lt}
+use Rattle.std.proofs.Common.{ℕ, zero, suc, ◌≡◌, ◌+◌, ◌*◌, ◌%◌, ◌^◌, ◌<◌, ◌≤◌, Bool, true, false, List, [], ◌∷◌, ◌++◌, length, map, refl, ap, subst, sym, ◌∙◌, arith, append_assoc}
 use Rattle.std.specs.Prelude.{All, ℤ, pos, negsuc, ◌-ℤ◌, ◌==◌, if◌then◌else◌, nat_lt, not, ⊤}
 use Rattle.std.specs.Fmt.{decimal, signed_decimal}
 use Rattle.std.specs.List.{filter, flat_map, range_with_len}
@@ -10,7 +10,7 @@ use Rattle.std.proofs.lemmas.List.Elements.{All-cons, All-filter, All-head, All-
 use Rattle.std.proofs.lemmas.List.Filters.{length-filter_both}
 use Rattle.std.proofs.lemmas.List.FromFn.{get_or-range_with_len, length-range_with_len}
 use Rattle.made_market.proofs.Fields.{AreFrom, from_decimal}
-use Rattle.market_maker.proofs.Sizes.{within_limits}
+use Rattle.market_maker.proofs.Sizes.{rated_small, within_limits}
 use Rattle.market_maker.specs.Lines.{numbers_to, text_of}
 use Rattle.market_maker.specs.Sessions.{adjustment_line, adjustment_lines, adjustment_of, first_text, is_even, is_odd, lines_of, rated_count, rated_section, rating_behind, rating_line, rating_of, second_text, student_lines}
 use Rattle.utility_language.proofs.LineLemmas.{ended_line}
@@ -36,11 +36,6 @@ from_signed (negsuc n) a b e small small' = (omega arith, from_decimal 32 (suc n
 -- a word of a letter and a number, with what comes behind it
 from_name : (letter n : ℕ) (behind : List ℕ) → 32 ≤ letter → n < 2 ^ 64 → AreFrom 32 behind → AreFrom 32 ((letter ∷ decimal n) ++ 32 ∷ behind)
 from_name letter n behind low small from = (low, from_append 32 (decimal n) (32 ∷ behind) (from_decimal 32 n (omega arith) small) (omega arith, from))
-
-rated_small : (sections i t : ℕ) → 1 ≤ sections → sections ≤ 400 → rated_section sections i t ≤ 400
-rated_small sections i t some few =
-    let below : (7 * i + t) % sections < sections = mod-lt (7 * i + t) some in
-    omega (arith, below)
 
 rating_whole : (seed i j : ℕ) → i ≤ 2000 → j ≤ 400 → AreFrom 32 (rating_line seed i j)
 rating_whole seed i j small small' =

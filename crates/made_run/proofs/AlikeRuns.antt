@@ -16,7 +16,8 @@ use Rattle.published_market.specs.Publishing.{AreTurns, HasNoPrices, IsOutcome, 
 use Rattle.published_market.proofs.Settled.{one_settled}
 use Rattle.published_parts.specs.Crowds.{IsCrowdIn}
 use Rattle.published_parts.specs.Holdings.{demanded, tokens}
-use Rattle.published_parts.specs.Journals.{IsJournalOf, sessions_of, wanted_in}
+use Rattle.published_parts.specs.Journals.{IsJournalOf, wanted_in}
+use Rattle.preference_desk.specs.Journals.{sessions_of}
 use Rattle.published_parts.specs.Markets.{Market, names_in, seats_in}
 use Rattle.published_parts.proofs.OneCrowds.{one_crowd}
 use Rattle.utility_language.specs.declared.commands.Command.{Command}

@@ -5,4 +5,3 @@ pub mod laws;
 mod summary;
 
 pub use summary::made_summary;
-

@@ -87,7 +87,7 @@ settings_short seed accept small small' =
       decimal_short accept small',
     )
 
-rated_small : (sections i t : ℕ) → 1 ≤ sections → sections ≤ 400 → rated_section sections i t ≤ 400
+pub rated_small : (sections i t : ℕ) → 1 ≤ sections → sections ≤ 400 → rated_section sections i t ≤ 400
 rated_small sections i t some few =
     let below : (7 * i + t) % sections < sections = mod-lt (7 * i + t) some in
     omega (arith, below)

@@ -7,11 +7,10 @@ use Rattle.market_certificate.specs.Publications.{IsPublication, IsSession, Publ
 use Rattle.market_certificate.specs.Texts.{text_of}
 use Rattle.market_summary.specs.Summaries.{summary_text}
 use Rattle.preference_desk.specs.declared.entry.Entry.{Entry}
-use Rattle.preference_desk.specs.Journals.{IsLegalJournal, MergesStreams}
+use Rattle.preference_desk.specs.Journals.{IsLegalJournal, MergesStreams, sessions_of}
 use Rattle.published_market.specs.Publishing.{HasNoPrices, IsPublicationOf, IsPublishedText, IsUnpriced, Lengths}
 use Rattle.published_market.proofs.Merged.{merged_sessions, order_unpriced, text_published}
 use Rattle.published_parts.specs.Crowds.{IsCrowdIn}
-use Rattle.published_parts.specs.Journals.{sessions_of}
 use Rattle.published_parts.specs.Markets.{Market, names_in, tables_in}
 use Rattle.session_hall.specs.Streams.{command_lists}
 use Rattle.utility_language.specs.declared.commands.Command.{Command}

@@ -6,7 +6,7 @@ ghost use Rattle.market_run.specs.Held.{IsSummaryText};
 ghost use Rattle.market_settings.specs.Settings.{AreInRange};
 ghost use Rattle.preference_desk.specs.DeskView.{entries_of};
 ghost use Rattle.published_market.specs.Publishing.{IsPublishedText, IsUnpriced};
-ghost use Rattle.published_parts.specs.Journals.{sessions_of};
+ghost use Rattle.preference_desk.specs.Journals.{sessions_of};
 ghost use Rattle.published_parts.specs.Markets.{market_of};
 ghost use Rattle.session_hall.specs.Streams.{command_count, command_lists};
 

@@ -7,7 +7,7 @@ use Rattle.demand_api.specs.Crowds.{CrowdData, IsCrowd, holders, count}
 use Rattle.demand_api.specs.Asking.{ArePricesFor}
 use Rattle.own_price.specs.Holding.{HeldData, Holds}
 use Rattle.own_price.proofs.Leasts.{one_least_price}
-use Rattle.oversubscription_stage.specs.Rounds.{AreWithinSeats, IsMostOver, limit_after, IsRoundAt, IsRound, AreRounds, last, IsElimination, IsSettled}
+use Rattle.oversubscription_stage.specs.Rounds.{AreCountsWithin, IsMostOver, limit_after, IsRoundAt, IsRound, AreRounds, last, IsElimination, IsSettled}
 use Rattle.oversubscription_stage.proofs.Finding.{find_most, one_most}
 use Rattle.oversubscription_stage.proofs.Raises.{left, left_after, left_high, round_raises, find_least}
 
@@ -57,7 +57,7 @@ one_round crowd seats before one other (s, price, is) (t, cost, is') =
     is.changed ∙ ap (λ p. slice_set before s (record { 0 = p })) equal ∙ sym there.changed
 
 -- no round begins where all are within their seats
-none_over : (crowd : CrowdData) (seats : List ℕ) (before after : List Tokens) → AreWithinSeats crowd.sections (count crowd (price_in before)) seats → ¬ IsRound crowd seats before after
+none_over : (crowd : CrowdData) (seats : List ℕ) (before after : List Tokens) → AreCountsWithin crowd.sections (count crowd (price_in before)) seats → ¬ IsRound crowd seats before after
 none_over crowd seats before after within (s, price, is) =
     let few : count crowd (price_in before) s ≤ slice_index seats s = within s is.most.in_range in
     let more : slice_index seats s < count crowd (price_in before) s = is.most.over in
@@ -73,8 +73,8 @@ one_elimination crowd seats start (x ∷ xs) (y ∷ ys) is is' =
     let rest : xs ≡ ys = one_elimination crowd seats x xs ys (record { rounds = is.rounds.1; ends = is.ends }) there in
     ap (λ v. v ∷ xs) same ∙ ap (λ vs. y ∷ vs) rest
 
-pub settled_within_seats : (crowd : CrowdData) (seats : List ℕ) (start prices : List Tokens) (rounds : ℕ) → IsSettled crowd seats start prices rounds → AreWithinSeats crowd.sections (count crowd (price_in prices)) seats
-settled_within_seats crowd seats start prices rounds (vectors, is, at, number) = subst (λ ps. AreWithinSeats crowd.sections (count crowd (price_in ps)) seats) at is.ends
+pub settled_within_seats : (crowd : CrowdData) (seats : List ℕ) (start prices : List Tokens) (rounds : ℕ) → IsSettled crowd seats start prices rounds → AreCountsWithin crowd.sections (count crowd (price_in prices)) seats
+settled_within_seats crowd seats start prices rounds (vectors, is, at, number) = subst (λ ps. AreCountsWithin crowd.sections (count crowd (price_in ps)) seats) at is.ends
 
 -- one round more
 rounds_more : (crowd : CrowdData) (seats : List ℕ) (start current next : List Tokens) (vectors : List (List Tokens)) → AreRounds crowd seats start vectors → last start vectors ≡ current → IsRound crowd seats current next → AreRounds crowd seats start (vectors ++ next ∷ [])
@@ -129,10 +129,10 @@ under_way_more crowd seats start held next number is round holds = record {
 }
 
 -- all counts are within their seats: the elimination is done
-pub settled : (crowd : CrowdData) (seats : List ℕ) (start : List Tokens) (held : HeldData) (number : ℕ) → IsUnderWay crowd seats start held number → AreWithinSeats crowd.sections (count crowd (price_in held.prices)) seats → IsSettled crowd seats start held.prices number
+pub settled : (crowd : CrowdData) (seats : List ℕ) (start : List Tokens) (held : HeldData) (number : ℕ) → IsUnderWay crowd seats start held number → AreCountsWithin crowd.sections (count crowd (price_in held.prices)) seats → IsSettled crowd seats start held.prices number
 settled crowd seats start held number is within =
-    (is.vectors, record { rounds = is.rounds; ends = subst (λ ps. AreWithinSeats crowd.sections (count crowd (price_in ps)) seats) (sym is.at) within }, is.at, is.counted)
+    (is.vectors, record { rounds = is.rounds; ends = subst (λ ps. AreCountsWithin crowd.sections (count crowd (price_in ps)) seats) (sym is.at) within }, is.at, is.counted)
 
 -- what is told of the held bundles holds of the counts
-pub within_held : (crowd : CrowdData) (seats : List ℕ) (held : HeldData) → Holds crowd held → length seats ≡ crowd.sections → AreWithinSeats (length seats) (λ s. holders s held.bundles) seats → AreWithinSeats crowd.sections (count crowd (price_in held.prices)) seats
+pub within_held : (crowd : CrowdData) (seats : List ℕ) (held : HeldData) → Holds crowd held → length seats ≡ crowd.sections → AreCountsWithin (length seats) (λ s. holders s held.bundles) seats → AreCountsWithin crowd.sections (count crowd (price_in held.prices)) seats
 within_held crowd seats held holds same within = λ s low. subst (λ bundles. holders s bundles ≤ slice_index seats s) holds.bundles (within s (rw same low))

@@ -1,15 +1,15 @@
 -- The section of greatest excess among the first ones.
-use Rattle.std.proofs.Common.{ℕ, zero, suc, ◌≡◌, ◌<◌, ◌≤◌, ◌+◌, ◌-◌, ℤ, pos, ◌≤ℤ◌, ◌<ℤ◌, ◌⊎◌, List, Option, Some, None, arith, refl, sym, subst, inl, inr}
+use Rattle.std.proofs.Common.{ℕ, zero, suc, ◌≡◌, ◌<◌, ◌≤◌, ◌+◌, ◌-◌, pos, ◌≤ℤ◌, ◌<ℤ◌, ◌⊎◌, List, Option, Some, None, arith, refl, sym, subst, inl, inr}
 use Rattle.std.proofs.lemmas.Int.{ints}
 use Rattle.std.specs.Prelude.{slice_index, IfSome, IfNone}
 use Rattle.std.proofs.lemmas.Bool.{cases_order, cases_lt}
 use Rattle.market_units.specs.declared.units.SectionNo.{SectionNo}
 use Rattle.clearing_error.specs.Errors.{excess}
-use Rattle.oversubscription_stage.specs.Rounds.{AreWithinSeats, IsMostOver}
+use Rattle.oversubscription_stage.specs.Rounds.{AreCountsWithin, IsMostOver}
 
 -- the section found among the first ones, and how many it has too many, 0 where there is none
 abbrev pub MostSoFar : (ℕ → ℕ) → List ℕ → ℕ → ℕ → Option SectionNo → Type 0
-MostSoFar count seats n greatest None = (greatest ≡ 0) × AreWithinSeats n count seats
+MostSoFar count seats n greatest None = (greatest ≡ 0) × AreCountsWithin n count seats
 MostSoFar count seats n greatest (Some section) = (count section.0 ≡ slice_index seats section.0 + greatest) × IsMostOver n count seats section.0
 
 -- one place more
@@ -61,7 +61,7 @@ most_same count seats n greatest over (Some other) so_far is few = (
 )
 
 -- the first sections have one of greatest excess, or all are within their seats
-pub find_most : (count : ℕ → ℕ) (seats : List ℕ) (n : ℕ) → ((s : ℕ) × IsMostOver n count seats s) ⊎ AreWithinSeats n count seats
+pub find_most : (count : ℕ → ℕ) (seats : List ℕ) (n : ℕ) → ((s : ℕ) × IsMostOver n count seats s) ⊎ AreCountsWithin n count seats
 find_most count seats n = told (found n)
   where
     next : (k : ℕ) → (greatest : ℕ) × (most : Option SectionNo) × MostSoFar count seats k greatest most → (greatest : ℕ) × (most : Option SectionNo) × MostSoFar count seats (suc k) greatest most
@@ -74,11 +74,11 @@ find_most count seats n = told (found n)
     found zero = (0, None, (refl, λ t low. absurd (omega arith)))
     found (suc k) = next k (found k)
 
-    told_of : (greatest : ℕ) (most : Option SectionNo) → MostSoFar count seats n greatest most → ((s : ℕ) × IsMostOver n count seats s) ⊎ AreWithinSeats n count seats
+    told_of : (greatest : ℕ) (most : Option SectionNo) → MostSoFar count seats n greatest most → ((s : ℕ) × IsMostOver n count seats s) ⊎ AreCountsWithin n count seats
     told_of greatest None so_far = inr so_far.1
     told_of greatest (Some section) so_far = inl (section.0, so_far.1)
 
-    told : (greatest : ℕ) × (most : Option SectionNo) × MostSoFar count seats n greatest most → ((s : ℕ) × IsMostOver n count seats s) ⊎ AreWithinSeats n count seats
+    told : (greatest : ℕ) × (most : Option SectionNo) × MostSoFar count seats n greatest most → ((s : ℕ) × IsMostOver n count seats s) ⊎ AreCountsWithin n count seats
     told whole = told_of whole.0 whole.1 whole.2
 
 -- the section is one
@@ -94,6 +94,6 @@ pub most_some : (count : ℕ → ℕ) (seats : List ℕ) (n greatest : ℕ) (mos
 most_some count seats n greatest None so_far = tt
 most_some count seats n greatest (Some section) so_far = so_far.1
 
-pub most_none : (count : ℕ → ℕ) (seats : List ℕ) (n greatest : ℕ) (most : Option SectionNo) → MostSoFar count seats n greatest most → IfNone most (AreWithinSeats n count seats)
+pub most_none : (count : ℕ → ℕ) (seats : List ℕ) (n greatest : ℕ) (most : Option SectionNo) → MostSoFar count seats n greatest most → IfNone most (AreCountsWithin n count seats)
 most_none count seats n greatest None so_far = so_far.1
 most_none count seats n greatest (Some section) so_far = tt

@@ -1,8 +1,7 @@
 -- What a round does to the prices.
-use Rattle.std.proofs.Common.{ℕ, zero, suc, ◌≡◌, ◌≢◌, ◌<◌, ◌≤◌, ◌+◌, ◌-◌, ◌*◌, ◌/◌, ◌==◌, ◌∙◌, List, [], ◌∷◌, length, All, max, arith, ap, sym, subst, refl, inl, inr}
+use Rattle.std.proofs.Common.{ℕ, zero, suc, ◌≡◌, ◌<◌, ◌≤◌, ◌+◌, ◌-◌, ◌*◌, ◌∙◌, List, [], ◌∷◌, length, All, arith, ap, sym, subst, refl, inl, inr}
 use Rattle.std.specs.Prelude.{slice_index, slice_index_or, slice_set}
-use Rattle.std.proofs.lemmas.Bool.{cases_Bool, cases_lt}
-use Rattle.std.proofs.lemmas.Bool.Decides.{nat_tests}
+use Rattle.std.proofs.lemmas.Bool.{cases_lt}
 use Rattle.market_units.specs.declared.units.SectionNo.{SectionNo}
 use Rattle.market_units.specs.declared.units.Tokens.{Tokens}
 use Rattle.market_lists.specs.Totals.{total}
@@ -11,22 +10,12 @@ use Rattle.demand_api.specs.Crowds.{Student, CrowdData, IsCrowd, greatest_budget
 use Rattle.demand_api.specs.Prices.{with_price, IsLeastFrom, AreLeastPrices}
 use Rattle.demand_api.specs.Asking.{ArePricesFor}
 use Rattle.demand_api.proofs.Counts.{none_at_top}
-use Rattle.demand_api.proofs.Halving.{count_same, count_falls_with, with_here, with_there, price_at, price_written}
+use Rattle.demand_api.proofs.Halving.{count_falls_with, count_present, price_at, price_written, with_here}
 use Rattle.own_price.specs.Least.{IsLeastPrice}
 use Rattle.own_price.specs.Holding.{HeldData, Holds}
 use Rattle.own_price.proofs.Raising.{raised_prices}
 use Rattle.oversubscription_stage.specs.Rounds.{IsMostOver, limit_after, IsRoundAt}
 use Rattle.oversubscription_stage.specs.Laws.{RaisesWithinTop}
-
--- the count at the present price
-count_present : (crowd : CrowdData) (price : ℕ → ℕ) (s : ℕ) → count crowd (with_price price s (price s)) s ≡ count crowd price s
-count_present crowd price s = count_same crowd (with_price price s (price s)) price s same
-  where
-    same : (t : ℕ) → with_price price s (price s) t ≡ price t
-    same t = elim (cases_Bool (t == s)) [
-      | inl here ↦ let e : t ≡ s = grind (arith, nat_tests) in rw e (with_here price s (price s))
-      | inr there ↦ with_there price s (price s) t (λ e. grind (arith, nat_tests))
-    ]
 
 -- the least price from the present one up is the least of all, where too many take the section at the present one
 pub least_of_all : (crowd : CrowdData) (price : ℕ → ℕ) (s limit least : ℕ) → limit < count crowd price s → IsLeastFrom (price s) crowd price s limit least → IsLeastPrice crowd price s limit least

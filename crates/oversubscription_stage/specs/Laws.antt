@@ -1,10 +1,10 @@
 -- The laws of the elimination of oversubscription.
-use Rattle.std.specs.Prelude.{ℕ, ◌<◌, ◌≤◌, ◌≡◌, List}
+use Rattle.std.specs.Prelude.{ℕ, ◌<◌, ◌≡◌, List}
 use Rattle.market_units.specs.declared.units.Tokens.{Tokens}
 use Rattle.bundle_rules.specs.Demand.{price_in}
-use Rattle.demand_api.specs.Crowds.{CrowdData, top, count}
+use Rattle.demand_api.specs.Crowds.{CrowdData, count}
 use Rattle.demand_api.specs.Asking.{ArePricesFor}
-use Rattle.oversubscription_stage.specs.Rounds.{AreWithinSeats, IsRoundAt, IsElimination, IsSettled}
+use Rattle.oversubscription_stage.specs.Rounds.{AreCountsWithin, IsRoundAt, IsElimination, IsSettled}
 
 -- the price of the section is higher, and no price passes the top
 pub record RaisesWithinTop (crowd : CrowdData) (before after : List Tokens) (s : ℕ) : Type 0 where
@@ -21,7 +21,7 @@ EliminationEnds = (crowd : CrowdData) (seats : List ℕ) (start : List Tokens) �
 
 -- with no section over its seats
 abbrev pub SettledWithinSeats : Type 0
-SettledWithinSeats = (crowd : CrowdData) (seats : List ℕ) (start prices : List Tokens) (rounds : ℕ) → IsSettled crowd seats start prices rounds → AreWithinSeats crowd.sections (count crowd (price_in prices)) seats
+SettledWithinSeats = (crowd : CrowdData) (seats : List ℕ) (start prices : List Tokens) (rounds : ℕ) → IsSettled crowd seats start prices rounds → AreCountsWithin crowd.sections (count crowd (price_in prices)) seats
 
 -- and it is one
 abbrev pub OneElimination : Type 0

@@ -9,8 +9,8 @@ use Rattle.demand_api.specs.Crowds.{CrowdData, demands, count}
 use Rattle.own_price.specs.Least.{IsLeastPrice}
 
 -- no section has more students than seats
-abbrev pub AreWithinSeats : ℕ → (ℕ → ℕ) → List ℕ → Type 0
-AreWithinSeats sections count seats = (s : ℕ) → s < sections → count s ≤ slice_index seats s
+abbrev pub AreCountsWithin : ℕ → (ℕ → ℕ) → List ℕ → Type 0
+AreCountsWithin sections count seats = (s : ℕ) → s < sections → count s ≤ slice_index seats s
 
 -- the section of greatest excess, the lowest ordinal among equals, and its count exceeds its seats
 pub record IsMostOver (sections : ℕ) (count : ℕ → ℕ) (seats : List ℕ) (s : ℕ) : Type 0 where
@@ -46,7 +46,7 @@ last start (next ∷ vectors) = last next vectors
 -- rounds while some count exceeds its seats
 pub record IsElimination (crowd : CrowdData) (seats : List ℕ) (start : List Tokens) (vectors : List (List Tokens)) : Type 0 where
   pub rounds : AreRounds crowd seats start vectors
-  pub ends : AreWithinSeats crowd.sections (count crowd (price_in (last start vectors))) seats
+  pub ends : AreCountsWithin crowd.sections (count crowd (price_in (last start vectors))) seats
 
 -- the last prices and the number of rounds of the elimination
 abbrev pub IsSettled : CrowdData → List ℕ → List Tokens → List Tokens → ℕ → Type 0

@@ -3,7 +3,7 @@ ghost use Rattle.std.specs.Prelude.{◌≡◌, ◌≤◌, IfOk, IfSome, IfNone, 
 ghost use Rattle.bundle_rules.specs.Demand.{price_in};
 ghost use Rattle.demand_api.specs.Crowds.{count, holders};
 ghost use Rattle.own_price.specs.Holding.{Holds};
-ghost use Rattle.oversubscription_stage.specs.Rounds.{AreWithinSeats, IsMostOver, IsRound};
+ghost use Rattle.oversubscription_stage.specs.Rounds.{AreCountsWithin, IsMostOver, IsRound};
 
 use demand_api::Demands;
 use market_units::{NoMemory, SectionNo};
@@ -17,7 +17,7 @@ pub(crate) fn most_over(held: &Held, seats: &[u16]) -> Option<SectionNo>
     requires seats { length seats.now ≡ length held.now.prices }
     requires few { length seats.now ≤ 400 }
     ensures some { IfSome result (λ section. IsMostOver (length seats.now) (λ s. holders s held.now.bundles) seats.now section.0) }
-    ensures none { IfNone result (AreWithinSeats (length seats.now) (λ s. holders s held.now.bundles) seats.now) }
+    ensures none { IfNone result (AreCountsWithin (length seats.now) (λ s. holders s held.now.bundles) seats.now) }
 {
     let mut most = None;
     let mut greatest = 0;

@@ -9,7 +9,6 @@ use Rattle.market_units.specs.declared.units.StudentNo.{StudentNo}
 use Rattle.bundle_rules.specs.declared.bundle.Bundle.{Bundle}
 use Rattle.bundle_rules.specs.Bundles.{sections_of}
 use Rattle.bundle_rules.specs.Sets.{has}
-use Rattle.bundle_rules.specs.Places.{places_from}
 use Rattle.own_price.specs.Exchanges.{exchanged, IsListed, AreHolders}
 
 pub exchanged_more : (bundles : List Bundle) (students : List StudentNo) (others : List Bundle) (i : ℕ) (d : StudentNo) (e : Bundle) → i < length students → length others ≡ length students

@@ -9,7 +9,7 @@ use Rattle.market_units.specs.declared.units.SectionNo.{SectionNo}
 use Rattle.market_units.specs.declared.units.Tokens.{Tokens}
 use Rattle.bundle_rules.specs.Demand.{price_in}
 use Rattle.demand_api.specs.Crowds.{CrowdData, top, count}
-use Rattle.demand_api.specs.Prices.{with_price, IsLeastFrom, AreLeastPrices}
+use Rattle.demand_api.specs.Prices.{with_price, AreLeastPrices}
 use Rattle.demand_api.specs.Asking.{ArePricesFor}
 use Rattle.demand_api.proofs.Halving.{count_same, with_here, with_there, price_kept, price_written}
 use Rattle.own_price.specs.Least.{IsLeastPrice}

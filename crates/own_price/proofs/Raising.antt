@@ -1,6 +1,6 @@
 -- What is held before and after one price is raised.
-use Rattle.std.proofs.Common.{ℕ, zero, suc, ◌≡◌, ◌≢◌, ◌<◌, ◌≤◌, ◌+◌, ◌∙◌, ◌⊎◌, Bool, true, false, List, [], ◌∷◌, ◌++◌, length, map, All, arith, subst, sym, ap, refl, inl, inr}
-use Rattle.std.specs.Prelude.{nat_lt, slice_index, slice_index_or, slice_set}
+use Rattle.std.proofs.Common.{ℕ, zero, suc, ◌≡◌, ◌<◌, ◌≤◌, ◌+◌, ◌∙◌, ◌⊎◌, true, false, List, [], ◌∷◌, ◌++◌, length, map, All, arith, subst, sym, ap, refl, inl, inr}
+use Rattle.std.specs.Prelude.{nat_lt, slice_index_or, slice_set}
 use Rattle.std.proofs.lemmas.Bool.{cases_Bool, false≢true}
 use Rattle.std.proofs.lemmas.List.{set-get_or, length-set, length-map, map-append}
 use Rattle.std.proofs.lemmas.List.Elements.{All-set, All-cons}
@@ -13,14 +13,14 @@ use Rattle.bundle_rules.specs.Menus.{wishes_of}
 use Rattle.bundle_rules.specs.Places.{places_from}
 use Rattle.bundle_rules.specs.Demand.{price_in}
 use Rattle.bundle_rules.proofs.BestValue.{best-is, best-only}
-use Rattle.demand_api.specs.Crowds.{Student, CrowdData, IsCrowd, top, demand, demands, demand_of}
+use Rattle.demand_api.specs.Crowds.{Student, CrowdData, top, demand, demands, demand_of}
 use Rattle.demand_api.specs.Prices.{IsRaised}
 use Rattle.demand_api.specs.Asking.{ArePricesFor}
 use Rattle.demand_api.proofs.Keeping.{best_without_stays}
-use Rattle.demand_api.proofs.Halving.{price_at, price_kept, price_written}
+use Rattle.demand_api.proofs.Halving.{price_kept, price_written}
 use Rattle.demand_api.proofs.Takers.{demand_within}
 use Rattle.own_price.specs.Holding.{HeldData, Holds}
-use Rattle.own_price.specs.Kept.{AreWithin, IsTally}
+use Rattle.own_price.specs.Kept.{AreWithin}
 use Rattle.own_price.specs.Exchanges.{exchanged, IsListed, AreHolders}
 use Rattle.own_price.proofs.Exchanging.{exchanged_wanted}
 

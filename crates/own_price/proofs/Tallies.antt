@@ -1,8 +1,9 @@
 -- Bundles, their counts, and one bundle that is exchanged.
-use Rattle.std.proofs.Common.{ℕ, zero, suc, ◌≡◌, ◌≢◌, ◌<◌, ◌≤◌, ◌+◌, ◌==◌, ◌∙◌, Bool, true, List, [], ◌∷◌, length, map, take, All, arith, subst, sym, ap, refl, inl, inr}
+use Rattle.std.proofs.Common.{ℕ, zero, suc, ◌≡◌, ◌≢◌, ◌<◌, ◌≤◌, ◌+◌, ◌==◌, ◌∙◌, Bool, true, List, [], ◌∷◌, length, map, take, All, arith, subst, sym, ap, inl, inr}
 use Rattle.std.specs.Prelude.{slice_index, slice_index_or, slice_set, if◌then◌else◌}
 use Rattle.std.proofs.lemmas.Bool.{cases_Bool}
 use Rattle.std.proofs.lemmas.Bool.Decides.{nat_tests}
+use Rattle.std.proofs.lemmas.Option.{slice_get-get_or}
 use Rattle.std.proofs.lemmas.List.{get_or-set_same, get_or-set_other, get_or-map, map-set, length-set, length-map, take_all}
 use Rattle.market_units.specs.declared.units.SectionNo.{SectionNo}
 use Rattle.bundle_rules.specs.declared.bundle.Bundle.{Bundle}
@@ -11,6 +12,7 @@ use Rattle.bundle_rules.specs.Sets.{has}
 use Rattle.bundle_rules.specs.Ordinals.{ordinals, IsBundle}
 use Rattle.demand_api.specs.Crowds.{holders}
 use Rattle.demand_api.specs.Counting.{HasCounted}
+use Rattle.demand_api.proofs.Holders.{holders_set}
 use Rattle.demand_api.proofs.Takers.{AreCounts, holders_few, listed_in, sections_few, index_same}
 use Rattle.own_price.specs.Kept.{AreWithin, IsTally}
 
@@ -30,13 +32,7 @@ sections_below n m sections bundle listed within same k d low =
 abbrev one_if : Bool → ℕ
 one_if b = if b then 1 else 0
 
--- one bundle changed
-holders_set : (s i : ℕ) (bundles : List (List ℕ)) (b : List ℕ) → i < length bundles
-    → holders s (slice_set bundles i b) + (if has (slice_index_or bundles i []) s then 1 else 0) ≡ holders s bundles + (if has b s then 1 else 0)
-holders_set s i [] b low = absurd (omega arith)
-holders_set s zero (x ∷ xs) b low = omega arith
-holders_set s (suc i) (x ∷ xs) b low = let rest = holders_set s i xs b (omega arith) in omega (arith, rest)
-
+-- a bundle that is held has a holder of each of its sections
 holders_some : (s i : ℕ) (bundles : List (List ℕ)) → i < length bundles → has (slice_index_or bundles i []) s ≡ true → 1 ≤ holders s bundles
 holders_some s i [] low is = absurd (omega arith)
 holders_some s zero (x ∷ xs) low is = rw is (omega arith)
@@ -82,7 +78,7 @@ tally_exchanged n bundles counts mid after i bundle other old new tally low is h
       let less : slice_index counts s ≡ slice_index mid s + (if has old s then 1 else 0) = uncounted s (omega arith) in
       let more : slice_index after s ≡ slice_index mid s + (if has new s then 1 else 0) = counted s (omega arith) in
       let set : holders s (slice_set (map sections_of bundles) i (sections_of other)) + (if has (slice_index_or (map sections_of bundles) i []) s then 1 else 0) ≡ holders s (map sections_of bundles) + (if has (sections_of other) s then 1 else 0) =
-      holders_set s i (map sections_of bundles) (sections_of other) low_map in
+      holders_set s (map sections_of bundles) i (slice_index_or (map sections_of bundles) i []) (sections_of other) (slice_get-get_or (map sections_of bundles) i [] low_map) in
       let old_is : one_if (has (slice_index_or (map sections_of bundles) i []) s) ≡ one_if (has old s) = ap (λ b. one_if (has b s)) (read_at bundles i bundle low is ∙ sym held) in
       let new_is : one_if (has new s) ≡ one_if (has (sections_of other) s) = ap (λ b. one_if (has b s)) others in
       let mapped : holders s (map sections_of (slice_set bundles i other)) ≡ holders s (slice_set (map sections_of bundles) i (sections_of other)) = ap (holders s) (map-set sections_of bundles i other) in

@@ -1,15 +1,13 @@
 // Bundles with a count for each section, and bundles that are exchanged for others.
-ghost use Rattle.std.specs.Prelude.{◌≡◌, ◌<◌, ◌≤◌, ℕ, IfOk, All, length, map, true, slice_index, slice_set};
-ghost use Rattle.bundle_rules.specs.Sets.{has, IsAscending};
-ghost use Rattle.bundle_rules.specs.Ordinals.{ordinals};
+ghost use Rattle.std.specs.Prelude.{◌≡◌, ◌<◌, ◌≤◌, ℕ, IfOk, All, length, map, true, slice_set};
+ghost use Rattle.bundle_rules.specs.Sets.{has};
 ghost use Rattle.bundle_rules.specs.Bundles.{sections_of};
-ghost use Rattle.demand_api.specs.Counting.{HasCounted};
 ghost use Rattle.own_price.specs.Kept.{AreWithin, IsTally};
 ghost use Rattle.own_price.specs.Exchanges.{exchanged};
 
 use bundle_rules::Bundle;
-use demand_api::count_bundle;
-use market_units::{NoMemory, SectionNo, StudentNo};
+use demand_api::{count_bundle, uncount_bundle};
+use market_units::{NoMemory, StudentNo};
 use std::alloc::Global;
 
 // How many of the bundles have each section.
@@ -60,21 +58,4 @@ fn exchange(bundles: &mut [Bundle], counts: &mut [u32], student: StudentNo, othe
     uncount_bundle(counts, bundles[place].sections());
     count_bundle(counts, other.sections());
     bundles[place] = other;
-}
-
-// Takes one from the count of each section of a bundle.
-fn uncount_bundle(counts: &mut [u32], sections: &[SectionNo])
-    requires range { All (λ section. section.0 < length counts.old) sections.now }
-    requires set { IsAscending (ordinals sections.now) }
-    requires some { All (λ section. 1 ≤ slice_index counts.old section.0) sections.now }
-    ensures len { length counts.new ≡ length counts.old }
-    ensures each { (s : ℕ) → s < length counts.old → HasCounted counts.new counts.old (ordinals sections.now) s }
-{
-    match sections {
-        [] => {}
-        [section, more @ ..] => {
-            uncount_bundle(counts, more);
-            counts[usize::from(section.0)] -= 1;
-        }
-    }
 }

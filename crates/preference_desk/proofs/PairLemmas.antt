@@ -1,5 +1,5 @@
 -- What a change makes of one student's adjustments.
-use Rattle.std.proofs.Common.{ℕ, zero, suc, get_or, ◌≡◌, ◌+◌, ◌<◌, ◌≤◌, Bool, true, false, not, cond, List, [], ◌∷◌, map, length, set, refl, ap, sym, subst, ◌==◌, ◌&&◌, ◌∙◌, arith, length-set}
+use Rattle.std.proofs.Common.{ℕ, zero, suc, get_or, ◌≡◌, ◌+◌, ◌<◌, ◌≤◌, Bool, true, false, not, cond, List, [], ◌∷◌, map, length, refl, ap, sym, subst, ◌==◌, ◌&&◌, ◌∙◌, arith}
 use Rattle.std.specs.Prelude.{ℤ, pos, negsuc, unsigned_abs, nat_lt, nat_le, Option, Some, None, is_some, option_map}
 use Rattle.std.specs.List.{position_or_len}
 use Rattle.std.specs.Ordering.{nat_cmp, is_le, is_eq, ordering_then}
@@ -12,8 +12,6 @@ use mir.Val.{SFits, to_z, of_z}
 use mir.Syntax.{w16}
 use Rattle.std.proofs.lemmas.Bool.{eq-eqb, ne_eqb, le-ltb}
 use Rattle.std.proofs.lemmas.Bool.Decides.{nat_tests}
-use Rattle.std.proofs.lemmas.List.Edits.{length-insert, length-remove}
-use Rattle.std.proofs.lemmas.List.Elements.{All-set}
 use Rattle.market_units.specs.declared.units.SectionNo.{SectionNo}
 use Rattle.preference_desk.specs.Places.{place_in, stands}
 use Rattle.preference_desk.specs.Rows.{ArePairs, IsAdjustment, pair_entry}

@@ -1,15 +1,13 @@
 -- What a write at a key's place makes of a row, whatever its entries are.
-use Rattle.std.proofs.Common.{ℕ, ◌≡◌, ◌<◌, ◌≤◌, Bool, true, false, not, cond, ◌&&◌, List, map, length, set, get_or, refl, ap, sym, ◌∙◌, subst, arith, inl, inr, length-set, true≢false}
+use Rattle.std.proofs.Common.{ℕ, ◌≡◌, ◌<◌, ◌≤◌, Bool, true, false, not, cond, ◌&&◌, List, map, length, refl, ap, sym, ◌∙◌, subst, arith, length-set}
 use Rattle.std.specs.Prelude.{Option, Some, None, is_some, nat_le, option_map, All}
-use Rattle.std.specs.List.{insert, remove}
 use Rattle.std.specs.Cmp.{IsTotalOrder}
 use Rattle.std.specs.declared.cmp.Ordering.{Ordering}
 use Rattle.std.specs.FinMap.{FinMap, IsAntisymmetric, from_sorted, insert as insert_in, remove as remove_from, contains_key, len}
 use Rattle.std.specs.FinMap.Entries.{is_sorted}
-use Rattle.std.proofs.lemmas.Bool.{cases_Bool, lt-leb, le-leb}
 use Rattle.std.proofs.lemmas.Bool.Decides.{nat_tests}
 use Rattle.std.proofs.lemmas.List.Edits.{length-insert, length-remove}
-use Rattle.std.proofs.lemmas.List.Elements.{All-append, All-cons, All-take, All-drop, All-set}
+use Rattle.std.proofs.lemmas.List.Elements.{All-set}
 use Rattle.preference_desk.specs.Places.{place_in, stands}
 use Rattle.preference_desk.specs.Writes.{written, has_room}
 use Rattle.preference_desk.proofs.RowLemmas.{taken_out, none_out, put_in, put_over, place_inside, place_fits, key_at, map-has, map-len, length-entries, All-insert, All-remove}

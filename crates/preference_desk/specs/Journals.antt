@@ -28,6 +28,10 @@ IsLegalJournal names entries = IsLegalFrom names (opening names) entries
 abbrev pub closed_preferences : DeskNames → List Entry → List StudentPreferences
 closed_preferences names entries = (state_after_all names (opening names) entries).preferences
 
+-- the session of each entry
+abbrev pub sessions_of : List Entry → List ℕ
+sessions_of entries = map (λ (entry : Entry). entry.session) entries
+
 -- the commands of a session, in the order of their entries
 abbrev pub commands_of_session : ℕ → List Entry → List Command
 commands_of_session session entries = map (λ (entry : Entry). entry.command) (part_of (λ (entry : Entry). entry.session) session entries)

@@ -1,25 +1,15 @@
 -- The least greater price at which fewer students take a section.
-use Rattle.std.proofs.Common.{ℕ, ◌+◌, ◌-◌, ◌<◌, ◌≤◌, ◌≡◌, ◌==◌, true, false, inl, inr, arith}
+use Rattle.std.proofs.Common.{ℕ, ◌+◌, ◌-◌, ◌<◌, ◌≤◌, ◌≡◌, true, false, inl, inr, arith}
 use Rattle.std.specs.Prelude.{Some, nat_lt}
-use Rattle.std.proofs.lemmas.Bool.{cases_Bool, cases_lt}
+use Rattle.std.proofs.lemmas.Bool.{cases_lt}
 use Rattle.std.proofs.lemmas.Bool.Decides.{nat_tests}
 use Rattle.demand_api.specs.Crowds.{CrowdData, top, count}
 use Rattle.demand_api.specs.Prices.{with_price, IsLeastFrom}
 use Rattle.demand_api.proofs.Counts.{none_at_top}
-use Rattle.demand_api.proofs.Halving.{count_same, with_here, with_there}
+use Rattle.demand_api.proofs.Halving.{count_present, with_here}
 use Rattle.price_neighbours.specs.Neighbours.{least_fewer}
 use Rattle.price_neighbours.specs.Laws.{IsLeastFewer}
 use Rattle.price_neighbours.proofs.Ranges.{find_in_range, some_first, found_below, found_none}
-
--- the count at the present price
-count_present : (crowd : CrowdData) (price : ℕ → ℕ) (s : ℕ) → count crowd (with_price price s (price s)) s ≡ count crowd price s
-count_present crowd price s = count_same crowd (with_price price s (price s)) price s same
-  where
-    same : (t : ℕ) → with_price price s (price s) t ≡ price t
-    same t = elim (cases_Bool (t == s)) [
-      | inl here ↦ let e : t ≡ s = grind (arith, nat_tests) in rw e (with_here price s (price s))
-      | inr there ↦ with_there price s (price s) t (λ e. grind (arith, nat_tests))
-    ]
 
 -- nobody takes the section at the top
 none_with_top : (crowd : CrowdData) (price : ℕ → ℕ) (s : ℕ) → count crowd (with_price price s (top crowd)) s ≡ 0

@@ -1,5 +1,5 @@
 // The trees of champions, written.
-ghost use Rattle.std.specs.Prelude.{◌≡◌, ◌<◌, ◌≤◌, ◌++◌, ◌+◌, ℕ, List, Some, None, IfSome, IfNone, IfOk, length, take, drop};
+ghost use Rattle.std.specs.Prelude.{◌≡◌, ◌<◌, ◌≤◌, ◌++◌, ◌+◌, ℕ, List, Some, None, IfSome, IfNone, IfOk, OnOk, length, take, drop};
 ghost use Rattle.std.specs.FinSet as set;
 ghost use Rattle.bundle_rules.specs.Bundles.{sections_of};
 ghost use Rattle.bundle_rules.specs.Demand.{HasPrices, IsBest, price_in};
@@ -76,12 +76,25 @@ fn written(
         match walk.step(menu, prices, budget, allowed, required, champion) {
             Step::Signed(sign) => {
                 let symbol = spell(sign);
-                text.extend_from_slice(symbol.as_slice())?;
+                put_behind(&mut text, symbol.as_slice())?;
             }
             Step::Unsigned => return Ok(text),
             Step::Ended => return Ok(text),
         }
     }
+}
+
+// Puts the bytes behind a text, or answers that memory is wanting.
+fn put_behind(text: &mut Vec<u8>, bytes: &[u8]) -> Result<(), NoMemory>
+    ensures { OnOk result (text.new.items ≡ text.old.items ++ bytes.now) }
+{
+    // Most symbols are one byte, for which this is less than a copy of a slice.
+    if let [byte] = bytes {
+        text.push(*byte)?;
+        return Ok(());
+    }
+    text.extend_from_slice(bytes)?;
+    Ok(())
 }
 
 /// Writes the text of the canonical tree of a champion that is the best bundle to the front of the room, and gives how
@@ -127,7 +140,7 @@ fn put_at(room: &mut [u8], count: usize, bytes: &[u8]) -> Option<usize>
     if bytes.len() > room.len() - count {
         return None;
     }
-    // Most symbols are one byte, for which a copy of a slice would cost more than the rest of this.
+    // Most symbols are one byte, for which this is less than a copy of a slice.
     if let [byte] = bytes {
         room[count] = *byte;
         return Some(count + 1);

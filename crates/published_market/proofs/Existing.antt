@@ -1,5 +1,5 @@
 -- What is published exists, where prices are found.
-use Rattle.std.proofs.Common.{ℕ, ◌≡◌, ◌<◌, ◌∙◌, List, [], ◌∷◌, map, length, refl, ap, sym, subst, inl, inr}
+use Rattle.std.proofs.Common.{ℕ, ◌≡◌, List, [], ◌∷◌, map, length, refl, sym, subst, inl, inr}
 use Rattle.std.specs.Prelude.{All, None, Some, slice_get}
 use Rattle.std.specs.List.{AllZip}
 use Rattle.std.proofs.lemmas.List.Elements.{All-cons, All-head, All-nil, All-tail}
@@ -7,7 +7,7 @@ use Rattle.std.proofs.lemmas.Option.{get_or_from_slice_get, slice_get_within}
 use Rattle.market_units.specs.declared.units.Tokens.{Tokens}
 use Rattle.bundle_bounds.specs.Offers.{Offer}
 use Rattle.bundle_rules.specs.Demand.{IsBest, price_in}
-use Rattle.bundle_rules.specs.Menus.{IsMenu, MenuData, wishes_of}
+use Rattle.bundle_rules.specs.Menus.{IsMenu, wishes_of}
 use Rattle.bundle_rules.proofs.BestValue.{best-is}
 use Rattle.course_catalog.specs.Sections.{Section}
 use Rattle.demand_api.specs.Crowds.{CrowdData, IsCrowd, Student, demand, demands}
@@ -25,13 +25,13 @@ use Rattle.market_settings.specs.declared.reader.Settings.{Settings}
 use Rattle.market_certificate.specs.Publications.{Proved, ProvedTurn, Publication}
 use Rattle.preference_desk.specs.StudentPreferences.{StudentPreferences}
 use Rattle.student_roll.specs.Students.{Student as Enrolled}
-use Rattle.published_parts.specs.Crowds.{IsCrowdAfter}
-use Rattle.published_parts.specs.Holdings.{demanded, held_after, tokens, used_of}
-use Rattle.published_parts.specs.Journals.{sessions_of, wanted_in}
-use Rattle.published_parts.specs.Markets.{Market, seats_in}
+use Rattle.published_parts.specs.Holdings.{held_after, tokens, used_of}
+use Rattle.published_parts.specs.Journals.{wanted_in}
+use Rattle.preference_desk.specs.Journals.{sessions_of}
+use Rattle.published_parts.specs.Markets.{seats_in}
 use Rattle.published_parts.specs.Offers.{IsProvedBest, IsProvedDemand, all_sections, offer_to}
 use Rattle.published_market.specs.Laws.{PublishedOrUnpriced}
-use Rattle.published_market.specs.Publishing.{IsOutcome, IsPublished, Lengths, lengths_of, terms_at}
+use Rattle.published_market.specs.Publishing.{IsOutcome, Lengths, lengths_of, terms_at}
 use Rattle.published_market.specs.Turns.{IsPublishedTurn, offer_at}
 use Rattle.published_market.proofs.Found.{found_prices}
 use Rattle.published_market.proofs.Prices.{tokens_of_prices}

@@ -6,13 +6,13 @@ use Rattle.demand_api.specs.Asking.{ArePricesFor}
 use Rattle.demand_api.specs.Crowds.{CrowdData, IsCrowd, demands}
 use Rattle.oversubscription_stage.specs.Rounds.{IsSettled}
 use Rattle.oversubscription_stage.proofs.Eliminations.{settled_within_seats}
-use Rattle.aftermarket_stage.specs.After.{ArePriced}
-use Rattle.aftermarket_stage.specs.Turns.{AreHeldWithin}
+use Rattle.aftermarket_stage.specs.After.{AreSectionPrices}
+use Rattle.held_seats.specs.Choices.{AreHeldWithin}
 use Rattle.published_market.proofs.Ranges.{prices_in_range}
 use Rattle.published_market.proofs.Settled.{settled_prices}
 
 -- the last prices may be asked, and are in range
-pub last_priced : (crowd : CrowdData) (seats : List ℕ) (start prices : List Tokens) (rounds : ℕ) → IsCrowd crowd → ArePricesFor crowd start → IsSettled crowd seats start prices rounds → ArePriced crowd.sections prices
+pub last_priced : (crowd : CrowdData) (seats : List ℕ) (start prices : List Tokens) (rounds : ℕ) → IsCrowd crowd → ArePricesFor crowd start → IsSettled crowd seats start prices rounds → AreSectionPrices crowd.sections prices
 last_priced crowd seats start prices rounds known are is = prices_in_range crowd prices known (settled_prices crowd seats start prices rounds are is)
 
 -- no section is above its seats in the demands at the last prices

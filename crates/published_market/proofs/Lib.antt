@@ -1,8 +1,6 @@
-pub mod LowerFirst
 pub mod Prices
 pub mod Settled
 pub mod Turning
-pub mod Asked
 pub mod Sentences
 pub mod OnePublications
 pub mod Showing

@@ -1,12 +1,11 @@
 -- A journal that merges the streams of at most 64 sessions, and what is published after it.
-use Rattle.std.proofs.Common.{ℕ, ◌≡◌, ◌≤◌, List, length, refl, arith}
+use Rattle.std.proofs.Common.{ℕ, ◌≤◌, List, length, refl, arith}
 use Rattle.std.specs.Prelude.{All}
 use Rattle.utility_language.specs.declared.commands.Command.{Command}
 use Rattle.preference_desk.specs.declared.entry.Entry.{Entry}
-use Rattle.preference_desk.specs.Journals.{IsLegalJournal, MergesStreams}
+use Rattle.preference_desk.specs.Journals.{IsLegalJournal, MergesStreams, sessions_of}
 use Rattle.market_certificate.specs.Publications.{IsPublication, IsSession, Publication}
 use Rattle.market_certificate.specs.Texts.{text_of}
-use Rattle.published_parts.specs.Journals.{sessions_of}
 use Rattle.published_parts.specs.Markets.{Market, names_in, tables_in}
 use Rattle.published_market.specs.Publishing.{HasNoPrices, IsPublicationOf, IsPublishedText, IsUnpriced, Lengths}
 

@@ -19,9 +19,10 @@ use Rattle.budget_draw.specs.AfterOrder.{after_order_of}
 use Rattle.demand_api.specs.Asking.{ArePricesFor}
 use Rattle.demand_api.specs.Crowds.{CrowdData, IsCrowd, IsWithin, Student, holders, top}
 use Rattle.oversubscription_stage.proofs.Raises.{top_high}
-use Rattle.aftermarket_stage.specs.After.{ArePriced}
+use Rattle.aftermarket_stage.specs.After.{AreSectionPrices}
 use Rattle.aftermarket_stage.specs.Passes.{ArePasses, IsMadeOf}
-use Rattle.aftermarket_stage.specs.Turns.{AreHeldWithin, TurnData, after_turns}
+use Rattle.aftermarket_stage.specs.Turns.{TurnData, after_turns}
+use Rattle.held_seats.specs.Choices.{AreHeldWithin}
 use Rattle.market_certificate.specs.Publications.{AreFor, IsBundleOf, IsProved, IsTurn, IsUsed, Proved, ProvedTurn}
 use Rattle.published_parts.specs.Holdings.{held_after}
 use Rattle.published_parts.specs.Offers.{IsProvedDemand}
@@ -127,13 +128,13 @@ held_count held [] = refl
 held_count held (turn ∷ turns) = held_count (slice_set held turn.student turn.bundle) turns ∙ length-set held turn.student turn.bundle
 
 -- all of a list of prices
-pub prices_in_range : (crowd : CrowdData) (prices : List Tokens) → IsCrowd crowd → ArePricesFor crowd prices → ArePriced crowd.sections prices
+pub prices_in_range : (crowd : CrowdData) (prices : List Tokens) → IsCrowd crowd → ArePricesFor crowd prices → AreSectionPrices crowd.sections prices
 prices_in_range crowd prices known are = record {
   same = are.same;
   high = λ k d inside. let low : (get_or prices k d).0 ≤ top crowd = are.high k d inside in let high : top crowd ≤ 1000001 = top_high crowd known in omega arith;
 }
 
-pub amounts_in_range : (n : ℕ) (sections : List (List ℕ)) (prices : List Tokens) → n ≡ length sections → ArePriced n prices → AreFor sections (λ price. price ≤ 1000001) (map (λ (price : Tokens). price.0) prices)
+pub amounts_in_range : (n : ℕ) (sections : List (List ℕ)) (prices : List Tokens) → n ≡ length sections → AreSectionPrices n prices → AreFor sections (λ price. price ≤ 1000001) (map (λ (price : Tokens). price.0) prices)
 amounts_in_range n sections prices same are = record {
   count = length-map prices (λ (price : Tokens). price.0) ∙ are.same ∙ same;
   each = All-map (λ price. price ≤ 1000001) (λ (price : Tokens). price.0) prices are.high;

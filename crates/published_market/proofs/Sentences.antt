@@ -15,8 +15,8 @@ use Rattle.budget_draw.specs.Budgets.{raised_by}
 use Rattle.demand_api.specs.Crowds.{CrowdData, Student, demand, demands, holders}
 use Rattle.oversubscription_stage.proofs.Eliminations.{settled_within_seats}
 use Rattle.aftermarket_stage.specs.Laws.{StaysWithinSeats}
-use Rattle.aftermarket_stage.specs.Turns.{AreHeldWithin, EachTurn, IsTurn, TurnData, after_turns}
-use Rattle.published_parts.specs.Holdings.{may_choose}
+use Rattle.aftermarket_stage.specs.Turns.{EachTurn, IsTurn, TurnData, after_turns}
+use Rattle.held_seats.specs.Choices.{AreHeldWithin, may_choose}
 use Rattle.preference_desk.specs.declared.entry.Entry.{Entry}
 use Rattle.utility_language.specs.declared.commands.Command.{Command}
 use Rattle.market_settings.specs.declared.reader.Settings.{Settings}
@@ -28,7 +28,7 @@ use Rattle.published_market.specs.Turns.{IsPublishedTurn}
 use Rattle.published_parts.specs.Holdings.{AreWithinSeats, demanded, held_after, tokens}
 use Rattle.published_market.specs.Publishing.{IsOutcome, IsPublicationOf, IsPublished, Lengths, terms_at}
 use Rattle.published_market.specs.Laws.{AllocationWithinSeats, BestAtItsTurn, BestWithinBudget, BudgetsAreDrawn, OrderMergesStreams, StageTwoWithinSeats, TurnsWithinSeats}
-use Rattle.published_market.proofs.Asked.{budget_at, crowd_count, menu_says, nobody, zip_at}
+use Rattle.published_parts.proofs.Asked.{budget_at, crowd_count, menu_says, nobody, zip_at}
 use Rattle.published_parts.proofs.OneJournals.{one_journal}
 use Rattle.published_market.proofs.Prices.{price_in_tokens}
 use Rattle.published_market.proofs.Turning.{cut_like, each_there, made_each, same_held}

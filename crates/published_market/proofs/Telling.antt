@@ -14,7 +14,7 @@ use Rattle.course_catalog.specs.Catalog.{CatalogData, IsCatalog}
 use Rattle.course_catalog.specs.Sections.{Section}
 use Rattle.preference_desk.specs.declared.entry.Entry.{Entry}
 use Rattle.market_certificate.specs.Publications.{IsSession}
-use Rattle.published_parts.specs.Journals.{sessions_of}
+use Rattle.preference_desk.specs.Journals.{sessions_of}
 use Rattle.published_market.specs.Making.{IsBestTurn}
 use Rattle.published_market.specs.Publishing.{terms_at}
 use Rattle.published_market.proofs.Turning.{made_each}

@@ -10,7 +10,8 @@ use Rattle.published_parts.specs.Crowds.{IsCrowdAfter}
 use Rattle.published_parts.specs.Markets.{Market, names_in, seats_in}
 use Rattle.published_parts.specs.Journals.{IsJournalOf, wishes_in}
 use Rattle.published_parts.specs.Offers.{all_sections}
-use Rattle.published_parts.specs.Holdings.{AreWithinSeats, demanded, held_after, may_choose}
+use Rattle.published_parts.specs.Holdings.{AreWithinSeats, demanded, held_after}
+use Rattle.held_seats.specs.Choices.{may_choose}
 use Rattle.published_market.specs.Publishing.{IsPublished, IsPublishedText, IsUnpriced}
 
 -- the published order has a journal, which merges all sessions' commands

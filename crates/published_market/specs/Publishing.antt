@@ -14,7 +14,8 @@ use Rattle.utility_language.specs.declared.commands.Command.{Command}
 use Rattle.market_certificate.specs.Publications.{IsPublication, Publication}
 use Rattle.market_certificate.specs.Texts.{text_of}
 use Rattle.published_parts.specs.Markets.{Market, names_in, seats_in, tables_in}
-use Rattle.published_parts.specs.Journals.{IsJournalOf, sessions_of}
+use Rattle.published_parts.specs.Journals.{IsJournalOf}
+use Rattle.preference_desk.specs.Journals.{sessions_of}
 use Rattle.published_parts.specs.Crowds.{IsCrowdIn}
 use Rattle.published_parts.specs.Offers.{IsProvedDemand}
 use Rattle.published_parts.specs.Holdings.{demanded, held_after, tokens, used_of}

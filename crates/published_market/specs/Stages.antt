@@ -11,7 +11,8 @@ use Rattle.tabu_search.specs.Search.{IsFound}
 use Rattle.oversubscription_stage.specs.Rounds.{IsSettled}
 use Rattle.aftermarket_stage.specs.After.{turns_of}
 use Rattle.aftermarket_stage.specs.Passes.{IsAftermarket}
-use Rattle.aftermarket_stage.specs.Turns.{AreHeldWithin, TurnData, after_turns}
+use Rattle.aftermarket_stage.specs.Turns.{TurnData, after_turns}
+use Rattle.held_seats.specs.Choices.{AreHeldWithin}
 use Rattle.published_market.specs.declared.publishing.Stages.{Stages}
 use Rattle.published_market.specs.Publishing.{Lengths, lengths_of, terms_at}
 

@@ -2,7 +2,7 @@
 ghost use Rattle.std.specs.Prelude.{◌≡◌, IfOk, All};
 ghost use Rattle.market_certificate.specs.Publications.{IsSession};
 ghost use Rattle.preference_desk.specs.declared.entry.Entry.{Entry};
-ghost use Rattle.published_parts.specs.Journals.{sessions_of};
+ghost use Rattle.preference_desk.specs.Journals.{sessions_of};
 
 use market_units::NoMemory;
 use preference_desk::Entry;

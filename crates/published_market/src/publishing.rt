@@ -6,7 +6,7 @@ ghost use Rattle.market_certificate.specs.Tables.{Tables, tables_of};
 ghost use Rattle.market_certificate.specs.Views.{publication_of};
 ghost use Rattle.market_settings.specs.Settings.{AreInRange};
 ghost use Rattle.tabu_search.specs.Search.{FindsNone, IsFound};
-ghost use Rattle.published_parts.specs.Journals.{sessions_of};
+ghost use Rattle.preference_desk.specs.Journals.{sessions_of};
 ghost use Rattle.published_parts.specs.Markets.{market_of};
 ghost use Rattle.published_parts.specs.Crowds.{IsCrowdIn};
 ghost use Rattle.published_market.specs.Publishing.{HasNoPrices, IsOutcome, IsPublicationOf, lengths_of};

@@ -4,7 +4,7 @@ use Rattle.std.specs.Prelude.{ℤ, All, min, max, unsigned_abs}
 use Rattle.std.specs.Ordering.{eq_by_cmp}
 use Rattle.std.specs.FinMap.{FinMap, entries, entries-insert, insert, remove}
 use Rattle.std.specs.Str.{bytes_eq}
-use Rattle.std.proofs.lemmas.Bool.{cases_lt}
+use Rattle.std.proofs.lemmas.Bool.{and_parts, cases_lt, not-false}
 use Rattle.std.proofs.Math.ListN.{get_or-eq_default}
 use Rattle.std.proofs.lemmas.List.Elements.{All-nil, All-set, All-filter, All-replicate}
 use Rattle.market_units.specs.Name.{name_bytes}
@@ -43,14 +43,6 @@ done_skips : (b : Bool) (answer rest : Reply) → is_done answer ≡ false → i
 done_skips true answer rest refused e = absurd (true≢false (sym e ∙ refused))
 done_skips false answer rest refused e = (refl, e)
 
-not_not : (b : Bool) → not b ≡ false → b ≡ true
-not_not true e = refl
-not_not false e = absurd (true≢false e)
-
-both_true : (a b : Bool) → (a && b) ≡ true → (a ≡ true) × (b ≡ true)
-both_true true b e = (refl, e)
-both_true false b e = absurd (true≢false (sym e))
-
 -- two different numbers as a pair
 lower_of : (a b : ℕ) → a ≢ b → min a b < max a b
 lower_of a b apart = omega arith
@@ -63,7 +55,7 @@ changed_lower names state (Pair student first second n) each done =
     let known = done_skips (not (has_name names.students student)) _ _ refl open'.1 in
     let listed = done_skips (not (has_name names.sections first && has_name names.sections second)) _ _ refl known.1 in
     let apart = done_skips (bytes_eq (name_bytes first) (name_bytes second)) _ _ refl listed.1 in
-    let have = both_true _ _ (not_not _ listed.0) in
+    let have = and_parts _ _ (not-false _ listed.0) in
     let other : ordinal_of names.sections first ≢ ordinal_of names.sections second =
     other_ordinals names.sections first second (ordinal_of names.sections first) (ordinal_of names.sections second) have.0 have.1 refl refl apart.0 in
     let at = at_or_default HasLowerFirst state.preferences (ordinal_of names.students student) no_preferences each nothing_lower in

@@ -6,7 +6,6 @@ use Rattle.bundle_bounds.specs.Offers.{Offer, places_of}
 use Rattle.bundle_rules.proofs.BestValue.{best-only}
 use Rattle.demand_api.specs.Crowds.{Student}
 use Rattle.proof_tree.specs.Texts.{IsTreeText, spelled}
-use Rattle.proof_tree.specs.Trees.{Tree}
 use Rattle.proof_tree.proofs.Uniqueness.{one_tree}
 use Rattle.market_certificate.specs.Publications.{Proved}
 use Rattle.published_parts.specs.Offers.{IsProvedBest, IsProvedDemand, offer_to, all_sections}

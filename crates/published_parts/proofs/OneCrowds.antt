@@ -1,8 +1,7 @@
 -- A market has one crowd after a journal.
-use Rattle.std.proofs.Common.{ℕ, ◌≡◌, ◌∙◌, List, [], ◌∷◌, map, refl, ap, sym, subst}
+use Rattle.std.proofs.Common.{ℕ, ◌≡◌, ◌∙◌, List, [], ◌∷◌, map, refl, sym, subst}
 use Rattle.course_catalog.specs.Sections.{Section}
 use Rattle.student_roll.specs.Students.{Student}
-use Rattle.bundle_rules.specs.Menus.{MenuData}
 use Rattle.demand_api.specs.Crowds.{CrowdData, Student as Asked}
 use Rattle.preference_desk.specs.StudentPreferences.{StudentPreferences}
 use Rattle.market_menus.proofs.OneMenus.{one_list}

@@ -1,16 +1,15 @@
 -- An order has one journal.
-use Rattle.std.proofs.Common.{ℕ, suc, ◌≡◌, ◌<◌, ◌≤◌, ◌+◌, ◌-◌, ◌∙◌, Bool, true, false, cond, nat_eq, List, [], ◌∷◌, length, map, refl, ap, sym, subst, arith}
-use Rattle.std.specs.Prelude.{All, slice_index_or}
+use Rattle.std.proofs.Common.{ℕ, ◌≡◌, ◌<◌, ◌≤◌, ◌+◌, ◌-◌, ◌∙◌, true, false, cond, nat_eq, List, [], ◌∷◌, length, map, refl, ap, sym, subst, arith}
+use Rattle.std.specs.Prelude.{All}
 use Rattle.std.proofs.lemmas.Bool.Decides.{nat_tests}
 use Rattle.std.proofs.lemmas.List.Elements.{All-head, All-tail}
 use Rattle.market_lists.specs.Merges.{part_of}
 use Rattle.utility_language.specs.declared.commands.Command.{Command}
 use Rattle.preference_desk.specs.declared.entry.Entry.{Entry}
-use Rattle.preference_desk.specs.declared.reply.Reply.{Reply}
 use Rattle.preference_desk.specs.DeskNames.{DeskNames}
 use Rattle.preference_desk.specs.DeskStep.{DeskState, reply_to, state_after}
-use Rattle.preference_desk.specs.Journals.{IsLegalFrom, MergesStreams, commands_of_session, opening}
-use Rattle.published_parts.specs.Journals.{IsJournalOf, sessions_of}
+use Rattle.preference_desk.specs.Journals.{commands_of_session, IsLegalFrom, opening, sessions_of}
+use Rattle.published_parts.specs.Journals.{IsJournalOf}
 
 -- an entry is of one of so many sessions
 abbrev IsOf : ℕ → Entry → Type 0

@@ -1,9 +1,9 @@
--- What students hold, from the bundles of stage two on, and what they may choose of it.
-use Rattle.std.specs.Prelude.{ℕ, ◌<◌, ◌≤◌, ◌||◌, Bool, nat_lt, List, [], ◌∷◌, length, map, slice_index, slice_index_or, slice_set, zip}
+-- What students hold, from the bundles of stage two on.
+use Rattle.std.specs.Prelude.{ℕ, List, [], ◌∷◌, length, map, slice_set, zip}
 use Rattle.market_units.specs.declared.units.Tokens.{Tokens}
 use Rattle.bundle_rules.specs.Places.{places_from}
-use Rattle.bundle_rules.specs.Sets.{has}
 use Rattle.demand_api.specs.Crowds.{holders}
+use Rattle.held_seats.specs.Choices.{AreHeldWithin}
 use Rattle.market_certificate.specs.Publications.{Proved, ProvedTurn, Publication}
 use Rattle.published_parts.specs.Markets.{Market, seats_in}
 
@@ -20,17 +20,9 @@ abbrev pub held_after : List (List ℕ) → List ProvedTurn → List (List ℕ)
 held_after held [] = held
 held_after held (turn ∷ turns) = held_after (slice_set held turn.student turn.bundle) turns
 
--- a section is free when fewer students hold it than it has seats
-abbrev pub is_free : List ℕ → List (List ℕ) → ℕ → Bool
-is_free seats held s = nat_lt (holders s held) (slice_index seats s)
-
--- a student may choose each section that it holds, and each that is free
-abbrev pub may_choose : List ℕ → List (List ℕ) → ℕ → ℕ → Bool
-may_choose seats held student s = has (slice_index_or held student []) s || is_free seats held s
-
 -- no more of these bundles have a section than it has seats
 abbrev pub AreWithinSeats : Market → List (List ℕ) → Type 0
-AreWithinSeats market bundles = (s : ℕ) → s < length market.catalog.sections → holders s bundles ≤ slice_index (seats_in market) s
+AreWithinSeats market bundles = AreHeldWithin (length market.catalog.sections) (seats_in market) bundles
 
 -- of each section how many of these bundles have it, and its seats
 abbrev pub used_of : List ℕ → List (List ℕ) → List (ℕ × ℕ)

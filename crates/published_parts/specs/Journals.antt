@@ -1,18 +1,14 @@
 -- The journal of an order of sessions.
-use Rattle.std.specs.Prelude.{ℕ, ◌≡◌, List, map, slice_index_or}
+use Rattle.std.specs.Prelude.{ℕ, ◌≡◌, List, slice_index_or}
 use Rattle.bundle_rules.specs.Wishes.{Wishes}
 use Rattle.market_menus.specs.Students.{student_at}
 use Rattle.market_menus.specs.Wanted.{wishes_from}
 use Rattle.preference_desk.specs.DeskNames.{DeskNames}
-use Rattle.preference_desk.specs.Journals.{IsLegalJournal, MergesStreams, closed_preferences}
+use Rattle.preference_desk.specs.Journals.{IsLegalJournal, MergesStreams, closed_preferences, sessions_of}
 use Rattle.preference_desk.specs.StudentPreferences.{StudentPreferences, no_preferences}
 use Rattle.preference_desk.specs.declared.entry.Entry.{Entry}
 use Rattle.utility_language.specs.declared.commands.Command.{Command}
 use Rattle.published_parts.specs.Markets.{Market, names_in}
-
--- the session of each entry
-abbrev pub sessions_of : List Entry → List ℕ
-sessions_of journal = map (λ (entry : Entry). entry.session) journal
 
 -- The journal of an order: its entries are of these sessions, each is the next command of its session with the desk's reply to it, and at
 -- the end each session has said all its commands.

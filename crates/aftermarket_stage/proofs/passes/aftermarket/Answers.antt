@@ -8,7 +8,7 @@ use Rattle.budget_draw.specs.AfterOrder.{after_order_of}
 use Rattle.demand_api.specs.Crowds.{holders}
 use Rattle.demand_api.specs.Made.{crowd_of}
 use Rattle.demand_api.proofs.Takers.{crowd_made, demands_length}
-use Rattle.aftermarket_stage.specs.Turns.{AreHeldWithin}
+use Rattle.held_seats.specs.Choices.{AreHeldWithin}
 use Rattle.aftermarket_stage.specs.After.{terms_of}
 use Rattle.held_seats.specs.Floors.{held_on}
 use Rattle.aftermarket_stage.specs.HeldChoices.{AreChoices, AreTerms}

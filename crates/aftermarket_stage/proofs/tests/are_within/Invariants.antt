@@ -1,6 +1,6 @@
 use Rattle.std.proofs.Common.{map}
 use Rattle.bundle_rules.specs.Bundles.{sections_of}
-use Rattle.aftermarket_stage.specs.Turns.{AreHeldWithin}
+use Rattle.held_seats.specs.Choices.{AreHeldWithin}
 use Rattle.aftermarket_stage.proofs.tests.are_within.Given as goal
 
 abbrev pub invariant-loop-place : goal.invariant-loop-place

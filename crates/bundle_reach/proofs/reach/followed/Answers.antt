@@ -4,8 +4,8 @@ use Rattle.bundle_reach.specs.Branches.{chosen_of}
 use Rattle.bundle_bounds.proofs.Openings.{node_with, node_without, node_same}
 use Rattle.bundle_reach.proofs.reach.followed.Goals as goal
 
-pub returns-then-not-has-clause-node : goal.returns-then-not-has-clause-node
-returns-then-not-has-clause-node c =
+pub returns-then-not-is_wanted-clause-node : goal.returns-then-not-is_wanted-clause-node
+returns-then-not-is_wanted-clause-node c =
     let offer = offer_of c.args.menu.now c.args.prices.now c.args.budget.0 c.args.allowed.now in
     node_same offer _ _ _ _ (sym c.without_next.ensures.place) (sym c.without_next.ensures.chosen) (node_without offer c.args.branch.node.place (chosen_of c.args.branch) c.requires.node)
 

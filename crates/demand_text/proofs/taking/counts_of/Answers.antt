@@ -1,4 +1,4 @@
-use Rattle.std.proofs.Common.{◌≡◌, ◌≤◌, rules, refl}
+use Rattle.std.proofs.Common.{◌≤◌}
 use Rattle.std.proofs.lemmas.List.Elements.{All-push}
 use Rattle.demand_text.proofs.TakenFacts.{counts_more}
 use Rattle.demand_text.proofs.taking.counts_of.Goals as goal

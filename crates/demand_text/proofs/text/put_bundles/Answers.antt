@@ -1,6 +1,5 @@
-use Rattle.std.proofs.Common.{ℕ, ◌≡◌, ◌<◌, List, length, get_or, map, subst, arith, ap, ◌∙◌, sym}
+use Rattle.std.proofs.Common.{ℕ, ◌<◌, List, length, arith}
 use Rattle.std.specs.Prelude.{All}
-use Rattle.std.proofs.lemmas.List.{get_or_default}
 use Rattle.bundle_rules.specs.Bundles.{sections_of}
 use Rattle.market_certificate.specs.Tables.{section_names}
 use Rattle.market_certificate.proofs.Joins.{value_each}

@@ -1,4 +1,4 @@
-use Rattle.std.proofs.Common.{◌≡◌, ◌<◌, length, get_or, subst, arith, ap, ◌∙◌}
+use Rattle.std.proofs.Common.{get_or, arith}
 use Rattle.market_units.specs.Name.{name_bytes}
 use Rattle.demand_text.proofs.LineTexts.{count_at, count_more}
 use Rattle.demand_text.proofs.text.put_counts.Goals as goal

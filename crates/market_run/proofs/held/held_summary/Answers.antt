@@ -2,7 +2,7 @@ use Rattle.std.proofs.Common.{map}
 use Rattle.std.proofs.lemmas.Result.{IfOk-weaker}
 use Rattle.preference_desk.specs.DeskView.{entries_of}
 use Rattle.preference_desk.specs.Shared.{entry_of_step}
-use Rattle.published_parts.specs.Journals.{sessions_of}
+use Rattle.preference_desk.specs.Journals.{sessions_of}
 use Rattle.published_parts.specs.Markets.{market_of}
 use Rattle.session_hall.specs.Streams.{command_lists}
 use Rattle.market_run.proofs.HeldFacts.{sessions_held, summary_held, unpriced_held}

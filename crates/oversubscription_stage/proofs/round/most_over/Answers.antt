@@ -1,4 +1,4 @@
-use Rattle.std.proofs.Common.{◌≡◌, ◌<◌, ◌≤◌, ◌-◌, ◌∙◌, ℕ, length, refl, ap, sym, subst, arith, rules}
+use Rattle.std.proofs.Common.{◌≡◌, ◌-◌, ℕ, length, refl, arith, rules}
 use Rattle.std.specs.Prelude.{slice_index}
 use Rattle.demand_api.specs.Crowds.{holders}
 use Rattle.oversubscription_stage.proofs.Finding.{most_more, most_same, most_some, most_none}

@@ -1,6 +1,5 @@
-use Rattle.std.proofs.Common.{◌≡◌, ◌∙◌, subst, sym, ap, rules, slice_set}
+use Rattle.std.proofs.Common.{◌≡◌, subst, sym, rules, slice_set}
 use Rattle.std.specs.Prelude.{slice_index}
-use Rattle.demand_api.specs.Crowds.{top}
 use Rattle.oversubscription_stage.specs.Rounds.{IsRoundAt}
 use Rattle.oversubscription_stage.proofs.Raises.{round_found}
 use Rattle.oversubscription_stage.proofs.round.raise_most.Goals as goal

@@ -10,8 +10,8 @@ uncount_bundle-requires-clause-range c =
     sections_below (length c.args.counts.now) (length c.args.counts.now) c.sections.result.now (sections_of c.index-bundles-place.result) (c.sections.ensures.value ∙ ap sections_of (sym c.index-bundles-place.is))
     (within_at (length c.args.counts.now) c.args.bundles.now c.from-place.result c.index-bundles-place.result c.requires.tally.within low c.index-bundles-place.is) refl
 
-pub uncount_bundle-requires-clause-some : goal.uncount_bundle-requires-clause-some
-uncount_bundle-requires-clause-some c =
+pub uncount_bundle-requires-clause-counted : goal.uncount_bundle-requires-clause-counted
+uncount_bundle-requires-clause-counted c =
     let low : c.from-place.result < length c.args.bundles.now = rw c.from-place.ensures c.requires.range in
     sections_some (length c.args.counts.now) c.args.bundles.now c.args.counts.now c.from-place.result c.index-bundles-place.result c.sections.result.now c.requires.tally low c.index-bundles-place.is (c.sections.ensures.value ∙ ap sections_of (sym c.index-bundles-place.is))
 

@@ -1,4 +1,4 @@
-use Rattle.std.proofs.Common.{◌≡◌, ◌<◌, length, map, sym, arith, rules}
+use Rattle.std.proofs.Common.{◌<◌, length, map, sym, arith, rules}
 use Rattle.std.proofs.lemmas.List.{length-map}
 use Rattle.bundle_rules.specs.Bundles.{sections_of}
 use Rattle.demand_api.proofs.Takers.{counts_room, counts_more}

@@ -28,7 +28,7 @@ pub nodes-preserved : goal.nodes-preserved
 nodes-preserved c =
     let offer = offer_of c.args.menu.now c.args.prices.now c.args.budget.0 c.args.allowed.now in
     let step = subst (λ s. IsStep offer c.args.required (places_of c.args.menu.now (sections_of c.args.champion.now)) (spots_of c.args.menu.now (waiting_of c.nodes.walk)) s (spots_of c.args.menu.now (waiting_of c.step.new.self))) c.in-Signed.is c.step.ensures.step in
-    let more : c.extend_from_slice.new.self.items ≡ c.nodes.text.items ++ symbol c.in-Signed.sign = c.in_ok-extend_from_slice-in-Signed.ensures.items ∙ ap (λ t. c.nodes.text.items ++ t) (c.as_slice.ensures ∙ c.spell-symbol.ensures.bytes) in
+    let more : c.put_behind.new.text.items ≡ c.nodes.text.items ++ symbol c.in-Signed.sign = c.in_ok-put_behind-in-Signed.ensures ∙ ap (λ t. c.nodes.text.items ++ t) (c.as_slice.ensures ∙ c.spell-symbol.ensures.bytes) in
     record {
       waiting = c.step.ensures.waiting;
       stems = c.step.ensures.stems;

@@ -10,7 +10,7 @@ use Rattle.market_certificate.specs.Publications.{Proved}
 use Rattle.market_certificate.specs.Views.{proved_of}
 use Rattle.published_parts.specs.Offers.{IsProvedDemand}
 use Rattle.published_market.specs.Making.{HasForm}
-use Rattle.published_market.proofs.Asked.{nobody}
+use Rattle.published_parts.proofs.Asked.{nobody}
 use Rattle.published_market.proofs.Showing.{all_more, proved_at, taken_best, taken_count, zip_more}
 use Rattle.published_market.proofs.bundles.prove_bundles.Goals as goal
 

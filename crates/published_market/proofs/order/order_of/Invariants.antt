@@ -1,5 +1,5 @@
 use Rattle.std.proofs.Common.{◌≡◌, take}
-use Rattle.published_parts.specs.Journals.{sessions_of}
+use Rattle.preference_desk.specs.Journals.{sessions_of}
 use Rattle.published_market.proofs.order.order_of.Given as goal
 
 abbrev pub invariant-entries : goal.invariant-entries

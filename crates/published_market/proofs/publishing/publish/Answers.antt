@@ -6,7 +6,7 @@ use Rattle.demand_api.proofs.Takers.{students_length}
 use Rattle.market_certificate.specs.Tables.{tables_of}
 use Rattle.published_parts.specs.Markets.{market_of}
 use Rattle.student_roll.specs.Students.{Student}
-use Rattle.published_market.proofs.Asked.{crowd_count}
+use Rattle.published_parts.proofs.Asked.{crowd_count}
 use Rattle.published_market.proofs.Telling.{seats_low}
 use Rattle.published_market.proofs.publishing.publish.Goals as goal
 

@@ -3,8 +3,8 @@ use Rattle.std.specs.Prelude.{slice_index_or}
 use Rattle.std.proofs.lemmas.List.{get_or_default}
 use Rattle.bundle_rules.specs.Bundles.{sections_of}
 use Rattle.market_certificate.proofs.Joins.{section_below}
-use Rattle.demand_text.proofs.LineTexts.{section_more}
-use Rattle.demand_text.proofs.lines.put_bundle_field.Goals as goal
+use Rattle.text_fields.proofs.SectionNames.{section_more}
+use Rattle.text_fields.proofs.bundles.put_bundle_field.Goals as goal
 
 pub name-requires : goal.name-requires
 name-requires c =
