@@ -19,7 +19,7 @@ pub(crate) fn few_at(remembered: &Remembered, crowd: &Crowd, prices: &[Tokens]) 
     requires crowd { IsMade crowd.now }
     requires prices { ArePricesFor (data_of crowd.now) prices.now }
 {
-    asked_at(remembered, crowd, prices) * FEW <= crowd.menus.len()
+    are_few(asked_at(remembered, crowd, prices), crowd.menus.len())
 }
 
 // Whether few of the listed students have to be asked, of all in the crowd.
@@ -39,7 +39,14 @@ pub(crate) fn few_listed(
     for student in students {
         asked += usize::from(remembered.kept(crowd, prices, *student).is_none());
     }
-    asked * FEW <= crowd.menus.len()
+    are_few(asked, crowd.menus.len())
+}
+
+// Whether so many are few of so many students. One alone needs no worker beside the caller, unless nobody else is there.
+fn are_few(asked: usize, students: usize) -> bool
+    requires { asked ≤ 2000 }
+{
+    asked * FEW <= students || (asked == 1 && students > 1)
 }
 
 // How many students have to be asked.

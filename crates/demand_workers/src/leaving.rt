@@ -15,7 +15,7 @@ ghost use Rattle.demand_workers.specs.Remembered.{AreRemembered};
 ghost use Rattle.demand_workers.specs.Rounds.{data_of};
 
 use crate::remembered::{Remembered, cost_of};
-use crate::taking::asked;
+use crate::taking::asked_again;
 use bundle_rules::Bundle;
 use demand_api::Crowd;
 use demand_oracle::Workspace;
@@ -105,7 +105,7 @@ pub(crate) fn least_price(
         least = Tokens(MAX_PRICE - first.0);
         trial[place] = least;
         let student = StudentNo(first.1);
-        let bundle = asked(workspace, crowd, trial, &allowed, student);
+        let bundle = asked_again(workspace, remembered, crowd, trial, &allowed, student);
         notes.push(Note {
             student,
             price: least,

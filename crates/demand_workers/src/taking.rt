@@ -12,7 +12,7 @@ ghost use Rattle.demand_workers.specs.Rounds.{data_of};
 use crate::remembered::Remembered;
 use bundle_rules::Bundle;
 use demand_api::{Crowd, count_bundle};
-use demand_oracle::{Workspace, demand};
+use demand_oracle::{Workspace, demand, demand_from};
 use market_units::{SectionNo, SectionSet, StudentNo, Tokens};
 
 // What a student takes at these prices, of all sections.
@@ -33,8 +33,37 @@ pub(crate) fn taken(
 {
     match remembered.kept(crowd, prices, student) {
         Some(bundle) => bundle,
-        None => asked(workspace, crowd, prices, allowed, student),
+        None => asked_again(workspace, remembered, crowd, prices, allowed, student),
     }
+}
+
+// The same, asked. The search begins with what is remembered of the student, which is often still nearly the best.
+pub(crate) fn asked_again(
+    workspace: &mut Workspace,
+    remembered: &Remembered,
+    crowd: &Crowd,
+    prices: &[Tokens],
+    allowed: &SectionSet,
+    student: StudentNo,
+) -> Bundle
+    requires crowd { IsMade crowd.now }
+    requires prices { ArePricesFor (data_of crowd.now) prices.now }
+    requires allowed { (s : ℕ) → set.contains allowed.now s ≡ nat_lt s crowd.now.sections }
+    requires student { student.0 < length crowd.now.menus.items }
+    ensures { sections_of result ≡ demand_of (data_of crowd.now) (price_in prices.now) student.0 }
+{
+    let place = usize::from(student.0);
+    let Some(first) = remembered.bundles.get(place) else {
+        return asked(workspace, crowd, prices, allowed, student);
+    };
+    demand_from(
+        workspace,
+        &crowd.menus[place],
+        prices,
+        crowd.budgets[place],
+        allowed,
+        first,
+    )
 }
 
 // The same, asked.
