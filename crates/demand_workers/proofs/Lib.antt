@@ -4,3 +4,4 @@ pub mod HoldersLeave
 pub mod Recalling
 pub mod Rounds
 pub mod Working
+pub mod Noting

@@ -1,3 +1,4 @@
 pub mod Leaving
 pub mod Remembered
 pub mod Rounds
+pub mod Notes

@@ -3,29 +3,15 @@ ghost use Rattle.std.specs.Prelude.{◌<◌, ◌≤◌, All, length};
 ghost use Rattle.demand_api.specs.Asking.{ArePricesFor};
 ghost use Rattle.price_board.specs.Openings.{IsMade};
 ghost use Rattle.demand_workers.specs.Remembered.{AreRemembered};
-ghost use Rattle.demand_workers.specs.Rounds.{data_of, AreVersionsFor};
+ghost use Rattle.demand_workers.specs.Rounds.{data_of};
 
 use crate::remembered::Remembered;
 use demand_api::Crowd;
 use market_units::{StudentNo, Tokens};
 
-// A call of which at most one part in so many has to be asked is answered by the caller's own thread: a draw and a post of a shared board,
-// and the start of a thread, take about as long as the other parts.
-const FEW: usize = 4;
-
-// Whether few of the students have to be asked, at all versions together.
-pub(crate) fn few_at_all(remembered: &Remembered, crowd: &Crowd, versions: &[Vec<Tokens>]) -> bool
-    requires remembered { AreRemembered (data_of crowd.now) remembered.now.prices.items remembered.now.bundles.items }
-    requires crowd { IsMade crowd.now }
-    requires versions { AreVersionsFor (data_of crowd.now) versions.now }
-    requires few { length versions.now ≤ 16 }
-{
-    let mut asked = 0;
-    for prices in versions {
-        asked += asked_at(remembered, crowd, prices);
-    }
-    asked * FEW <= versions.len() * crowd.menus.len()
-}
+// A call for which at most one student in so many has to be asked is answered by the caller's own thread: the draws and posts of the others
+// on a shared board, and the starts of threads, take about as long.
+const FEW: usize = 16;
 
 // Whether few of the students have to be asked.
 pub(crate) fn few_at(remembered: &Remembered, crowd: &Crowd, prices: &[Tokens]) -> bool
@@ -33,7 +19,7 @@ pub(crate) fn few_at(remembered: &Remembered, crowd: &Crowd, prices: &[Tokens]) 
     requires crowd { IsMade crowd.now }
     requires prices { ArePricesFor (data_of crowd.now) prices.now }
 {
-    asked_at(remembered, crowd, prices) * FEW <= crowd.menus.len()
+    are_few(asked_at(remembered, crowd, prices), crowd.menus.len())
 }
 
 // Whether few of the listed students have to be asked, of all in the crowd.
@@ -53,7 +39,14 @@ pub(crate) fn few_listed(
     for student in students {
         asked += usize::from(remembered.kept(crowd, prices, *student).is_none());
     }
-    asked * FEW <= crowd.menus.len()
+    are_few(asked, crowd.menus.len())
+}
+
+// Whether so many are few of so many students. One alone needs no worker beside the caller, unless nobody else is there.
+fn are_few(asked: usize, students: usize) -> bool
+    requires { asked ≤ 2000 }
+{
+    asked * FEW <= students || (asked == 1 && students > 1)
 }
 
 // How many students have to be asked.

@@ -10,17 +10,33 @@ ghost use Rattle.demand_api.specs.Crowds.{top, demand_of};
 ghost use Rattle.demand_api.specs.Prices.{IsLeastFrom, AreLeastPrices};
 ghost use Rattle.price_board.specs.Openings.{IsMade};
 ghost use Rattle.demand_workers.specs.Leaving.{leaves, takes, AreLeft};
+ghost use Rattle.demand_workers.specs.Notes.{AreNoted};
 ghost use Rattle.demand_workers.specs.Remembered.{AreRemembered};
 ghost use Rattle.demand_workers.specs.Rounds.{data_of};
 
 use crate::remembered::{Remembered, cost_of};
-use crate::taking::asked;
+use crate::taking::asked_again;
 use bundle_rules::Bundle;
 use demand_api::Crowd;
 use demand_oracle::Workspace;
 use market_units::{MAX_PRICE, NoMemory, SectionNo, SectionSet, StudentNo, Tokens};
 use std::alloc::Global;
 use std::collections::BinaryHeap;
+
+// What a student took at the remembered prices, but for the section of a walk, which cost this.
+#[derive(Clone, Copy)]
+pub(crate) struct Note {
+    pub student: StudentNo,
+    pub price: Tokens,
+    pub bundle: Bundle,
+}
+
+// A walk to the least price of a section: that price, and what those took on the way there who were asked.
+#[derive(Drop)]
+pub(crate) struct Walk {
+    pub least: Tokens,
+    pub notes: Vec<Note>,
+}
 
 // A holder of a section: how far below the greatest price it does not keep what it holds any more, and its number. So the greatest is the
 // first to leave.
@@ -45,10 +61,10 @@ pub(crate) fn least_for_each(
     let mut found = Vec::new(alloc);
     let mut trial = remembered.prices.as_slice().to_vec(alloc)?;
     for (section, limit) in pairs {
-        let least = least_price(
+        let walk = least_price(
             alloc, workspace, remembered, crowd, &mut trial, *section, *limit,
         )?;
-        found.push(least)?;
+        found.push(walk.least)?;
     }
     Ok(found)
 }
@@ -56,7 +72,7 @@ pub(crate) fn least_for_each(
 // The least price of the section for one limit. The trial has the remembered prices, also afterwards. As long as there are too many holders,
 // the first of them to leave is asked at the price from which it does not keep what it holds: it holds the section from then on up to another
 // price, or leaves.
-fn least_price(
+pub(crate) fn least_price(
     alloc: Global,
     workspace: &mut Workspace,
     remembered: &Remembered,
@@ -64,20 +80,23 @@ fn least_price(
     trial: &mut [Tokens],
     section: SectionNo,
     limit: u32,
-) -> Result<Tokens, NoMemory>
+) -> Result<Walk, NoMemory>
     requires remembered { AreRemembered (data_of crowd.now) remembered.now.prices.items remembered.now.bundles.items }
     requires all { length remembered.now.bundles.items ≡ length crowd.now.menus.items }
     requires crowd { IsMade crowd.now }
     requires prices { ArePricesFor (data_of crowd.now) remembered.now.prices.items }
     requires section { section.0 < crowd.now.sections }
     requires trial { trial.old ≡ remembered.now.prices.items }
-    ensures trial { IfOk result (λ least. trial.new ≡ remembered.now.prices.items) }
-    ensures least { IfOk result (λ least. IsLeastFrom (price_in remembered.now.prices.items section.0) (data_of crowd.now) (price_in remembered.now.prices.items) section.0 limit least.0) }
+    ensures trial { IfOk result (λ walk. trial.new ≡ remembered.now.prices.items) }
+    ensures least { IfOk result (λ walk. IsLeastFrom (price_in remembered.now.prices.items section.0) (data_of crowd.now) (price_in remembered.now.prices.items) section.0 limit walk.least.0) }
+    ensures high { IfOk result (λ walk. walk.least.0 ≤ top (data_of crowd.now)) }
+    ensures noted { IfOk result (λ walk. AreNoted (data_of crowd.now) remembered.now.prices.items section.0 walk.least.0 walk.notes.items) }
 {
     let allowed = SectionSet::full(crowd.sections);
     let place = usize::from(section.0);
     let present = trial[place];
     let mut least = present;
+    let mut notes = Vec::new(alloc);
     let mut holders = holders_of(alloc, remembered, crowd, section)?;
     while holders.len() > limit as usize {
         let Some(first) = holders.pop() else {
@@ -86,7 +105,12 @@ fn least_price(
         least = Tokens(MAX_PRICE - first.0);
         trial[place] = least;
         let student = StudentNo(first.1);
-        let bundle = asked(workspace, crowd, trial, &allowed, student);
+        let bundle = asked_again(workspace, remembered, crowd, trial, &allowed, student);
+        notes.push(Note {
+            student,
+            price: least,
+            bundle,
+        })?;
         if !bundle.has(section) {
             continue;
         }
@@ -94,7 +118,7 @@ fn least_price(
         holders.push(holder)?;
     }
     trial[place] = present;
-    Ok(least)
+    Ok(Walk { least, notes })
 }
 
 // All who hold the section at the remembered prices.

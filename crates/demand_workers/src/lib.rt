@@ -6,6 +6,7 @@ mod bench;
 mod effort;
 mod leaving;
 mod pooled_demands;
+mod raised;
 mod remembered;
 mod round;
 mod taking;

@@ -1,18 +1,22 @@
 // Demands of a crowd that workers find.
-ghost use Rattle.std.specs.Prelude.{◌≡◌, ◌<◌, ◌≤◌, All, IfOk, length};
+ghost use Rattle.std.specs.Prelude.{◌≡◌, ◌<◌, ◌≤◌, [], ◌∷◌, All, IfOk, length};
 ghost use Rattle.std.specs.Arc.{arc_value};
+ghost use Rattle.bundle_rules.specs.Demand.{price_in};
 ghost use Rattle.demand_api.specs.Asking.{ArePricesFor};
+ghost use Rattle.demand_api.specs.Crowds.{counts};
+ghost use Rattle.demand_api.specs.Prices.{AreLeastPrices};
 ghost use Rattle.price_board.specs.Openings.{IsMade};
 ghost use Rattle.demand_workers.specs.Remembered.{AreRemembered, AreTaken};
 ghost use Rattle.demand_workers.specs.Rounds.{data_of};
 
 use crate::Bench;
-use crate::answering::{count_versions, read_all, zero_counts};
-use crate::effort::{few_at, few_at_all, few_listed};
-use crate::leaving::least_for_each;
+use crate::answering::read_all;
+use crate::effort::{few_at, few_listed};
+use crate::leaving::{least_for_each, least_price};
+use crate::raised::raised_memory;
 use crate::remembered::Remembered;
 use crate::round::ask_workers;
-use crate::taking::{count_each, count_takers, take_all, take_listed};
+use crate::taking::{count_all, count_takers, take_all, take_listed};
 use bundle_rules::Bundle;
 use demand_api::{Crowd, Demands};
 use market_edge::Gate;
@@ -100,6 +104,26 @@ impl<'g> PooledDemands<AnyGate<'g>> {
         Ok(bundles)
     }
 
+    // What each student takes at these prices, as it is remembered.
+    fn memory_at<R: Threads + Wait + Sync>(
+        &self,
+        rt: &R,
+        alloc: Global,
+        prices: &[Tokens],
+    ) -> Result<Remembered, NoMemory>
+        requires prices { ArePricesFor (data_of (arc_value self.now.crowd)) prices.now }
+        ensures prices { IfOk result (λ memory. memory.prices.items ≡ prices.now) }
+        ensures all { IfOk result (λ memory. length memory.bundles.items ≡ length (arc_value self.now.crowd).menus.items) }
+        ensures right { IfOk result (λ memory. AreRemembered (data_of (arc_value self.now.crowd)) memory.prices.items memory.bundles.items) }
+    {
+        let copy = prices.to_vec(alloc)?;
+        let bundles = self.all_bundles(rt, alloc, prices)?;
+        Ok(Remembered {
+            prices: copy,
+            bundles,
+        })
+    }
+
     // Remembers what each student takes at these prices.
     fn recall<R: Threads + Wait + Sync>(
         &mut self,
@@ -113,16 +137,11 @@ impl<'g> PooledDemands<AnyGate<'g>> {
         ensures prices { IfOk result (λ done. self.new.remembered.prices.items ≡ prices.now) }
         ensures all { IfOk result (λ done. length self.new.remembered.bundles.items ≡ length (arc_value self.old.crowd).menus.items) }
     {
-        let copy = prices.to_vec(alloc)?;
-        let bundles = self.all_bundles(rt, alloc, prices)?;
-        self.remembered = Remembered {
-            prices: copy,
-            bundles,
-        };
+        self.remembered = self.memory_at(rt, alloc, prices)?;
         Ok(())
     }
 
-    // Remembers what each student takes at these prices, where many of the listed ones have to be asked.
+    // Remembers what each student takes at these prices, but where few of the listed ones have to be asked and many of all.
     fn recall_for<R: Threads + Wait + Sync>(
         &mut self,
         rt: &R,
@@ -136,10 +155,97 @@ impl<'g> PooledDemands<AnyGate<'g>> {
         ensures crowd { self.new.crowd ≡ self.old.crowd }
         ensures asked { self.new.asked ≡ self.old.asked }
     {
+        if few_at(&self.remembered, &self.crowd, prices) {
+            return self.recall(rt, alloc, prices);
+        }
         if few_listed(&self.remembered, &self.crowd, prices, students) {
             return Ok(());
         }
         self.recall(rt, alloc, prices)
+    }
+
+    // The least price of one section at which at most so many take it, the other prices as remembered. What is taken there is
+    // remembered: whoever raises the price asks for it next.
+    fn least_alone<R: Threads + Wait + Sync>(
+        &mut self,
+        rt: &R,
+        alloc: Global,
+        section: SectionNo,
+        limit: u32,
+    ) -> Result<Vec<Tokens>, NoMemory>
+        requires all { length self.old.remembered.bundles.items ≡ length (arc_value self.old.crowd).menus.items }
+        requires prices { ArePricesFor (data_of (arc_value self.old.crowd)) self.old.remembered.prices.items }
+        requires section { section.0 < (arc_value self.old.crowd).sections }
+        ensures crowd { self.new.crowd ≡ self.old.crowd }
+        ensures asked { self.new.asked ≡ self.old.asked }
+        ensures least { IfOk result (λ found. AreLeastPrices (data_of (arc_value self.old.crowd)) (price_in self.old.remembered.prices.items) ((section, limit) ∷ []) found.items) }
+    {
+        let mut trial = self.remembered.prices.as_slice().to_vec(alloc)?;
+        let (least, memory) = {
+            let mut workspace = self.bench.workspaces()[0].lock(rt);
+            let walk = least_price(
+                alloc,
+                &mut workspace,
+                &self.remembered,
+                &self.crowd,
+                &mut trial,
+                section,
+                limit,
+            )?;
+            let memory = raised_memory(
+                alloc,
+                &mut workspace,
+                &self.remembered,
+                &self.crowd,
+                section,
+                &walk,
+            )?;
+            (walk.least, memory)
+        };
+        let found = vec![in alloc; least; 1]?;
+        self.remembered = memory;
+        Ok(found)
+    }
+
+    // How many students take each section at these prices. What they take is remembered where nothing was: of several
+    // versions that lie about one, that one may serve for the others.
+    fn counted<R: Threads + Wait + Sync>(
+        &mut self,
+        rt: &R,
+        alloc: Global,
+        prices: &[Tokens],
+    ) -> Result<Vec<u32>, NoMemory>
+        requires prices { ArePricesFor (data_of (arc_value self.old.crowd)) prices.now }
+        ensures crowd { self.new.crowd ≡ self.old.crowd }
+        ensures asked { self.new.asked ≡ self.old.asked }
+        ensures counts { IfOk result (λ found. found.items ≡ counts (data_of (arc_value self.old.crowd)) (price_in prices.now)) }
+    {
+        if self.remembered.bundles.is_empty() {
+            self.recall(rt, alloc, prices)?;
+        }
+        if few_at(&self.remembered, &self.crowd, prices) {
+            return self.counted_from(rt, alloc, &self.remembered, prices);
+        }
+        let memory = self.memory_at(rt, alloc, prices)?;
+        self.counted_from(rt, alloc, &memory, prices)
+    }
+
+    // How many students take each section at these prices, of whom most take what is remembered.
+    fn counted_from<R: Threads + Wait + Sync>(
+        &self,
+        rt: &R,
+        alloc: Global,
+        memory: &Remembered,
+        prices: &[Tokens],
+    ) -> Result<Vec<u32>, NoMemory>
+        requires memory { AreRemembered (data_of (arc_value self.now.crowd)) memory.now.prices.items memory.now.bundles.items }
+        requires prices { ArePricesFor (data_of (arc_value self.now.crowd)) prices.now }
+        ensures { IfOk result (λ found. found.items ≡ counts (data_of (arc_value self.now.crowd)) (price_in prices.now)) }
+    {
+        let mut found = vec![in alloc; 0; usize::from(self.crowd.sections)]?;
+        let mut workspace = self.bench.workspaces()[0].lock(rt);
+        count_all(&mut workspace, memory, &self.crowd, prices, &mut found);
+        Ok(found)
     }
 }
 
@@ -164,36 +270,11 @@ impl Demands for PooledDemands<AnyGate<'_>> {
         batch: &[Vec<Tokens>],
     ) -> Result<Vec<Vec<u32>>, NoMemory> {
         self.asked = self.asked.saturating_add(1);
-        let mut found = zero_counts(alloc, batch.len(), self.crowd.sections)?;
-        if few_at_all(&self.remembered, &self.crowd, batch) {
-            let mut workspace = self.bench.workspaces()[0].lock(rt);
-            count_each(
-                &mut workspace,
-                &self.remembered,
-                &self.crowd,
-                batch,
-                &mut found,
-            );
-            return Ok(found);
+        let mut found = Vec::with_capacity(alloc, batch.len())?;
+        for version in 0..batch.len() {
+            let counts = self.counted(rt, alloc, &batch[version])?;
+            found.push(counts)?;
         }
-        let students = self.students();
-        let last = batch.len() - 1;
-        let prices = batch[last].to_vec(alloc)?;
-        let mut bundles = vec![in alloc; Bundle::empty(); usize::from(students)]?;
-        let asks = vec![in alloc; Ask::Counts; batch.len()]?;
-        let answers = ask_workers(
-            rt,
-            alloc,
-            &self.crowd,
-            batch,
-            asks,
-            self.bench.workspaces(),
-            &self.remembered,
-            self.gate,
-        )?;
-        count_versions(&answers, students, &mut found);
-        read_all(&answers, last as u8, &mut bundles);
-        self.remembered = Remembered { prices, bundles };
         Ok(found)
     }
 
@@ -265,6 +346,9 @@ impl Demands for PooledDemands<AnyGate<'_>> {
         pairs: &[(SectionNo, u32)],
     ) -> Result<Vec<Tokens>, NoMemory> {
         self.recall(rt, alloc, prices)?;
+        if let [(section, limit)] = pairs {
+            return self.least_alone(rt, alloc, *section, *limit);
+        }
         let mut workspace = self.bench.workspaces()[0].lock(rt);
         least_for_each(alloc, &mut workspace, &self.remembered, &self.crowd, pairs)
     }

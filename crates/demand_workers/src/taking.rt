@@ -7,12 +7,12 @@ ghost use Rattle.demand_api.specs.Asking.{ArePricesFor};
 ghost use Rattle.demand_api.specs.Crowds.{count, counts, demand_of};
 ghost use Rattle.price_board.specs.Openings.{IsMade};
 ghost use Rattle.demand_workers.specs.Remembered.{AreRemembered, AreTaken};
-ghost use Rattle.demand_workers.specs.Rounds.{data_of, prices_of, AreVersionsFor};
+ghost use Rattle.demand_workers.specs.Rounds.{data_of};
 
 use crate::remembered::Remembered;
 use bundle_rules::Bundle;
 use demand_api::{Crowd, count_bundle};
-use demand_oracle::{Workspace, demand};
+use demand_oracle::{Workspace, demand, demand_from};
 use market_units::{SectionNo, SectionSet, StudentNo, Tokens};
 
 // What a student takes at these prices, of all sections.
@@ -33,8 +33,37 @@ pub(crate) fn taken(
 {
     match remembered.kept(crowd, prices, student) {
         Some(bundle) => bundle,
-        None => asked(workspace, crowd, prices, allowed, student),
+        None => asked_again(workspace, remembered, crowd, prices, allowed, student),
     }
+}
+
+// The same, asked. The search begins with what is remembered of the student, which is often still nearly the best.
+pub(crate) fn asked_again(
+    workspace: &mut Workspace,
+    remembered: &Remembered,
+    crowd: &Crowd,
+    prices: &[Tokens],
+    allowed: &SectionSet,
+    student: StudentNo,
+) -> Bundle
+    requires crowd { IsMade crowd.now }
+    requires prices { ArePricesFor (data_of crowd.now) prices.now }
+    requires allowed { (s : ℕ) → set.contains allowed.now s ≡ nat_lt s crowd.now.sections }
+    requires student { student.0 < length crowd.now.menus.items }
+    ensures { sections_of result ≡ demand_of (data_of crowd.now) (price_in prices.now) student.0 }
+{
+    let place = usize::from(student.0);
+    let Some(first) = remembered.bundles.get(place) else {
+        return asked(workspace, crowd, prices, allowed, student);
+    };
+    demand_from(
+        workspace,
+        &crowd.menus[place],
+        prices,
+        crowd.budgets[place],
+        allowed,
+        first,
+    )
 }
 
 // The same, asked.
@@ -106,28 +135,8 @@ pub(crate) fn take_all(
     }
 }
 
-// Counts, from 0, how many students take each section at each version.
-pub(crate) fn count_each(
-    workspace: &mut Workspace,
-    remembered: &Remembered,
-    crowd: &Crowd,
-    versions: &[Vec<Tokens>],
-    found: &mut [Vec<u32>],
-)
-    requires remembered { AreRemembered (data_of crowd.now) remembered.now.prices.items remembered.now.bundles.items }
-    requires crowd { IsMade crowd.now }
-    requires versions { AreVersionsFor (data_of crowd.now) versions.now }
-    requires same { length found.old ≡ length versions.now }
-    requires zeros { All (λ counts. counts.items ≡ replicate crowd.now.sections 0) found.old }
-    ensures { map (λ counts. counts.items) found.new ≡ map (λ prices. counts (data_of crowd.now) (price_in prices)) (prices_of versions.now) }
-{
-    for (version, counts) in found.iter_mut().enumerate() {
-        count_all(workspace, remembered, crowd, &versions[version], counts);
-    }
-}
-
 // Counts, from 0, how many students take each section.
-fn count_all(
+pub(crate) fn count_all(
     workspace: &mut Workspace,
     remembered: &Remembered,
     crowd: &Crowd,

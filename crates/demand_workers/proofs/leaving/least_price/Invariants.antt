@@ -2,9 +2,10 @@ use Rattle.std.proofs.Common.{◌≡◌, ◌<◌, ◌≤◌, ℕ, heap_items, na
 use Rattle.std.specs.BinaryHeap.{IsHeap}
 use Rattle.std.specs.Ordering.{ordering_then}
 use Rattle.bundle_rules.specs.Demand.{price_in}
-use Rattle.demand_api.specs.Crowds.{count}
+use Rattle.demand_api.specs.Crowds.{count, top}
 use Rattle.demand_api.specs.Prices.{with_price}
 use Rattle.demand_workers.specs.Leaving.{AreLeft}
+use Rattle.demand_workers.specs.Notes.{AreNoted}
 use Rattle.demand_workers.specs.Rounds.{data_of}
 use Rattle.demand_workers.proofs.HoldersLeave.{room_of}
 use Rattle.demand_workers.proofs.leaving.least_price.Given as goal
@@ -16,6 +17,8 @@ invariant-loop-least l = record {
   heap : IsHeap (λ a b. ordering_then (nat_cmp a.0 b.0) (nat_cmp a.1 b.1)) (heap_items l.holders);
   left : AreLeft (data_of l.crowd) (price_in l.remembered.prices.items) l.section.0 l.least.0 (heap_items l.holders);
   from : price_in l.remembered.prices.items l.section.0 ≤ l.least.0;
+  high : l.least.0 ≤ top (data_of l.crowd);
+  noted : AreNoted (data_of l.crowd) l.remembered.prices.items l.section.0 l.least.0 l.notes.items;
   lower : (p : ℕ) → price_in l.remembered.prices.items l.section.0 ≤ p → p < l.least.0 → l.limit < count (data_of l.crowd) (with_price (price_in l.remembered.prices.items) l.section.0 p) l.section.0;
 }
 
