@@ -42,6 +42,7 @@ fn margin(base: i64, limit: i64, sum: u64) -> u64
 
 // Whether a prospect has a bound, and that is below the limit. What is known of the bounds grows where it is not, and
 // what was computed for that is the last tangent.
+#[inline(always)]
 fn is_below(
     base: i64,
     limit: i64,
@@ -118,6 +119,7 @@ fn known_by(base: i64, limit: i64, last: &Option<Tangent>) -> Known
 }
 
 // The leaf of the first of all that has a bound below the limit.
+#[inline(always)]
 fn first_of_resource(
     base: i64,
     limit: i64,
@@ -147,6 +149,17 @@ fn first_of_resource(
     None
 }
 
+// Whether the plain bound, of so much above the base, is below the limit.
+pub(crate) fn is_plain_below(base: i64, limit: i64, plain: u64) -> bool
+    requires low { neg_ℤ (pos 3000000000000) ≤ℤ base }
+    requires high { base ≤ℤ pos 3000000000000 }
+    requires plain_high { plain ≤ 1200000000 }
+    ensures { IsTrue result ↔ ((base +ℤ pos plain) <ℤ limit) }
+{
+    let least = base + plain as i64;
+    least < limit
+}
+
 // The leaf of the first bound below the limit, of all bounds in their order.
 pub(crate) fn first_below(base: i64, limit: i64, rests: Rests, all: &[Prospect]) -> Option<Leaf>
     requires low { neg_ℤ (pos 3000000000000) ≤ℤ base }
@@ -161,6 +174,7 @@ pub(crate) fn first_below(base: i64, limit: i64, rests: Rests, all: &[Prospect])
 }
 
 // The same where the sum of the plain bound is at hand, and some tangents are.
+#[inline(always)]
 pub(crate) fn first_with(
     base: i64,
     limit: i64,
@@ -180,8 +194,7 @@ pub(crate) fn first_with(
     ensures none { IfNone result (NoneBelow limit (all_bounds base rests.budget rests.credits rests.courses all.now)) }
     ensures tangents { AreTangents rests.budget rests.credits rests.courses all.now tangents.new }
 {
-    let least = base + plain as i64;
-    if least < limit {
+    if is_plain_below(base, limit, plain) {
         return Some(Leaf::Plain);
     }
     match first_of_resource(
@@ -198,6 +211,7 @@ pub(crate) fn first_with(
 }
 
 // The same of the bounds of the credits and of the number of sections.
+#[inline(always)]
 fn first_after_money(
     base: i64,
     limit: i64,

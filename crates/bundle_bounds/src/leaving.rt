@@ -20,6 +20,7 @@ fn is_alone(more: &[Prospect], course: u8) -> bool
 }
 
 // The sum of the plain bound without the first open place.
+#[inline(always)]
 pub(crate) fn plain_after(all: &[Prospect], plain: u64) -> u64
     requires some { 1 ≤ length all.now }
     requires modest { All IsModest all.now }
@@ -37,6 +38,7 @@ pub(crate) fn plain_after(all: &[Prospect], plain: u64) -> u64
 }
 
 // The tangents without the first open place.
+#[inline(always)]
 pub(crate) fn tangents_after(all: &[Prospect], tangents: Tangents) -> Tangents
     requires some { 1 ≤ length all.now }
     requires modest { All IsModest all.now }
@@ -63,6 +65,7 @@ pub(crate) fn tangents_after(all: &[Prospect], tangents: Tangents) -> Tangents
 }
 
 // The tangent of a resource without the first open place.
+#[inline(always)]
 fn later(
     tangent: Option<Tangent>,
     resource: Resource,

@@ -89,6 +89,7 @@ fn add_up(prospects: &[Prospect], resource: Resource, price: u64) -> u64
 }
 
 // What `at_price` is at this price, and what it is at the next.
+#[inline(always)]
 pub(crate) fn at_two_prices(
     prospects: &[Prospect],
     resource: Resource,
@@ -108,6 +109,7 @@ pub(crate) fn at_two_prices(
 }
 
 // For each course the most that is left over the price, added up; and the same at the next price.
+#[inline(always)]
 fn add_up_twice(prospects: &[Prospect], resource: Resource, price: u64) -> (u64, u64)
     requires modest { All IsModest prospects.now }
     requires few { length prospects.now ≤ 60 }
@@ -122,11 +124,12 @@ fn add_up_twice(prospects: &[Prospect], resource: Resource, price: u64) -> (u64,
     let mut next = 0;
     for index in (0..prospects.len()).rev() {
         let prospect = &prospects[index];
-        let more = &prospects[index + 1..];
         let course = usize::from(prospect.course);
         let is_alone = !is_there[course];
-        sum += added(prospect, more, resource, price, is_alone);
-        next += added(prospect, more, resource, price + 1, is_alone);
+        let more = &prospects[index + 1..];
+        let (here, after) = added_twice(prospect, more, resource, price, is_alone);
+        sum += here;
+        next += after;
         is_there[course] = true;
     }
     (sum, next)
@@ -153,6 +156,36 @@ pub(crate) fn added(
         return value;
     }
     value.saturating_sub(greatest_of(more, resource, price, prospect.course))
+}
+
+// What `added` is at this price, and what it is at the next.
+#[inline(always)]
+fn added_twice(
+    prospect: &Prospect,
+    more: &[Prospect],
+    resource: Resource,
+    price: u64,
+    is_alone: bool,
+) -> (u64, u64)
+    requires one_modest { IsModest prospect.now }
+    requires modest { All IsModest more.now }
+    requires price { price ≤ 20000000 }
+    requires alone { IsTrue is_alone → has_course more.now prospect.now.course ≡ false }
+    ensures here { result.0 ≡ over_price resource price prospect.now - greatest (over_price resource price) prospect.now.course more.now }
+    ensures after { result.1 ≡ over_price resource (price + 1) prospect.now - greatest (over_price resource (price + 1)) prospect.now.course more.now }
+    ensures high { result.0 ≤ 20000000 }
+    ensures after_high { result.1 ≤ 20000000 }
+{
+    let here = over_price(prospect, resource, price);
+    let after = over_price(prospect, resource, price + 1);
+    if is_alone {
+        return (here, after);
+    }
+    let course = prospect.course;
+    (
+        here.saturating_sub(greatest_of(more, resource, price, course)),
+        after.saturating_sub(greatest_of(more, resource, price + 1, course)),
+    )
 }
 
 // The most that is left over the price by one of a course.

@@ -28,6 +28,7 @@ pub(crate) fn rests_after(rests: Rests, one: &Prospect) -> Rests
 }
 
 // Whether an open place stays open beside the new one, with what that leaves.
+#[inline(always)]
 fn stays_open(menu: &Menu, rests: Rests, place: u8, one: &Prospect) -> bool
     requires on_menu { one.now.place < length menu.now.places }
     requires place { place < length menu.now.places }
@@ -43,6 +44,7 @@ fn stays_open(menu: &Menu, rests: Rests, place: u8, one: &Prospect) -> bool
 }
 
 // The open place beside these chosen places and before these open ones.
+#[inline(always)]
 fn beside(menu: &Menu, chosen: &[u8], one: &Prospect, later: &[Prospect]) -> Prospect
     requires on_menu { AreOnMenu menu.now chosen.now }
     requires few { length chosen.now ≤ 8 }
@@ -67,6 +69,7 @@ fn beside(menu: &Menu, chosen: &[u8], one: &Prospect, later: &[Prospect]) -> Pro
 }
 
 // Writes an open place before those that begin here in the room, where it stays open, and gives where they begin then.
+#[inline(always)]
 fn put_open(
     menu: &Menu,
     chosen: &[u8],

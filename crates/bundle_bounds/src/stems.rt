@@ -11,7 +11,7 @@ ghost use Rattle.bundle_bounds.specs.Bounds.{bounds, IsFirstClosing, NoneCloses}
 ghost use Rattle.bundle_bounds.specs.Ahead.{limit_of};
 ghost use Rattle.bundle_bounds.specs.Laws.{IsNode};
 
-use crate::closing::first_with;
+use crate::closing::{first_with, is_plain_below};
 use crate::leaving::{plain_after, tangents_after};
 use crate::nodes::{Leaf, Node};
 use crate::opens::{Rests, collect, rests_of};
@@ -102,6 +102,7 @@ impl Stem {
     }
 
     /// The first bound that closes its node for the champion, as `bound_closes` tells it.
+    #[inline(always)]
     pub fn closing(
         &mut self,
         menu: &Menu,
@@ -125,6 +126,10 @@ impl Stem {
             return None;
         }
         let base = 1000 * i64::from(self.utility);
+        // Most nodes end here, before the tangents are copied.
+        if is_plain_below(base, self.limit, self.plain) {
+            return Some(Leaf::Plain);
+        }
         let mut tangents = self.tangents;
         let open_ones = &self.room[self.start..];
         let leaf = first_with(
@@ -141,6 +146,7 @@ impl Stem {
     }
 
     /// Goes on to the node with the next place decided and not taken.
+    #[inline(always)]
     pub fn pass(
         &mut self,
         menu: &Menu,

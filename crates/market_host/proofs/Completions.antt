@@ -12,12 +12,12 @@ use Rattle.market_words.specs.Forms.{inputs_of}
 use Rattle.market_words.proofs.OneForm.{one_form}
 use Rattle.market_host.specs.declared.cause.Cause.{Cause}
 use Rattle.market_host.specs.declared.status.Status.{Status}
-use Rattle.market_host.specs.declared.status.Status.TheVariants.{Done, Usage, ShelfFault, Refused, TooLong, NoPrices, SinkFault, OutOfMemory}
+use Rattle.market_host.specs.declared.status.Status.TheVariants.{Done, Usage, ShelfFault, Refused, TooLong, NoPrices, Found, SinkFault, OutOfMemory}
 use Rattle.market_host.specs.declared.trouble.Trouble.{Trouble}
 use Rattle.market_host.specs.declared.trouble.Trouble.TheVariants as trouble
 use Rattle.market_host.specs.Completeness.{CanBeDone, EndsWork}
 use Rattle.market_host.specs.Inputs.{AreInOrder, AreTold, BeginWithCatalog, HasFault, IsInOrder, IsOfGrammar}
-use Rattle.market_host.specs.Kinds.{Kind, Catalog, Roll, Settings, Prices, Session, kind_of, limit_of}
+use Rattle.market_host.specs.Kinds.{Kind, Catalog, Roll, Settings, Prices, Published, Session, kind_of, limit_of}
 use Rattle.market_host.specs.Outcomes.{IsOutcome, IsStopped}
 use Rattle.market_host.specs.Sights.{Sight}
 use Rattle.market_host.specs.Statuses.{status_of}
@@ -33,7 +33,7 @@ holds_at_seam : (P : List ℕ → Type 0) (xs ys : List (List ℕ)) (y : List �
 holds_at_seam P xs ys y all = subst P (at_seam xs ys y) (all (length xs) y (omega (arith, length-append xs (y ∷ ys))))
 
 -- a name has one text where it is told
-same_text : (held : Option Holding) (name told text : List ℕ) → told_text held name ≡ Some told → IsTextOf held name text → told ≡ text
+pub same_text : (held : Option Holding) (name told text : List ℕ) → told_text held name ≡ Some told → IsTextOf held name text → told ≡ text
 same_text None name told text is whole = cc
 same_text (Some holding) name told text is whole = cc
 
@@ -64,6 +64,7 @@ no_fault Settings earlier row cause text good fault = subst (λ read. MatchResul
 no_fault Prices earlier row cause text good fault =
     let same : good.0 ≡ fault.0 = one_catalog earlier good.0 fault.0 good.2 fault.1 in
     subst (λ read. MatchResult read (λ _. ⊤) (λ _. ⊥)) (sym good.3 ∙ ap (λ (catalog : CatalogData). prices_of catalog.sections text) same ∙ fault.2.1) tt
+no_fault Published earlier row cause text good fault = absurd fault
 no_fault Session earlier row cause text good fault = absurd fault
 
 left_is_short : (count : ℕ) (text : List ℕ) (told left : Option (List ℕ)) → told ≡ Some text → IsLeftOf count told left → count ≤ length text
@@ -76,33 +77,32 @@ taken_of_told : (count : ℕ) (held : Option Holding) (name text : List ℕ) (le
 taken_of_told count None name text left is taken = absurd cc
 taken_of_told count (Some holding) name text left is taken = left_is_short count text (text_of holding name) left is taken
 
--- a form, what is seen of the shelf, and the names of inputs whose told texts are in order and of which no fault was counted
-module _ (form : Form) (seen : Sight) (inputs told : List (List ℕ)) (are : AreTold seen.held inputs told) (order : AreInOrder form [] told)
-    (sound : All (λ name. ¬ Rose (seen.before name) (seen.after name)) inputs) where
+-- a form, what is seen of the shelf, and the names of inputs whose told texts are in order
+module _ (form : Form) (seen : Sight) (inputs told : List (List ℕ)) (are : AreTold seen.held inputs told) (order : AreInOrder form [] told) where
   module _ (earlier later texts : List (List ℕ)) (name : List ℕ) (split : inputs ≡ earlier ++ name ∷ later) (each : AllZip (IsTextOf seen.held) earlier texts) where
     found : (text : List ℕ) × (told_text seen.held name ≡ Some text) × IsInOrder form texts text
     found = in_order_at form seen.held [] earlier later told texts name (subst (λ names. AreTold seen.held names told) split are) order each
 
     -- the input is not too long
-    no_excess : (IsPastLimit form seen texts name ⊎ HasSurplus form seen texts name) → ⊥
+    pub no_excess : (IsPastLimit form seen texts name ⊎ HasSurplus form seen texts name) → ⊥
     no_excess (inl past) = absurd (omega (arith, taken_of_told (limit_of (kind_of form (length texts)) + 1) seen.held name found.0 seen.left found.1 past, found.2.within))
     no_excess (inr (ended, text, whole, within, more)) =
         let good : IsInOrder form texts text = subst (IsInOrder form texts) (same_text seen.held name found.0 text found.1 whole) found.2 in
         absurd (omega (arith, good.room, more))
 
     -- the input has no fault
-    not_faulty : (row : ℕ) (cause : Cause) → IsFaulty form seen row cause texts name → ⊥
+    pub not_faulty : (row : ℕ) (cause : Cause) → IsFaulty form seen row cause texts name → ⊥
     not_faulty row cause (ended, text, whole, within, fault) =
         let good : IsInOrder form texts text = subst (IsInOrder form texts) (same_text seen.held name found.0 text found.1 whole) found.2 in
         no_fault (kind_of form (length texts)) texts row cause text good.grammar fault
 
-  -- they have no trouble but want of memory
-  no_trouble : (stop : Trouble) → HasTrouble form seen inputs stop → EndsWork (status_of stop)
-  no_trouble (trouble.ShelfFault n) (earlier, name, later, texts, split, number, read, failed) =
+  -- they have no trouble but want of memory, where no fault was counted
+  no_trouble : All (λ name. ¬ Rose (seen.before name) (seen.after name)) inputs → (stop : Trouble) → HasTrouble form seen inputs stop → EndsWork (status_of stop)
+  no_trouble sound (trouble.ShelfFault n) (earlier, name, later, texts, split, number, read, failed) =
       absurd (holds_at_seam (λ input. ¬ Rose (seen.before input) (seen.after input)) earlier later name (subst (All (λ input. ¬ Rose (seen.before input) (seen.after input))) split sound) failed.0)
-  no_trouble (trouble.Refused n row cause) (earlier, name, later, texts, split, number, read, faulty) = absurd (not_faulty earlier later texts name split read.each row cause faulty)
-  no_trouble (trouble.TooLong n) (earlier, name, later, texts, split, number, read, excess) = absurd (no_excess earlier later texts name split read.each excess)
-  no_trouble trouble.OutOfMemory has = tt
+  no_trouble sound (trouble.Refused n row cause) (earlier, name, later, texts, split, number, read, faulty) = absurd (not_faulty earlier later texts name split read.each row cause faulty)
+  no_trouble sound (trouble.TooLong n) (earlier, name, later, texts, split, number, read, excess) = absurd (no_excess earlier later texts name split read.each excess)
+  no_trouble sound trouble.OutOfMemory has = tt
 
 -- what stops a call that can be done is want of memory, since words have one form
 memory_alone : (words : List (List ℕ)) (seen : Sight) (stop : Trouble) (text : List ℕ) → CanBeDone words seen → IsStopped words seen stop text → EndsWork (status_of stop)
@@ -118,6 +118,7 @@ completes words seen (ShelfFault n) text can outcome = memory_alone words seen (
 completes words seen (Refused n row cause) text can outcome = memory_alone words seen (trouble.Refused n row cause) text can outcome
 completes words seen (TooLong n) text can outcome = memory_alone words seen (trouble.TooLong n) text can outcome
 completes words seen (NoPrices least) text can outcome = tt
+completes words seen (Found finding) text can outcome = tt
 completes words seen OutOfMemory text can outcome = tt
 completes words seen SinkFault text can outcome = absurd outcome
 

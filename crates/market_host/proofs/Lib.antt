@@ -1,4 +1,6 @@
+pub mod CheckFacts
 pub mod Completions
+pub mod Confirming
 pub mod DemandFacts
 pub mod InputTroubles
 pub mod LineTexts
@@ -6,6 +8,7 @@ pub mod ListedSections
 pub mod MakeFacts
 pub mod MarketFacts
 pub mod PreferFacts
+pub mod PublishedFacts
 pub mod QuoteFacts
 pub mod QuoteWords
 pub mod ReadOut
@@ -14,5 +17,6 @@ pub mod SessionsRead
 pub mod Shelves
 pub mod Stops
 pub mod StreamFacts
+pub mod SureEnds
 pub mod WordFacts
 pub mod ZeroPrices

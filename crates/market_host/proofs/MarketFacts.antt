@@ -1,24 +1,22 @@
 -- The first inputs of a call that holds a market.
-use Rattle.std.proofs.Common.{ℕ, ◌≡◌, ◌<◌, ◌≤◌, ◌+◌, List, [], ◌∷◌, ◌++◌, length, map, arith, ap, sym, subst, ◌∙◌, refl}
+use Rattle.std.proofs.Common.{ℕ, ◌≡◌, ◌<◌, ◌≤◌, ◌+◌, List, [], ◌∷◌, ◌++◌, length, arith, ap, sym, subst}
 use Rattle.std.specs.Prelude.{Option, Ok}
 use Rattle.course_catalog.specs.Catalog.{CatalogData}
 use Rattle.course_catalog.specs.Reading.{catalog_of}
 use Rattle.market_edge.specs.Holdings.{Holding}
 use Rattle.market_settings.specs.declared.reader.Settings.{Settings as SettingsData}
 use Rattle.market_settings.specs.Settings.{settings_of}
-use Rattle.market_units.specs.declared.units.Tokens.{Tokens}
 use Rattle.market_words.specs.declared.words.Form.{Form}
-use Rattle.price_sheet.specs.Sheets.{prices_of}
 use Rattle.student_roll.specs.Rolls.{roll_of}
 use Rattle.student_roll.specs.Students.{RollData}
 use Rattle.market_host.specs.declared.trouble.Trouble.{Trouble}
 use Rattle.market_host.specs.Inputs.{AreRead}
-use Rattle.market_host.specs.Kinds.{Kind, Catalog, OpensMarket, Prices, Roll, Settings, front_of, kind_behind, kind_of, streams_of}
+use Rattle.market_host.specs.Kinds.{Kind, Catalog, OpensMarket, Roll, Settings, front_of, kind_behind, kind_of, streams_of}
 use Rattle.market_host.specs.Marks.{without_mark}
 use Rattle.market_host.specs.Reading.{IsRead, IsTroubleOf}
 use Rattle.market_host.specs.Sights.{Sight}
 use Rattle.market_host.specs.Troubles.{HasTrouble}
-use Rattle.market_host.proofs.InputTroubles.{catalog_first, front_read, none_read, roll_second, trouble_before}
+use Rattle.market_host.proofs.InputTroubles.{catalog_first, front_read, roll_second, trouble_before}
 use Rattle.market_host.proofs.Shelves.{seen_from}
 
 -- a form whose first inputs are a catalogue, a roll and settings

@@ -1,5 +1,5 @@
 -- The streams of sessions, and how many commands they have.
-use Rattle.std.proofs.Common.{ℕ, ◌≡◌, ◌+◌, List, [], ◌∷◌, ◌++◌, length, arith, sym, ◌∙◌, refl, Global}
+use Rattle.std.proofs.Common.{ℕ, ◌≡◌, List, [], ◌∷◌, ◌++◌, length, arith, sym, ◌∙◌, refl, Global}
 use Rattle.std.specs.Prelude.{All, Vec}
 use Rattle.std.specs.Vec.{vec_len}
 use Rattle.std.proofs.lemmas.Slice.Zip.{AllZip-long}

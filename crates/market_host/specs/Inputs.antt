@@ -13,7 +13,7 @@ use Rattle.market_lists.specs.Totals.{total}
 use Rattle.market_words.specs.declared.words.Form.{Form}
 use Rattle.market_host.specs.declared.cause.Cause.{Cause}
 use Rattle.market_host.specs.Marks.{without_mark}
-use Rattle.market_host.specs.Kinds.{Kind, Catalog, Roll, Settings, Prices, Session, front_of, kind_of, limit_of, streams_of}
+use Rattle.market_host.specs.Kinds.{Kind, Catalog, Roll, Settings, Prices, Published, Session, front_of, kind_of, limit_of, streams_of}
 use Rattle.market_host.specs.Refusals.{AreNoPrices, AreNoSettings, IsNoCatalog, IsNoRoll}
 use Rattle.market_host.specs.Sessions.{command_count}
 
@@ -23,6 +23,7 @@ commands_in Catalog text = 0
 commands_in Roll text = 0
 commands_in Settings text = 0
 commands_in Prices text = 0
+commands_in Published text = 0
 commands_in Session text = command_count text
 
 -- how many commands the streams among the texts of a form's first inputs have together
@@ -34,20 +35,23 @@ abbrev pub BeginWithCatalog : List (List ℕ) → CatalogData → Type 0
 BeginWithCatalog [] catalog = ⊥
 BeginWithCatalog (text ∷ more) catalog = catalog_of text ≡ Ok catalog
 
--- a text of this kind, behind these others, is of its grammar; prices are those of the catalogue's sections, and a session always is
+-- a text of this kind, behind these others, is of its grammar; prices are those of the catalogue's sections, and a published text and a
+-- session always are
 abbrev pub IsOfGrammar : Kind → List (List ℕ) → List ℕ → Type 0
 IsOfGrammar Catalog earlier text = (catalog : CatalogData) × (catalog_of text ≡ Ok catalog)
 IsOfGrammar Roll earlier text = (roll : RollData) × (roll_of text ≡ Ok roll)
 IsOfGrammar Settings earlier text = (settings : SettingsData) × (settings_of (without_mark text) ≡ Ok settings)
 IsOfGrammar Prices earlier text = (catalog : CatalogData) × (prices : List ℕ) × BeginWithCatalog earlier catalog × (prices_of catalog.sections text ≡ Ok prices)
+IsOfGrammar Published earlier text = ⊤
 IsOfGrammar Session earlier text = ⊤
 
--- a text of this kind, behind these others, is not of its grammar, and its first fault has this row and this cause; a session has none
+-- a text of this kind, behind these others, is not of its grammar, and its first fault has this row and this cause; a published text and a session have none
 abbrev pub HasFault : Kind → List (List ℕ) → ℕ → Cause → List ℕ → Type 0
 HasFault Catalog earlier row cause text = IsNoCatalog text row cause
 HasFault Roll earlier row cause text = IsNoRoll text row cause
 HasFault Settings earlier row cause text = AreNoSettings text row cause
 HasFault Prices earlier row cause text = (catalog : CatalogData) × BeginWithCatalog earlier catalog × AreNoPrices catalog.sections text row cause
+HasFault Published earlier row cause text = ⊥
 HasFault Session earlier row cause text = ⊥
 
 -- The text of a form's next input, behind these others, is within its limits and of its grammar: its bytes, the commands of all streams up

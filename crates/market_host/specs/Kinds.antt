@@ -1,13 +1,14 @@
 -- The kinds of inputs. Limits, grammars and faults go by kind; a form says which kinds its inputs have.
 use Rattle.std.specs.Prelude.{ℕ, ◌≡◌, zero, suc, List, [], ◌∷◌}
 use Rattle.market_words.specs.declared.words.Form.{Form}
-use Rattle.market_words.specs.declared.words.Form.TheVariants.{Demand, Make, Prefer, Quote, Run}
+use Rattle.market_words.specs.declared.words.Form.TheVariants.{Check, Demand, Make, Prefer, Quote, Run}
 
 pub data Kind : Type 0 where
   Catalog : Kind
   Roll : Kind
   Settings : Kind
   Prices : Kind
+  Published : Kind
   Session : Kind
 
 -- the kinds of a form's inputs in front of its streams of commands
@@ -17,6 +18,7 @@ front_of Prefer = Catalog ∷ Roll ∷ []
 front_of (Demand workers) = Catalog ∷ Roll ∷ Settings ∷ Prices ∷ []
 front_of (Run workers) = Catalog ∷ Roll ∷ Settings ∷ []
 front_of (Make workers seed students sections accept) = []
+front_of Check = Catalog ∷ Roll ∷ Settings ∷ Published ∷ []
 
 -- the first three inputs of a form are a catalogue, a roll and settings
 abbrev pub OpensMarket : Form → Type 0
@@ -29,6 +31,11 @@ streams_of Prefer = Session
 streams_of (Demand workers) = Session
 streams_of (Run workers) = Session
 streams_of (Make workers seed students sections accept) = Session
+streams_of Check = Session
+
+-- the inputs of a form are a catalogue, a roll, settings, a published text, and sessions
+abbrev pub OpensPublished : Form → Type 0
+OpensPublished form = (front_of form ≡ Catalog ∷ Roll ∷ Settings ∷ Published ∷ []) × (streams_of form ≡ Session)
 
 -- the kind of the input that stands behind so many others, where these kinds stand in front of streams of that kind
 abbrev pub kind_behind : List Kind → Kind → ℕ → Kind
@@ -46,4 +53,5 @@ limit_of Catalog = 16777216
 limit_of Roll = 16777216
 limit_of Settings = 16777216
 limit_of Prices = 16777216
+limit_of Published = 67108864
 limit_of Session = 16777216

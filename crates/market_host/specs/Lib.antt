@@ -1,4 +1,6 @@
+pub mod Checks
 pub mod Completeness
+pub mod Confirmations
 pub mod Demands
 pub mod Endings
 pub mod Ends

@@ -3,13 +3,15 @@ use Rattle.std.specs.Prelude.{ℕ, ◌≡◌, List, [], ◌∷◌, ◌++◌}
 use Rattle.made_run.specs.Made.{IsMadeSummary}
 use Rattle.market_units.specs.Name.{name_bytes}
 use Rattle.market_words.specs.declared.words.Form.{Form}
-use Rattle.market_words.specs.declared.words.Form.TheVariants.{Demand, Make, Prefer, Quote, Run}
+use Rattle.market_words.specs.declared.words.Form.TheVariants.{Check, Demand, Make, Prefer, Quote, Run}
 use Rattle.market_words.specs.Forms.{HasForm, HasNoForm, inputs_of}
 use Rattle.market_host.specs.declared.status.Status.{Status}
-use Rattle.market_host.specs.declared.status.Status.TheVariants.{Done, Usage, ShelfFault, Refused, TooLong, NoPrices, SinkFault, OutOfMemory}
+use Rattle.market_host.specs.declared.status.Status.TheVariants.{Done, Usage, ShelfFault, Refused, TooLong, NoPrices, Found, SinkFault, OutOfMemory}
 use Rattle.market_host.specs.declared.trouble.Trouble.{Trouble}
 use Rattle.market_host.specs.declared.trouble.Trouble.TheVariants as trouble
 use Rattle.market_host.specs.declared.ended.Ended.{Ended}
+use Rattle.certificate_checker.specs.declared.findings.Finding.{Finding}
+use Rattle.market_host.specs.Checks.{PrintsAccepted, TellsFound}
 use Rattle.market_host.specs.Demands.{PrintsDemand}
 use Rattle.market_host.specs.Endings.{bytes_of}
 use Rattle.market_host.specs.Inputs.{AreRead}
@@ -28,6 +30,7 @@ Prints Prefer texts text = PrintsPreferences texts text
 Prints (Demand workers) texts text = PrintsDemand texts text
 Prints (Run workers) texts text = PrintsRun texts text
 Prints (Make workers seed students sections accept) texts text = IsMadeSummary seed students sections accept text
+Prints Check texts text = PrintsAccepted texts text
 
 -- the text that a form writes that finds no prices, where its inputs have these texts and this is the least error
 abbrev pub TellsNoPrices : Form → List (List ℕ) → ℕ → List ℕ → Type 0
@@ -36,6 +39,16 @@ TellsNoPrices Prefer texts least text = ⊥
 TellsNoPrices (Demand workers) texts least text = ⊥
 TellsNoPrices (Run workers) texts least text = TellsUnpriced texts least text
 TellsNoPrices (Make workers seed students sections accept) texts least text = TellsMadeUnpriced seed students sections accept least text
+TellsNoPrices Check texts least text = ⊥
+
+-- the line that a form writes that finds a published text not accepted, where its inputs have these texts and this is the first finding
+abbrev pub TellsFinding : Form → List (List ℕ) → Finding → List ℕ → Type 0
+TellsFinding (Quote name credits courses) texts finding text = ⊥
+TellsFinding Prefer texts finding text = ⊥
+TellsFinding (Demand workers) texts finding text = ⊥
+TellsFinding (Run workers) texts finding text = ⊥
+TellsFinding (Make workers seed students sections accept) texts finding text = ⊥
+TellsFinding Check texts finding text = TellsFound texts finding text
 
 -- the last of these inputs, where there is one, was read to its end
 abbrev pub IsLastAtEnd : Sight → List (List ℕ) → Type 0
@@ -55,6 +68,7 @@ IsStopped words seen stop text = (form : Form) × HasForm words form × HasTroub
 abbrev pub IsOutcome : List (List ℕ) → Sight → Status → List ℕ → Type 0
 IsOutcome words seen Done text = IsWorkedOut words seen (λ form texts. Prints form texts text)
 IsOutcome words seen (NoPrices least) text = IsWorkedOut words seen (λ form texts. TellsNoPrices form texts least text)
+IsOutcome words seen (Found finding) text = IsWorkedOut words seen (λ form texts. TellsFinding form texts finding text)
 IsOutcome words seen Usage text = HasNoForm words × (text ≡ usage_line)
 IsOutcome words seen (ShelfFault number) text = IsStopped words seen (trouble.ShelfFault number) text
 IsOutcome words seen (Refused number row cause) text = IsStopped words seen (trouble.Refused number row cause) text

@@ -12,7 +12,7 @@ use Rattle.market_host.specs.declared.cause.Cause.{Cause}
 use Rattle.market_host.specs.declared.trouble.Trouble.{Trouble}
 use Rattle.market_host.specs.declared.trouble.Trouble.TheVariants.{ShelfFault, Refused, TooLong, OutOfMemory}
 use Rattle.market_host.specs.Inputs.{AreRead, BeginWithCatalog, commands_among}
-use Rattle.market_host.specs.Kinds.{Kind, Prices, Session, OpensMarket, front_of, kind_of, limit_of, streams_of}
+use Rattle.market_host.specs.Kinds.{Kind, Prices, Session, OpensMarket, OpensPublished, front_of, kind_of, limit_of, streams_of}
 use Rattle.market_host.specs.Sessions.{AreStreams, command_count}
 use Rattle.market_host.specs.Sights.{Sight}
 use Rattle.market_host.specs.Troubles.{HasTrouble, IsFailed}
@@ -60,6 +60,11 @@ IsTroubleOfPrices seen catalog name number trouble =
 abbrev pub IsTroubleOfMarket : Sight → List ℕ → List ℕ → List ℕ → Trouble → Type 0
 IsTroubleOfMarket seen catalog roll settings trouble =
     (form : Form) (later : List (List ℕ)) → OpensMarket form → HasTrouble form seen (catalog ∷ roll ∷ settings ∷ later) trouble
+
+-- the same of some of all inputs, for each form whose inputs are a catalogue, a roll, settings, a published text and sessions
+abbrev pub IsTroubleOfPublished : Sight → List ℕ → List ℕ → List ℕ → List ℕ → List (List ℕ) → Trouble → Type 0
+IsTroubleOfPublished seen catalog roll settings text sessions trouble =
+    (form : Form) → OpensPublished form → HasTrouble form seen (catalog ∷ roll ∷ settings ∷ text ∷ sessions) trouble
 
 -- the same of a session, where the sessions before it leave room for so many commands
 abbrev pub IsTroubleOfSession : Sight → ℕ → List ℕ → ℕ → Trouble → Type 0

@@ -12,6 +12,7 @@ ghost use Rattle.market_host.specs.Sights.{sight};
 ghost use Rattle.market_host.specs.declared.trouble.Trouble.TheVariants as trouble;
 
 use crate::Status;
+use crate::check::check;
 use crate::demand::demand;
 use crate::ended::Ended;
 use crate::line::{line_for, usage};
@@ -116,6 +117,7 @@ fn answer<R: Threads + Wait + Sync, H: Shelf>(
             credits,
             courses,
         } => quote(alloc, words, shelf, name, credits, courses),
+        Form::Check => check(alloc, words, shelf),
         Form::Prefer => prefer(rt, alloc, words, shelf, gate),
         Form::Demand { workers } => demand(rt, alloc, words, workers, shelf, gate),
         Form::Run { workers } => run(rt, alloc, words, workers, shelf, gate),

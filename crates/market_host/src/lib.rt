@@ -4,16 +4,19 @@
 
 mod catalog;
 mod cause;
+mod check;
 mod demand;
 mod ended;
 mod gate;
 mod host;
 mod inputs;
+pub mod laws;
 mod line;
 mod make;
 mod market;
 mod prefer;
 mod prices;
+mod published;
 mod quote;
 mod roll;
 mod run;
@@ -21,10 +24,13 @@ mod session;
 mod sessions;
 mod settings;
 mod status;
+mod sure;
 mod text;
 mod trouble;
 
 pub use cause::Cause;
+pub use certificate_checker::Finding;
 pub use host::{course_match, no_memory_for_words};
 pub use market_settings::Key;
 pub use status::Status;
+pub use sure::sure_match;

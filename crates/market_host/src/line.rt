@@ -2,6 +2,7 @@
 ghost use Rattle.std.specs.Prelude.{◌≡◌, ◌≤◌, ◌+◌, ◌++◌, length, codes};
 ghost use Rattle.std.specs.Fmt.{decimal};
 ghost use Rattle.market_settings.specs.Keys.{key_name};
+ghost use Rattle.market_host.specs.Checks.{accepted_line};
 ghost use Rattle.market_host.specs.Lines.{cause_words, line_of, no_prices_line, usage_line};
 
 use crate::Cause;
@@ -24,6 +25,13 @@ pub fn no_prices(least: u64) -> Line
         .with(b"no prices: least error ")
         .with_number(least)
         .with(b"\n")
+}
+
+/// The line that says that a published text is accepted.
+pub fn accepted() -> Line
+    ensures { result ≡ accepted_line }
+{
+    Line::empty().with(b"accepted\n")
 }
 
 /// The line that says what stops a call.

@@ -3,6 +3,7 @@ ghost use Rattle.std.specs.Prelude.{◌≡◌};
 ghost use Rattle.market_host.specs.Statuses.{number_of};
 
 use crate::Cause;
+use certificate_checker::Finding;
 
 /// How a call went. Inputs are the file words, numbered from 1 in word order.
 #[derive(Clone, Copy, Debug, PartialEq, Eq)]
@@ -23,6 +24,8 @@ pub enum Status {
     SinkFault,
     /// There was not enough memory.
     OutOfMemory,
+    /// The published text is not accepted, and this is the first finding on it.
+    Found { finding: Finding },
 }
 
 impl Status {
@@ -39,6 +42,7 @@ impl Status {
             Status::NoPrices { .. } => 5,
             Status::SinkFault => 6,
             Status::OutOfMemory => 7,
+            Status::Found { .. } => 8,
         }
     }
 }

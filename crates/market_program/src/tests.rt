@@ -2,14 +2,17 @@
 // from this program.
 use super::exit_code;
 use market_edge::{Gate, MemoryShelf, MemorySink, OpenGate};
-use market_host::{Cause, Status, course_match, no_memory_for_words};
+use market_host::{Cause, Finding, Status, course_match, no_memory_for_words};
 use std::alloc::Global;
 use std::process::{Abort, ExitCode};
 use std::sync::Wait;
 use std::test::Fail;
 use std::thread::Threads;
 
+mod check;
+mod cuts;
 mod demand;
+mod every_fault;
 mod faults;
 mod gates;
 mod limits;
@@ -17,6 +20,7 @@ mod make;
 mod prefer;
 mod quote;
 mod runs;
+mod term;
 
 const HEADER: &[u8] = b"section,course,seats,credits,meetings\n";
 
@@ -107,7 +111,10 @@ fn each_status_has_its_number(rt: HostRuntime) {
         row: 3,
         cause: Cause::Header,
     };
-    let cases: [(Status, u8); 8] = [
+    let found = Status::Found {
+        finding: Finding::NotQuiet { turns: 0 },
+    };
+    let cases: [(Status, u8); 9] = [
         (Status::Done, 0),
         (Status::Usage, 1),
         (Status::ShelfFault { input: 1 }, 2),
@@ -116,6 +123,7 @@ fn each_status_has_its_number(rt: HostRuntime) {
         (Status::NoPrices { least: 9 }, 5),
         (Status::SinkFault, 6),
         (Status::OutOfMemory, 7),
+        (found, 8),
     ];
     for (status, number) in cases {
         assert_eq!(rt; exit_code(status), ExitCode::from(number), "{status:?}");

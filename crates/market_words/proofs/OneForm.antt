@@ -6,7 +6,7 @@ use Rattle.std.specs.String.{string_bytes}
 use Rattle.std.proofs.lemmas.Fmt.{decimal_injective}
 use Rattle.market_units.proofs.EqualNames.{same_name}
 use Rattle.market_words.specs.declared.words.Form.{Form}
-use Rattle.market_words.specs.declared.words.Form.TheVariants.{Demand, Make, Prefer, Quote, Run}
+use Rattle.market_words.specs.declared.words.Form.TheVariants.{Check, Demand, Make, Prefer, Quote, Run}
 use Rattle.market_words.specs.Forms.{HasForm}
 use Rattle.market_words.proofs.WordLists.{make_words}
 
@@ -17,6 +17,7 @@ byte_of Prefer = 112
 byte_of (Demand workers) = 100
 byte_of (Run workers) = 114
 byte_of (Make workers seed students sections accept) = 109
+byte_of Check = 99
 
 first_byte : List (List ℕ) → ℕ
 first_byte [] = 0
@@ -29,6 +30,7 @@ begins words Prefer has = ap first_byte has.3
 begins words (Demand workers) has = ap first_byte has.5
 begins words (Run workers) has = ap first_byte has.4
 begins words (Make workers seed students sections accept) has = ap first_byte has.0
+begins words Check has = ap first_byte has.5
 
 -- forms of the same words begin with the same byte
 same_byte : (words : List (List ℕ)) (one other : Form) → HasForm words one → HasForm words other → byte_of one ≡ byte_of other
@@ -80,4 +82,5 @@ one_form words (Make workers seed students sections accept) (Make workers' seed'
     let c : sections ≡ sections' = decimal_injective sections sections' (omega (arith, a.6)) (omega (arith, b.6)) cc in
     let x : accept ≡ accept' = decimal_injective accept accept' (omega (arith, a.7)) (omega (arith, b.7)) cc in
     cc
+one_form words Check Check a b = refl
 one_form words one other a b = absurd (apart words one other (λ e. omega (arith, e)) a b)

@@ -3,7 +3,7 @@ use Rattle.std.specs.Prelude.{ℕ, ◌≡◌, ◌≤◌, ◌<◌, ◌^◌, List,
 use Rattle.std.specs.Fmt.{decimal}
 use Rattle.market_units.specs.Name.{name_bytes}
 use Rattle.market_words.specs.declared.words.Form.{Form}
-use Rattle.market_words.specs.declared.words.Form.TheVariants.{Demand, Make, Prefer, Quote, Run}
+use Rattle.market_words.specs.declared.words.Form.TheVariants.{Check, Demand, Make, Prefer, Quote, Run}
 
 -- words that name sessions: 1 to 64
 abbrev pub AreSessions : List (List ℕ) → Type 0
@@ -14,7 +14,7 @@ abbrev pub AreWorkers : ℕ → Type 0
 AreWorkers workers = (1 ≤ workers) × (workers ≤ 16)
 
 -- these words ask for this: `quote CAT SES NAME CREDITS COURSES`, `prefer CAT STU SES..`, `demand W CAT STU SET PRICES SES..`,
--- `run W CAT STU SET SES..`, `make W SEED STUDENTS SECTIONS ACCEPT`
+-- `run W CAT STU SET SES..`, `make W SEED STUDENTS SECTIONS ACCEPT`, `check CAT STU SET TEXT SES..`
 abbrev pub HasForm : List (List ℕ) → Form → Type 0
 HasForm words (Quote name credits courses) =
     (catalog : List ℕ) × (session : List ℕ)
@@ -32,6 +32,9 @@ HasForm words (Run workers) =
 HasForm words (Make workers seed students sections accept) =
     (words ≡ codes "make" ∷ decimal workers ∷ decimal seed ∷ decimal students ∷ decimal sections ∷ decimal accept ∷ [])
     × AreWorkers workers × (seed < 2 ^ 64) × (1 ≤ students) × (students ≤ 2000) × (1 ≤ sections) × (sections ≤ 400) × (accept ≤ 10 ^ 12)
+HasForm words Check =
+    (catalog : List ℕ) × (roll : List ℕ) × (settings : List ℕ) × (text : List ℕ) × (sessions : List (List ℕ))
+    × (words ≡ codes "check" ∷ catalog ∷ roll ∷ settings ∷ text ∷ sessions) × AreSessions sessions
 
 -- these words ask for nothing
 abbrev pub HasNoForm : List (List ℕ) → Type 0
@@ -44,3 +47,4 @@ inputs_of Prefer words = drop 1 words
 inputs_of (Demand workers) words = drop 2 words
 inputs_of (Run workers) words = drop 2 words
 inputs_of (Make workers seed students sections accept) words = []
+inputs_of Check words = drop 1 words

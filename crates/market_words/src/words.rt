@@ -39,6 +39,8 @@ pub enum Form {
         sections: u16,
         accept: u64,
     },
+    /// `check CAT STU SET TEXT SES..`: whether a published text is accepted for the market of 1 to 64 sessions.
+    Check,
 }
 
 /// What the words ask for, or `None` exactly where they are none of the forms. It takes no memory.
@@ -63,6 +65,9 @@ pub fn read_words(words: &[String]) -> Option<Form>
     }
     if verb.as_str() == "make" {
         return read_make(more);
+    }
+    if verb.as_str() == "check" {
+        return read_check(more);
     }
     None
 }
@@ -150,6 +155,17 @@ fn read_make(more: &[String]) -> Option<Form>
         sections: sections as u16,
         accept,
     })
+}
+
+// What the words behind `check` ask for.
+fn read_check(more: &[String]) -> Option<Form>
+    ensures form { IfSome result (HasForm (codes "check" ∷ map string_bytes more.now)) }
+    ensures none { IfNone result (HasNoForm (codes "check" ∷ map string_bytes more.now)) }
+{
+    if !are_inputs(more, 4) {
+        return None;
+    }
+    Some(Form::Check)
 }
 
 // The number from `least` to `most` that the bytes spell, or `None` exactly where they spell none.

@@ -15,6 +15,7 @@ use bundle_rules::{Bundle, Menu};
 use market_units::{SectionSet, Tokens};
 
 // The first bound that closes the node.
+#[inline(always)]
 pub(crate) fn closing_at(
     stems: &mut [Stem],
     at: usize,
@@ -41,6 +42,7 @@ pub(crate) fn closing_at(
 }
 
 // The stem goes on without the next place.
+#[inline(always)]
 pub(crate) fn pass_at(
     stems: &mut [Stem],
     at: usize,
@@ -62,6 +64,7 @@ pub(crate) fn pass_at(
 }
 
 // The stem with the next place, which is open, is written behind the stem.
+#[inline(always)]
 pub(crate) fn take_at(
     stems: &mut [Stem],
     at: usize,

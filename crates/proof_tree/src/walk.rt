@@ -72,6 +72,7 @@ impl Walk {
     }
 
     // Visits the next node, where one is left: its canonical sign, where it has one, and then the nodes below it wait.
+    #[inline(always)]
     pub(crate) fn step(
         &mut self,
         menu: &Menu,
@@ -104,6 +105,7 @@ impl Walk {
     }
 
     // The canonical sign of a node that was taken, whose stem stands behind those of the nodes that wait.
+    #[inline(always)]
     fn sign_of(
         &mut self,
         menu: &Menu,
@@ -145,6 +147,7 @@ impl Walk {
     }
 
     // The stems of the nodes below a node stand behind those of the nodes that wait.
+    #[inline(always)]
     fn stand_below(
         &mut self,
         menu: &Menu,
@@ -252,6 +255,7 @@ impl Walk {
     }
 
     // Lets the nodes below a node wait.
+    #[inline(always)]
     fn put_below(&mut self, menu: &Menu, node: &Node, sign: Sign)
         requires few { self.old.count ≤ 8 }
         requires sign { (prices : List Tokens) × (budget : ℕ) × (allowed : set.FinSet nat_cmp) × (required : Option ℕ) × (champion : List ℕ)

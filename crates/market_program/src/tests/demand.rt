@@ -1,4 +1,5 @@
 // `demand` over texts in memory.
+use super::term::{CATALOGUE, ROLL, SESSION, SETTINGS};
 use super::*;
 
 // Each number of workers gives the same bytes.
@@ -187,31 +188,19 @@ const REFUSED_SETTINGS: [Case; 7] = [
     ),
 ];
 
-pub(super) const TERM: &[u8] =
-    b"section,course,seats,credits,meetings\nA,ACCT,1,1,M0900-1020;W0900-1020\nB,BIOL,2,1,M1020-1140\nC,CHEM,2,1,T0900-1020\nD,ACCT,1,1,M1000-1100\n";
-
-pub(super) const THREE_STUDENTS: &[u8] =
-    b"student,budget,credits,courses\nann,100,10,2\nbob,101,10,2\ncat,102,10,2\n";
-
-pub(super) const SPREAD: &[u8] =
-    br#"{"seed":0,"spread":2,"accept":1,"turns":5,"tabu":5,"patience":3,"steps":[1],"raise":10}"#;
-
-pub(super) const ORDINARY: &[u8] =
-    b"rate ann A 60\nrate ann B 30\nrate bob A 50\nrate bob C 40\npair bob A C 10\nrate cat A 20\nrate cat D 45\nclose\n";
-
 const OF_A_TERM: [Case; 2] = [
     (
         "an ordinary term at its last prices",
-        THREE_STUDENTS,
-        SPREAD,
+        ROLL,
+        SETTINGS,
         b"section,price\nA,104\n",
         0,
         "order 1 1 1 1 1 1 1 1\nbundle ann [A,B]\nbundle bob [C]\nbundle cat [D]\ncount A 1\ncount B 1\ncount C 1\ncount D 1\nerror 0\n",
     ),
     (
         "free seats at price 0 are no error",
-        THREE_STUDENTS,
-        SPREAD,
+        ROLL,
+        SETTINGS,
         b"section,price\nA,104\nB,1\nC,1\nD,1\n",
         0,
         "order 1 1 1 1 1 1 1 1\nbundle ann [A]\nbundle bob [C]\nbundle cat [D]\ncount A 1\ncount B 0\ncount C 1\ncount D 1\nerror 5\n",
@@ -250,7 +239,7 @@ fn demands_of_one_seat(rt: HostRuntime) -> Result<(), Fail> {
 
 #[test]
 fn demands_of_an_ordinary_term(rt: HostRuntime) -> Result<(), Fail> {
-    try_each(&rt, rt.alloc(), TERM, ORDINARY, &OF_A_TERM)
+    try_each(&rt, rt.alloc(), CATALOGUE, SESSION, &OF_A_TERM)
 }
 
 #[test]

@@ -1,7 +1,6 @@
 // `run` over texts in memory.
-use super::demand::{
-    EQUAL, FIRST, FOUR, ORDERS, ORDINARY, RATED, SEAT, SECOND, SPREAD, TERM, THREE_STUDENTS,
-};
+use super::demand::{EQUAL, FIRST, FOUR, ORDERS, RATED, SEAT, SECOND};
+use super::term::{CATALOGUE, PUBLISHED, ROLL, SESSION, SETTINGS};
 use super::*;
 
 // Each number of workers gives the same bytes.
@@ -34,12 +33,12 @@ type Case = (
 const CASES: [Case; 6] = [
     (
         "an ordinary term",
-        TERM,
-        THREE_STUDENTS,
-        SPREAD,
-        ORDINARY,
+        CATALOGUE,
+        ROLL,
+        SETTINGS,
+        SESSION,
         0,
-        "course-match 1\norder 1 1 1 1 1 1 1 1\nbudget ann 104\nbudget bob 103\nbudget cat 102\nstart A 0\nstart B 0\nstart C 0\nstart D 0\nerror 1\nprice A 104\nprice B 0\nprice C 0\nprice D 0\nbundle ann [A,B] ++*nn\nbundle bob [C] -+*n\nbundle cat [D] -+*n\nturn 1 ann [A,B] ++*nn\nturn 1 bob [C] -+*n\nturn 1 cat [D] -+*n\nfinal ann [A,B]\nfinal bob [C]\nfinal cat [D]\nused A 1 1\nused B 1 2\nused C 1 2\nused D 1 1\nend\n",
+        PUBLISHED,
     ),
     (
         "four students of one seat",
@@ -71,9 +70,9 @@ const CASES: [Case; 6] = [
     (
         "no sections",
         b"section,course,seats,credits,meetings\n",
-        THREE_STUDENTS,
-        SPREAD,
-        ORDINARY,
+        ROLL,
+        SETTINGS,
+        SESSION,
         0,
         "course-match 1\norder 1 1 1 1 1 1 1 1\nbudget ann 104\nbudget bob 103\nbudget cat 102\nerror 0\nbundle ann [] *\nbundle bob [] *\nbundle cat [] *\nturn 1 ann [] *\nturn 1 bob [] *\nturn 1 cat [] *\nfinal ann []\nfinal bob []\nfinal cat []\nend\n",
     ),

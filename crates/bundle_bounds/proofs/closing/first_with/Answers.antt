@@ -11,7 +11,8 @@ returns-in-Some-clause-first c =
     let b : to_z w64 (of_z w64 c.args.base) ≡ c.args.base = omega (arith, ints) in
     let l : to_z w64 (of_z w64 c.args.limit) ≡ c.args.limit = omega (arith, ints) in
     let value = c.requires.plain in
-    let above : ¬ ((c.args.base +ℤ pos c.args.plain) <ℤ c.args.limit) = λ low. omega (arith, ints) in
+    let told = rw (b, l) at c.is_plain_below.ensures.1 in
+    let above : ¬ ((c.args.base +ℤ pos c.args.plain) <ℤ c.args.limit) = λ low. absurd (cc (told low, c.if-is_plain_below.false)) in
     inr (rw value at above, first-append_left c.args.limit _ _ c.in-Some.leaf (rw (b, l) at c.in-Some.ensures.first))
 
 pub returns-in-None-clause-first : goal.returns-in-None-clause-first
@@ -19,7 +20,8 @@ returns-in-None-clause-first c =
     let b : to_z w64 (of_z w64 c.args.base) ≡ c.args.base = omega (arith, ints) in
     let l : to_z w64 (of_z w64 c.args.limit) ≡ c.args.limit = omega (arith, ints) in
     let value = c.requires.plain in
-    let above : ¬ ((c.args.base +ℤ pos c.args.plain) <ℤ c.args.limit) = λ low. omega (arith, ints) in
+    let told = rw (b, l) at c.is_plain_below.ensures.1 in
+    let above : ¬ ((c.args.base +ℤ pos c.args.plain) <ℤ c.args.limit) = λ low. absurd (cc (told low, c.if-is_plain_below.false)) in
     if_first-next c.args.limit (Plain, c.args.base +ℤ pos (by_course (λ p. 1000 * p.worth) c.args.all.now)) _ c.first_after_money.result (rw value at above) (if_first-append_right c.args.limit _ _ c.first_after_money.result (rw (b, l) at c.in-None.ensures.none) (rw (b, l) at c.first_after_money.ensures.first))
 
 pub returns-in-None-clause-none : goal.returns-in-None-clause-none
@@ -27,5 +29,6 @@ returns-in-None-clause-none c =
     let b : to_z w64 (of_z w64 c.args.base) ≡ c.args.base = omega (arith, ints) in
     let l : to_z w64 (of_z w64 c.args.limit) ≡ c.args.limit = omega (arith, ints) in
     let value = c.requires.plain in
-    let above : ¬ ((c.args.base +ℤ pos c.args.plain) <ℤ c.args.limit) = λ low. omega (arith, ints) in
+    let told = rw (b, l) at c.is_plain_below.ensures.1 in
+    let above : ¬ ((c.args.base +ℤ pos c.args.plain) <ℤ c.args.limit) = λ low. absurd (cc (told low, c.if-is_plain_below.false)) in
     if_none-next c.args.limit (Plain, c.args.base +ℤ pos (by_course (λ p. 1000 * p.worth) c.args.all.now)) _ c.first_after_money.result (rw value at above) (if_none-append c.args.limit _ _ c.first_after_money.result (rw (b, l) at c.in-None.ensures.none) (rw (b, l) at c.first_after_money.ensures.none))

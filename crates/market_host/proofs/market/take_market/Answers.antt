@@ -1,6 +1,6 @@
-use Rattle.std.proofs.Common.{◌≡◌, ◌∙◌, [], ◌∷◌, arith, refl}
+use Rattle.std.proofs.Common.{◌∙◌, [], ◌∷◌, arith, refl}
 use Rattle.std.proofs.lemmas.Result.{err_from_is_err_and}
-use Rattle.market_host.specs.Kinds.{Catalog, Roll, Settings}
+use Rattle.market_host.specs.Kinds.{Roll, Settings}
 use Rattle.market_host.specs.Sights.{sight}
 use Rattle.market_host.proofs.InputTroubles.{none_read}
 use Rattle.market_host.proofs.MarketFacts.{first_is_catalog, market_first, market_second, second_is_roll, third_is_settings, trouble_later}

@@ -2,7 +2,7 @@ use Rattle.std.proofs.Common.{map, subst, sym}
 use Rattle.std.specs.Prelude.{All}
 use Rattle.std.proofs.lemmas.Result.{IfOk-weaker}
 use Rattle.preference_desk.specs.Shared.{entry_of_step}
-use Rattle.preference_text.specs.Texts.{HasShortCommand, preferences_text}
+use Rattle.preference_text.specs.Texts.{HasShortCommand}
 use Rattle.market_host.proofs.StreamFacts.{short_entries}
 use Rattle.market_host.proofs.prefer.text_of.Goals as goal
 

@@ -28,3 +28,8 @@ pub returns-then-eq-5-clause-form : goal.returns-then-eq-5-clause-form
 returns-then-eq-5-clause-form c =
     let verb : string_bytes c.verb-item.result ≡ codes "make" = search rules in
     rw (verb_first c.args.words.now c.verb-item.result (omega arith) c.verb-item.is, verb) c.read_make.ensures.form
+
+pub returns-then-eq-6-clause-form : goal.returns-then-eq-6-clause-form
+returns-then-eq-6-clause-form c =
+    let verb : string_bytes c.verb-item.result ≡ codes "check" = search rules in
+    rw (verb_first c.args.words.now c.verb-item.result (omega arith) c.verb-item.is, verb) c.read_check.ensures.form

@@ -1,7 +1,8 @@
-use Rattle.std.proofs.Common.{◌≡◌, ◌-◌, Option, None, take, drop, sym, subst, arith, to_z, of_z, w64}
+use Rattle.std.proofs.Common.{◌≡◌, ◌-◌, Option, None, Some, inl, refl, take, drop, sym, subst, arith, to_z, of_z, w64}
 use Rattle.std.specs.Prelude.{pos, ◌*ℤ◌, IfSome, IfNone, All}
 use Rattle.std.proofs.lemmas.Int.{ints}
 use Rattle.bundle_rules.specs.Bundles.{sections_of}
+use Rattle.bundle_bounds.specs.declared.nodes.Leaf.TheVariants.{Plain}
 use Rattle.bundle_bounds.specs.Bounds.{all_bounds}
 use Rattle.bundle_bounds.specs.Limits.{IsFirstBelow}
 use Rattle.bundle_bounds.specs.Modest.{IsModest}
@@ -21,6 +22,20 @@ returns-then-self-clause-none c =
     let stem = c.args.self.now in
     let is = c.requires.stem in
     stem_none offer champion k chosen stem is c.len.ensures.menu c.requires.node c.requires.champion None (is.quiet c.if-self.true)
+
+pub returns-then-is_plain_below-clause-first : goal.returns-then-is_plain_below-clause-first
+returns-then-is_plain_below-clause-first c =
+    let offer = offer_of c.args.menu.now c.args.prices.now c.args.budget.0 c.args.allowed.now in
+    let champion = sections_of c.args.champion.now in
+    let chosen = sections_of c.args.node.now.chosen in
+    let k = c.args.node.now.place in
+    let stem = c.args.self.now in
+    let is = c.requires.stem in
+    let from_utility = c.from-base.ensures in
+    let b : to_z w64 (of_z w64 (pos 1000 *ℤ to_z w64 (of_z w64 c.from-base.result))) ≡ pos 1000 *ℤ c.args.self.now.utility = omega (arith, ints, from_utility) in
+    let l : to_z w64 (of_z w64 c.args.self.now.limit) ≡ c.args.self.now.limit = omega (arith, ints) in
+    let below = rw (b, l, is.keeps.plain_is) at (c.is_plain_below.ensures.0 c.if-is_plain_below.true) in
+    stem_first offer champion k chosen stem is c.len.ensures.menu c.requires.node c.requires.champion (Some Plain) (inl (below, refl))
 
 pub first_with-leaf-requires-clause-modest : goal.first_with-leaf-requires-clause-modest
 first_with-leaf-requires-clause-modest c =
