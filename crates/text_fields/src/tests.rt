@@ -6,7 +6,8 @@ use market_units::SectionNo;
 use std::process::Abort;
 use std::test::Fail;
 
-const CATALOG: &[u8] = b"section,course,seats,credits,meetings\nA,AA,1,1,\nB-2,BB,1,1,\nC,CC,1,1,\n";
+const CATALOG: &[u8] =
+    b"section,course,seats,credits,meetings\nA,AA,1,1,\nB-2,BB,1,1,\nC,CC,1,1,\n";
 
 #[test]
 fn fields_stand_behind_the_text(rt: HostRuntime) -> Result<(), Fail> {
@@ -19,7 +20,11 @@ fn fields_stand_behind_the_text(rt: HostRuntime) -> Result<(), Fail> {
     put_number_field(&mut text, u64::MAX).expect(&rt, "memory");
     put_signed_field(alloc, &mut text, -200).expect(&rt, "memory");
     put_signed_field(alloc, &mut text, 59).expect(&rt, "memory");
-    for sections in [[].as_slice(), &[SectionNo(1)], &[SectionNo(0), SectionNo(2)]] {
+    for sections in [
+        [].as_slice(),
+        &[SectionNo(1)],
+        &[SectionNo(0), SectionNo(2)],
+    ] {
         let bundle = Bundle::of(sections).expect(&rt, "ascending");
         put_bundle_field(&mut text, &catalog, &bundle).expect(&rt, "memory");
     }

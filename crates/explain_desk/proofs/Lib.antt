@@ -1,0 +1,9 @@
+pub mod Passing
+pub mod Clashing
+pub mod Reasoning
+pub mod OneReasons
+pub mod Leaving
+pub mod Telling
+pub mod Offering
+pub mod LinesBehind
+pub mod Printing

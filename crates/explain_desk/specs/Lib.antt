@@ -1,0 +1,6 @@
+pub mod Limits
+pub mod Reasons
+pub mod Explanations
+pub mod Views
+pub mod Texts
+pub mod Laws

@@ -1,0 +1,42 @@
+// The section of a bundle that stands in the way of another one.
+ghost use Rattle.std.specs.Prelude.{◌≡◌, ◌<◌, ℕ, true, false, IfSome, IfNone, All, length};
+ghost use Rattle.bundle_rules.specs.Menus.{place_in, wishes_of};
+ghost use Rattle.bundle_rules.specs.Ordinals.{ordinals};
+ghost use Rattle.bundle_rules.specs.Sets.{has, IsAscending};
+ghost use Rattle.explain_desk.specs.Reasons.{ClashesFirst};
+
+use bundle_rules::Menu;
+use market_units::SectionNo;
+
+// The lowest of these sections of the menu, which ascend, that clashes with the section.
+pub(crate) fn first_clash(
+    menu: &Menu,
+    sections: &[SectionNo],
+    section: SectionNo,
+) -> Option<SectionNo>
+    requires on_menu { All (λ other. place_in menu.now.places other.0 < length menu.now.places) sections.now }
+    requires ascending { IsAscending (ordinals sections.now) }
+    requires section { place_in menu.now.places section.0 < length menu.now.places }
+    ensures some { IfSome result (λ other. ClashesFirst (wishes_of menu.now) (ordinals sections.now) section.0 other.0) }
+    ensures none { IfNone result ((other : ℕ) → has (ordinals sections.now) other ≡ true → (wishes_of menu.now).clash other section.0 ≡ false) }
+{
+    match sections {
+        [] => None,
+        [other, more @ ..] => {
+            if do_clash(menu, *other, section) {
+                Some(*other)
+            } else {
+                first_clash(menu, more, section)
+            }
+        }
+    }
+}
+
+// Whether two sections of the menu clash.
+fn do_clash(menu: &Menu, other: SectionNo, section: SectionNo) -> bool
+    requires other { place_in menu.now.places other.0 < length menu.now.places }
+    requires section { place_in menu.now.places section.0 < length menu.now.places }
+    ensures { result ≡ (wishes_of menu.now).clash other.0 section.0 }
+{
+    menu.clash(menu.place(other), menu.place(section))
+}

@@ -1,0 +1,28 @@
+//! What holds of explanations: each call here does nothing, and its contract is a law.
+ghost use Rattle.explain_desk.specs.Laws.{ForcedTreesProveTheBest, NothingIsGained, OneExplanation, OneReason, ReasonsLeaveABundle};
+
+/// A student has one reason not to have a section.
+pub fn one_reason()
+    ensures { OneReason }
+{}
+
+/// Some bundle with a section that the student does not hold can be had exactly where the reason leaves one: a clash, a
+/// limit beside the bundle, or less utility.
+pub fn reasons_leave_a_bundle()
+    ensures { ReasonsLeaveABundle }
+{}
+
+/// A feasible, affordable champion with the section has a forced tree exactly where it is the best bundle with the section.
+pub fn forced_trees_prove_the_best()
+    ensures { ForcedTreesProveTheBest }
+{}
+
+/// A student is told one thing of a section.
+pub fn one_explanation()
+    ensures { OneExplanation }
+{}
+
+/// A student gains nothing of utility by the best bundle with a section.
+pub fn nothing_is_gained()
+    ensures { NothingIsGained }
+{}

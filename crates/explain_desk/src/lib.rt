@@ -1,0 +1,28 @@
+//! Why a student has no seat in a section: the first reason that applies, and the best bundle with the section, with the
+//! tree that proves it.
+//!
+//! The text of an explanation is `STUDENT SECTION REASON`, the reason being `held`, `unrated`, `alone LIMIT`,
+//! `clash SECTION`, `beside LIMIT` or `less`, and a limit `price`, `credits` or `courses`. Where a bundle with the section
+//! can be had and the student does not hold the section, these lines follow: `best [SECTION,SECTION] UTILITY`, `lost N`
+//! with the utility that the student would lose by it, and `tree TREE`.
+#![tactic(auto)]
+
+mod checking;
+mod clashes;
+mod explaining;
+mod explanation;
+pub mod laws;
+mod limits;
+mod lines;
+mod reasons;
+mod text;
+
+pub use checking::check_forced;
+pub use explaining::explain;
+pub use explanation::{Explained, Proved};
+pub use limits::Limit;
+pub use reasons::Reason;
+pub use text::put_explained;
+
+#[cfg(test)]
+mod tests;

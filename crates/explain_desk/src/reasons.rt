@@ -1,0 +1,70 @@
+// Why a student does not have a section.
+ghost use Rattle.std.specs.Prelude.{◌≡◌};
+ghost use Rattle.bundle_rules.specs.Bundles.{sections_of};
+ghost use Rattle.bundle_rules.specs.Demand.{HasPrices, price_in};
+ghost use Rattle.bundle_rules.specs.Menus.{wishes_of};
+ghost use Rattle.bundle_rules.specs.Wishes.{IsFeasible};
+ghost use Rattle.explain_desk.specs.Reasons.{IsReason, tells_best};
+
+use crate::Limit;
+use crate::clashes::first_clash;
+use crate::limits::first_passed;
+use bundle_rules::{Bundle, Menu};
+use market_units::{SectionNo, Tokens};
+
+/// Why a student does not have a section: the first that applies, in this order.
+#[derive(Clone, Copy, Debug, PartialEq, Eq)]
+pub enum Reason {
+    /// The student has it.
+    Held,
+    /// The student does not rate it.
+    Unrated,
+    /// By itself it passes a limit, this one first.
+    Alone(Limit),
+    /// It clashes with a section of the student's bundle, of which this is the lowest.
+    Clash(SectionNo),
+    /// Together with the student's bundle it passes a limit, this one first.
+    Beside(Limit),
+    /// It could be taken beside the bundle, which the student prefers as it is.
+    Less,
+}
+
+// The first reason that applies.
+pub(crate) fn reason_of(
+    menu: &Menu,
+    prices: &[Tokens],
+    budget: Tokens,
+    bundle: &Bundle,
+    section: SectionNo,
+) -> Reason
+    requires prices { HasPrices menu.now prices.now }
+    requires bundle { IsFeasible (wishes_of menu.now) (sections_of bundle.now) }
+    ensures { IsReason (wishes_of menu.now) (price_in prices.now) budget.0 (sections_of bundle.now) section.0 result }
+{
+    if bundle.has(section) {
+        return Reason::Held;
+    }
+    if menu.place(section) >= menu.len() {
+        return Reason::Unrated;
+    }
+    if let Some(limit) = first_passed(menu, prices, budget, section, &Bundle::empty()) {
+        return Reason::Alone(limit);
+    }
+    if let Some(other) = first_clash(menu, bundle.sections(), section) {
+        return Reason::Clash(other);
+    }
+    match first_passed(menu, prices, budget, section, bundle) {
+        Some(limit) => Reason::Beside(limit),
+        None => Reason::Less,
+    }
+}
+
+// Whether some bundle with the section can be had, for this reason not to have it.
+pub(crate) fn tells_best(reason: Reason) -> bool
+    ensures { result ≡ tells_best reason }
+{
+    match reason {
+        Reason::Held | Reason::Unrated | Reason::Alone(_) => false,
+        Reason::Clash(_) | Reason::Beside(_) | Reason::Less => true,
+    }
+}
