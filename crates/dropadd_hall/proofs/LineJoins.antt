@@ -73,7 +73,7 @@ pub lines_more : (lines : ℕ → List (List ℕ)) (n : ℕ) (begun text new : L
 lines_more lines n begun text new so put =
     put ∙ ap (λ l. l ++ joined (lines n)) so ∙ append_assoc begun (joined (flat_map lines (range_with_len 0 n))) (joined (lines n))
     ∙ ap (λ l. begun ++ l) (sym (joined_append (flat_map lines (range_with_len 0 n)) (lines n)) ∙ ap joined (ap (λ l. flat_map lines (range_with_len 0 n) ++ l) (sym (append-nil (lines n)))
-        ∙ sym (ap (flat_map lines) (counting_more n) ∙ flat_map-append lines (range_with_len 0 n) (n ∷ []))))
+    ∙ sym (ap (flat_map lines) (counting_more n) ∙ flat_map-append lines (range_with_len 0 n) (n ∷ []))))
 
 -- one step's line more
 pub entry_more : (market : Market) (history : List HallStep) (k : ℕ) (step : HallStep) (begun text new : List ℕ) → k < length history → step ≡ get_or history k step → text ≡ begun ++ joined (map (entry_line market) (take k history)) → new ≡ (text ++ entry_line market step) ++ 10 ∷ []

@@ -20,7 +20,9 @@ use student_roll::Roll;
 #[derive(Clone, Copy, Debug, PartialEq, Eq)]
 pub enum OpeningFault {
     /// Two of the student's sections clash, or they pass a cap.
-    Infeasible { student: StudentNo },
+    Infeasible {
+        student: StudentNo,
+    },
     /// So many students hold the section, and it has fewer seats.
     Overfull {
         section: SectionNo,

@@ -3,8 +3,8 @@ ghost use Rattle.std.specs.Prelude.{◌≡◌, ◌<◌, ◌≤◌, ℕ, length, 
 ghost use Rattle.dropadd_hall.specs.Postings.{IsReady, HasPosted};
 
 use chronicle::{Chronicle, Seat};
-use market_edge::{Gate, Stop};
 use dropadd_desk::{HallCommand, HallDesk};
+use market_edge::{Gate, Stop};
 use std::sync::Wait;
 use std::thread;
 use std::thread::Threads;

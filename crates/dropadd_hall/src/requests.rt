@@ -15,11 +15,7 @@ use utility_language::{StreamEnd, first_line, first_word, read_name_word};
 
 /// The requests of the text, line by line. Blank lines and comments are none; a line that can't be read is one. `TooMany` comes where
 /// there are more than `room`.
-pub fn read_requests(
-    alloc: Global,
-    bytes: &[u8],
-    room: u32,
-) -> Result<Vec<HallCommand>, StreamEnd>
+pub fn read_requests(alloc: Global, bytes: &[u8], room: u32) -> Result<Vec<HallCommand>, StreamEnd>
     ensures requests { IfOk result (λ requests. AreRequests bytes.now requests.items) }
     ensures fits { OnOk result (length (command_lines bytes.now) ≤ room) }
     ensures too_many { result ≡ Err TooMany → room < length (command_lines bytes.now) }

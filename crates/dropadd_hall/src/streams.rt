@@ -7,10 +7,7 @@ use market_units::NoMemory;
 use std::alloc::Global;
 
 // The requests of each stream.
-pub(crate) fn lengths_of(
-    alloc: Global,
-    streams: &[Vec<HallCommand>],
-) -> Result<Vec<u64>, NoMemory>
+pub(crate) fn lengths_of(alloc: Global, streams: &[Vec<HallCommand>]) -> Result<Vec<u64>, NoMemory>
     ensures { IfOk result (λ lengths. lengths.items ≡ map vec_len streams.now) }
 {
     let mut lengths = Vec::with_capacity(alloc, streams.len())?;

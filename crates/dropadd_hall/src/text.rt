@@ -106,11 +106,7 @@ fn put_list(
 }
 
 // Puts the line of each section's seats behind the text.
-fn put_all_seats(
-    text: &mut Vec<u8>,
-    catalog: &Catalog,
-    desk: &HallDesk,
-) -> Result<(), NoMemory>
+fn put_all_seats(text: &mut Vec<u8>, catalog: &Catalog, desk: &HallDesk) -> Result<(), NoMemory>
     requires { (market_of desk.now).catalog ≡ catalog.now }
     ensures { OnOk result (text.new.items ≡ text.old.items ++ joined (map (seats_line (market_of desk.now) (state_of desk.now)) (range_with_len 0 (section_count (market_of desk.now))))) }
 {
