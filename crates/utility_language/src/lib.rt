@@ -14,8 +14,9 @@ mod reading;
 mod streams;
 
 pub use commands::Command;
+pub use lines::{first_line, first_word};
 pub use printing::print_command;
-pub use reading::read_line;
+pub use reading::{read_line, read_name_word};
 pub use streams::{StreamEnd, read_stream};
 
 #[cfg(test)]

@@ -91,8 +91,8 @@ fn read_clear(text: &[u8]) -> Option<Command>
     Some(Command::Clear { student })
 }
 
-// The name that the first word is, and the text behind it.
-fn read_name_word(text: &[u8]) -> Option<(Name, &[u8])>
+/// The name that the first word of a line is, and the line behind it; `None` exactly where the first word is no name, or there is none.
+pub fn read_name_word(text: &[u8]) -> Option<(Name, &[u8])>
     ensures spelled { IfSome result (λ parts. words_of text.now ≡ name_bytes parts.0 ∷ words_of parts.1.now) }
     ensures none { IfNone result ((name : Name) (more : List (List ℕ)) → words_of text.now ≢ name_bytes name ∷ more) }
 {

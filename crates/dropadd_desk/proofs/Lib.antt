@@ -1,0 +1,15 @@
+pub mod BundleParts
+pub mod ClashSets
+pub mod CloseUp
+pub mod Conserved
+pub mod CopyLemmas
+pub mod DeskLemmas
+pub mod FrontRows
+pub mod InRange
+pub mod Queues
+pub mod RuleLemmas
+pub mod SetChanges
+pub mod StateLemmas
+pub mod Stepped
+pub mod Steps
+pub mod Tickets

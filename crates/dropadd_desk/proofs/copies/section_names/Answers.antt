@@ -1,0 +1,17 @@
+use Rattle.std.proofs.Common.{◌<◌, [], map, length, arith, ◌∙◌, sym}
+use Rattle.std.proofs.lemmas.List.{take_all, length-map, get_or-map}
+use Rattle.course_catalog.specs.Sections.{Section, no_section}
+use Rattle.dropadd_desk.proofs.CopyLemmas.{one_name_more}
+use Rattle.dropadd_desk.proofs.copies.section_names.Goals as goal
+
+pub loop-section-preserved : goal.loop-section-preserved
+loop-section-preserved c =
+    let names = map (λ (section : Section). section.name) c.args.catalog.now.sections in
+    let low : c.loop-section.section < length c.args.catalog.now.sections = omega (arith, c.loop-section-test.true, c.len-sections.ensures.count) in
+    let inside : c.loop-section.section < length names = omega (arith, low, length-map c.args.catalog.now.sections (λ (section : Section). section.name)) in
+    one_name_more names c.loop-section.names.keys c.insert.new.self.keys c.loop-section.section c.name.result c.len-sections.ensures.kept.distinct inside c.loop-section.invariant
+    (c.name.ensures ∙ sym (get_or-map (λ (section : Section). section.name) c.args.catalog.now.sections c.loop-section.section no_section [] low)) c.in_ok-insert.ensures.keys
+
+pub returns-clause-names : goal.returns-clause-names
+returns-clause-names c =
+    c.loop-section.invariant ∙ take_all _ _ (omega (arith, length-map c.args.catalog.now.sections (λ (section : Section). section.name), c.loop-section-test.false, c.len-sections.ensures.count))

@@ -1,0 +1,18 @@
+use Rattle.std.proofs.Common.{◌∙◌, ap, sym}
+use Rattle.std.specs.Prelude.{position}
+use Rattle.dropadd_desk.specs.HallView.{market_of, state_of}
+use Rattle.dropadd_desk.proofs.DeskLemmas.{fit_for, position_found, position_none}
+use Rattle.dropadd_desk.proofs.desk.HallDesk.first_fitting.Goals as goal
+
+pub fits-requires-clause-student : goal.fits-requires-clause-student
+fits-requires-clause-student c = c.waiting-waiting.ensures.students c.loop-place.place 0 c.loop-place-test.true
+
+pub returns-then-fits : goal.returns-then-fits
+returns-then-fits c =
+    position_found (fit_for (market_of c.args.self.now) (state_of c.args.self.now) c.args.section.0) c.waiting-waiting.result.now c.loop-place.place c.loop-place-test.true c.loop-place.invariant (sym c.fits.ensures.fits ∙ c.if-fits.true)
+    ∙ ap (position (fit_for (market_of c.args.self.now) (state_of c.args.self.now) c.args.section.0)) c.waiting-waiting.ensures.waiting
+
+pub returns : goal.returns
+returns c =
+    position_none (fit_for (market_of c.args.self.now) (state_of c.args.self.now) c.args.section.0) c.waiting-waiting.result.now c.loop-place.place c.loop-place-test.false c.loop-place.invariant
+    ∙ ap (position (fit_for (market_of c.args.self.now) (state_of c.args.self.now) c.args.section.0)) c.waiting-waiting.ensures.waiting

@@ -1,0 +1,53 @@
+-- The law of drop and add.
+use Rattle.std.specs.Prelude.{ℕ, ◌≡◌, ◌<◌, ◌≤◌, ◌+◌, true, false, if◌then◌else◌, Some, List, All, ◌∷◌, ◌++◌, map, slice_get}
+use Rattle.chronicle.specs.History.{IsLegal, state_after as state_after_steps}
+use Rattle.market_units.specs.declared.units.StudentNo.{StudentNo}
+use Rattle.bundle_rules.specs.Sets.{has, IsAscending}
+use Rattle.demand_api.specs.Crowds.{holders}
+use Rattle.dropadd_desk.specs.declared.reply.HallReply.TheVariants as reply
+use Rattle.dropadd_desk.specs.declared.shared.HallState.{HallState}
+use Rattle.dropadd_desk.specs.Market.{Market, offered, section_count}
+use Rattle.dropadd_desk.specs.Halls.{IsHall}
+use Rattle.dropadd_desk.specs.Openings.{IsLawful}
+use Rattle.dropadd_desk.specs.Step.{has_free_seat, held_by, waiting_for}
+use Rattle.dropadd_desk.specs.Lines.{HallStep, Ticket, gives_ticket, is_added, is_dropped, is_passed_on, line_of, names_section, replies, tickets_of}
+use Rattle.dropadd_desk.specs.Replies.{NamesInRange}
+use Rattle.dropadd_desk.specs.Shared.{is_sound, state_after, reply_to}
+
+-- what holds of a section in a state
+pub record IsFair (market : Market) (state : HallState) (s : ℕ) : Type 0 where
+  -- it has no more holders than seats
+  pub seats : holders s state.held ≤ (offered market s).seats
+  -- where somebody waits for it, no seat is free
+  pub full : (i : ℕ) → has (waiting_for state s) i ≡ true → has_free_seat market state s ≡ false
+  -- nobody waits for it who holds it
+  pub apart : (i : ℕ) → has (waiting_for state s) i ≡ true → has (held_by state i) s ≡ false
+
+-- what a history from an opening state tells of a section
+pub record IsConserved (market : Market) (opening : HallState) (history : List HallStep) (s : ℕ) : Type 0 where
+  pub fair : IsFair market (state_after_steps state_after market opening history) s
+  -- holders are those at the opening, more those added and those to whom a seat was passed on, less those who gave it up
+  pub balance : holders s (state_after_steps state_after market opening history).held + replies market s is_dropped history
+      ≡ holders s opening.held + replies market s is_added history + replies market s is_passed_on history
+  -- those who wait are those of the line that is read off the replies
+  pub waiting : map (λ (ticket : Ticket). ticket.student) (line_of market s history).waiting ≡ waiting_for (state_after_steps state_after market opening history) s
+  -- each `Queued` gave one ticket, which waits, was served or left once and in one of these ways; and there are no other tickets
+  pub once : (number : ℕ)
+      → tickets_of number (line_of market s history).served + tickets_of number (line_of market s history).left + tickets_of number (line_of market s history).waiting
+      ≡ (if gives_ticket market s history number then 1 else 0)
+  -- tickets are given the section or lapse in the order of their numbers, and before those that wait
+  pub in_order : IsAscending (map (λ (ticket : Ticket). ticket.number) ((line_of market s history).served ++ (line_of market s history).waiting))
+  -- the next student, where a reply names one, is the first of the line behind those who lapse
+  pub next : (before after : List HallStep) (step : HallStep) (lapsed : ℕ) (next : StudentNo) → history ≡ before ++ step ∷ after
+      → names_section market s step.request ≡ true → step.reply ≡ reply.Dropped lapsed (Some next)
+      → slice_get (map (λ (ticket : Ticket). ticket.student) (line_of market s before).waiting) lapsed ≡ Some next.0
+
+-- Whatever is requested from a lawful opening, it is so of each section. A beginning of a history is a history, so this holds at each time.
+abbrev pub ConservationLaw : Type 0
+ConservationLaw = (market : Market) (opening : HallState) (history : List HallStep) → IsHall market opening → IsLawful market opening
+    → IsLegal is_sound state_after reply_to market opening history → (s : ℕ) → s < section_count market → IsConserved market opening history s
+
+-- Whatever is requested, replies name sections of the catalogue and students of the roll.
+abbrev pub RepliesInRangeLaw : Type 0
+RepliesInRangeLaw = (market : Market) (opening : HallState) (history : List HallStep) → IsHall market opening → IsLegal is_sound state_after reply_to market opening history
+    → All (λ (step : HallStep). NamesInRange market step.reply) history

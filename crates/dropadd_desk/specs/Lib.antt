@@ -1,0 +1,14 @@
+pub mod Fits
+pub mod Fronts
+pub mod HallView
+pub mod Halls
+pub mod Kept
+pub mod Laws
+pub mod Lines
+pub mod Lists
+pub mod Market
+pub mod Openings
+pub mod Replies
+pub mod Sets
+pub mod Shared
+pub mod Step

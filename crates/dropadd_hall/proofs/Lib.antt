@@ -1,0 +1,4 @@
+pub mod LineJoins
+pub mod Merging
+pub mod Openings
+pub mod Requested

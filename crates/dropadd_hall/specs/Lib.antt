@@ -1,0 +1,5 @@
+pub mod Faults
+pub mod Postings
+pub mod Requests
+pub mod Streams
+pub mod Texts

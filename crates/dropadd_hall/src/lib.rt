@@ -1,0 +1,24 @@
+//! The drop-add hall: what stands against opening a desk; sessions that make their requests to one desk, each from a thread of its own;
+//! and the text that tells what was replied and what is held after it.
+//!
+//! A line of a stream is a request: `add STUDENT SECTION`, `drop STUDENT SECTION`, `leave STUDENT SECTION`; lines and words are cut as
+//! those of sessions (`utility_language`). The text has a line for each request in its order, `entry SESSION REQUEST: REPLY`; then the
+//! students in file order, `final STUDENT [SECTION,SECTION]`; the sections in file order for which somebody waits, `wait SECTION STUDENT
+//! STUDENT ..`; and all sections, `used SECTION USED SEATS`.
+#![tactic(auto)]
+
+mod hall;
+mod lines;
+mod opening;
+mod posting;
+mod requests;
+mod streams;
+mod text;
+
+pub use hall::{ClosedHall, open_hall};
+pub use opening::{OpeningFault, opening_fault};
+pub use requests::{read_request, read_requests};
+pub use text::put_hall;
+
+#[cfg(test)]
+mod tests;

@@ -1,0 +1,300 @@
+// Requests read, made and told.
+ghost use Rattle.std.specs.Prelude.{◌≡◌, ◌<◌, ◌≤◌, ℕ, true, IfOk, IsTrue, All, length, map};
+ghost use Rattle.bundle_rules.specs.Bundles.{sections_of};
+ghost use Rattle.bundle_rules.specs.Sets.{has};
+ghost use Rattle.held_seats.specs.Floors.{AreBelow};
+ghost use Rattle.dropadd_desk.specs.HallView.{market_of, room_of};
+ghost use Rattle.dropadd_hall.specs.Streams.{request_count};
+
+use super::*;
+use bundle_rules::Bundle;
+use chronicle::Step;
+use course_catalog::{Catalog, read_catalog};
+use dropadd_desk::{HallCommand, HallDesk, HallReply};
+use gates::MeetingGate;
+use market_edge::{Gate, OpenGate};
+use market_units::SectionNo;
+use std::alloc::Global;
+use std::process::Abort;
+use std::sync::Wait;
+use std::sync::atomic::{AtomicU64, Ordering};
+use std::test::Fail;
+use std::thread::Threads;
+use student_roll::{Roll, read_roll};
+use utility_language::StreamEnd;
+
+mod gates;
+
+const CATALOG: &[u8] = b"section,course,seats,credits,meetings
+A,AA,1,2,M0900-1000
+B,BB,2,2,M0930-1030
+C,CC,9,4,
+D,DD,9,1,
+E,EE,9,1,
+";
+
+const ROLL: &[u8] = b"student,budget,credits,courses\nu,0,5,2\nv,0,5,2\nw,0,5,2\n";
+
+// Requests with each reply, where u holds A.
+const REQUESTS: &[u8] = b"drop
+add z Q
+add u Q
+leave z A
+add u A
+add u B
+add u C
+add u D
+add u E
+add v A
+add v A
+add w A
+leave w B
+drop v B
+drop u A
+add u A
+drop v A
+leave w A
+leave u A
+add w D
+add w E
+add w B
+drop w D
+add w C #
+add w C
+";
+
+// What is told of them.
+const TOLD: &[u8] = b"entry 1 unreadable: unreadable
+entry 1 add z Q: no-student
+entry 1 add u Q: no-section
+entry 1 leave z A: no-student
+entry 1 add u A: holding
+entry 1 add u B: clash A
+entry 1 add u C: credits
+entry 1 add u D: added
+entry 1 add u E: courses
+entry 1 add v A: queued 0
+entry 1 add v A: waiting
+entry 1 add w A: queued 1
+entry 1 leave w B: not-waiting
+entry 1 drop v B: not-holding
+entry 1 drop u A: dropped 0 to v
+entry 1 add u A: queued 1
+entry 1 drop v A: dropped 0 to w
+entry 1 leave w A: not-waiting
+entry 1 leave u A: left
+entry 1 add w D: added
+entry 1 add w E: courses
+entry 1 add w B: clash A
+entry 1 drop w D: dropped 0
+entry 1 unreadable: unreadable
+entry 1 add w C: credits
+final u [D]
+final v []
+final w [A]
+used A 1 1
+used B 0 2
+used C 0 9
+used D 1 9
+used E 0 9
+";
+
+// What is told where w waits behind v for what u holds.
+const WAITING: &[u8] = b"entry 1 add v A: queued 0
+entry 1 add w A: queued 1
+final u [A]
+final v []
+final w []
+wait A v w
+used A 1 1
+used B 0 2
+used C 0 9
+used D 0 9
+used E 0 9
+";
+
+// Requests of two sessions with their replies, which are the same in every order that keeps each session's own.
+const FIRST: [(&[u8], HallReply); 4] = [
+    (
+        b"drop u A",
+        HallReply::Dropped {
+            lapsed: 0,
+            next: None,
+        },
+    ),
+    (b"add u D", HallReply::Added),
+    (b"add u E", HallReply::Added),
+    (b"add u Q", HallReply::NoSection),
+];
+
+const SECOND: [(&[u8], HallReply); 3] = [
+    (b"add v B", HallReply::Added),
+    (b"no request", HallReply::Unreadable),
+    (b"add w C", HallReply::Added),
+];
+
+// What is told behind them.
+const HELD: &[u8] = b"final u [D,E]
+final v [B]
+final w [C]
+used A 0 1
+used B 1 2
+used C 1 9
+used D 1 9
+used E 1 9
+";
+
+/// A hall, and its text.
+#[derive(Drop)]
+struct Told {
+    hall: ClosedHall,
+    text: Vec<u8>,
+}
+
+fn all_below(sections: usize, listed: &[SectionNo]) -> bool
+    ensures { IsTrue result → All (λ section. section.0 < sections) listed.now }
+{
+    listed
+        .iter()
+        .all(|section| usize::from(section.0) < sections)
+}
+
+fn is_below(sections: usize, bundle: &Bundle) -> bool
+    ensures { IsTrue result → (s : ℕ) → has (sections_of bundle.now) s ≡ true → s < sections }
+{
+    all_below(sections, bundle.sections())
+}
+
+fn are_below(sections: usize, bundles: &[Bundle]) -> bool
+    ensures { IsTrue result → AreBelow sections (map sections_of bundles.now) }
+{
+    match bundles {
+        [] => true,
+        [bundle, more @ ..] => is_below(sections, bundle) && are_below(sections, more),
+    }
+}
+
+// A desk at which the first student holds the first section, with room for 200 requests.
+fn desk_of(rt: &impl Abort, alloc: Global, catalog: &Catalog, roll: &Roll) -> HallDesk
+    ensures market { market_of result ≡ record { catalog = catalog.now; roll = roll.now } }
+    ensures room { room_of result ≡ 200 }
+{
+    let mut bundles = Vec::new(alloc);
+    let first = Bundle::of(&[SectionNo(0)]).expect(rt, "one section");
+    bundles.push(first).expect(rt, "memory");
+    for _ in 1..roll.len() {
+        bundles.push(Bundle::empty()).expect(rt, "memory");
+    }
+    assert!(rt; bundles.len() == usize::from(roll.len()));
+    assert!(rt; are_below(usize::from(catalog.len()), &bundles));
+    HallDesk::prepare(alloc, catalog, roll, &bundles, 200).expect(rt, "memory")
+}
+
+// The text of a hall in which these requests are made.
+fn tell<R: Abort + Threads + Wait + Sync, G: Gate + Sync>(
+    rt: &R,
+    alloc: Global,
+    streams: &[Vec<HallCommand>],
+    gate: &G,
+) -> Result<Told, Fail>
+    requires sessions { (1 ≤ length streams.now) × (length streams.now ≤ 64) }
+    requires few { request_count streams.now ≤ 200 }
+{
+    let catalog = read_catalog(alloc, CATALOG)?;
+    let roll = read_roll(alloc, ROLL)?;
+    let desk = desk_of(rt, alloc, &catalog, &roll);
+    let hall = open_hall(rt, alloc, desk, streams, gate)?;
+    let text = put_hall(alloc, &catalog, &roll, &hall)?;
+    Ok(Told { hall, text })
+}
+
+// Requests of this text.
+fn stream_of_text(rt: &impl Abort, alloc: Global, text: &[u8]) -> Vec<HallCommand>
+    ensures { length result.items ≤ 100 }
+{
+    let requests = read_requests(alloc, text, 100).expect(rt, "a stream");
+    assert!(rt; requests.len() <= 100);
+    requests
+}
+
+// Requests of these lines.
+fn stream_of(alloc: Global, lines: &[(&[u8], HallReply)]) -> Result<Vec<HallCommand>, Fail>
+    ensures { IfOk result (λ requests. length requests.items ≤ 100) }
+{
+    let mut requests = Vec::new(alloc);
+    for (line, _) in lines {
+        requests.push(read_request(line).unwrap_or(HallCommand::Unreadable))?;
+    }
+    if requests.len() > 100 {
+        return Err(Fail::new("a short stream"));
+    }
+    Ok(requests)
+}
+
+// Whether the steps of this seat are these lines with their replies, in order.
+fn is_posted(steps: &[Step<HallDesk>], seat: u16, lines: &[(&[u8], HallReply)]) -> bool {
+    let mut at = 0usize;
+    for step in steps {
+        if step.seat != seat {
+            continue;
+        }
+        let Some((line, reply)) = lines.get(at) else {
+            return false;
+        };
+        if read_request(line) != Some(step.request) || *reply != step.reply {
+            return false;
+        }
+        at = at.wrapping_add(1);
+    }
+    at == lines.len()
+}
+
+fn count_of(counter: &AtomicU64) -> u64 {
+    counter.load(Ordering::SeqCst)
+}
+
+#[test]
+fn each_reply_is_told(rt: HostRuntime) -> Result<(), Fail> {
+    let requests = stream_of_text(&rt, rt.alloc(), REQUESTS);
+    let told = tell(&rt, rt.alloc(), &[requests], &OpenGate)?;
+    assert!(rt; told.text.as_slice() == TOLD);
+    Ok(())
+}
+
+#[test]
+fn a_waiting_list_is_told(rt: HostRuntime) -> Result<(), Fail> {
+    let text = b"# w behind v\n\nadd v A\r\n\tadd  w A ";
+    let requests = stream_of_text(&rt, rt.alloc(), text);
+    let told = tell(&rt, rt.alloc(), &[requests], &OpenGate)?;
+    assert!(rt; told.text.as_slice() == WAITING);
+    Ok(())
+}
+
+#[test]
+fn no_room_for_a_request(rt: HostRuntime) -> Result<(), Fail> {
+    assert!(rt; read_requests(rt.alloc(), b"add v A\n#\nadd w A", 1) == Err(StreamEnd::TooMany));
+    Ok(())
+}
+
+// Two sessions whose calls meet: neither can make all its requests before the other has made one.
+#[test]
+fn two_sessions_request_at_once(rt: HostRuntime) -> Result<(), Fail> {
+    let gate = MeetingGate::new();
+    let streams = [
+        stream_of(rt.alloc(), &FIRST)?,
+        stream_of(rt.alloc(), &SECOND)?,
+    ];
+    let told = tell(&rt, rt.alloc(), &streams, &gate)?;
+    let steps = told.hall.journal.steps();
+    assert_eq!(rt; steps.len(), 7);
+    assert!(rt; is_posted(steps, 0, &FIRST));
+    assert!(rt; is_posted(steps, 1, &SECOND));
+    assert!(rt; told.text.ends_with(HELD));
+    assert_eq!(rt; count_of(&gate.missed), 0);
+    assert_eq!(rt; count_of(&gate.first_starts), 1);
+    assert_eq!(rt; count_of(&gate.second_starts), 1);
+    assert_eq!(rt; count_of(&gate.first_calls), 4);
+    assert_eq!(rt; count_of(&gate.second_calls), 3);
+    assert_eq!(rt; count_of(&gate.others), 0);
+    Ok(())
+}
