@@ -1,6 +1,6 @@
 -- The parts of a check put together.
 use Rattle.std.proofs.Common.{ℕ, suc, ◌≡◌, ◌<◌, ◌≤◌, ◌∙◌, List, [], ◌∷◌, length, map, get_or, refl, ap, sym, subst, arith}
-use Rattle.std.specs.Prelude.{Result, Ok, Err, IfErr, OnOk}
+use Rattle.std.specs.Prelude.{Result, Ok, Err, IfErr, IfOk}
 use Rattle.course_catalog.specs.Sections.{Section}
 use Rattle.student_roll.specs.Students.{Student}
 use Rattle.demand_api.specs.Crowds.{CrowdData, Student as Asked}
@@ -99,13 +99,17 @@ on_found P Q (end.Found finding) then is = then finding is
 on_found P Q end.NoMemory then is = tt
 
 -- what is so of a success, and of the finding that a failure tells
-pub on_ok : {E : Type 0} {P Q : Type 0} (r : Result (Unit {0}) E) → (P → Q) → OnOk r P → OnOk r Q
-on_ok (Ok x) then is = then is
-on_ok (Err e) then is = tt
+pub ok_then : {A E : Type 0} {P Q : A → Type 0} (r : Result A E) → ((a : A) → P a → Q a) → IfOk r P → IfOk r Q
+ok_then (Ok a) then is = then a is
+ok_then (Err e) then is = tt
 
-pub err_found : {P Q : Finding → Type 0} (r : Result (Unit {0}) CheckEnd) → ((finding : Finding) → P finding → Q finding) → IfErr r (λ e. OnFound e P) → IfErr r (λ e. OnFound e Q)
+pub ok_both : {A E : Type 0} {P Q R : A → Type 0} (r : Result A E) → ((a : A) → P a → Q a → R a) → IfOk r P → IfOk r Q → IfOk r R
+ok_both (Ok a) then is so = then a is so
+ok_both (Err e) then is so = tt
+
+pub err_found : {A : Type 0} {P Q : Finding → Type 0} (r : Result A CheckEnd) → ((finding : Finding) → P finding → Q finding) → IfErr r (λ e. OnFound e P) → IfErr r (λ e. OnFound e Q)
 err_found (Ok x) then is = tt
-err_found {P} {Q} (Err e) then is = on_found P Q e then is
+err_found {A} {P} {Q} (Err e) then is = on_found P Q e then is
 
 -- the first defect of a text that is no publication's is the first finding, and such a text is not accepted
 pub defect_first : (market : Market) (streams : List (List Command)) (text : List ℕ) (refusal : TextRefusal) → OnDefect refusal (Finds (ArePublished (tables_in market)) 1 text) → OnFound (end_of refusal) (IsFirstFinding market streams text)

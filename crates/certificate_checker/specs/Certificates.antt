@@ -44,6 +44,11 @@ pub record Holds (market : Market) (streams : List (List Command)) (p : Publicat
   pub is_crowd : IsCrowdAfter market streams p.order crowd
   pub printed : HoldsOf (terms_in market crowd) p
 
+-- the same by this crowd, which is the one after the order's journal
+pub record HoldsBy (market : Market) (streams : List (List Command)) (p : Publication) (crowd : CrowdData) : Type 0 where
+  pub is_crowd : IsCrowdAfter market streams p.order crowd
+  pub printed : HoldsOf (terms_in market crowd) p
+
 -- the text is that of the publication
 pub record IsTextOf (market : Market) (p : Publication) (text : List ℕ) : Type 0 where
   pub is_publication : IsPublication (tables_in market) p

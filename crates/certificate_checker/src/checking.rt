@@ -6,10 +6,11 @@ ghost use Rattle.market_certificate.specs.Views.{publication_of};
 ghost use Rattle.held_seats.specs.Floors.{IsFloor, held_on};
 ghost use Rattle.published_parts.specs.Holdings.{demanded};
 ghost use Rattle.published_parts.specs.Markets.{market_of};
-ghost use Rattle.certificate_checker.specs.Certificates.{Holds, HoldsOf, IsAccepted};
+ghost use Rattle.demand_api.specs.Made.{MakeCrowd};
+ghost use Rattle.certificate_checker.specs.Certificates.{HoldsBy, HoldsOf, IsAccepted, IsTextOf};
 ghost use Rattle.certificate_checker.specs.Findings.{IsFirstFinding, IsFirstIn, IsFirstOf, OnFound, end_of};
 ghost use Rattle.certificate_checker.specs.Parts.{CanCheck};
-ghost use Rattle.certificate_checker.specs.Views.{terms_of};
+ghost use Rattle.certificate_checker.specs.Views.{crowd_seen, terms_of};
 ghost use Rattle.certificate_checker.specs.Words.{IsNamedIn};
 
 use crate::allocation::check_allocation;
@@ -18,7 +19,7 @@ use crate::bundles::check_bundles;
 use crate::seats::{check_seats, check_used};
 use crate::terms::{Terms, terms_after};
 use crate::turns::check_turns;
-use crate::{CheckEnd, Finding};
+use crate::{Accepted, CheckEnd, Finding};
 use course_catalog::Catalog;
 use held_seats::Floor;
 use market_certificate::{Publication, TextRefusal, read_publication};
@@ -48,35 +49,64 @@ pub fn check(
     ensures refused { IfErr result (λ end. OnFound end (λ _. ¬ IsAccepted (market_of catalog.now roll.now settings.now) (map (λ stream. stream.items) streams.now) text.now)) }
     ensures named { IfErr result (λ end. OnFound end (IsNamedIn (tables_of catalog.now roll.now))) }
 {
-    let _few_sections = catalog.len();
-    let _few_students = roll.len();
-    match read_publication(alloc, catalog, roll, text) {
-        Ok(publication) => {
-            check_publication(alloc, catalog, roll, settings, streams, &publication)
-        }
-        Err(refusal) => Err(end_of(refusal)),
-    }
+    let _accepted = accept(alloc, catalog, roll, settings, streams, text)?;
+    Ok(())
 }
 
-// Whether the certificate holds of a publication, or the first finding.
-fn check_publication(
+/// The same as `check`, with what an accepted text says, and the students by whom it was checked.
+pub fn accept(
     alloc: Global,
     catalog: &Catalog,
     roll: &Roll,
     settings: &Settings,
     streams: &[Vec<Command>],
-    publication: &Publication,
-) -> Result<(), CheckEnd>
-    requires publication { IsPublication (tables_of catalog.now roll.now) (publication_of publication.now) }
-    requires entries { length publication.now.order.items < 2 ^ 32 - 1 }
-    requires turns { length publication.now.turns.items < 2 ^ 32 - 1 }
+    text: &[u8],
+) -> Result<Accepted, CheckEnd>
+    requires text { length text.now < 2 ^ 32 - 1 }
     requires spread { settings.now.spread ≤ 49 }
     requires raise { settings.now.raise ≤ 50 }
-    ensures holds { OnOk result (Holds (market_of catalog.now roll.now settings.now) (map (λ stream. stream.items) streams.now) (publication_of publication.now)) }
-    ensures first { IfErr result (λ end. OnFound end (IsFirstOf (market_of catalog.now roll.now settings.now) (map (λ stream. stream.items) streams.now) (publication_of publication.now))) }
+    ensures text { IfOk result (λ accepted. IsTextOf (market_of catalog.now roll.now settings.now) (publication_of accepted.publication) text.now) }
+    ensures holds { IfOk result (λ accepted. HoldsBy (market_of catalog.now roll.now settings.now) (map (λ stream. stream.items) streams.now) (publication_of accepted.publication) (crowd_seen accepted.crowd)) }
+    ensures whole { IfOk result (λ accepted. MakeCrowd accepted.crowd.menus.items accepted.crowd.budgets.items accepted.crowd.sections) }
+    ensures first { IfErr result (λ end. OnFound end (IsFirstFinding (market_of catalog.now roll.now settings.now) (map (λ stream. stream.items) streams.now) text.now)) }
+    ensures refused { IfErr result (λ end. OnFound end (λ _. ¬ IsAccepted (market_of catalog.now roll.now settings.now) (map (λ stream. stream.items) streams.now) text.now)) }
+    ensures named { IfErr result (λ end. OnFound end (IsNamedIn (tables_of catalog.now roll.now))) }
+{
+    let _few_sections = catalog.len();
+    let _few_students = roll.len();
+    match read_publication(alloc, catalog, roll, text) {
+        Ok(publication) => accept_publication(alloc, catalog, roll, settings, streams, publication),
+        Err(refusal) => Err(end_of(refusal)),
+    }
+}
+
+// The publication, where the certificate holds of it, with the students by whom it was checked, or the first finding.
+fn accept_publication(
+    alloc: Global,
+    catalog: &Catalog,
+    roll: &Roll,
+    settings: &Settings,
+    streams: &[Vec<Command>],
+    publication: Publication,
+) -> Result<Accepted, CheckEnd>
+    requires publication { IsPublication (tables_of catalog.now roll.now) (publication_of publication) }
+    requires entries { length publication.order.items < 2 ^ 32 - 1 }
+    requires turns { length publication.turns.items < 2 ^ 32 - 1 }
+    requires spread { settings.now.spread ≤ 49 }
+    requires raise { settings.now.raise ≤ 50 }
+    ensures same { IfOk result (λ accepted. publication_of accepted.publication ≡ publication_of publication) }
+    ensures holds { IfOk result (λ accepted. HoldsBy (market_of catalog.now roll.now settings.now) (map (λ stream. stream.items) streams.now) (publication_of publication) (crowd_seen accepted.crowd)) }
+    ensures whole { IfOk result (λ accepted. MakeCrowd accepted.crowd.menus.items accepted.crowd.budgets.items accepted.crowd.sections) }
+    ensures first { IfErr result (λ end. OnFound end (IsFirstOf (market_of catalog.now roll.now settings.now) (map (λ stream. stream.items) streams.now) (publication_of publication))) }
 {
     let terms = terms_after(alloc, catalog, roll, settings, streams, &publication.order)?;
-    check_printed(alloc, &terms, publication)
+    match check_printed(alloc, &terms, &publication) {
+        Ok(()) => Ok(Accepted {
+            publication,
+            crowd: terms.crowd,
+        }),
+        Err(end) => Err(end),
+    }
 }
 
 // The end of a check of a text that is not read.

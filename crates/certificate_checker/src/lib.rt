@@ -1,6 +1,7 @@
 //! Whether a published text is accepted: a check that trusts nothing of who published it, and does not judge its prices.
 #![tactic(auto)]
 
+mod accepted;
 mod allocation;
 mod budgets;
 mod bundles;
@@ -14,7 +15,8 @@ mod terms;
 mod turns;
 mod words;
 
-pub use checking::check;
+pub use accepted::Accepted;
+pub use checking::{accept, check};
 pub use findings::{CheckEnd, Finding, TurnFault};
 pub use words::finding_line;
 

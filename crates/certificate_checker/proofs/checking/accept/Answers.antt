@@ -2,47 +2,49 @@ use Rattle.std.proofs.Common.{◌≤◌, length, map, subst, sym, arith}
 use Rattle.market_certificate.specs.Tables.{tables_of}
 use Rattle.market_certificate.specs.Views.{publication_of, turn_of}
 use Rattle.published_parts.specs.Markets.{market_of}
-use Rattle.certificate_checker.specs.Certificates.{IsAccepted}
+use Rattle.certificate_checker.specs.Certificates.{HoldsBy, IsAccepted, IsTextOf}
+use Rattle.certificate_checker.specs.Views.{crowd_seen}
 use Rattle.certificate_checker.specs.Findings.{IsFirstFinding, OnFound}
 use Rattle.certificate_checker.specs.Words.{IsNamedIn}
-use Rattle.certificate_checker.proofs.Composing.{defect_first, defect_refused, err_found, on_ok, text_first}
+use Rattle.certificate_checker.proofs.Composing.{defect_first, defect_refused, err_found, ok_both, ok_then, text_first}
 use Rattle.certificate_checker.proofs.Naming.{defect_named, named_in}
 use Rattle.certificate_checker.proofs.Ranges.{order_in_text, turns_in_text}
 use Rattle.certificate_checker.proofs.Reading.{length_map}
 use Rattle.certificate_checker.proofs.Refusing.{no_finding}
-use Rattle.certificate_checker.proofs.checking.check.Goals as goal
+use Rattle.certificate_checker.proofs.checking.accept.Goals as goal
 
-pub check_publication-requires-clause-entries : goal.check_publication-requires-clause-entries
-check_publication-requires-clause-entries c =
+pub accept_publication-requires-clause-entries : goal.accept_publication-requires-clause-entries
+accept_publication-requires-clause-entries c =
     let short : length c.in-Ok.publication.order.items ≤ length c.args.text.now = order_in_text (tables_of c.args.catalog.now c.args.roll.now) (publication_of c.in-Ok.publication) c.args.text.now c.in-Ok.ensures.text in
     let small = c.requires.text in
     omega arith
 
-pub check_publication-requires-clause-turns : goal.check_publication-requires-clause-turns
-check_publication-requires-clause-turns c =
+pub accept_publication-requires-clause-turns : goal.accept_publication-requires-clause-turns
+accept_publication-requires-clause-turns c =
     let short = turns_in_text (tables_of c.args.catalog.now c.args.roll.now) (publication_of c.in-Ok.publication) c.args.text.now c.in-Ok.ensures.text in
     let long = length_map turn_of c.in-Ok.publication.turns.items in
     let small = c.requires.text in
     omega arith
 
-pub returns-in-Ok-clause-accepted : goal.returns-in-Ok-clause-accepted
-returns-in-Ok-clause-accepted c =
-    on_ok c.check_publication.result (λ is. record {
-      publication = publication_of c.in-Ok.publication;
-      is_text = record { is_publication = c.in-Ok.ensures.publication; written = c.in-Ok.ensures.text };
-      holds = is;
-    }) c.check_publication.ensures.holds
+pub returns-in-Ok-clause-text : goal.returns-in-Ok-clause-text
+returns-in-Ok-clause-text c =
+    ok_then c.accept_publication.result (λ accepted same. subst (λ p. IsTextOf (market_of c.args.catalog.now c.args.roll.now c.args.settings.now) p c.args.text.now) (sym same) (record { is_publication = c.in-Ok.ensures.publication; written = c.in-Ok.ensures.text })) c.accept_publication.ensures.same
+
+pub returns-in-Ok-clause-holds : goal.returns-in-Ok-clause-holds
+returns-in-Ok-clause-holds c =
+    ok_both c.accept_publication.result (λ accepted same holds. subst (λ p. HoldsBy (market_of c.args.catalog.now c.args.roll.now c.args.settings.now) (map (λ stream. stream.items) c.args.streams.now) p (crowd_seen accepted.crowd)) (sym same) holds)
+    c.accept_publication.ensures.same c.accept_publication.ensures.holds
 
 pub returns-in-Ok-clause-first : goal.returns-in-Ok-clause-first
 returns-in-Ok-clause-first c =
-    err_found c.check_publication.result (λ finding is. text_first (market_of c.args.catalog.now c.args.roll.now c.args.settings.now) _ (publication_of c.in-Ok.publication) c.args.text.now finding
-    (record { is_publication = c.in-Ok.ensures.publication; written = c.in-Ok.ensures.text }) is) c.check_publication.ensures.first
+    err_found c.accept_publication.result (λ finding is. text_first (market_of c.args.catalog.now c.args.roll.now c.args.settings.now) _ (publication_of c.in-Ok.publication) c.args.text.now finding
+    (record { is_publication = c.in-Ok.ensures.publication; written = c.in-Ok.ensures.text }) is) c.accept_publication.ensures.first
 
 pub returns-in-Ok-clause-refused : goal.returns-in-Ok-clause-refused
 returns-in-Ok-clause-refused c =
-    err_found c.check_publication.result (λ finding is accepted. no_finding (market_of c.args.catalog.now c.args.roll.now c.args.settings.now) _ c.args.text.now finding c.len-few_sections.ensures.kept c.len-few_students.ensures.roll accepted
+    err_found c.accept_publication.result (λ finding is accepted. no_finding (market_of c.args.catalog.now c.args.roll.now c.args.settings.now) _ c.args.text.now finding c.len-few_sections.ensures.kept c.len-few_students.ensures.roll accepted
     (text_first (market_of c.args.catalog.now c.args.roll.now c.args.settings.now) _ (publication_of c.in-Ok.publication) c.args.text.now finding
-    (record { is_publication = c.in-Ok.ensures.publication; written = c.in-Ok.ensures.text }) is)) c.check_publication.ensures.first
+    (record { is_publication = c.in-Ok.ensures.publication; written = c.in-Ok.ensures.text }) is)) c.accept_publication.ensures.first
 
 pub returns-in-Err-clause-first : goal.returns-in-Err-clause-first
 returns-in-Err-clause-first c =
@@ -56,9 +58,9 @@ returns-in-Err-clause-refused c =
 
 pub returns-in-Ok-clause-named : goal.returns-in-Ok-clause-named
 returns-in-Ok-clause-named c =
-    err_found c.check_publication.result (λ finding is. named_in (market_of c.args.catalog.now c.args.roll.now c.args.settings.now) (map (λ stream. stream.items) c.args.streams.now) c.args.text.now finding
+    err_found c.accept_publication.result (λ finding is. named_in (market_of c.args.catalog.now c.args.roll.now c.args.settings.now) (map (λ stream. stream.items) c.args.streams.now) c.args.text.now finding
     (text_first (market_of c.args.catalog.now c.args.roll.now c.args.settings.now) _ (publication_of c.in-Ok.publication) c.args.text.now finding
-    (record { is_publication = c.in-Ok.ensures.publication; written = c.in-Ok.ensures.text }) is)) c.check_publication.ensures.first
+    (record { is_publication = c.in-Ok.ensures.publication; written = c.in-Ok.ensures.text }) is)) c.accept_publication.ensures.first
 
 pub returns-in-Err-clause-named : goal.returns-in-Err-clause-named
 returns-in-Err-clause-named c =

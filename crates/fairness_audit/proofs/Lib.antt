@@ -1,0 +1,12 @@
+pub mod Allocated
+pub mod Bounds
+pub mod ButFor
+pub mod Endings
+pub mod Histories
+pub mod Naming
+pub mod OneMore
+pub mod Places
+pub mod Prices
+pub mod Seeing
+pub mod RowTexts
+pub mod SeatTurns

@@ -1,0 +1,96 @@
+use Rattle.std.proofs.Common.{◌≡◌, ◌≤◌, ◌<◌, ◌+◌, ◌*◌, ◌∙◌, ℕ, List, length, map, ap, sym, subst, arith, slice_index, slice_index_or}
+use Rattle.std.specs.Arc.{arc_value}
+use Rattle.std.specs.List.{range_with_len}
+use Rattle.std.proofs.lemmas.List.{get_or-replicate}
+use Rattle.chronicle.specs.Views.{sum_of}
+use Rattle.demand_api.specs.declared.crowd.Crowd.{Crowd}
+use Rattle.demand_api.proofs.Takers.{crowd_made, lent_back, students_length}
+use Rattle.fairness_audit.specs.declared.shared.Terms.{Terms}
+use Rattle.fairness_audit.specs.declared.shared.Progress.{Progress}
+use Rattle.fairness_audit.specs.Allocations.{Allocation, allocation_of, student_count}
+use Rattle.fairness_audit.specs.Rows.{RowData, row, rows}
+use Rattle.fairness_audit.specs.Texts.{AreRowsAmong}
+use Rattle.fairness_audit.specs.Views.{row_of}
+use Rattle.fairness_audit.proofs.Endings.{all_of_audit, every_number, filled_as, new_free, sum_of-replicate}
+use Rattle.fairness_audit.proofs.Naming.{rows_among}
+use Rattle.fairness_audit.proofs.Places.{listed}
+use Rattle.fairness_audit.proofs.auditing.audit.Goals as goal
+
+pub start-requires-clause-room : goal.start-requires-clause-room
+start-requires-clause-room g c =
+    let items = c.in_ok-allotments.ensures.items_if_clones_equal (λ y is. is) in
+    let calls : ℕ = sum_of c.in_ok-allotments.allotments.items in
+    let room : ℕ = c.in_ok-register.register.room in
+    let w : ℕ = c.args.workers in
+    let v : ℕ = c.from.result in
+    let n : ℕ = c.student_count-students.result in
+    let all : ℕ = student_count (allocation_of (arc_value c.in_ok-shared.shared) (arc_value c.in_ok-held.held).items) in
+    let product : ℕ = v * (2 * n + 1) in
+    let summed : calls ≡ product = ap sum_of items ∙ sum_of-replicate v (2 * n + 1) in
+    let as_many : n ≡ all = c.student_count-students.ensures.value ∙ ap student_count c.in_ok-register.ensures.allocation in
+    let room_is : room ≡ w * (2 * all + 1) = c.in_ok-register.ensures.room in
+    let same : product ≡ w * (2 * all + 1) = ap (λ x. x * (2 * n + 1)) c.from.ensures ∙ ap (λ x. w * (2 * x + 1)) as_many in
+    let other : ℕ = w * (2 * all + 1) in
+    let h1 : product ≡ other = same in
+    let h2 : room ≡ other = room_is in
+    let goal : calls ≤ room = omega arith in goal
+
+pub work_all-requires-clause-free : goal.work_all-requires-clause-free
+work_all-requires-clause-free g c κs within = λ k d below.
+    let lent : ℕ = length c.as_mut_slice.result.now in
+    let m : ℕ = c.from.result in
+    let count : lent ≡ m = omega (arith, c.as_mut_slice.ensures.len, c.in_ok-chronicle.ensures.count, c.in_ok-allotments.ensures.len) in
+    let low : k < m = (let h : k < lent = below in omega arith) in
+    let items = c.in_ok-allotments.ensures.items_if_clones_equal (λ y is. is) in
+    new_free c.in_ok-chronicle.chronicle k (slice_index c.in_ok-allotments.allotments.items k) _
+    (ap (λ seats. slice_index_or seats k d) c.as_mut_slice.ensures.value ∙ c.in_ok-chronicle.ensures.seats k d (omega (arith, c.in_ok-allotments.ensures.len)))
+    (ap (λ (p : Progress). p.places) c.in_ok-chronicle.ensures.chronicle.1 ∙ c.in_ok-register.ensures.places)
+    (ap (λ l. slice_index l k) items ∙ get_or-replicate m k (2 * c.student_count-students.result + 1) 0 low
+    ∙ ap (λ n. 2 * n + 1) (c.student_count-students.ensures.value ∙ ap (λ (t : Terms). student_count t.allocation) (sym c.in_ok-chronicle.ensures.chronicle.0)))
+
+pub close-register-requires-clause-chronicle : goal.close-register-requires-clause-chronicle
+close-register-requires-clause-chronicle g c =
+    all_of_audit c.in_ok-chronicle.chronicle c.in_ok-chronicle.seats.len c.work_all.new.seats c.in_ok-chronicle.seats.items (sym c.as_mut_slice.ensures.len ∙ sym c.work_all.ensures.count) c.work_all.ensures.finished
+
+pub close-register-requires-clause-all : goal.close-register-requires-clause-all
+close-register-requires-clause-all g c =
+    every_number (length c.in_ok-chronicle.chronicle.allotments) c.in_ok-chronicle.seats.len c.as_mut_slice.result.now c.work_all.new.seats c.in_ok-chronicle.seats.items
+    (c.as_mut_slice.ensures.len ∙ c.in_ok-chronicle.ensures.count ∙ c.in_ok-allotments.allotments.ok.0 ∙ ap length (sym c.in_ok-chronicle.ensures.chronicle.2)) (sym c.as_mut_slice.ensures.len) c.work_all.ensures.count c.work_all.ensures.numbers
+
+pub write_rows-requires-clause-filled : goal.write_rows-requires-clause-filled
+write_rows-requires-clause-filled g c =
+    let chronicle = c.in_ok-chronicle.chronicle in
+    let m : ℕ = length chronicle.allotments in
+    let n : ℕ = length c.in_ok-allotments.allotments.items in
+    let w : ℕ = c.args.workers in
+    let same : m ≡ n = ap length c.in_ok-chronicle.ensures.chronicle.2 in
+    let many : n ≡ w = sym c.in_ok-allotments.allotments.ok.0 ∙ c.in_ok-allotments.ensures.len ∙ c.from.ensures in
+    let least : 1 ≤ w = c.requires.workers.0 in
+    filled_as chronicle c.close-register.result.1 c.in_ok-chronicle.seats.len c.work_all.new.seats c.in_ok-chronicle.seats.items c.close-register.result.0 (sym c.as_mut_slice.ensures.len ∙ sym c.work_all.ensures.count)
+    (let goal : 1 ≤ m = omega arith in goal)
+    (every_number m c.in_ok-chronicle.seats.len c.as_mut_slice.result.now c.work_all.new.seats c.in_ok-chronicle.seats.items
+    (c.as_mut_slice.ensures.len ∙ c.in_ok-chronicle.ensures.count ∙ c.in_ok-allotments.allotments.ok.0 ∙ ap length (sym c.in_ok-chronicle.ensures.chronicle.2)) (sym c.as_mut_slice.ensures.len) c.work_all.ensures.count c.work_all.ensures.numbers)
+    c.work_all.ensures.finished c.close-register.ensures.legal c.close-register.ensures.seats c.close-register.ensures.seen c.close-register.ensures.others c.close-register.ensures.base c.close-register.ensures.last
+
+pub returns : goal.returns
+returns g c =
+    let crowd = arc_value c.args.crowd in
+    let items = (arc_value c.args.bundles).items in
+    let shared : arc_value c.in_ok-shared.shared ≡ crowd = c.in_ok-shared.ensures in
+    let held : arc_value c.in_ok-held.held ≡ arc_value c.args.bundles = c.in_ok-held.ensures in
+    let first = c.in_ok-register.ensures.allocation ∙ (λ i. allocation_of (shared i) (held i).items) in
+    let last = ap (λ (t : Terms). t.allocation) (c.close-register.ensures.base ∙ c.in_ok-chronicle.ensures.chronicle.0) ∙ first in
+    let n : ℕ = length c.write_rows.new.rows in
+    let s : ℕ = student_count (allocation_of crowd items) in
+    let lent = c.write_rows.ensures.count ∙ c.deref_mut.ensures.len in
+    let students : n ≡ s = lent ∙ c.in_ok-found.ensures.len ∙ c.student_count-students.ensures.value ∙ ap student_count first in
+    let told : map row_of c.write_rows.new.rows ≡ map (row c.close-register.result.0.allocation) (range_with_len 0 n) =
+    listed row_of (row c.close-register.result.0.allocation) c.write_rows.new.rows 0 (λ i d low. c.write_rows.ensures.each i d low ∙ ap (row c.close-register.result.0.allocation) (let goal : i ≡ 0 + i = omega arith in goal)) in
+    let whole = ap (map row_of) (lent_back c.in_ok-found.found.len c.write_rows.new.rows c.in_ok-found.found.items (sym lent)) ∙ told
+    ∙ ap (λ (a : Allocation). map (row a) (range_with_len 0 n)) last ∙ ap (λ m. map (row (allocation_of crowd items)) (range_with_len 0 m)) students in
+    record {
+      rows = whole;
+      among = subst (AreRowsAmong (length crowd.menus.items) crowd.sections) (sym whole)
+          (subst (λ m. AreRowsAmong m crowd.sections (rows (allocation_of crowd items))) (students_length crowd.menus.items crowd.budgets.items c.requires.crowd.same)
+          (rows_among (allocation_of crowd items) (crowd_made crowd.menus.items crowd.budgets.items crowd.sections c.requires.crowd) c.requires.bundles));
+    }

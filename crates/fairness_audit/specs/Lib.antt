@@ -1,0 +1,13 @@
+pub mod Allocations
+pub mod Drawing
+pub mod Envy
+pub mod Laws
+pub mod Registers
+pub mod Rows
+pub mod Searching
+pub mod Seats
+pub mod Shared
+pub mod Tallies
+pub mod Texts
+pub mod Views
+pub mod Weights

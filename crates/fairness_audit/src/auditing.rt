@@ -1,0 +1,84 @@
+// Rows of all students, by workers.
+ghost use Rattle.std.specs.Prelude.{◌≡◌, ◌≤◌, ◌<◌, ℕ, All, IfOk, length, map, slice_index_or};
+ghost use Rattle.std.specs.Arc.{arc_value};
+ghost use Rattle.demand_api.specs.Made.{MakeCrowd};
+ghost use Rattle.fairness_audit.specs.Allocations.{IsAllocation, allocation_of};
+ghost use Rattle.fairness_audit.specs.Rows.{rows};
+ghost use Rattle.fairness_audit.specs.Seats.{IsFinished, IsFree};
+ghost use Rattle.fairness_audit.specs.Texts.{AreRowsAmong};
+ghost use Rattle.fairness_audit.specs.Views.{row_of};
+
+use crate::register::Register;
+use crate::row::EnvyRow;
+use crate::worker::work;
+use bundle_rules::Bundle;
+use chronicle::{Chronicle, Seat};
+use demand_api::Crowd;
+use market_edge::Gate;
+use market_units::{MAX_WORKERS, NoMemory};
+use std::alloc::Global;
+use std::sync::{Arc, Wait};
+use std::thread;
+use std::thread::Threads;
+
+/// Whom each student of a crowd envies, where the students have these bundles: one for each, in file order, which it may take. The rows
+/// are in file order, found by 1 to 16 workers in threads of their own where those can be started, and the same for any number of them.
+/// Each worker passes the gate before its first student and after each row. All memory is taken before the first worker starts, and
+/// `NoMemory` is the only error.
+pub fn audit<R: Threads + Wait + Sync, G: Gate + Sync>(
+    rt: &R,
+    alloc: Global,
+    crowd: Arc<Crowd>,
+    bundles: Arc<Vec<Bundle>>,
+    workers: u16,
+    gate: &G,
+) -> Result<Vec<EnvyRow>, NoMemory>
+    requires crowd { MakeCrowd (arc_value crowd).menus.items (arc_value crowd).budgets.items (arc_value crowd).sections }
+    requires bundles { IsAllocation (allocation_of (arc_value crowd) (arc_value bundles).items) }
+    requires workers { (1 ≤ workers) × (workers ≤ MAX_WORKERS) }
+    ensures rows { IfOk result (λ found. map row_of found.items ≡ rows (allocation_of (arc_value crowd) (arc_value bundles).items)) }
+    ensures among { IfOk result (λ found. AreRowsAmong (length (arc_value crowd).menus.items) (arc_value crowd).sections (map row_of found.items)) }
+{
+    let shared = Arc::try_clone(&crowd)?;
+    let held = Arc::try_clone(&bundles)?;
+    let register = Register::make(alloc, shared, held, workers)?;
+    let students = register.student_count();
+    let mut found = vec![in alloc; EnvyRow::empty(); students]?;
+    let share = 2 * students as u64 + 1;
+    let allotments = vec![in alloc; share; usize::from(workers)]?;
+    let (chronicle, mut seats) = Chronicle::start(alloc, register, allotments)?;
+    work_all(rt, &chronicle, seats.as_mut_slice(), &crowd, &bundles, gate);
+    let (register, _) = chronicle.close(seats);
+    register.write_rows(&mut found);
+    Ok(found)
+}
+
+// Each worker works at its seat, in a thread of its own where one can be started.
+fn work_all<R: Threads + Wait + Sync, G: Gate + Sync>(
+    rt: &R,
+    chronicle: &Chronicle<Register>,
+    seats: &mut [Seat<Register>],
+    crowd: &Crowd,
+    bundles: &[Bundle],
+    gate: &G,
+)
+    requires crowd { MakeCrowd crowd.now.menus.items crowd.now.budgets.items crowd.now.sections }
+    requires bundles { IsAllocation (allocation_of crowd.now bundles.now) }
+    requires chronicle { chronicle.now.base.allocation ≡ allocation_of crowd.now bundles.now }
+    requires count { (1 ≤ length seats.old) × (length seats.old ≤ 16) }
+    requires numbers { (n : ℕ) (d : _) → n < length seats.old → (slice_index_or seats.old n d).number ≡ n }
+    requires free { All (λ seat. IsFree chronicle.now seat) seats.old }
+    ensures count { length seats.new ≡ length seats.old }
+    ensures numbers { (n : ℕ) (d : _) → n < length seats.old → (slice_index_or seats.new n d).number ≡ n }
+    ensures finished { All (λ seat. IsFinished chronicle.now seat) seats.new }
+{
+    let threads = seats.len();
+    thread::for_each_mut(
+        rt,
+        seats,
+        threads,
+        &|n, seat|
+            requires { (seat.now.number < 16) × IsFree chronicle.now seat.now × MakeCrowd crowd.now.menus.items crowd.now.budgets.items crowd.now.sections × IsAllocation (allocation_of crowd.now bundles.now) × (chronicle.now.base.allocation ≡ allocation_of crowd.now bundles.now) }
+        { work(rt, chronicle, seat, crowd, bundles, gate) },
+    );
+}

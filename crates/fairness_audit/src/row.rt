@@ -1,0 +1,58 @@
+// What an audit tells of a student.
+ghost use Rattle.std.specs.Prelude.{◌≡◌, ◌≤◌};
+ghost use Rattle.fairness_audit.specs.Views.{row_of, seen_of};
+ghost use Rattle.fairness_audit.specs.Tallies.{no_envy, with_sight};
+
+use bundle_rules::Bundle;
+use market_units::{SectionNo, StudentNo};
+
+/// An envied student, and what is seen in its bundle.
+#[derive(Clone, Copy, Debug, PartialEq, Eq)]
+pub struct Seen {
+    /// The envied student.
+    pub student: StudentNo,
+    /// The best bundle out of that student's one, where no section costs anything.
+    pub bundle: Bundle,
+    /// The lowest section of that student's bundle but for which the envy ends, if it ends but for one.
+    pub without: Option<SectionNo>,
+}
+
+/// Whom a student envies. All counts are of different students, so at most 1,999.
+#[derive(Clone, Copy, Debug, PartialEq, Eq)]
+pub struct EnvyRow {
+    /// How many students it envies whose unraised budget is at most its own.
+    pub lower: u16,
+    /// How many it envies whose unraised budget is greater.
+    pub higher: u16,
+    /// Of how many of both kinds the envy ends but for no single section of their bundle.
+    pub beyond: u16,
+    /// The first in file order whom it envies.
+    pub first: Option<Seen>,
+}
+
+impl EnvyRow {
+    // The row of a student who envies nobody.
+    pub(crate) fn empty() -> EnvyRow
+        ensures { row_of result ≡ no_envy }
+    {
+        EnvyRow {
+            lower: 0,
+            higher: 0,
+            beyond: 0,
+            first: None,
+        }
+    }
+
+    // The row with one more envied student, behind those that it counts.
+    pub(crate) fn with(self, seen: Seen, is_lower: bool) -> EnvyRow
+        requires few { (self.lower ≤ 2000) × (self.higher ≤ 2000) × (self.beyond ≤ 2000) }
+        ensures { row_of result ≡ with_sight (row_of self) (seen_of seen) is_lower }
+    {
+        EnvyRow {
+            lower: self.lower + u16::from(is_lower),
+            higher: self.higher + u16::from(!is_lower),
+            beyond: self.beyond + u16::from(seen.without.is_none()),
+            first: self.first.or(Some(seen)),
+        }
+    }
+}

@@ -1,0 +1,130 @@
+// What a student sees in the bundle of another.
+ghost use Rattle.std.specs.Prelude.{◌≡◌, ◌≤◌, ◌<◌, ◌+◌, ◌++◌, ◌∷◌, [], All, IfNone, IfSome, IsTrue, length, option_map, true};
+ghost use Rattle.market_units.specs.declared.units.SectionNo.{SectionNo};
+ghost use Rattle.bundle_rules.specs.Bundles.{sections_of};
+ghost use Rattle.bundle_rules.specs.Menus.{wishes_of};
+ghost use Rattle.bundle_rules.specs.Ordinals.{ordinals, IsBundle};
+ghost use Rattle.bundle_rules.specs.Sets.{IsAscending};
+ghost use Rattle.bundle_rules.specs.Wishes.{IsFeasible};
+ghost use Rattle.fairness_audit.specs.Envy.{but_for, ended_by, is_more, seen};
+ghost use Rattle.fairness_audit.specs.Rows.{envied};
+ghost use Rattle.fairness_audit.specs.Searching.{IsBestOfThese};
+ghost use Rattle.fairness_audit.specs.Views.{seen_of};
+ghost use Rattle.fairness_audit.specs.Weights.{AreWeights};
+
+use crate::row::Seen;
+use crate::weights::{Weights, may_be_more};
+use bundle_rules::{Bundle, Menu, feasible, prefers, utility};
+use market_units::{SectionNo, StudentNo};
+
+// What a student with this menu, whose own bundle is worth so much to it, sees in the bundle of another, if that is worth more. Most bundles
+// need no search, by their weights.
+pub(crate) fn sight(
+    menu: &Menu,
+    weights: &Weights,
+    own: i32,
+    student: StudentNo,
+    bundle: &Bundle,
+) -> Option<Seen>
+    requires weights { AreWeights (wishes_of menu.now) weights.now }
+    requires few { All (λ weight. weight ≤ 20000) weights.now }
+    ensures { option_map seen_of result ≡ envied menu.now own student.0 (sections_of bundle.now) }
+{
+    if !may_be_more(menu, weights, own, bundle) {
+        return None;
+    }
+    let best = best_out_of(menu, bundle);
+    if utility(menu, &best) <= own {
+        return None;
+    }
+    Some(Seen {
+        student,
+        bundle: best,
+        without: ended_by(menu, own, bundle),
+    })
+}
+
+// The lowest section of the bundle but for which what is seen is not worth more.
+fn ended_by(menu: &Menu, own: i32, bundle: &Bundle) -> Option<SectionNo>
+    ensures { option_map (λ (s : SectionNo). s.0) result ≡ ended_by menu.now own (sections_of bundle.now) }
+{
+    for section in bundle.sections() {
+        if !is_more(menu, own, &but_for(bundle, *section)) {
+            return Some(*section);
+        }
+    }
+    None
+}
+
+// Whether what is seen in the bundle is worth more than this.
+fn is_more(menu: &Menu, own: i32, bundle: &Bundle) -> bool
+    ensures { result ≡ is_more menu.now own (sections_of bundle.now) }
+{
+    let best = best_out_of(menu, bundle);
+    utility(menu, &best) > own
+}
+
+// The bundle without one section.
+fn but_for(bundle: &Bundle, section: SectionNo) -> Bundle
+    ensures { sections_of result ≡ but_for section.0 (sections_of bundle.now) }
+{
+    let mut rest = Bundle::empty();
+    for other in bundle.sections() {
+        if *other == section {
+            continue;
+        }
+        rest = rest.with(*other);
+    }
+    rest
+}
+
+// The best bundle out of another, where no section costs anything.
+fn best_out_of(menu: &Menu, bundle: &Bundle) -> Bundle
+    ensures value { sections_of result ≡ seen menu.now (sections_of bundle.now) }
+    ensures feasible { IsFeasible (wishes_of menu.now) (sections_of result) }
+{
+    best_from(menu, bundle.sections(), Bundle::empty())
+}
+
+// The best of the bundles that are these sections and some of the later ones. Of at most 8 sections all are tried, but for those with a
+// part that the student may not take.
+fn best_from(menu: &Menu, later: &[SectionNo], chosen: Bundle) -> Bundle
+    requires chosen { IsFeasible (wishes_of menu.now) (sections_of chosen) }
+    requires few { length (sections_of chosen) + length later.now ≤ 8 }
+    requires later { IsAscending (sections_of chosen ++ ordinals later.now) }
+    ensures { IsBestOfThese (wishes_of menu.now) (sections_of chosen) (ordinals later.now) (sections_of result) }
+{
+    match later {
+        [] => chosen,
+        [section, more @ ..] => {
+            let without = best_from(menu, more, chosen);
+            match extended(menu, chosen, *section) {
+                Some(wider) => {
+                    let with_it = best_from(menu, more, wider);
+                    if prefers(menu, &with_it, &without) {
+                        with_it
+                    } else {
+                        without
+                    }
+                }
+                None => without,
+            }
+        }
+    }
+}
+
+// The bundle with one more section, where the student may take that.
+fn extended(menu: &Menu, chosen: Bundle, section: SectionNo) -> Option<Bundle>
+    requires room { length (sections_of chosen) < 8 }
+    requires above { IsAscending (sections_of chosen ++ section.0 ∷ []) }
+    ensures value { IfSome result (λ wider. sections_of wider ≡ sections_of chosen ++ section.0 ∷ []) }
+    ensures feasible { IfSome result (λ wider. IsFeasible (wishes_of menu.now) (sections_of wider)) }
+    ensures none { IfNone result (¬ IsFeasible (wishes_of menu.now) (sections_of chosen ++ section.0 ∷ [])) }
+{
+    let wider = chosen.with(section);
+    if feasible(menu, &wider) {
+        Some(wider)
+    } else {
+        None
+    }
+}

@@ -1,0 +1,382 @@
+// Audits of small markets. The texts are those of a second implementation, for the same tables and bundles.
+ghost use Rattle.std.specs.Prelude.{◌≡◌, ◌≤◌, IfOk, length, map};
+ghost use Rattle.std.specs.Arc.{arc_value};
+ghost use Rattle.demand_api.specs.Made.{MakeCrowd};
+ghost use Rattle.fairness_audit.specs.Texts.{AreRowsAmong};
+ghost use Rattle.fairness_audit.specs.Views.{row_of};
+
+use super::*;
+use bundle_rules::{Bundle, Menu, Rated};
+use course_catalog::read_catalog;
+use demand_api::Crowd;
+use gates::MeetingGate;
+use market_edge::{Gate, OpenGate};
+use market_units::{SectionNo, StudentNo, Tokens};
+use std::alloc::Global;
+use std::process::Abort;
+use std::sync::atomic::Ordering;
+use std::sync::{Arc, Wait};
+use std::test::Fail;
+use std::thread::Threads;
+use student_roll::read_roll;
+
+mod gates;
+
+// A section that is rated, with its course; each has one credit.
+fn rated(section: u16, course: u16, rating: u8) -> Rated {
+    Rated {
+        section: SectionNo(section),
+        course,
+        rating,
+        credits: 1,
+    }
+}
+
+// Puts a student behind those that there are: what it rates, one adjustment or none, the clashes of its places, the most sections that it
+// may take, and its budget.
+fn add_student<R: Abort>(
+    rt: &R,
+    alloc: Global,
+    crowd: &mut Crowd,
+    places: &[Rated],
+    pairs: &[(u8, u8, i16)],
+    clashes: &[u64],
+    courses: u8,
+    budget: u32,
+) -> Result<(), Fail> {
+    assert!(rt; Menu::may_build(places, pairs, clashes, 10, courses));
+    let menu = Menu::build(alloc, places, pairs, clashes, 10, courses)?;
+    crowd.menus.push(menu)?;
+    crowd.budgets.push(Tokens(budget))?;
+    Ok(())
+}
+
+// A crowd without students, of so many sections.
+fn nobody(alloc: Global, sections: u16) -> Crowd {
+    Crowd {
+        menus: Vec::new(alloc),
+        budgets: Vec::new(alloc),
+        sections,
+    }
+}
+
+// The bundle of these sections.
+fn bundle_of<R: Abort>(rt: &R, sections: &[u16]) -> Bundle {
+    let mut bundle = Bundle::empty();
+    for section in sections {
+        assert!(rt; bundle.sections().len() < 8);
+        assert!(rt; bundle.is_below(SectionNo(*section)));
+        bundle = bundle.with(SectionNo(*section));
+    }
+    bundle
+}
+
+// The rows of the crowd with these bundles, by so many workers.
+fn rows_of<R: Abort + Threads + Wait + Sync, G: Gate + Sync>(
+    rt: &R,
+    alloc: Global,
+    crowd: &Arc<Crowd>,
+    held: &[&[u16]],
+    workers: u16,
+    gate: &G,
+) -> Result<Vec<EnvyRow>, Fail>
+    requires crowd { MakeCrowd (arc_value crowd.now).menus.items (arc_value crowd.now).budgets.items (arc_value crowd.now).sections }
+    requires workers { (1 ≤ workers) × (workers ≤ 16) }
+    ensures { IfOk result (λ rows. AreRowsAmong (length (arc_value crowd.now).menus.items) (arc_value crowd.now).sections (map row_of rows.items)) }
+{
+    let mut bundles = Vec::new(alloc);
+    for sections in held {
+        bundles.push(bundle_of(rt, sections))?;
+    }
+    assert!(rt; is_allocation(crowd, &bundles));
+    let shared = Arc::try_clone(crowd)?;
+    let bundles = Arc::new(alloc, bundles)?;
+    Ok(audit(rt, alloc, shared, bundles, workers, gate)?)
+}
+
+// The text of the crowd with these bundles, by so many workers.
+fn text_of<R: Abort + Threads + Wait + Sync>(
+    rt: &R,
+    alloc: Global,
+    catalog: &[u8],
+    roll: &[u8],
+    crowd: &Arc<Crowd>,
+    settled: &[&[u16]],
+    last: &[&[u16]],
+    workers: u16,
+) -> Result<Vec<u8>, Fail>
+    requires workers { (1 ≤ workers) × (workers ≤ 16) }
+{
+    assert!(rt; catalog.len() < 10_000);
+    assert!(rt; roll.len() < 10_000);
+    let catalog = read_catalog(alloc, catalog).expect(rt, "a catalogue");
+    let roll = read_roll(alloc, roll).expect(rt, "a roll");
+    assert!(rt; crowd.is_whole());
+    assert_eq!(rt; catalog.len(), crowd.sections);
+    assert_eq!(rt; usize::from(roll.len()), crowd.menus.len());
+    let first = rows_of(rt, alloc, crowd, settled, workers, &OpenGate)?;
+    let second = rows_of(rt, alloc, crowd, last, workers, &OpenGate)?;
+    Ok(put_rows(alloc, &catalog, &roll, &first, &second)?)
+}
+
+// Tries the text with 1, 2 and 16 workers.
+fn try_text<R: Abort + Threads + Wait + Sync>(
+    rt: &R,
+    alloc: Global,
+    tables: [&[u8]; 2],
+    crowd: Crowd,
+    settled: &[&[u16]],
+    last: &[&[u16]],
+    text: &[u8],
+) -> Result<(), Fail> {
+    let crowd = Arc::new(alloc, crowd)?;
+    for workers in [1, 2, 16] {
+        let found = text_of(
+            rt, alloc, tables[0], tables[1], &crowd, settled, last, workers,
+        )?;
+        assert_eq!(rt; found.as_slice(), text);
+    }
+    Ok(())
+}
+
+const ONE_SECTION: &[u8] = b"section,course,seats,credits,meetings\nX,XX,1,1,\n";
+
+// Four students of budgets 100 to 103 who want one section.
+fn four_students<R: Abort>(rt: &R, alloc: Global) -> Result<Crowd, Fail> {
+    let mut crowd = nobody(alloc, 1);
+    for more in 0..4u32 {
+        add_student(
+            rt,
+            alloc,
+            &mut crowd,
+            &[rated(0, 0, 50)],
+            &[],
+            &[0],
+            1,
+            100 + more,
+        )?;
+    }
+    Ok(crowd)
+}
+
+const FOUR_NAMES: &[u8] =
+    b"student,budget,credits,courses\ns1,100,10,1\ns2,101,10,1\ns3,102,10,1\ns4,103,10,1\n";
+
+#[test]
+fn four_students_one_seat(rt: HostRuntime) -> Result<(), Fail> {
+    let alloc = rt.alloc();
+    let held = [[].as_slice(), &[], &[], &[0]];
+    try_text(
+        &rt,
+        alloc,
+        [ONE_SECTION, FOUR_NAMES],
+        four_students(&rt, alloc)?,
+        &held,
+        &held,
+        b"settled s1 0 1 0\nsees s4 [X] but for X\nsettled s2 0 1 0\nsees s4 [X] but for X\nsettled s3 0 1 0\nsees s4 [X] but for X\nsettled s4 0 0 0\nsettled total 0 3 0\nfinal s1 0 1 0\nsees s4 [X] but for X\nfinal s2 0 1 0\nsees s4 [X] but for X\nfinal s3 0 1 0\nsees s4 [X] but for X\nfinal s4 0 0 0\nfinal total 0 3 0\n",
+    )
+}
+
+// Of two students with equal budgets the first gets the section in the aftermarket.
+#[test]
+fn equal_budgets_envy_after_the_aftermarket(rt: HostRuntime) -> Result<(), Fail> {
+    let alloc = rt.alloc();
+    let mut crowd = nobody(alloc, 1);
+    for _ in 0..2 {
+        add_student(
+            &rt,
+            alloc,
+            &mut crowd,
+            &[rated(0, 0, 50)],
+            &[],
+            &[0],
+            1,
+            100,
+        )?;
+    }
+    try_text(
+        &rt,
+        alloc,
+        [
+            ONE_SECTION,
+            b"student,budget,credits,courses\nu,100,10,1\nv,100,10,1\n",
+        ],
+        crowd,
+        &[&[], &[]],
+        &[&[0], &[]],
+        b"settled u 0 0 0\nsettled v 0 0 0\nsettled total 0 0 0\nfinal u 0 0 0\nfinal v 1 0 0\nsees u [X] but for X\nfinal total 1 0 0\n",
+    )
+}
+
+// The budgets are the drawn ones, 100 and 90 with 15 carried over.
+#[test]
+fn carried_tokens_count_for_higher_and_lower(rt: HostRuntime) -> Result<(), Fail> {
+    let alloc = rt.alloc();
+    let mut crowd = nobody(alloc, 1);
+    for budget in [100, 105] {
+        add_student(
+            &rt,
+            alloc,
+            &mut crowd,
+            &[rated(0, 0, 50)],
+            &[],
+            &[0],
+            1,
+            budget,
+        )?;
+    }
+    try_text(
+        &rt,
+        alloc,
+        [
+            ONE_SECTION,
+            b"student,budget,credits,courses,carry\nu,100,10,1,0\nv,90,10,1,15\n",
+        ],
+        crowd,
+        &[&[], &[0]],
+        &[&[], &[0]],
+        b"settled u 0 1 0\nsees v [X] but for X\nsettled v 0 0 0\nsettled total 0 1 0\nfinal u 0 1 0\nsees v [X] but for X\nfinal v 0 0 0\nfinal total 0 1 0\n",
+    )
+}
+
+const TWO_NAMES: &[u8] = b"student,budget,credits,courses\nu,300,10,3\nv,100,10,3\n";
+
+// Without either of two sections of equal rating the other is still better than nothing.
+#[test]
+fn envy_beyond_one_section(rt: HostRuntime) -> Result<(), Fail> {
+    let alloc = rt.alloc();
+    let mut crowd = nobody(alloc, 3);
+    let both = [rated(0, 0, 50), rated(1, 1, 50), rated(2, 2, 10)];
+    add_student(&rt, alloc, &mut crowd, &both, &[], &[0; 3], 3, 300)?;
+    add_student(&rt, alloc, &mut crowd, &both[..2], &[], &[0; 2], 3, 100)?;
+    try_text(
+        &rt,
+        alloc,
+        [
+            b"section,course,seats,credits,meetings\nA,AA,1,1,\nB,BB,1,1,\nC,CC,1,1,\n",
+            TWO_NAMES,
+        ],
+        crowd,
+        &[&[0, 1, 2], &[]],
+        &[&[0, 1, 2], &[]],
+        b"settled u 0 0 0\nsettled v 0 1 1\nsees u [A,B] beyond one\nsettled total 0 1 1\nfinal u 0 0 0\nfinal v 0 1 1\nsees u [A,B] beyond one\nfinal total 0 1 1\n",
+    )
+}
+
+// What a student does not rate it does not see.
+#[test]
+fn sees_only_what_is_of_use(rt: HostRuntime) -> Result<(), Fail> {
+    let alloc = rt.alloc();
+    let mut crowd = nobody(alloc, 2);
+    let both = [rated(0, 0, 50), rated(1, 1, 50)];
+    add_student(&rt, alloc, &mut crowd, &both, &[], &[0; 2], 2, 300)?;
+    add_student(&rt, alloc, &mut crowd, &both[1..], &[], &[0], 2, 100)?;
+    try_text(
+        &rt,
+        alloc,
+        [
+            b"section,course,seats,credits,meetings\nA,AA,1,1,\nB,BB,1,1,\n",
+            TWO_NAMES,
+        ],
+        crowd,
+        &[&[0, 1], &[]],
+        &[&[0, 1], &[]],
+        b"settled u 0 0 0\nsettled v 0 1 0\nsees u [B] but for B\nsettled total 0 1 0\nfinal u 0 0 0\nfinal v 0 1 0\nsees u [B] but for B\nfinal total 0 1 0\n",
+    )
+}
+
+// Three students, of whom one adjusts two sections and one rates two that clash.
+#[test]
+fn ordinary_term(rt: HostRuntime) -> Result<(), Fail> {
+    let alloc = rt.alloc();
+    let mut crowd = nobody(alloc, 4);
+    let ann = [rated(0, 0, 60), rated(1, 1, 30)];
+    let bob = [rated(0, 0, 50), rated(2, 2, 40)];
+    let cat = [rated(0, 0, 20), rated(3, 0, 45)];
+    add_student(&rt, alloc, &mut crowd, &ann, &[], &[0; 2], 2, 104)?;
+    add_student(&rt, alloc, &mut crowd, &bob, &[(0, 1, 10)], &[0; 2], 2, 103)?;
+    add_student(&rt, alloc, &mut crowd, &cat, &[], &[2, 1], 2, 102)?;
+    try_text(
+        &rt,
+        alloc,
+        [
+            b"section,course,seats,credits,meetings\nA,ACCT,1,1,\nB,BIOL,2,1,\nC,CHEM,2,1,\nD,ACCT,1,1,\n",
+            b"student,budget,credits,courses\nann,100,10,2\nbob,101,10,2\ncat,102,10,2\n",
+        ],
+        crowd,
+        &[&[0, 1], &[2], &[3]],
+        &[&[0, 1], &[2], &[3]],
+        b"settled ann 0 0 0\nsettled bob 0 1 0\nsees ann [A] but for A\nsettled cat 0 0 0\nsettled total 0 1 0\nfinal ann 0 0 0\nfinal bob 0 1 0\nsees ann [A] but for A\nfinal cat 0 0 0\nfinal total 0 1 0\n",
+    )
+}
+
+#[test]
+fn an_audit_of_nobody(rt: HostRuntime) -> Result<(), Fail> {
+    let alloc = rt.alloc();
+    try_text(
+        &rt,
+        alloc,
+        [ONE_SECTION, b"student,budget,credits,courses\n"],
+        nobody(alloc, 1),
+        &[],
+        &[],
+        b"settled total 0 0 0\nfinal total 0 0 0\n",
+    )
+}
+
+// One of two sections alone is worth more to the student than both, which it has: that is no envy of itself.
+#[test]
+fn nobody_envies_himself(rt: HostRuntime) -> Result<(), Fail> {
+    let alloc = rt.alloc();
+    let mut crowd = nobody(alloc, 2);
+    let both = [rated(0, 0, 10), rated(1, 1, 10)];
+    add_student(
+        &rt,
+        alloc,
+        &mut crowd,
+        &both,
+        &[(0, 1, -15)],
+        &[0; 2],
+        2,
+        100,
+    )?;
+    assert!(&rt; crowd.is_whole());
+    let crowd = Arc::new(alloc, crowd)?;
+    let rows = rows_of(&rt, alloc, &crowd, &[&[0, 1]], 1, &OpenGate)?;
+    let row = EnvyRow {
+        lower: 0,
+        higher: 0,
+        beyond: 0,
+        first: None,
+    };
+    assert_eq!(rt; rows.as_slice(), [row].as_slice());
+    Ok(())
+}
+
+// Two workers, neither of whom can post all rows before the other has posted one.
+#[test]
+fn two_workers_meet(rt: HostRuntime) -> Result<(), Fail> {
+    let alloc = rt.alloc();
+    let crowd = four_students(&rt, alloc)?;
+    assert!(rt; crowd.is_whole());
+    let crowd = Arc::new(alloc, crowd)?;
+    let gate = MeetingGate::new();
+    let rows = rows_of(&rt, alloc, &crowd, &[&[], &[], &[], &[0]], 2, &gate)?;
+    let seen = Seen {
+        student: StudentNo(3),
+        bundle: bundle_of(&rt, &[0]),
+        without: Some(SectionNo(0)),
+    };
+    assert_eq!(rt; rows.len(), 4);
+    for student in 0..4 {
+        let higher = u16::from(student < 3);
+        assert_eq!(rt; rows[student].lower, 0);
+        assert_eq!(rt; rows[student].higher, higher);
+        assert_eq!(rt; rows[student].beyond, 0);
+        assert!(rt; rows[student].first.is_none() || rows[student].first == Some(seen));
+    }
+    assert_eq!(rt; gate.missed.load(Ordering::SeqCst), 0);
+    assert_eq!(rt; gate.starts.load(Ordering::SeqCst), 2);
+    assert_eq!(rt; gate.others.load(Ordering::SeqCst), 0);
+    Ok(())
+}

@@ -1,0 +1,83 @@
+// Which bundles need no search, since all that could be seen in them is worth too little.
+ghost use Rattle.std.specs.Prelude.{◌≡◌, ◌≤◌, ◌<◌, ◌*◌, ◌+◌, ◌-◌, All, IsTrue, false, length, slice_index};
+ghost use Rattle.market_lists.specs.Totals.{total};
+ghost use Rattle.bundle_rules.specs.Bundles.{sections_of};
+ghost use Rattle.bundle_rules.specs.Menus.{IsMenu, adjustment_in, wishes_of};
+ghost use Rattle.bundle_rules.specs.Ordinals.{ordinals};
+ghost use Rattle.fairness_audit.specs.Envy.{is_more};
+ghost use Rattle.fairness_audit.specs.Weights.{AreWeights, gain, gains, weight_at};
+
+use bundle_rules::{Bundle, Menu};
+use market_units::SectionNo;
+
+// What each section can at most add to a bundle of a student, by ordinal. A section that the student does not rate adds nothing.
+pub(crate) type Weights = [u32; 400];
+
+// The weights of the sections of a menu: the rating, and all adjustments with later sections that are not negative.
+pub(crate) fn weights_of(menu: &Menu) -> Weights
+    ensures weights { AreWeights (wishes_of menu.now) result }
+    ensures few { All (λ weight. weight ≤ 20000) result }
+{
+    let mut weights = [0; 400];
+    'places: for place in 0..menu.len() {
+        let rated = menu.rated(place);
+        weights[usize::from(rated.section.0)] = u32::from(rated.rating)
+            + gains(menu, place, place + 1);
+    }
+    weights
+}
+
+// What the adjustments of a place with this one and those behind it add where they are not negative.
+fn gains(menu: &Menu, place: u8, other: u8) -> u32
+    requires menu { IsMenu menu.now }
+    requires place { place < length menu.now.places }
+    requires other { other ≤ length menu.now.places }
+    ensures value { result ≡ gains (adjustment_in menu.now.pairs place) other (length menu.now.places - other) }
+    ensures few { result ≤ 200 * (length menu.now.places - other) }
+{
+    if other >= menu.len() {
+        return 0;
+    }
+    gain(menu.adjustment(place, other)) + gains(menu, place, other + 1)
+}
+
+// The adjustment where it is not negative.
+fn gain(adjustment: i16) -> u32
+    ensures { result ≡ gain adjustment }
+{
+    if adjustment > 0 { adjustment as u32 } else { 0 }
+}
+
+// Whether what is seen in the bundle may be worth more than this: the weights of its sections are.
+pub(crate) fn may_be_more(menu: &Menu, weights: &Weights, own: i32, bundle: &Bundle) -> bool
+    requires weights { AreWeights (wishes_of menu.now) weights.now }
+    requires few { All (λ weight. weight ≤ 20000) weights.now }
+    ensures { result ≡ false → is_more menu.now own (sections_of bundle.now) ≡ false }
+{
+    i64::from(sum_of(weights, bundle.sections())) > i64::from(own)
+}
+
+// The weights of at most 8 sections, added up.
+fn sum_of(weights: &Weights, sections: &[SectionNo]) -> u32
+    requires weights { All (λ weight. weight ≤ 20000) weights.now }
+    requires few { length sections.now ≤ 8 }
+    ensures value { result ≡ total (slice_index weights.now) (ordinals sections.now) }
+    ensures few { result ≤ 20000 * length sections.now }
+{
+    match sections {
+        [] => 0,
+        [section, more @ ..] => weight_of(weights, *section) + sum_of(weights, more),
+    }
+}
+
+// The weight of a section.
+fn weight_of(weights: &Weights, section: SectionNo) -> u32
+    requires { All (λ weight. weight ≤ 20000) weights.now }
+    ensures value { result ≡ slice_index weights.now section.0 }
+    ensures few { result ≤ 20000 }
+{
+    match weights.get(usize::from(section.0)) {
+        Some(weight) => *weight,
+        None => 0,
+    }
+}

@@ -1,0 +1,124 @@
+// A term, the reasons for which its students do not have sections, and a forged text.
+ghost use Rattle.std.specs.Prelude.{◌≤◌};
+
+use super::*;
+use certificate_checker::{CheckEnd, Finding};
+use course_catalog::read_catalog;
+use market_certificate::LineFault;
+use market_settings::read_settings;
+use market_units::{SectionNo, StudentNo};
+use std::alloc::Global;
+use std::process::Abort;
+use std::test::Fail;
+use student_roll::read_roll;
+use utility_language::read_stream;
+
+const CATALOG: &[u8] = b"section,course,seats,credits,meetings
+A,AA,1,3,
+B,BB,1,2,
+C,CC,1,5,
+";
+
+const ROLL: &[u8] = b"student,budget,credits,courses
+ann,0,4,2
+bob,0,4,0
+";
+
+const SETTINGS: &[u8] =
+    b"{\"seed\":0,\"spread\":0,\"accept\":0,\"turns\":0,\"tabu\":5,\"patience\":3,\"steps\":[1],\"raise\":10}";
+
+const SESSION: &[u8] = b"rate ann A 50
+rate ann B 40
+rate ann C 99
+rate bob B 9
+";
+
+const TEXT: &[u8] = b"course-match 1
+order 1 1 1 1
+budget ann 0
+budget bob 0
+start A 0
+start B 0
+start C 0
+error 0
+price A 0
+price B 0
+price C 0
+bundle ann [A] +--*n
+bundle bob [] -*
+turn 1 ann [A] +--*n
+turn 1 bob [] -*
+final ann [A]
+final bob []
+used A 1 1
+used B 0 1
+used C 0 1
+end
+";
+
+// What is told of the student and the section by this text.
+fn told<R: Abort>(
+    rt: &R,
+    alloc: Global,
+    text: &[u8],
+    student: u16,
+    section: u16,
+) -> Result<Vec<u8>, CheckEnd> {
+    let catalog = read_catalog(alloc, CATALOG).expect(rt, "a catalogue");
+    let roll = read_roll(alloc, ROLL).expect(rt, "a roll");
+    let settings = read_settings(alloc, SETTINGS).expect(rt, "settings");
+    let stream = read_stream(alloc, SESSION, 100).expect(rt, "commands");
+    let mut streams = Vec::new(alloc);
+    streams.push(stream).expect(rt, "memory");
+    assert!(rt; text.len() < 1000);
+    assert!(rt; settings.spread <= 49 && settings.raise <= 50);
+    assert!(rt; student < roll.len());
+    assert!(rt; section < catalog.len());
+    published_reason(
+        alloc,
+        &catalog,
+        &roll,
+        &settings,
+        &streams,
+        text,
+        StudentNo(student),
+        SectionNo(section),
+    )
+}
+
+#[test]
+fn reasons_of_a_published_text(rt: HostRuntime) -> Result<(), Fail> {
+    let alloc = rt.alloc();
+    let cases: [(u16, u16, &[u8]); 4] = [
+        (0, 0, b"ann A held\n"),
+        (
+            0,
+            1,
+            b"ann B beside credits\nbest [B] 40\nlost 10\ntree +x!-*\n",
+        ),
+        (0, 2, b"ann C alone credits\n"),
+        (1, 1, b"bob B alone courses\n"),
+    ];
+    for (student, section, text) in cases {
+        let told = told(&rt, alloc, TEXT, student, section).expect(&rt, "an accepted text");
+        assert!(rt; told.as_slice() == text);
+    }
+    Ok(())
+}
+
+#[test]
+fn no_reason_of_a_text_that_is_not_accepted(rt: HostRuntime) -> Result<(), Fail> {
+    let alloc = rt.alloc();
+    let finding = Finding::Text {
+        line: 6,
+        kind: LineFault::Form,
+    };
+    let mut forged = TEXT.to_vec(alloc)?;
+    assert!(rt; forged.len() > 78);
+    forged[65] = b'x';
+    match told(&rt, alloc, &forged, 0, 0) {
+        Err(CheckEnd::Found(found)) => assert_eq!(rt; found, finding),
+        _ => assert!(rt; false),
+    }
+    Ok(())
+}
