@@ -145,7 +145,10 @@ fn request_of(rt: &impl Abort, word: &[u8], student: &[u8], section: &[u8]) -> H
 }
 
 // A desk at which the first student holds the first section.
-fn open(rt: &impl Abort, alloc: Global, catalog: &[u8], roll: &[u8]) -> HallDesk {
+fn open(rt: &impl Abort, alloc: Global, catalog: &[u8], roll: &[u8]) -> HallDesk
+    requires catalog { length catalog.now ≤ 1000 }
+    requires roll { length roll.now ≤ 1000 }
+{
     let catalog = read_catalog(alloc, catalog).expect(rt, "a catalogue");
     let roll = read_roll(alloc, roll).expect(rt, "a roll");
     let mut bundles = Vec::new(alloc);
