@@ -443,28 +443,18 @@ fn a_text_says_what_its_lines_say(rt: HostRuntime) -> Result<(), Fail> {
     let catalog = read_catalog(alloc, ORDINARY_TERM.catalog)?;
     let roll = read_roll(alloc, ORDINARY_TERM.roll)?;
     let publication = read_publication(alloc, &catalog, &roll, ORDINARY_TERM.text)?;
-    says_its_order(&rt, &publication);
-    says_its_prices(&rt, &publication);
-    Ok(())
-}
-
-// The order, the budgets and the used seats of the ordinary term.
-fn says_its_order(rt: &impl Abort, publication: &Publication) {
     assert_eq!(rt; publication.order.as_slice(), [1; 8].as_slice());
     assert!(rt;
         publication.budgets.as_slice() == [Tokens(104), Tokens(103), Tokens(102)].as_slice()
     );
-    assert_eq!(rt;
-        publication.used.as_slice(),
-        [(1, 1), (1, 2), (1, 2), (1, 1)].as_slice()
-    );
-}
-
-// The prices of the ordinary term, at its start and its end, and the error of the former.
-fn says_its_prices(rt: &impl Abort, publication: &Publication) {
     assert!(rt; publication.start.as_slice() == [Tokens(0); 4].as_slice());
     assert_eq!(rt; publication.error, 1);
     assert!(rt;
         publication.prices.as_slice() == [Tokens(104), Tokens(0), Tokens(0), Tokens(0)].as_slice()
     );
+    assert_eq!(rt;
+        publication.used.as_slice(),
+        [(1, 1), (1, 2), (1, 2), (1, 1)].as_slice()
+    );
+    Ok(())
 }
