@@ -12,6 +12,7 @@ use std::thread::Threads;
 mod check;
 mod cuts;
 mod demand;
+mod every_fault;
 mod faults;
 mod gates;
 mod limits;
