@@ -93,6 +93,7 @@ impl Reach {
     /// Whether nothing that completes the branch's node can be better than the champion: less can be reached than its
     /// utility, or less than one more, and the first decided section on which they differ is the champion's. So nothing
     /// that is wanted can, whatever bundles are wanted. The table is one that was measured for the same menu and budget.
+    #[inline(always)]
     pub fn closes(&self, menu: &Menu, budget: Tokens, branch: &Branch, champion: &Branch) -> bool
         requires branch { (price : ℕ → ℕ) × IsBranch menu.now price branch.now }
         requires place { branch.now.node.place ≤ length menu.now.places }
@@ -136,6 +137,7 @@ impl Reach {
     }
 
     // How many more sections fit the course cap and the credits of the lightest.
+    #[inline(always)]
     fn fitting(&self, menu: &Menu, branch: &Branch) -> usize
         requires { IsMenu menu.now }
         ensures within { result ≤ 8 }
@@ -149,6 +151,7 @@ impl Reach {
     }
 
     // A million times the most that can be added to what is hoped for at the branch's node.
+    #[inline(always)]
     fn added(&self, menu: &Menu, budget: Tokens, branch: &Branch) -> i64
         requires menu { IsMenu menu.now }
         requires place { branch.now.node.place ≤ length menu.now.places }
@@ -166,6 +169,7 @@ impl Reach {
     }
 
     // The same, of a table at some multipliers.
+    #[inline(always)]
     fn added_at(
         &self,
         menu: &Menu,

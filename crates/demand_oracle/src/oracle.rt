@@ -295,6 +295,7 @@ fn step(
 
 // Whether nothing more can be taken: all places are decided, or as many sections are chosen as the course cap allows.
 // Such a branch stands for its chosen sections alone.
+#[inline(always)]
 fn is_whole(menu: &Menu, branch: &Branch) -> bool
     ensures menu { IsMenu menu.now }
     ensures whole { IsTrue result ↔ ((length menu.now.places ≤ branch.now.node.place) ⊎ (menu.now.courses ≤ length (chosen_of branch.now))) }
