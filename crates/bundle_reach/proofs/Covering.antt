@@ -1,19 +1,18 @@
 -- What covers the values of so many places from one on, place by place.
-use Rattle.std.proofs.Common.{◌≡◌, ℕ, zero, suc, ◌+◌, ◌*◌, ◌≤◌, ◌<◌, max, false, true, List, [], ◌∷◌, length, set, sym, ap, subst, ◌∙◌, arith, inl, inr}
-use Rattle.std.specs.Prelude.{slice_index}
-use Rattle.std.proofs.lemmas.Bool.{cases_order, true≢false}
+use Rattle.std.proofs.Common.{◌≡◌, ℕ, zero, suc, ◌+◌, ◌*◌, ◌-◌, ◌≤◌, ◌<◌, max, false, true, List, [], ◌∷◌, length, set, replicate, sym, ap, subst, ◌∙◌, arith, inl, inr}
+use Rattle.std.proofs.lemmas.Bool.{cases_order, cases_lt, true≢false}
 use Rattle.market_lists.specs.Totals.{total}
 use Rattle.bundle_rules.specs.Existence.Members.{has-here, has-there, has-cases, has-above}
 use Rattle.bundle_rules.specs.Menus.{clash_in}
 use Rattle.bundle_bounds.specs.Offers.{Offer, allowed_at}
 use Rattle.bundle_reach.specs.declared.multipliers.Multipliers.{Multipliers}
-use Rattle.bundle_reach.specs.Values.{value}
-use Rattle.bundle_reach.specs.Covers.{AreApartFrom, Covers}
-use Rattle.bundle_reach.specs.Reaches.{number_at, HoldsCovers, AreSmall}
+use Rattle.bundle_reach.specs.Values.{value, units_at}
+use Rattle.bundle_reach.specs.Covers.{AreApartFrom, CoversWithin}
+use Rattle.bundle_reach.specs.Reaches.{within_at, HoldsCovers, AreSmall, IsPlaced}
 use Rattle.bundle_reach.proofs.Additions.{rest_from}
-use Rattle.bundle_reach.proofs.Hoping.{row_same, row_other}
+use Rattle.bundle_reach.proofs.Hoping.{row_same, row_other, zero_row}
 
-module _ (offer : Offer) (multipliers : Multipliers) where
+module _ (offer : Offer) (multipliers : Multipliers) (shift : ℕ) where
   -- places of which the first is later than k are places from the next one on
   from_next : (k p : ℕ) (ps : List ℕ) → AreApartFrom offer k (p ∷ ps) → k < p → AreApartFrom offer (k + 1) (p ∷ ps)
   from_next k p ps free low = record {
@@ -25,22 +24,37 @@ module _ (offer : Offer) (multipliers : Multipliers) where
   }
 
   -- past the last place there is none
-  pub covers_past : (k count most : ℕ) → length offer.menu.places ≤ k → Covers offer multipliers k count most
-  covers_past k count most past [] free few = omega arith
-  covers_past k count most past (p ∷ ps) free few = let a = free.later p (has-here p ps) in let b = free.on_menu p (has-here p ps) in absurd (omega arith)
+  pub covers_past : (k count units most : ℕ) → length offer.menu.places ≤ k → CoversWithin offer multipliers shift k count units most
+  covers_past k count units most past [] free few cheap = omega arith
+  covers_past k count units most past (p ∷ ps) free few cheap = let a = free.later p (has-here p ps) in let b = free.on_menu p (has-here p ps) in absurd (omega arith)
 
   -- no place adds nothing
-  pub covers_none : (k most : ℕ) → Covers offer multipliers k 0 most
-  covers_none k most [] free few = omega arith
-  covers_none k most (p ∷ ps) free few = absurd (omega arith)
+  pub covers_none : (k units most : ℕ) → CoversWithin offer multipliers shift k 0 units most
+  covers_none k units most [] free few cheap = omega arith
+  covers_none k units most (p ∷ ps) free few cheap = absurd (omega arith)
 
   -- a place that is not allowed is none of them
-  pub covers_not_allowed : (k count most : ℕ) → allowed_at offer k ≡ false → Covers offer multipliers (k + 1) count most → Covers offer multipliers k count most
-  covers_not_allowed k count most off covers [] free few = omega arith
-  covers_not_allowed k count most off covers (p ∷ ps) free few =
+  pub covers_not_allowed : (k count units most : ℕ) → allowed_at offer k ≡ false → CoversWithin offer multipliers shift (k + 1) count units most → CoversWithin offer multipliers shift k count units most
+  covers_not_allowed k count units most off covers [] free few cheap = omega arith
+  covers_not_allowed k count units most off covers (p ∷ ps) free few cheap =
       elim (cases_order k p) [
         | inl same ↦ absurd (true≢false (sym (free.allowed p (has-here p ps)) ∙ ap (allowed_at offer) (sym same) ∙ off))
-        | inr (inl below) ↦ covers (p ∷ ps) (from_next k p ps free below) few
+        | inr (inl below) ↦ covers (p ∷ ps) (from_next k p ps free below) few cheap
+        | inr (inr above) ↦ let a = free.later p (has-here p ps) in absurd (omega arith)
+      ]
+
+  -- nor is one that costs more
+  pub covers_dear : (k count units most : ℕ) → units < units_at offer shift k → CoversWithin offer multipliers shift (k + 1) count units most → CoversWithin offer multipliers shift k count units most
+  covers_dear k count units most dear covers [] free few cheap = omega arith
+  covers_dear k count units most dear covers (p ∷ ps) free few cheap =
+      elim (cases_order k p) [
+        | inl same ↦
+            let t : ℕ = total (units_at offer shift) ps in
+            let cost : ℕ = units_at offer shift p in
+            let whole : cost + t ≤ units = cheap in
+            let dear' : units < cost = subst (λ q. units < units_at offer shift q) same dear in
+            absurd (omega arith)
+        | inr (inl below) ↦ covers (p ∷ ps) (from_next k p ps free below) few cheap
         | inr (inr above) ↦ let a = free.later p (has-here p ps) in absurd (omega arith)
       ]
 
@@ -62,77 +76,110 @@ module _ (offer : Offer) (multipliers : Multipliers) where
       }
 
   -- with a place or without it
-  pub covers_place : (k next count later apart : ℕ) → ((other : ℕ) → k + 1 ≤ other → other < next → clash_in offer.menu.clashes k other ≡ true)
-      → Covers offer multipliers (k + 1) (count + 1) later → Covers offer multipliers next count apart → Covers offer multipliers k (count + 1) (max later (apart + value offer multipliers k))
-  covers_place k next count later apart between without with_it [] free few = omega arith
-  covers_place k next count later apart between without with_it (p ∷ ps) free few =
+  pub covers_place : (k next count units later apart v : ℕ) → ((other : ℕ) → k + 1 ≤ other → other < next → clash_in offer.menu.clashes k other ≡ true) → units_at offer shift k ≤ units → value offer multipliers k ≤ 1000 * v
+      → CoversWithin offer multipliers shift (k + 1) (count + 1) units later → CoversWithin offer multipliers shift next count (units - units_at offer shift k) apart → CoversWithin offer multipliers shift k (count + 1) units (max later (apart + v))
+  covers_place k next count units later apart v between fits high without with_it [] free few cheap = omega arith
+  covers_place k next count units later apart v between fits high without with_it (p ∷ ps) free few cheap =
       elim (cases_order k p) [
         | inl same ↦
             let free' : AreApartFrom offer k (k ∷ ps) = subst (λ q. AreApartFrom offer k (q ∷ ps)) (sym same) free in
             let fewer : length ps ≤ count = omega arith in
+            let cost : ℕ = units_at offer shift k in
+            let c : ℕ = total (units_at offer shift) ps in
+            let whole : cost + c ≤ units = subst (λ q. units_at offer shift q + c ≤ units) (sym same) cheap in
+            let cheaper : c ≤ units - cost = omega arith in
             let t : ℕ = total (value offer multipliers) ps in
-            let rest : t ≤ apart = with_it ps (after_clashes k next ps between free') fewer in
-            let v : ℕ = value offer multipliers k in
-            let goal : v + t ≤ max later (apart + v) = omega arith in
-            subst (λ q. value offer multipliers q + t ≤ max later (apart + v)) same goal
+            let rest : t ≤ 1000 * apart = with_it ps (after_clashes k next ps between free') fewer cheaper in
+            let one : ℕ = value offer multipliers k in
+            let high' : one ≤ 1000 * v = high in
+            let goal : one + t ≤ 1000 * max later (apart + v) = omega arith in
+            subst (λ q. value offer multipliers q + t ≤ 1000 * max later (apart + v)) same goal
         | inr (inl below) ↦
             let t : ℕ = total (value offer multipliers) (p ∷ ps) in
-            let rest : t ≤ later = without (p ∷ ps) (from_next k p ps free below) few in
-            let v : ℕ = value offer multipliers k in
-            let goal : t ≤ max later (apart + v) = omega arith in goal
+            let rest : t ≤ 1000 * later = without (p ∷ ps) (from_next k p ps free below) few cheap in
+            let goal : t ≤ 1000 * max later (apart + v) = omega arith in goal
         | inr (inr above) ↦ let a = free.later p (has-here p ps) in absurd (omega arith)
       ]
 
-  -- a table that covers what can be added from the next place on, with the row of a place
-  pub covers_more : (table : List (List ℕ)) (k : ℕ) (row : List ℕ) → k < length table → HoldsCovers offer multipliers table (k + 1) → ((count : ℕ) → count ≤ 8 → Covers offer multipliers k count (slice_index row count)) → HoldsCovers offer multipliers (set table k row) k
-  covers_more table k row low holds is j count from on few =
+  -- the numbers of a place cover what can be added from it on
+  placed_at : (k next v cost : ℕ) (old new : List (List ℕ)) → k < length offer.menu.places → next ≤ length offer.menu.places → IsPlaced offer.menu.courses v cost k next old new → k + 1 ≤ next → HoldsCovers offer multipliers shift old (k + 1)
+      → ((other : ℕ) → k + 1 ≤ other → other < next → clash_in offer.menu.clashes k other ≡ true) → value offer multipliers k ≤ 1000 * v → cost ≡ units_at offer shift k
+      → (count units : ℕ) → count ≤ offer.menu.courses → units < 64 → CoversWithin offer multipliers shift k count units (within_at new k count units)
+  placed_at k next v cost old new low on is up holds between high costs zero units few cheap = covers_none k units (within_at new k 0 units)
+  placed_at k next v cost old new low on is up holds between high costs (suc count) units few cheap =
+      let e : suc count ≡ count + 1 = omega arith in
+      let without = holds (k + 1) (count + 1) units (omega arith) (omega arith) (omega arith) cheap in
+      subst (λ n. CoversWithin offer multipliers shift k n units (within_at new k n units)) (sym e) (elim (cases_lt units cost) [
+        | inl dear ↦
+            let read : within_at old (k + 1) (count + 1) units ≡ within_at new k (count + 1) units = sym (is.dear count units (omega arith) cheap dear) in
+            subst (CoversWithin offer multipliers shift k (count + 1) units) read (covers_dear k (count + 1) units (within_at old (k + 1) (count + 1) units) (subst (λ n. units < n) costs dear) without)
+        | inr fits ↦
+            let read : max (within_at old (k + 1) (count + 1) units) (within_at old next count (units - cost) + v) ≡ within_at new k (count + 1) units = sym (is.more count units (omega arith) cheap (omega arith)) in
+            let with_it = holds next count (units - cost) up on (omega arith) (omega arith) in
+            subst (CoversWithin offer multipliers shift k (count + 1) units) read
+            (covers_place k next count units (within_at old (k + 1) (count + 1) units) (within_at old next count (units - cost)) v between (subst (λ n. n ≤ units) costs (omega arith)) high without
+            (subst (λ n. CoversWithin offer multipliers shift next count (units - n) (within_at old next count (units - cost))) costs with_it))
+      ])
+
+  -- those of one that is not allowed
+  not_placed_at : (k next v cost : ℕ) (old new : List (List ℕ)) → k < length offer.menu.places → IsPlaced offer.menu.courses v cost k next old new → HoldsCovers offer multipliers shift old (k + 1) → allowed_at offer k ≡ false → 64 ≤ cost
+      → (count units : ℕ) → count ≤ offer.menu.courses → units < 64 → CoversWithin offer multipliers shift k count units (within_at new k count units)
+  not_placed_at k next v cost old new low is holds off dear zero units few cheap = covers_none k units (within_at new k 0 units)
+  not_placed_at k next v cost old new low is holds off dear (suc count) units few cheap =
+      let e : suc count ≡ count + 1 = omega arith in
+      let without = holds (k + 1) (count + 1) units (omega arith) (omega arith) (omega arith) cheap in
+      let read : within_at old (k + 1) (count + 1) units ≡ within_at new k (count + 1) units = sym (is.dear count units (omega arith) cheap (omega arith)) in
+      subst (λ n. CoversWithin offer multipliers shift k n units (within_at new k n units)) (sym e) (subst (CoversWithin offer multipliers shift k (count + 1) units) read (covers_not_allowed k (count + 1) units (within_at old (k + 1) (count + 1) units) off without))
+
+  -- with the numbers of a place the table covers what can be added from it on
+  with_place : (k next v cost : ℕ) (old new : List (List ℕ)) → offer.menu.courses ≤ 8 → IsPlaced offer.menu.courses v cost k next old new → HoldsCovers offer multipliers shift old (k + 1)
+      → ((count units : ℕ) → count ≤ offer.menu.courses → units < 64 → CoversWithin offer multipliers shift k count units (within_at new k count units)) → HoldsCovers offer multipliers shift new k
+  with_place k next v cost old new capped is holds here j count units from on few cheap =
       elim (cases_order j k) [
-        | inl same ↦
-            subst (λ n. Covers offer multipliers n count (number_at (set table k row) n count)) (sym same) (subst (Covers offer multipliers k count) (sym (row_same table k row count low)) (is count few))
+        | inl same ↦ subst (λ n. CoversWithin offer multipliers shift n count units (within_at new n count units)) (sym same) (here count units few cheap)
         | inr (inl below) ↦ absurd (omega arith)
-        | inr (inr above) ↦ subst (Covers offer multipliers j count) (sym (row_other table k j row count (λ e. absurd (omega arith)))) (holds j count (omega arith) on few)
+        | inr (inr above) ↦ subst (CoversWithin offer multipliers shift j count units) (sym (is.later j count units (omega arith) (omega arith))) (holds j count units (omega arith) on few cheap)
       ]
 
-  -- the row past the last place
-  pub covers_last : (table : List (List ℕ)) (row : List ℕ) → HoldsCovers offer multipliers (set table (length offer.menu.places) row) (length offer.menu.places)
-  covers_last table row j count from on few = covers_past j count _ from
+  pub covers_placed : (k next v cost : ℕ) (old new : List (List ℕ)) → offer.menu.courses ≤ 8 → k < length offer.menu.places → next ≤ length offer.menu.places → k + 1 ≤ next → IsPlaced offer.menu.courses v cost k next old new
+      → ((other : ℕ) → k + 1 ≤ other → other < next → clash_in offer.menu.clashes k other ≡ true) → value offer multipliers k ≤ 1000 * v → cost ≡ units_at offer shift k → HoldsCovers offer multipliers shift old (k + 1) → HoldsCovers offer multipliers shift new k
+  covers_placed k next v cost old new capped low on up is between high costs holds = with_place k next v cost old new capped is holds (placed_at k next v cost old new low on is up holds between high costs)
 
--- numbers stay small
-pub small_more : (table : List (List ℕ)) (k last : ℕ) (row : List ℕ) → k < length table → AreSmall table (k + 1) last → ((count : ℕ) → count ≤ 8 → slice_index row count ≤ 65635000000 * count) → AreSmall (set table k row) k last
-small_more table k last row low small is j count from on few =
-    elim (cases_order j k) [
-      | inl same ↦ subst (λ n. number_at (set table k row) n count ≤ 65635000000 * count) (sym same) (subst (λ x. x ≤ 65635000000 * count) (sym (row_same table k row count low)) (is count few))
-      | inr (inl below) ↦ absurd (omega arith)
-      | inr (inr above) ↦ subst (λ x. x ≤ 65635000000 * count) (sym (row_other table k j row count (λ e. absurd (omega arith)))) (small j count (omega arith) on few)
+  pub covers_not_placed : (k next v cost : ℕ) (old new : List (List ℕ)) → offer.menu.courses ≤ 8 → k < length offer.menu.places → IsPlaced offer.menu.courses v cost k next old new → allowed_at offer k ≡ false → 64 ≤ cost → HoldsCovers offer multipliers shift old (k + 1) → HoldsCovers offer multipliers shift new k
+  covers_not_placed k next v cost old new capped low is off dear holds = with_place k next v cost old new capped is holds (not_placed_at k next v cost old new low is holds off dear)
+
+  -- past the last place
+  pub covers_last : (table : List (List ℕ)) → HoldsCovers offer multipliers shift table (length offer.menu.places)
+  covers_last table j count units from on few cheap = covers_past j count units _ from
+
+-- a row of zeros is written for a count
+pub nothing_more : (table : List (List ℕ)) (place count room : ℕ) → place * 9 + count < length table → ((c u : ℕ) → c < count → within_at table place c u ≡ 0)
+    → (c u : ℕ) → c < count + 1 → within_at (set table (place * 9 + count) (replicate room 0)) place c u ≡ 0
+nothing_more table place count room low before c u few =
+    elim (cases_order c count) [
+      | inl same ↦ ap (λ n. within_at (set table (place * 9 + count) (replicate room 0)) place n u) same ∙ row_same table (place * 9 + count) (replicate room 0) u low ∙ zero_row room u
+      | inr (inl below) ↦ row_other table (place * 9 + count) (place * 9 + c) (replicate room 0) u (λ e. absurd (omega arith)) ∙ before c u below
+      | inr (inr above) ↦ absurd (omega arith)
     ]
 
-pub small_last : (table : List (List ℕ)) (last : ℕ) (row : List ℕ) → last < length table → ((count : ℕ) → slice_index row count ≡ 0) → AreSmall (set table last row) last last
-small_last table last row low zeros j count from on few =
-    let same : j ≡ last = omega arith in
-    let read : number_at (set table last row) j count ≡ 0 = ap (λ n. number_at (set table last row) n count) same ∙ row_same table last row count low ∙ zeros count in omega arith
-
--- a row of the greater ones of two rows, of which the second adds a place
-pub row_covers : (offer : Offer) (multipliers : Multipliers) (k next v : ℕ) (row later apart : List ℕ) → ((other : ℕ) → k + 1 ≤ other → other < next → clash_in offer.menu.clashes k other ≡ true) → v ≡ value offer multipliers k
-    → ((count : ℕ) → count ≤ 8 → Covers offer multipliers (k + 1) count (slice_index later count)) → ((count : ℕ) → count ≤ 8 → Covers offer multipliers next count (slice_index apart count))
-    → ((count : ℕ) → count < 8 → slice_index row (count + 1) ≡ max (slice_index later (count + 1)) (slice_index apart count + v))
-    → (count : ℕ) → count ≤ 8 → Covers offer multipliers k count (slice_index row count)
-row_covers offer multipliers k next v row later apart between is first second more zero few = covers_none offer multipliers k (slice_index row 0)
-row_covers offer multipliers k next v row later apart between is first second more (suc count) few =
-    let e : suc count ≡ count + 1 = omega arith in
-    let both = covers_place offer multipliers k next count (slice_index later (count + 1)) (slice_index apart count) between (first (count + 1) (omega arith)) (second count (omega arith)) in
-    let read : max (slice_index later (count + 1)) (slice_index apart count + value offer multipliers k) ≡ slice_index row (count + 1) =
-    ap (λ n. max (slice_index later (count + 1)) (slice_index apart count + n)) (sym is) ∙ sym (more count (omega arith)) in
-    subst (λ n. Covers offer multipliers k n (slice_index row n)) (sym e) (subst (Covers offer multipliers k (count + 1)) read both)
-
-pub row_small : (v : ℕ) (row later apart : List ℕ) → v ≤ 65635000000 → slice_index row 0 ≡ slice_index later 0
-    → ((count : ℕ) → count ≤ 8 → slice_index later count ≤ 65635000000 * count) → ((count : ℕ) → count ≤ 8 → slice_index apart count ≤ 65635000000 * count)
-    → ((count : ℕ) → count < 8 → slice_index row (count + 1) ≡ max (slice_index later (count + 1)) (slice_index apart count + v))
-    → (count : ℕ) → count ≤ 8 → slice_index row count ≤ 65635000000 * count
-row_small v row later apart high none first second more zero few = rw none (first 0 few)
-row_small v row later apart high none first second more (suc count) few =
-    let e : suc count ≡ count + 1 = omega arith in
-    let read : slice_index row (count + 1) ≡ max (slice_index later (count + 1)) (slice_index apart count + v) = more count (omega arith) in
-    let a : slice_index later (count + 1) ≤ 65635000000 * (count + 1) = first (count + 1) (omega arith) in
-    let b : slice_index apart count ≤ 65635000000 * count = second count (omega arith) in
-    let goal : slice_index row (count + 1) ≤ 65635000000 * (count + 1) = omega arith in
-    subst (λ n. slice_index row n ≤ 65635000000 * n) (sym e) goal
+-- numbers stay small
+pub small_placed : (courses v cost k next last : ℕ) (old new : List (List ℕ)) → courses ≤ 8 → v ≤ 65635001 → k < last → k + 1 ≤ next → next ≤ last → IsPlaced courses v cost k next old new → AreSmall courses old (k + 1) last → AreSmall courses new k last
+small_placed courses v cost k next last old new capped high low up on is small j count units from to few cheap =
+    elim (cases_order j k) [
+      | inl same ↦ subst (λ n. within_at new n count units ≤ 65635001 * count) (sym same) (here count few)
+      | inr (inl below) ↦ absurd (omega arith)
+      | inr (inr above) ↦ subst (λ n. n ≤ 65635001 * count) (sym (is.later j count units (omega arith) (omega arith))) (small j count units (omega arith) to few cheap)
+    ]
+  where
+    here : (n : ℕ) → n ≤ courses → within_at new k n units ≤ 65635001 * n
+    here zero few' = subst (λ x. x ≤ 65635001 * 0) (sym (is.none units)) (small (k + 1) 0 units (omega arith) (omega arith) few' cheap)
+    here (suc n) few' =
+        let e : suc n ≡ n + 1 = omega arith in
+        let a : within_at old (k + 1) (n + 1) units ≤ 65635001 * (n + 1) = small (k + 1) (n + 1) units (omega arith) (omega arith) (omega arith) cheap in
+        subst (λ m. within_at new k m units ≤ 65635001 * m) (sym e) (elim (cases_lt units cost) [
+          | inl dear ↦ subst (λ x. x ≤ 65635001 * (n + 1)) (sym (is.dear n units (omega arith) cheap dear)) a
+          | inr fits ↦
+              let read : within_at new k (n + 1) units ≡ max (within_at old (k + 1) (n + 1) units) (within_at old next n (units - cost) + v) = is.more n units (omega arith) cheap (omega arith) in
+              let b : within_at old next n (units - cost) ≤ 65635001 * n = small next n (units - cost) up on (omega arith) (omega arith) in
+              let goal : within_at new k (n + 1) units ≤ 65635001 * (n + 1) = omega arith in goal
+        ])

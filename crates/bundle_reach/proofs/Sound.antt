@@ -1,5 +1,7 @@
 -- A million times the utility of what completes a node is at most what can be reached from it.
-use Rattle.std.proofs.Common.{◌≡◌, ℕ, suc, ◌+◌, ◌*◌, ◌-◌, ◌≤◌, ◌<◌, true, false, List, [], ◌∷◌, ◌++◌, length, sym, ap, subst, ◌∙◌, arith, inl, inr, length-append, suc-mul}
+use Rattle.std.proofs.Common.{◌≡◌, ℕ, suc, ◌+◌, ◌*◌, ◌-◌, ◌/◌, ◌^◌, ◌≤◌, ◌<◌, true, List, [], ◌∷◌, ◌++◌, length, ap, subst, ◌∙◌, arith, length-append, suc-mul}
+use Rattle.std.proofs.lemmas.Nat.{pow_pos}
+use Rattle.std.proofs.Math.Nat.{add-mul, div-mul-le_self, le-div_iff_mul-le}
 use Rattle.std.specs.Prelude.{ℤ, pos, ◌+ℤ◌, ◌*ℤ◌, ◌≤ℤ◌}
 use Rattle.std.proofs.lemmas.Int.{ints}
 use Rattle.std.proofs.lemmas.List.{length-map}
@@ -18,10 +20,10 @@ use Rattle.bundle_bounds.proofs.Soundness.{same_below}
 use Rattle.bundle_bounds.proofs.Openness.{MayBeTaken, ascending_rest, has-append_right, front_of}
 use Rattle.bundle_bounds.proofs.ByPlace.{taken_places, has-places}
 use Rattle.bundle_reach.specs.declared.multipliers.Multipliers.{Multipliers}
-use Rattle.bundle_reach.specs.Values.{hopes_from, most_added, value}
+use Rattle.bundle_reach.specs.Values.{hopes_from, most_added, value, units_at}
 use Rattle.bundle_reach.specs.Covers.{AreApartFrom, reach_of}
 use Rattle.bundle_reach.specs.Reaches.{IsLightest}
-use Rattle.bundle_reach.specs.Laws.{ReachIsSound}
+use Rattle.bundle_reach.specs.Laws.{ReachIsSound, ReachWithinIsSound}
 use Rattle.bundle_reach.proofs.Additions.{rest_from, gain_hoped, most_added_within}
 
 -- the places that complete chosen ones
@@ -91,6 +93,42 @@ reach_is_sound offer multipliers k chosen bundle count most menu node may comple
     let split : length ps ≡ length cs + length ds = added.1.count in
     let within : length ds ≤ count = omega arith in
     subst (λ u. (pos 1000000 *ℤ u) ≤ℤ reach_of offer multipliers k cs most) (utility_by_place offer.menu bundle) (reached offer multipliers k most cs ps ds added.1 (covers ds added.1.free within))
+
+-- whole units of places are no more than those of their prices
+units_times : (offer : Offer) (shift : ℕ) (ds : List ℕ) → total (units_at offer shift) ds * 2 ^ shift ≤ total (price_at offer) ds
+units_times offer shift [] = omega arith
+units_times offer shift (d ∷ ds) =
+    let rest = units_times offer shift ds in
+    let price : ℕ = price_at offer d in
+    let prices : ℕ = total (price_at offer) ds in
+    let cost : ℕ = units_at offer shift d in
+    let costs : ℕ = total (units_at offer shift) ds in
+    let rest' : costs * 2 ^ shift ≤ prices = rest in
+    let one : cost * 2 ^ shift ≤ price = div-mul-le_self price (2 ^ shift) in
+    let split : (cost + costs) * 2 ^ shift ≡ cost * 2 ^ shift + costs * 2 ^ shift = add-mul cost costs (2 ^ shift) in
+    rw split (let goal : cost * 2 ^ shift + costs * 2 ^ shift ≤ price + prices = omega arith in goal)
+
+units_fit : (offer : Offer) (shift budget : ℕ) (ds : List ℕ) → total (price_at offer) ds ≤ budget → total (units_at offer shift) ds ≤ budget / 2 ^ shift
+units_fit offer shift budget ds affordable =
+    let costs : ℕ = total (units_at offer shift) ds in
+    let prices : ℕ = total (price_at offer) ds in
+    let times : costs * 2 ^ shift ≤ prices = units_times offer shift ds in
+    let within : prices ≤ budget = affordable in
+    let fits : costs * 2 ^ shift ≤ budget = omega arith in
+    (le-div_iff_mul-le (pow_pos shift)).1 fits
+
+pub reach_within_is_sound : ReachWithinIsSound
+reach_within_is_sound offer multipliers shift k chosen bundle count most menu node may completes few covers =
+    let cs = places_of offer.menu chosen in
+    let ps = places_of offer.menu bundle in
+    let added = added_places offer k chosen bundle menu node may completes in
+    let ds = added.0 in
+    let whole : length ps ≡ length bundle = length-map bundle (place_in offer.menu.places) in
+    let front : length cs ≡ length chosen = length-map chosen (place_in offer.menu.places) in
+    let split : length ps ≡ length cs + length ds = added.1.count in
+    let within : length ds ≤ count = omega arith in
+    let cheap = units_fit offer shift (budget_left offer cs) ds added.1.affordable in
+    subst (λ u. (pos 1000000 *ℤ u) ≤ℤ reach_of offer multipliers k cs (1000 * most)) (utility_by_place offer.menu bundle) (reached offer multipliers k (1000 * most) cs ps ds added.1 (covers ds added.1.free within cheap))
 
 -- so many places have at least so many times the credits of the lightest
 lightest_times : (offer : Offer) (lightest k : ℕ) (ds : List ℕ) → IsLightest offer lightest → AreApartFrom offer k ds → length ds * lightest ≤ total (credits_at offer.menu.places) ds

@@ -8,7 +8,7 @@ use Rattle.bundle_bounds.specs.Offers.{Offer, allowed_at, places_of}
 use Rattle.bundle_bounds.specs.Opens.{budget_left, credits_left}
 use Rattle.bundle_bounds.specs.Laws.{IsTakable, Completes}
 use Rattle.bundle_reach.specs.declared.multipliers.Multipliers.{Multipliers}
-use Rattle.bundle_reach.specs.Values.{hopes_from, value}
+use Rattle.bundle_reach.specs.Values.{hopes_from, value, units_at}
 
 -- allowed places from k on, of which no two clash
 pub record AreApartFrom (offer : Offer) (k : ℕ) (ps : List ℕ) : Type 0 where
@@ -21,6 +21,11 @@ pub record AreApartFrom (offer : Offer) (k : ℕ) (ps : List ℕ) : Type 0 where
 -- the number is at least the values of any so many places from k on that may be taken together
 abbrev pub Covers : Offer → Multipliers → ℕ → ℕ → ℕ → Type 0
 Covers offer multipliers k count most = (ps : List ℕ) → AreApartFrom offer k ps → length ps ≤ count → total (value offer multipliers) ps ≤ most
+
+-- a thousand times the number is at least the values of any so many places from k on that may be taken together and cost no more than so many
+-- units
+abbrev pub CoversWithin : Offer → Multipliers → ℕ → ℕ → ℕ → ℕ → ℕ → Type 0
+CoversWithin offer multipliers shift k count units most = (ps : List ℕ) → AreApartFrom offer k ps → length ps ≤ count → total (units_at offer shift) ps ≤ units → total (value offer multipliers) ps ≤ 1000 * most
 
 -- a million times the utility of chosen places with all that their adjustments with places from k on can add
 abbrev pub hoped_of : Offer → ℕ → List ℕ → ℤ

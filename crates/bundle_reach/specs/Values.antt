@@ -1,5 +1,5 @@
 -- The most that places can add to a bundle.
-use Rattle.std.specs.Prelude.{ℕ, ◌+◌, ◌*◌, ◌-◌, if◌then◌else◌, length}
+use Rattle.std.specs.Prelude.{ℕ, ◌+◌, ◌*◌, ◌-◌, ◌/◌, ◌^◌, if◌then◌else◌, length}
 use Rattle.market_lists.specs.Totals.{total}
 use Rattle.bundle_rules.specs.Menus.{adjustment_in, rating_at, credits_at}
 use Rattle.bundle_rules.specs.Places.{places_from}
@@ -22,3 +22,7 @@ most_added offer place = rating_at offer.menu.places place + hopes_from offer (p
 -- what is left of a million times the most that a place can add, where its price and its credits are paid at these multipliers
 abbrev pub value : Offer → Multipliers → ℕ → ℕ
 value offer multipliers place = 1000000 * most_added offer place - (multipliers.money * price_at offer place + multipliers.credits * credits_at offer.menu.places place)
+
+-- the price of a place in whole units, each of which is a power of two of tokens
+abbrev pub units_at : Offer → ℕ → ℕ → ℕ
+units_at offer shift place = price_at offer place / 2 ^ shift

@@ -64,7 +64,7 @@ struct Line {
     taken: u64,
 }
 
-// Multipliers at which little can be reached: of both resources, and of credits alone.
+// Multipliers of both resources at which little can be reached.
 pub(crate) fn multipliers_at(
     menu: &Menu,
     prices: &[Tokens],
@@ -72,7 +72,7 @@ pub(crate) fn multipliers_at(
     allowed: &SectionSet,
     hopes: &[[u16; PLACES]; ROWS],
     lightest: u32,
-) -> (Multipliers, Multipliers)
+) -> Multipliers
     requires prices { HasPrices menu.now prices.now }
     requires lightest { lightest ≤ 100 }
 {
@@ -87,10 +87,7 @@ pub(crate) fn multipliers_at(
     };
     let credits = u32::from(menu.credits());
     let paid = meeting_multiplier(items, count, Scarce::Money, free, budget.0);
-    (
-        meeting_multiplier(items, count, Scarce::Credits, paid, credits),
-        meeting_multiplier(items, count, Scarce::Credits, free, credits),
-    )
+    meeting_multiplier(items, count, Scarce::Credits, paid, credits)
 }
 
 // These multipliers with one of the resource at which its rest is just taken, or 0 where all of the greatest values fit.

@@ -15,7 +15,10 @@ use crate::branch::Branch;
 use crate::draft::Draft;
 use crate::multipliers::{Multipliers, multipliers_at};
 use crate::places::{fitting, hopes_of};
-use crate::tables::{COUNTS, MILLION, PLACES, ROWS, lightest, put_hopes, put_most};
+use crate::tables::{
+    COUNTS, MILLION, PLACES, ROWS, THOUSAND, Table, UNITS, in_units, lightest, put_hopes, put_most,
+    shift_for,
+};
 use bundle_rules::{Bundle, Menu};
 use market_units::{SectionSet, Tokens};
 
@@ -27,16 +30,17 @@ const ENOUGH: u64 = 1 << 62;
 pub struct Reach {
     lightest: u32,
     hopes: [[u16; PLACES]; ROWS],
-    // What can be added at multipliers of both resources, and where money is not counted: the lesser number is told.
     multipliers: Multipliers,
-    most: [[u64; COUNTS]; ROWS],
-    free: Multipliers,
-    most_free: [[u64; COUNTS]; ROWS],
+    // What can be added where money is counted in units of so many tokens, and not at a multiplier.
+    credits: Multipliers,
+    shift: u32,
+    most: Table,
     ghost light: { lightest ≤ 100 },
+    ghost short: { shift < 32 },
 }
 
 impl Reach {
-    ghost use Rattle.bundle_reach.specs.Reaches.{HoldsCovers, IsReach};
+    ghost use Rattle.bundle_reach.specs.Reaches.{IsReach};
 
     /// A table that was measured for no demand yet: `closes` promises nothing before `measure`.
     pub fn empty() -> Reach {
@@ -48,9 +52,9 @@ impl Reach {
             lightest: 0,
             hopes: [[0; PLACES]; ROWS],
             multipliers: nothing,
-            most: [[0; COUNTS]; ROWS],
-            free: nothing,
-            most_free: [[0; COUNTS]; ROWS],
+            credits: nothing,
+            shift: 0,
+            most: [[0; UNITS]; ROWS * COUNTS],
         }
     }
 
@@ -62,7 +66,7 @@ impl Reach {
     {
         self.lightest = lightest(menu, allowed);
         put_hopes(menu, allowed, &mut self.hopes);
-        let (multipliers, free) = multipliers_at(
+        self.multipliers = multipliers_at(
             menu,
             prices,
             budget,
@@ -70,23 +74,19 @@ impl Reach {
             &self.hopes,
             self.lightest,
         );
-        self.multipliers = multipliers;
-        self.free = free;
+        self.credits = Multipliers {
+            money: 0,
+            credits: self.multipliers.credits,
+        };
+        self.shift = shift_for(budget);
         put_most(
             menu,
             prices,
             allowed,
-            multipliers,
+            self.credits,
+            self.shift,
             &self.hopes,
             &mut self.most,
-        );
-        put_most(
-            menu,
-            prices,
-            allowed,
-            free,
-            &self.hopes,
-            &mut self.most_free,
         );
     }
 
@@ -140,7 +140,7 @@ impl Reach {
     #[inline(always)]
     fn fitting(&self, menu: &Menu, branch: &Branch) -> usize
         requires { IsMenu menu.now }
-        ensures within { result ≤ 8 }
+        ensures within { result ≤ menu.now.courses }
         ensures enough { (count : ℕ) → count ≤ menu.now.courses - length (chosen_of branch.now) → count * self.now.lightest ≤ menu.now.credits - branch.now.credits → count ≤ result }
     {
         fitting(
@@ -160,39 +160,17 @@ impl Reach {
             → IsAdded (offer_of menu.now prices budget.0 allowed) branch.now.node.place (chosen_of branch.now) result }
         ensures low { pos 0 ≤ℤ result }
     {
-        let priced = self.added_at(menu, budget, branch, self.multipliers, &self.most);
-        let free = self.added_at(menu, budget, branch, self.free, &self.most_free);
-        if priced < free {
-            return priced as i64;
-        }
-        free as i64
-    }
-
-    // The same, of a table at some multipliers.
-    #[inline(always)]
-    fn added_at(
-        &self,
-        menu: &Menu,
-        budget: Tokens,
-        branch: &Branch,
-        multipliers: Multipliers,
-        most: &[[u64; COUNTS]; ROWS],
-    ) -> u64
-        requires menu { IsMenu menu.now }
-        requires place { branch.now.node.place ≤ length menu.now.places }
-        ensures value { (prices : List Tokens) (allowed : set.FinSet nat_cmp) → IsReach (offer_of menu.now prices budget.0 allowed) self.now
-            → HoldsCovers (offer_of menu.now prices budget.0 allowed) multipliers most.now 0
-            → IsBranch menu.now (price_in prices) branch.now → IsNode (offer_of menu.now prices budget.0 allowed) branch.now.node.place (chosen_of branch.now)
-            → IsAdded (offer_of menu.now prices budget.0 allowed) branch.now.node.place (chosen_of branch.now) (pos result) }
-        ensures high { result ≤ 2 ^ 62 }
-    {
         let budget_left = branch.budget_left(budget);
+        let units = in_units(budget_left, self.shift);
+        if units >= UNITS as u32 {
+            return ENOUGH as i64;
+        }
         let credits_left = branch.credits_left(menu);
         let count = self.fitting(menu, branch);
-        let paid = multipliers.money * u64::from(budget_left)
-            + multipliers.credits * u64::from(credits_left);
-        let most = most[usize::from(branch.node.place)][count];
-        paid.saturating_add(most).min(ENOUGH)
+        let paid = self.credits.money * u64::from(budget_left)
+            + self.credits.credits * u64::from(credits_left);
+        let most = self.most[usize::from(branch.node.place) * COUNTS + count][units as usize];
+        paid.saturating_add(THOUSAND * u64::from(most)).min(ENOUGH) as i64
     }
 }
 

@@ -112,12 +112,13 @@ fn the_numbers_of_a_table(rt: HostRuntime) -> Result<(), Fail> {
     let (hopes, most) = (reach.hopes, reach.most);
     assert_eq!(rt; hopes[3][2], 15);
     assert_eq!(rt; hopes[3][0], 0);
-    assert_eq!(rt; most[3][1], 20_000_000);
-    assert_eq!(rt; most[2][1], 45_000_000);
-    assert_eq!(rt; most[2][2], 65_000_000);
-    assert_eq!(rt; most[1][2], 85_000_000);
-    assert_eq!(rt; most[0][1], 60_000_000);
-    assert_eq!(rt; most[0][2], 105_000_000);
+    // In thousandths of a point, of which each place has one more.
+    assert_eq!(rt; most[3 * COUNTS + 1][0], 20_001);
+    assert_eq!(rt; most[2 * COUNTS + 1][0], 45_001);
+    assert_eq!(rt; most[2 * COUNTS + 2][0], 65_002);
+    assert_eq!(rt; most[1 * COUNTS + 2][0], 85_002);
+    assert_eq!(rt; most[0 * COUNTS + 1][0], 60_001);
+    assert_eq!(rt; most[0 * COUNTS + 2][0], 105_002);
     let champion = reach.first_champion(&menu, &prices, Tokens(0), &all);
     let first_and_third = [SectionNo(0), SectionNo(2)];
     assert_eq!(rt; champion.node.chosen.sections(), first_and_third.as_slice());
@@ -126,8 +127,34 @@ fn the_numbers_of_a_table(rt: HostRuntime) -> Result<(), Fail> {
     // Without the third section nothing adds to the last.
     reach.measure(&menu, &prices, Tokens(0), &all.without(SectionNo(2)));
     let most = reach.most;
-    assert_eq!(rt; most[2][1], 20_000_000);
-    assert_eq!(rt; most[0][2], 80_000_000);
+    assert_eq!(rt; most[2 * COUNTS + 1][0], 20_001);
+    assert_eq!(rt; most[0 * COUNTS + 2][0], 80_002);
+    Ok(())
+}
+
+#[test]
+fn what_so_many_units_are_enough_for(rt: HostRuntime) -> Result<(), Fail> {
+    // A budget of 30 is counted in single tokens. The first two places cost 10 and 20.
+    let menu = menu_of(
+        &rt,
+        rt.alloc(),
+        &Case {
+            rated: &[(50, 1), (60, 1)],
+            pairs: &[],
+            clashes: &[0, 0],
+            caps: (10, 2),
+        },
+    );
+    let prices = [Tokens(10), Tokens(20)];
+    assert!(rt; has_prices(&menu, &prices));
+    let mut reach = Reach::empty();
+    reach.measure(&menu, &prices, Tokens(30), &SectionSet::full(2));
+    let most = reach.most;
+    assert_eq!(rt; most[2][9], 0);
+    assert_eq!(rt; most[2][10], 50_001);
+    assert_eq!(rt; most[2][29], 60_001);
+    assert_eq!(rt; most[2][30], 110_002);
+    assert_eq!(rt; most[1][30], 60_001);
     Ok(())
 }
 

@@ -5,5 +5,4 @@ returns c = record {
   lightest = c.lightest-self.ensures.lightest c.args.prices.now c.args.budget.0;
   hopes = c.put_hopes.ensures c.args.prices.now c.args.budget.0;
   covers = c.put_most.ensures c.args.budget.0;
-  free = c.put_most-2.ensures c.args.budget.0;
 }
