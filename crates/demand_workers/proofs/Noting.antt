@@ -1,16 +1,23 @@
 -- What is noted of students, as the price rises and once it is the least one.
-use Rattle.std.proofs.Common.{ℕ, zero, suc, ◌≡◌, ◌<◌, ◌≤◌, ◌∙◌, ◌++◌, List, [], ◌∷◌, All, length, slice_set, slice_index_or, refl, ap, sym, subst, arith, inl, inr}
+use Rattle.std.proofs.Common.{ℕ, zero, suc, ◌≡◌, ◌<◌, ◌≤◌, ◌∙◌, ◌++◌, List, [], ◌∷◌, All, length, slice_set, slice_index_or, false, refl, ap, sym, subst, arith, inl, inr}
 use Rattle.std.proofs.lemmas.Bool.{cases_order}
 use Rattle.std.proofs.lemmas.List.Elements.{All-append}
 use Rattle.market_units.specs.declared.units.Tokens.{Tokens}
+use Rattle.market_lists.specs.Totals.{total}
+use Rattle.bundle_rules.specs.declared.bundle.Bundle.{Bundle}
+use Rattle.bundle_rules.specs.Sets.{has}
 use Rattle.bundle_rules.specs.Bundles.{sections_of}
 use Rattle.bundle_rules.specs.Menus.{MenuData}
 use Rattle.bundle_rules.specs.Demand.{price_in}
 use Rattle.demand_api.specs.Crowds.{CrowdData, demand_of}
+use Rattle.demand_api.specs.Made.{crowd_of}
+use Rattle.demand_api.specs.Prices.{IsRaised}
 use Rattle.demand_api.proofs.Halving.{price_kept, price_written}
+use Rattle.demand_api.proofs.Keeping.{none_falls, same_cost}
 use Rattle.demand_workers.specs.declared.leaving.Note.{Note}
 use Rattle.demand_workers.specs.Notes.{IsNoted, AreNoted}
-use Rattle.demand_workers.proofs.HoldersLeave.{written_twice}
+use Rattle.demand_workers.proofs.HoldersLeave.{written_twice, taken_affordable}
+use Rattle.demand_workers.proofs.Recalling.{kept_demand}
 
 -- one note more, at a price that is no lower
 pub noted_more : (crowd : CrowdData) (prices : List Tokens) (s level next : ℕ) (notes later : List Note) (note : Note) → AreNoted crowd prices s level notes → level ≤ next → later ≡ notes ++ note ∷ []
@@ -45,3 +52,26 @@ pub menu_there : (menus : List MenuData) (i : ℕ) → i < length menus → slic
 menu_there [] i low = absurd (omega (arith, low))
 menu_there (m ∷ menus) zero low = refl
 menu_there (m ∷ menus) (suc i) low = menu_there menus i (let goal : i < length menus = omega arith in goal)
+
+-- an item does not depend on what stands for one that is not there
+pub item_there : {A : Type 0} (items : List A) (i : ℕ) (d e : A) → i < length items → slice_index_or items i d ≡ slice_index_or items i e
+item_there [] i d e low = absurd (omega (arith, low))
+item_there (x ∷ items) zero d e low = refl
+item_there (x ∷ items) (suc i) d e low = item_there items i d e (let goal : i < length items = omega arith in goal)
+
+-- a bundle without the section stays where only the section's price rises
+pub lacking_stays : (menus : List MenuData) (budgets : List Tokens) (sections : ℕ) (prices raised : List Tokens) (s i : ℕ) (least : Tokens) (bundle : List ℕ) → length budgets ≡ length menus → i < length menus → s < length prices → price_in prices s ≤ least.0
+    → raised ≡ slice_set prices s least → has bundle s ≡ false → bundle ≡ demand_of (crowd_of menus budgets sections) (price_in prices) i → bundle ≡ demand_of (crowd_of menus budgets sections) (price_in raised) i
+lacking_stays menus budgets sections prices raised s i least bundle same low there up written lacks told =
+    let after : ℕ → ℕ = price_in (slice_set prices s least) in
+    let menu : MenuData = slice_index_or menus i nobody in
+    let budget : Tokens = slice_index_or budgets i (record { 0 = 0 }) in
+    let menu_is : menu ≡ slice_index_or menus i menu = menu_there menus i low in
+    let budget_is : budget ≡ slice_index_or budgets i budget = item_there budgets i (record { 0 = 0 }) budget (let goal : i < length budgets = omega (arith, same, low) in goal) in
+    let here : price_in (slice_set prices s least) s ≡ least.0 = price_written prices s least.0 there in
+    let is : IsRaised s (price_in prices) after = record { others = λ t apart. price_kept prices s least.0 t apart; raised = (let goal : price_in prices s ≤ price_in (slice_set prices s least) s = omega (arith, here, up) in goal) } in
+    let paid : total (price_in prices) bundle ≤ budget.0 = taken_affordable menus budgets sections (price_in prices) i menu budget bundle same low menu_is budget_is told in
+    let cost : total after bundle ≤ total (price_in prices) bundle = same_cost s (price_in prices) after bundle is lacks in
+    subst (λ (l : List Tokens). bundle ≡ demand_of (crowd_of menus budgets sections) (price_in l) i) (sym written)
+    (kept_demand menus budgets sections (price_in prices) after i menu budget bundle same low menu_is budget_is (λ k d within. none_falls s (price_in prices) after is (slice_index_or menu.places k d).section.0)
+    (let goal : total after bundle ≤ budget.0 = omega (arith, paid, cost) in goal) told)

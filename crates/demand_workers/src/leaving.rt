@@ -89,6 +89,7 @@ pub(crate) fn least_price(
     requires trial { trial.old ≡ remembered.now.prices.items }
     ensures trial { IfOk result (λ walk. trial.new ≡ remembered.now.prices.items) }
     ensures least { IfOk result (λ walk. IsLeastFrom (price_in remembered.now.prices.items section.0) (data_of crowd.now) (price_in remembered.now.prices.items) section.0 limit walk.least.0) }
+    ensures low { IfOk result (λ walk. price_in remembered.now.prices.items section.0 ≤ walk.least.0) }
     ensures high { IfOk result (λ walk. walk.least.0 ≤ top (data_of crowd.now)) }
     ensures noted { IfOk result (λ walk. AreNoted (data_of crowd.now) remembered.now.prices.items section.0 walk.least.0 walk.notes.items) }
 {

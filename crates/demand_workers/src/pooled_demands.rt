@@ -137,6 +137,9 @@ impl<'g> PooledDemands<AnyGate<'g>> {
         ensures prices { IfOk result (λ done. self.new.remembered.prices.items ≡ prices.now) }
         ensures all { IfOk result (λ done. length self.new.remembered.bundles.items ≡ length (arc_value self.old.crowd).menus.items) }
     {
+        if self.remembered.is_of(self.crowd.menus.len(), prices) {
+            return Ok(());
+        }
         self.remembered = self.memory_at(rt, alloc, prices)?;
         Ok(())
     }
@@ -155,6 +158,9 @@ impl<'g> PooledDemands<AnyGate<'g>> {
         ensures crowd { self.new.crowd ≡ self.old.crowd }
         ensures asked { self.new.asked ≡ self.old.asked }
     {
+        if self.remembered.is_of(self.crowd.menus.len(), prices) {
+            return Ok(());
+        }
         if few_at(&self.remembered, &self.crowd, prices) {
             return self.recall(rt, alloc, prices);
         }

@@ -19,8 +19,8 @@ use demand_oracle::Workspace;
 use market_units::{NoMemory, SectionNo, SectionSet, StudentNo, Tokens};
 use std::alloc::Global;
 
-// What each student takes at the remembered prices with the section at the least price of a walk. Who was asked on the
-// way there keeps what it took then, as long as that is affordable.
+// What each student takes at the remembered prices with the section at the least price of a walk. Who does not hold the
+// section keeps what it takes. Who was asked on the way there keeps what it took then, as long as that is affordable.
 pub(crate) fn raised_memory(
     alloc: Global,
     workspace: &mut Workspace,
@@ -34,6 +34,7 @@ pub(crate) fn raised_memory(
     requires crowd { IsMade crowd.now }
     requires prices { ArePricesFor (data_of crowd.now) remembered.now.prices.items }
     requires section { section.0 < crowd.now.sections }
+    requires low { price_in remembered.now.prices.items section.0 ≤ walk.now.least.0 }
     requires high { walk.now.least.0 ≤ top (data_of crowd.now) }
     requires noted { AreNoted (data_of crowd.now) remembered.now.prices.items section.0 walk.now.least.0 walk.now.notes.items }
     ensures right { IfOk result (λ memory. AreRemembered (data_of crowd.now) memory.prices.items memory.bundles.items) }
@@ -43,6 +44,9 @@ pub(crate) fn raised_memory(
     prices[usize::from(section.0)] = walk.least;
     let mut bundles = remembered.bundles.as_slice().to_vec(alloc)?;
     for place in 0..bundles.len() {
+        if !bundles[place].has(section) {
+            continue;
+        }
         let student = StudentNo(place as u16);
         bundles[place] = match noted(crowd, &prices, section, walk, student) {
             Some(bundle) => bundle,

@@ -33,6 +33,17 @@ impl Remembered {
         }
     }
 
+    // Whether what each of so many students takes at just these prices is remembered.
+    pub(crate) fn is_of(&self, students: usize, prices: &[Tokens]) -> bool
+        ensures all { IsTrue result → length self.now.bundles.items ≡ students }
+        ensures same { IsTrue result → self.now.prices.items ≡ prices.now }
+    {
+        if self.bundles.len() != students {
+            return false;
+        }
+        are_same(&self.prices, prices)
+    }
+
     // What is remembered of the student, where the student takes the same at these prices: the bundle is still affordable, and no section
     // of the menu became cheaper.
     pub(crate) fn kept(
@@ -60,6 +71,13 @@ impl Remembered {
         }
         Some(bundle)
     }
+}
+
+// Whether these are the same prices.
+fn are_same(one: &[Tokens], other: &[Tokens]) -> bool
+    ensures { IsTrue result → one.now ≡ other.now }
+{
+    one == other
 }
 
 // What these sections cost together.
