@@ -5,3 +5,4 @@ pub mod Recalling
 pub mod Rounds
 pub mod Working
 pub mod Noting
+pub mod Listing

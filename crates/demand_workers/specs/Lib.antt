@@ -2,3 +2,4 @@ pub mod Leaving
 pub mod Remembered
 pub mod Rounds
 pub mod Notes
+pub mod Questions

@@ -11,11 +11,12 @@ ghost use Rattle.demand_api.specs.Prices.{IsLeastFrom, AreLeastPrices};
 ghost use Rattle.price_board.specs.Openings.{IsMade};
 ghost use Rattle.demand_workers.specs.Leaving.{leaves, takes, AreLeft};
 ghost use Rattle.demand_workers.specs.Notes.{AreNoted};
+ghost use Rattle.demand_workers.specs.Questions.{AreAnswered};
 ghost use Rattle.demand_workers.specs.Remembered.{AreRemembered};
 ghost use Rattle.demand_workers.specs.Rounds.{data_of};
 
+use crate::questions::{Question, answered_or_asked};
 use crate::remembered::{Remembered, cost_of};
-use crate::taking::asked_again;
 use bundle_rules::Bundle;
 use demand_api::Crowd;
 use demand_oracle::Workspace;
@@ -49,12 +50,14 @@ pub(crate) fn least_for_each(
     workspace: &mut Workspace,
     remembered: &Remembered,
     crowd: &Crowd,
+    answered: &[Question],
     pairs: &[(SectionNo, u32)],
 ) -> Result<Vec<Tokens>, NoMemory>
     requires remembered { AreRemembered (data_of crowd.now) remembered.now.prices.items remembered.now.bundles.items }
     requires all { length remembered.now.bundles.items ≡ length crowd.now.menus.items }
     requires crowd { IsMade crowd.now }
     requires prices { ArePricesFor (data_of crowd.now) remembered.now.prices.items }
+    requires answered { AreAnswered (data_of crowd.now) answered.now }
     requires sections { All (λ pair. pair.0.0 < crowd.now.sections) pairs.now }
     ensures { IfOk result (λ found. AreLeastPrices (data_of crowd.now) (price_in remembered.now.prices.items) pairs.now found.items) }
 {
@@ -62,7 +65,7 @@ pub(crate) fn least_for_each(
     let mut trial = remembered.prices.as_slice().to_vec(alloc)?;
     for (section, limit) in pairs {
         let walk = least_price(
-            alloc, workspace, remembered, crowd, &mut trial, *section, *limit,
+            alloc, workspace, remembered, crowd, answered, &mut trial, *section, *limit,
         )?;
         found.push(walk.least)?;
     }
@@ -77,6 +80,7 @@ pub(crate) fn least_price(
     workspace: &mut Workspace,
     remembered: &Remembered,
     crowd: &Crowd,
+    answered: &[Question],
     trial: &mut [Tokens],
     section: SectionNo,
     limit: u32,
@@ -85,6 +89,7 @@ pub(crate) fn least_price(
     requires all { length remembered.now.bundles.items ≡ length crowd.now.menus.items }
     requires crowd { IsMade crowd.now }
     requires prices { ArePricesFor (data_of crowd.now) remembered.now.prices.items }
+    requires answered { AreAnswered (data_of crowd.now) answered.now }
     requires section { section.0 < crowd.now.sections }
     requires trial { trial.old ≡ remembered.now.prices.items }
     ensures trial { IfOk result (λ walk. trial.new ≡ remembered.now.prices.items) }
@@ -106,7 +111,9 @@ pub(crate) fn least_price(
         least = Tokens(MAX_PRICE - first.0);
         trial[place] = least;
         let student = StudentNo(first.1);
-        let bundle = asked_again(workspace, remembered, crowd, trial, &allowed, student);
+        let bundle = answered_or_asked(
+            workspace, remembered, crowd, trial, &allowed, answered, student,
+        );
         notes.push(Note {
             student,
             price: least,
@@ -123,7 +130,7 @@ pub(crate) fn least_price(
 }
 
 // All who hold the section at the remembered prices.
-fn holders_of(
+pub(crate) fn holders_of(
     alloc: Global,
     remembered: &Remembered,
     crowd: &Crowd,
@@ -151,7 +158,7 @@ fn holders_of(
 }
 
 // The holder with its bundle at these prices: it keeps the bundle as long as the section costs no more than what is left of the budget besides.
-fn holder_of(
+pub(crate) fn holder_of(
     crowd: &Crowd,
     prices: &[Tokens],
     section: SectionNo,

@@ -1,11 +1,13 @@
 //! The demands of a crowd, found by workers that draw their tasks from a price board, each in a thread of its own.
 #![tactic(auto)]
 
+mod ahead;
 mod answering;
 mod bench;
 mod effort;
 mod leaving;
 mod pooled_demands;
+mod questions;
 mod raised;
 mod remembered;
 mod round;

@@ -10,6 +10,7 @@ ghost use Rattle.demand_workers.specs.Remembered.{AreRemembered, AreTaken};
 ghost use Rattle.demand_workers.specs.Rounds.{data_of};
 
 use crate::Bench;
+use crate::ahead::ask_ahead;
 use crate::answering::read_all;
 use crate::effort::{few_at, few_listed};
 use crate::leaving::{least_for_each, least_price};
@@ -31,7 +32,8 @@ pub type AnyGate<'g> = &'g (dyn Gate + Sync);
 
 /// A crowd that is asked by the workers of a bench, each with a workspace of its own. They draw the tasks of a call from one board, each
 /// in a thread of its own where one can be started, and pass the gate before their first draw and after each post. Where what is
-/// remembered of earlier calls leaves few students to ask, the caller's own thread asks them, without a board. Its one form is
+/// remembered of earlier calls leaves few students to ask, the caller's own thread asks them, without a board. Whom the walks to least
+/// prices ask is known before they begin, so several workers ask those at once, also without a board. Its one form is
 /// `PooledDemands<AnyGate>`, which `make` gives.
 #[derive(Drop)]
 pub struct PooledDemands<G> {
@@ -187,6 +189,14 @@ impl<'g> PooledDemands<AnyGate<'g>> {
         ensures least { IfOk result (λ found. AreLeastPrices (data_of (arc_value self.old.crowd)) (price_in self.old.remembered.prices.items) ((section, limit) ∷ []) found.items) }
     {
         let mut trial = self.remembered.prices.as_slice().to_vec(alloc)?;
+        let answered = ask_ahead(
+            rt,
+            alloc,
+            self.bench.workspaces(),
+            &self.remembered,
+            &self.crowd,
+            &[(section, limit)],
+        )?;
         let (least, memory) = {
             let mut workspace = self.bench.workspaces()[0].lock(rt);
             let walk = least_price(
@@ -194,6 +204,7 @@ impl<'g> PooledDemands<AnyGate<'g>> {
                 &mut workspace,
                 &self.remembered,
                 &self.crowd,
+                &answered,
                 &mut trial,
                 section,
                 limit,
@@ -355,7 +366,22 @@ impl Demands for PooledDemands<AnyGate<'_>> {
         if let [(section, limit)] = pairs {
             return self.least_alone(rt, alloc, *section, *limit);
         }
+        let answered = ask_ahead(
+            rt,
+            alloc,
+            self.bench.workspaces(),
+            &self.remembered,
+            &self.crowd,
+            pairs,
+        )?;
         let mut workspace = self.bench.workspaces()[0].lock(rt);
-        least_for_each(alloc, &mut workspace, &self.remembered, &self.crowd, pairs)
+        least_for_each(
+            alloc,
+            &mut workspace,
+            &self.remembered,
+            &self.crowd,
+            &answered,
+            pairs,
+        )
     }
 }

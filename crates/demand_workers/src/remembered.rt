@@ -74,7 +74,7 @@ impl Remembered {
 }
 
 // Whether these are the same prices.
-fn are_same(one: &[Tokens], other: &[Tokens]) -> bool
+pub(crate) fn are_same(one: &[Tokens], other: &[Tokens]) -> bool
     ensures { IsTrue result → one.now ≡ other.now }
 {
     one == other

@@ -12,8 +12,8 @@ use Rattle.demand_workers.proofs.HoldersLeave.{first_keeps, first_student, many_
 use Rattle.demand_workers.proofs.Noting.{noted_more}
 use Rattle.demand_workers.proofs.leaving.least_price.Goals as goal
 
-pub asked_again-bundle-requires-clause-student : goal.asked_again-bundle-requires-clause-student
-asked_again-bundle-requires-clause-student c =
+pub answered_or_asked-bundle-requires-clause-student : goal.answered_or_asked-bundle-requires-clause-student
+answered_or_asked-bundle-requires-clause-student c =
     let crowd = data_of c.args.crowd.now in
     let prices = c.args.remembered.now.prices.items in
     let s : ℕ = c.args.section.0 in
@@ -57,11 +57,11 @@ loop-least-preserved-then-not-has c =
       trial = ap (λ (l : List Tokens). slice_set l c.from-place.result (record { 0 = leaves c.in-Some.first })) c.loop-least.invariant.trial ∙ written_twice prices c.from-place.result c.loop-least.least (record { 0 = leaves c.in-Some.first });
       heap = (c.in-Some.ensures.heap_order c.loop-least.invariant.heap).0;
       left = has_left crowd (price_in prices) c.args.section.0 c.loop-least.least.0 (heap_items c.loop-least.holders) (heap_items c.pop.new.self) c.in-Some.first c.loop-least.invariant.left c.in-Some.ensures.permutation greatest_first
-          (asked_there crowd prices _ c.args.section.0 (leaves c.in-Some.first) c.in-Some.first.1 (sections_of c.asked_again-bundle.result) c.requires.prices c.requires.section read c.asked_again-bundle.ensures ∙ sym c.has.ensures ∙ lacks);
+          (asked_there crowd prices _ c.args.section.0 (leaves c.in-Some.first) c.in-Some.first.1 (sections_of c.answered_or_asked-bundle.result) c.requires.prices c.requires.section read c.answered_or_asked-bundle.ensures ∙ sym c.has.ensures ∙ lacks);
       from = (let goal : price_in c.args.remembered.now.prices.items c.args.section.0 ≤ leaves c.in-Some.first = omega arith in goal);
       high = keeps.capped;
-      noted = noted_more crowd prices c.args.section.0 c.loop-least.least.0 (leaves c.in-Some.first) c.loop-least.notes.items _ (record { student = record { 0 = c.in-Some.first.1 }; price = record { 0 = leaves c.in-Some.first }; bundle = c.asked_again-bundle.result })
-          c.loop-least.invariant.noted later (search rules) (c.asked_again-bundle.ensures ∙ ap (λ (l : List Tokens). demand_of crowd (price_in l) c.in-Some.first.1) read) refl;
+      noted = noted_more crowd prices c.args.section.0 c.loop-least.least.0 (leaves c.in-Some.first) c.loop-least.notes.items _ (record { student = record { 0 = c.in-Some.first.1 }; price = record { 0 = leaves c.in-Some.first }; bundle = c.answered_or_asked-bundle.result })
+          c.loop-least.invariant.noted later (search rules) (c.answered_or_asked-bundle.ensures ∙ ap (λ (l : List Tokens). demand_of crowd (price_in l) c.in-Some.first.1) read) refl;
       lower = λ p above below. (let more : hs ≤ count crowd (with_price (price_in prices) c.args.section.0 p) c.args.section.0 = many_below crowd (price_in prices) c.args.section.0 c.loop-least.least.0 (heap_items c.loop-least.holders) (heap_items c.pop.new.self) c.in-Some.first c.loop-least.invariant.left c.in-Some.ensures.permutation greatest_first p below in let goal : c.args.limit < count crowd (with_price (price_in prices) c.args.section.0 p) c.args.section.0 = omega arith in goal);
     }
 
@@ -98,8 +98,8 @@ loop-least-preserved c =
           c.holder_of-holder.ensures.capped c.holder_of-holder.ensures.still);
       from = (let goal : price_in c.args.remembered.now.prices.items c.args.section.0 ≤ leaves c.in-Some.first = omega arith in goal);
       high = keeps.capped;
-      noted = noted_more crowd prices c.args.section.0 c.loop-least.least.0 (leaves c.in-Some.first) c.loop-least.notes.items _ (record { student = record { 0 = c.in-Some.first.1 }; price = record { 0 = leaves c.in-Some.first }; bundle = c.asked_again-bundle.result })
-          c.loop-least.invariant.noted later (search rules) (c.asked_again-bundle.ensures ∙ ap (λ (l : List Tokens). demand_of crowd (price_in l) c.in-Some.first.1) read) refl;
+      noted = noted_more crowd prices c.args.section.0 c.loop-least.least.0 (leaves c.in-Some.first) c.loop-least.notes.items _ (record { student = record { 0 = c.in-Some.first.1 }; price = record { 0 = leaves c.in-Some.first }; bundle = c.answered_or_asked-bundle.result })
+          c.loop-least.invariant.noted later (search rules) (c.answered_or_asked-bundle.ensures ∙ ap (λ (l : List Tokens). demand_of crowd (price_in l) c.in-Some.first.1) read) refl;
       lower = λ p above below. (let more : hs ≤ count crowd (with_price (price_in prices) c.args.section.0 p) c.args.section.0 = many_below crowd (price_in prices) c.args.section.0 c.loop-least.least.0 (heap_items c.loop-least.holders) (heap_items c.pop.new.self) c.in-Some.first c.loop-least.invariant.left c.in-Some.ensures.permutation greatest_first p below in let goal : c.args.limit < count crowd (with_price (price_in prices) c.args.section.0 p) c.args.section.0 = omega arith in goal);
     }
 
