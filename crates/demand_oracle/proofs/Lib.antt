@@ -1,6 +1,5 @@
 pub mod Goodness
 pub mod Searching
 pub mod Branches
-pub mod Keeping
 pub mod Stepping
 pub mod Wanting

@@ -1,5 +1,5 @@
 -- What each step of the search leaves to wait.
-use Rattle.std.proofs.Common.{◌≡◌, ◌<◌, ◌≤◌, ◌+◌, ◌-◌, ◌⊎◌, ◌∙◌, sym, ℕ, zero, suc, Bool, true, false, Option, None, Some, List, [], ◌∷◌, length, drop, inl, inr, subst, arith}
+use Rattle.std.proofs.Common.{◌≡◌, ◌<◌, ◌≤◌, ◌+◌, ◌-◌, ◌⊎◌, ◌∙◌, sym, ℕ, zero, suc, Bool, false, Option, None, Some, List, [], ◌∷◌, length, drop, inl, inr, subst, arith}
 use Rattle.std.specs.Prelude.{MatchOption, ◌<ℤ◌, ◌↔◌, IsTrue}
 use Rattle.std.proofs.lemmas.Int.{ints}
 use Rattle.std.proofs.lemmas.Bool.{cases_lt, true≢false}

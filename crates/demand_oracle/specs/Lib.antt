@@ -1,4 +1,4 @@
 pub mod Search
 pub mod Laws
-pub mod Rows
+pub mod Cells
 pub mod Waiting

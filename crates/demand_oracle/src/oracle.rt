@@ -357,6 +357,7 @@ fn is_wanted(menu: &Menu, given: Option<u8>, bundle: &Bundle) -> bool
 }
 
 // The branch, where its sections are wanted and preferred to those of the champion, and else the champion.
+#[inline(always)]
 fn better(menu: &Menu, given: Option<u8>, branch: Branch, champion: Branch) -> Branch
     requires given { IfSome given (λ place. place < length menu.now.places) }
     requires branch { (price : ℕ → ℕ) × IsBranch menu.now price branch }

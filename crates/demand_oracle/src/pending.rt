@@ -1,9 +1,8 @@
-// The branches that wait to be searched, in rows of a region.
+// The branches that wait to be searched, in a row of cells.
 ghost use Rattle.std.specs.Prelude.{◌≡◌, ◌<◌, [], ◌∷◌, length, IfOk, MatchOption};
 
 use bundle_reach::Branch;
 use market_units::NoMemory;
-use row_region::{Region, RowId};
 use std::alloc::Global;
 use std::marker::Model;
 
@@ -15,8 +14,7 @@ const ROOM: usize = 60;
 /// memory.
 #[derive(Drop)]
 pub struct Pending {
-    rows: Region<Branch>,
-    ids: [u32; ROOM],
+    cells: Vec<Branch>,
     count: usize,
 }
 
@@ -30,7 +28,7 @@ impl Model for Pending {
 
     ghost coded = { Prim.hlevel (codes, branch.the_row.coded) };
 
-    ghost use Rattle.demand_oracle.specs.Rows.{branches_of, IsKept};
+    ghost use Rattle.demand_oracle.specs.Cells.{branches_of, IsKept};
 
     ghost view = { branches_of };
 
@@ -42,27 +40,22 @@ impl Pending {
     pub fn reserve(alloc: Global) -> Result<Pending, NoMemory>
         ensures { IfOk result (λ pending. pending ≡ []) }
     {
-        let rows = Region::reserve(alloc, ROOM as u32, 1, Branch::root())?;
-        Ok(Pending {
-            rows,
-            ids: [0; ROOM],
-            count: 0,
-        })
+        let cells = vec![in alloc; Branch::root(); ROOM]?;
+        Ok(Pending { cells, count: 0 })
     }
 
     /// Lets a branch wait, which is the next that is taken.
+    #[inline(always)]
     pub fn put(&mut self, branch: Branch)
         requires { length self.old < 60 }
         ensures { self.new ≡ branch ∷ self.old }
     {
-        let id = self.rows.take();
-        let cells = self.rows.row_mut(id);
-        cells[0] = branch;
-        self.ids[self.count] = id.0;
+        self.cells[self.count] = branch;
         self.count += 1;
     }
 
     /// Takes the branch that was put last of those that wait, and `None` exactly where none waits.
+    #[inline(always)]
     pub fn take(&mut self) -> Option<Branch>
         ensures { MatchOption result ((self.old ≡ []) × (self.new ≡ [])) (λ branch. self.old ≡ branch ∷ self.new) }
     {
@@ -70,9 +63,6 @@ impl Pending {
             return None;
         }
         self.count -= 1;
-        let id = RowId(self.ids[self.count]);
-        let branch = self.rows.row(id)[0];
-        self.rows.give(id);
-        Some(branch)
+        Some(self.cells[self.count])
     }
 }

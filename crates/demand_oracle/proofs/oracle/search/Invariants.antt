@@ -1,4 +1,4 @@
-use Rattle.std.proofs.Common.{◌≡◌, ℕ, true, List, [], None}
+use Rattle.std.proofs.Common.{◌≡◌, ℕ, List, [], None}
 use Rattle.std.specs.Prelude.{IfNone}
 use Rattle.bundle_rules.specs.Places.{menu_sections}
 use Rattle.bundle_rules.specs.Menus.{IsMenu}

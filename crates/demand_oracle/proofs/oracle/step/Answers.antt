@@ -1,4 +1,4 @@
-use Rattle.std.proofs.Common.{◌≡◌, ◌∷◌, ◌∙◌, length, sym, subst, ap, inl, inr}
+use Rattle.std.proofs.Common.{◌∷◌, ◌∙◌, length, sym, subst, ap, inl, inr}
 use Rattle.std.proofs.lemmas.Bool.{true≢false}
 use Rattle.bundle_rules.specs.Demand.{price_in}
 use Rattle.bundle_bounds.specs.Offers.{offer_of}
