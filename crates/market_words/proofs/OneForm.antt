@@ -6,7 +6,7 @@ use Rattle.std.specs.String.{string_bytes}
 use Rattle.std.proofs.lemmas.Fmt.{decimal_injective}
 use Rattle.market_units.proofs.EqualNames.{same_name}
 use Rattle.market_words.specs.declared.words.Form.{Form}
-use Rattle.market_words.specs.declared.words.Form.TheVariants.{Check, Demand, Make, Prefer, Quote, Run}
+use Rattle.market_words.specs.declared.words.Form.TheVariants.{Audit, Check, Demand, Explain, Hall, Make, Prefer, Quote, Run}
 use Rattle.market_words.specs.Forms.{HasForm}
 use Rattle.market_words.proofs.WordLists.{make_words}
 
@@ -18,6 +18,9 @@ byte_of (Demand workers) = 100
 byte_of (Run workers) = 114
 byte_of (Make workers seed students sections accept) = 109
 byte_of Check = 99
+byte_of (Explain student section) = 101
+byte_of Hall = 104
+byte_of (Audit workers) = 97
 
 first_byte : List (List ℕ) → ℕ
 first_byte [] = 0
@@ -31,6 +34,9 @@ begins words (Demand workers) has = ap first_byte has.5
 begins words (Run workers) has = ap first_byte has.4
 begins words (Make workers seed students sections accept) has = ap first_byte has.0
 begins words Check has = ap first_byte has.5
+begins words (Explain student section) has = ap first_byte has.5
+begins words Hall has = ap first_byte has.4
+begins words (Audit workers) has = ap first_byte has.5
 
 -- forms of the same words begin with the same byte
 same_byte : (words : List (List ℕ)) (one other : Form) → HasForm words one → HasForm words other → byte_of one ≡ byte_of other
@@ -83,4 +89,14 @@ one_form words (Make workers seed students sections accept) (Make workers' seed'
     let x : accept ≡ accept' = decimal_injective accept accept' (omega (arith, a.7)) (omega (arith, b.7)) cc in
     cc
 one_form words Check Check a b = refl
+one_form words (Explain student section) (Explain student' section') a b =
+    let e = sym a.5 ∙ b.5 in
+    let students : student ≡ student' = same_name student student' cc in
+    let sections : section ≡ section' = same_name section section' cc in
+    cc
+one_form words Hall Hall a b = refl
+one_form words (Audit workers) (Audit workers') a b =
+    let e = sym a.5 ∙ b.5 in
+    let same : workers ≡ workers' = decimal_injective workers workers' (omega (arith, a.6)) (omega (arith, b.6)) cc in
+    cc
 one_form words one other a b = absurd (apart words one other (λ e. omega (arith, e)) a b)

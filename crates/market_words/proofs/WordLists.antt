@@ -55,3 +55,14 @@ four_named words are =
     let a = one_named 3 words are in
     let more = three_named a.1 a.3 in
     (a.0, more.0, more.1, more.2, more.3, cc, more.5)
+
+six_items : {X : Type 0} (xs : List X) (a b : X) → 6 ≤ length xs
+    → xs ≡ get_or xs 0 a ∷ get_or xs 1 a ∷ get_or xs 2 a ∷ get_or xs 3 a ∷ get_or xs 4 a ∷ get_or xs 5 b ∷ take (length xs - 6) (drop 6 xs)
+six_items (p ∷ q ∷ r ∷ s ∷ t ∷ u ∷ xs) a b some = ap (λ more. p ∷ q ∷ r ∷ s ∷ t ∷ u ∷ more) (sym (take_all (length (p ∷ q ∷ r ∷ s ∷ t ∷ u ∷ xs) - 6) xs (omega arith)))
+six_items xs a b some = absurd (omega arith)
+
+-- the words behind `explain`
+pub explain_words : (words : List (String Global)) (student section : String Global) → 6 ≤ length words → student ≡ get_or words 4 student → section ≡ get_or words 5 section
+    → map string_bytes words ≡ string_bytes (get_or words 0 student) ∷ string_bytes (get_or words 1 student) ∷ string_bytes (get_or words 2 student) ∷ string_bytes (get_or words 3 student)
+    ∷ string_bytes student ∷ string_bytes section ∷ map string_bytes (take (length words - 6) (drop 6 words))
+explain_words words student section some is also = ap (λ ws. map string_bytes ws) (six_items words student section some) ∙ cc

@@ -1,11 +1,11 @@
 -- The forms of the command line. A word is its bytes.
-use Rattle.std.specs.Prelude.{ℕ, ◌≡◌, ◌≤◌, ◌<◌, ◌^◌, List, [], ◌∷◌, codes, drop, length, take}
+use Rattle.std.specs.Prelude.{ℕ, ◌≡◌, ◌≤◌, ◌<◌, ◌^◌, List, [], ◌∷◌, codes, drop, ◌++◌, length, take}
 use Rattle.std.specs.Fmt.{decimal}
 use Rattle.market_units.specs.Name.{name_bytes}
 use Rattle.market_words.specs.declared.words.Form.{Form}
-use Rattle.market_words.specs.declared.words.Form.TheVariants.{Check, Demand, Make, Prefer, Quote, Run}
+use Rattle.market_words.specs.declared.words.Form.TheVariants.{Audit, Check, Demand, Explain, Hall, Make, Prefer, Quote, Run}
 
--- words that name sessions: 1 to 64
+-- words that name sessions or streams of requests: 1 to 64
 abbrev pub AreSessions : List (List ℕ) → Type 0
 AreSessions sessions = (1 ≤ length sessions) × (length sessions ≤ 64)
 
@@ -14,7 +14,9 @@ abbrev pub AreWorkers : ℕ → Type 0
 AreWorkers workers = (1 ≤ workers) × (workers ≤ 16)
 
 -- these words ask for this: `quote CAT SES NAME CREDITS COURSES`, `prefer CAT STU SES..`, `demand W CAT STU SET PRICES SES..`,
--- `run W CAT STU SET SES..`, `make W SEED STUDENTS SECTIONS ACCEPT`, `check CAT STU SET TEXT SES..`
+-- `run W CAT STU SET SES..`, `make W SEED STUDENTS SECTIONS ACCEPT`, `check CAT STU SET TEXT SES..`,
+-- `explain CAT STU SET TEXT STUDENT SECTION SES..`, `hall CAT STU TEXT REQ..`,
+-- `audit W CAT STU SET TEXT SES..`
 abbrev pub HasForm : List (List ℕ) → Form → Type 0
 HasForm words (Quote name credits courses) =
     (catalog : List ℕ) × (session : List ℕ)
@@ -35,6 +37,15 @@ HasForm words (Make workers seed students sections accept) =
 HasForm words Check =
     (catalog : List ℕ) × (roll : List ℕ) × (settings : List ℕ) × (text : List ℕ) × (sessions : List (List ℕ))
     × (words ≡ codes "check" ∷ catalog ∷ roll ∷ settings ∷ text ∷ sessions) × AreSessions sessions
+HasForm words (Explain student section) =
+    (catalog : List ℕ) × (roll : List ℕ) × (settings : List ℕ) × (text : List ℕ) × (sessions : List (List ℕ))
+    × (words ≡ codes "explain" ∷ catalog ∷ roll ∷ settings ∷ text ∷ name_bytes student ∷ name_bytes section ∷ sessions) × AreSessions sessions
+HasForm words Hall =
+    (catalog : List ℕ) × (roll : List ℕ) × (text : List ℕ) × (requests : List (List ℕ))
+    × (words ≡ codes "hall" ∷ catalog ∷ roll ∷ text ∷ requests) × AreSessions requests
+HasForm words (Audit workers) =
+    (catalog : List ℕ) × (roll : List ℕ) × (settings : List ℕ) × (text : List ℕ) × (sessions : List (List ℕ))
+    × (words ≡ codes "audit" ∷ decimal workers ∷ catalog ∷ roll ∷ settings ∷ text ∷ sessions) × AreWorkers workers × AreSessions sessions
 
 -- these words ask for nothing
 abbrev pub HasNoForm : List (List ℕ) → Type 0
@@ -48,3 +59,6 @@ inputs_of (Demand workers) words = drop 2 words
 inputs_of (Run workers) words = drop 2 words
 inputs_of (Make workers seed students sections accept) words = []
 inputs_of Check words = drop 1 words
+inputs_of (Explain student section) words = take 4 (drop 1 words) ++ drop 7 words
+inputs_of Hall words = drop 1 words
+inputs_of (Audit workers) words = drop 2 words

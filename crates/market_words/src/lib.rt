@@ -4,3 +4,6 @@
 mod words;
 
 pub use words::{Form, read_words};
+
+#[cfg(test)]
+mod tests;

@@ -41,6 +41,19 @@ pub enum Form {
     },
     /// `check CAT STU SET TEXT SES..`: whether a published text is accepted for the market of 1 to 64 sessions.
     Check,
+    /// `explain CAT STU SET TEXT STUDENT SECTION SES..`: why this student has no seat in this section at the prices of a
+    /// published text of the market of 1 to 64 sessions.
+    Explain {
+        student: Name,
+        section: Name,
+    },
+    /// `hall CAT STU TEXT REQ..`: what 1 to 64 streams of requests change after a published text.
+    Hall,
+    /// `audit W CAT STU SET TEXT SES..`: whom the students envy at a published text of the market of 1 to 64 sessions, as
+    /// 1 to 16 workers find it.
+    Audit {
+        workers: u16,
+    },
 }
 
 /// What the words ask for, or `None` exactly where they are none of the forms. It takes no memory.
@@ -68,6 +81,15 @@ pub fn read_words(words: &[String]) -> Option<Form>
     }
     if verb.as_str() == "check" {
         return read_check(more);
+    }
+    if verb.as_str() == "explain" {
+        return read_explain(more);
+    }
+    if verb.as_str() == "hall" {
+        return read_hall(more);
+    }
+    if verb.as_str() == "audit" {
+        return read_audit(more);
     }
     None
 }
@@ -166,6 +188,50 @@ fn read_check(more: &[String]) -> Option<Form>
         return None;
     }
     Some(Form::Check)
+}
+
+// What the words behind `explain` ask for.
+fn read_explain(more: &[String]) -> Option<Form>
+    ensures form { IfSome result (HasForm (codes "explain" ∷ map string_bytes more.now)) }
+    ensures none { IfNone result (HasNoForm (codes "explain" ∷ map string_bytes more.now)) }
+{
+    let [_, _, _, _, student, section, sessions @ ..] = more else {
+        return None;
+    };
+    let student = read_name(student.as_bytes())?;
+    let section = read_name(section.as_bytes())?;
+    if !are_inputs(sessions, 0) {
+        return None;
+    }
+    Some(Form::Explain { student, section })
+}
+
+// What the words behind `hall` ask for.
+fn read_hall(more: &[String]) -> Option<Form>
+    ensures form { IfSome result (HasForm (codes "hall" ∷ map string_bytes more.now)) }
+    ensures none { IfNone result (HasNoForm (codes "hall" ∷ map string_bytes more.now)) }
+{
+    if !are_inputs(more, 3) {
+        return None;
+    }
+    Some(Form::Hall)
+}
+
+// What the words behind `audit` ask for.
+fn read_audit(more: &[String]) -> Option<Form>
+    ensures form { IfSome result (HasForm (codes "audit" ∷ map string_bytes more.now)) }
+    ensures none { IfNone result (HasNoForm (codes "audit" ∷ map string_bytes more.now)) }
+{
+    let [workers, inputs @ ..] = more else {
+        return None;
+    };
+    let workers = read_between(workers.as_bytes(), 1, u64::from(MAX_WORKERS))?;
+    if !are_inputs(inputs, 4) {
+        return None;
+    }
+    Some(Form::Audit {
+        workers: workers as u16,
+    })
 }
 
 // The number from `least` to `most` that the bytes spell, or `None` exactly where they spell none.

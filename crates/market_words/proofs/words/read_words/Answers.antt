@@ -33,3 +33,18 @@ pub returns-then-eq-6-clause-form : goal.returns-then-eq-6-clause-form
 returns-then-eq-6-clause-form c =
     let verb : string_bytes c.verb-item.result ≡ codes "check" = search rules in
     rw (verb_first c.args.words.now c.verb-item.result (omega arith) c.verb-item.is, verb) c.read_check.ensures.form
+
+pub returns-then-eq-7-clause-form : goal.returns-then-eq-7-clause-form
+returns-then-eq-7-clause-form c =
+    let verb : string_bytes c.verb-item.result ≡ codes "explain" = search rules in
+    rw (verb_first c.args.words.now c.verb-item.result (omega arith) c.verb-item.is, verb) c.read_explain.ensures.form
+
+pub returns-then-eq-8-clause-form : goal.returns-then-eq-8-clause-form
+returns-then-eq-8-clause-form c =
+    let verb : string_bytes c.verb-item.result ≡ codes "hall" = search rules in
+    rw (verb_first c.args.words.now c.verb-item.result (omega arith) c.verb-item.is, verb) c.read_hall.ensures.form
+
+pub returns-then-eq-9-clause-form : goal.returns-then-eq-9-clause-form
+returns-then-eq-9-clause-form c =
+    let verb : string_bytes c.verb-item.result ≡ codes "audit" = search rules in
+    rw (verb_first c.args.words.now c.verb-item.result (omega arith) c.verb-item.is, verb) c.read_audit.ensures.form
