@@ -43,10 +43,8 @@ pub(crate) fn few_listed(
 }
 
 // Whether so many are few of so many students. One alone needs no worker beside the caller, unless nobody else is there.
-fn are_few(asked: usize, students: usize) -> bool
-    requires { asked ≤ 2000 }
-{
-    asked * FEW <= students || (asked == 1 && students > 1)
+pub(crate) fn are_few(asked: usize, students: usize) -> bool {
+    asked <= students / FEW || (asked == 1 && students > 1)
 }
 
 // How many students have to be asked.

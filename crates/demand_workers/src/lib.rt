@@ -12,6 +12,7 @@ mod raised;
 mod remembered;
 mod round;
 mod taking;
+mod unsettled;
 mod worker;
 
 pub use bench::Bench;

@@ -6,6 +6,7 @@ ghost use Rattle.demand_api.specs.Asking.{ArePricesFor};
 ghost use Rattle.demand_api.specs.Crowds.{counts};
 ghost use Rattle.demand_api.specs.Prices.{AreLeastPrices};
 ghost use Rattle.price_board.specs.Openings.{IsMade};
+ghost use Rattle.demand_workers.specs.Questions.{AreAnswered};
 ghost use Rattle.demand_workers.specs.Remembered.{AreRemembered, AreTaken};
 ghost use Rattle.demand_workers.specs.Rounds.{data_of};
 
@@ -14,10 +15,12 @@ use crate::ahead::ask_ahead;
 use crate::answering::read_all;
 use crate::effort::{few_at, few_listed};
 use crate::leaving::{least_for_each, least_price};
+use crate::questions::Question;
 use crate::raised::raised_memory;
 use crate::remembered::Remembered;
 use crate::round::ask_workers;
 use crate::taking::{count_all, count_takers, take_all, take_listed};
+use crate::unsettled::ask_few;
 use bundle_rules::Bundle;
 use demand_api::{Crowd, Demands};
 use market_edge::Gate;
@@ -230,8 +233,10 @@ impl<'g> PooledDemands<AnyGate<'g>> {
         &mut self,
         rt: &R,
         alloc: Global,
+        answered: &[Question],
         prices: &[Tokens],
     ) -> Result<Vec<u32>, NoMemory>
+        requires answered { AreAnswered (data_of (arc_value self.old.crowd)) answered.now }
         requires prices { ArePricesFor (data_of (arc_value self.old.crowd)) prices.now }
         ensures crowd { self.new.crowd ≡ self.old.crowd }
         ensures asked { self.new.asked ≡ self.old.asked }
@@ -241,10 +246,10 @@ impl<'g> PooledDemands<AnyGate<'g>> {
             self.recall(rt, alloc, prices)?;
         }
         if few_at(&self.remembered, &self.crowd, prices) {
-            return self.counted_from(rt, alloc, &self.remembered, prices);
+            return self.counted_from(rt, alloc, &self.remembered, answered, prices);
         }
         let memory = self.memory_at(rt, alloc, prices)?;
-        self.counted_from(rt, alloc, &memory, prices)
+        self.counted_from(rt, alloc, &memory, answered, prices)
     }
 
     // How many students take each section at these prices, of whom most take what is remembered.
@@ -253,15 +258,24 @@ impl<'g> PooledDemands<AnyGate<'g>> {
         rt: &R,
         alloc: Global,
         memory: &Remembered,
+        answered: &[Question],
         prices: &[Tokens],
     ) -> Result<Vec<u32>, NoMemory>
         requires memory { AreRemembered (data_of (arc_value self.now.crowd)) memory.now.prices.items memory.now.bundles.items }
+        requires answered { AreAnswered (data_of (arc_value self.now.crowd)) answered.now }
         requires prices { ArePricesFor (data_of (arc_value self.now.crowd)) prices.now }
         ensures { IfOk result (λ found. found.items ≡ counts (data_of (arc_value self.now.crowd)) (price_in prices.now)) }
     {
         let mut found = vec![in alloc; 0; usize::from(self.crowd.sections)]?;
         let mut workspace = self.bench.workspaces()[0].lock(rt);
-        count_all(&mut workspace, memory, &self.crowd, prices, &mut found);
+        count_all(
+            &mut workspace,
+            memory,
+            &self.crowd,
+            answered,
+            prices,
+            &mut found,
+        );
         Ok(found)
     }
 }
@@ -288,8 +302,16 @@ impl Demands for PooledDemands<AnyGate<'_>> {
     ) -> Result<Vec<Vec<u32>>, NoMemory> {
         self.asked = self.asked.saturating_add(1);
         let mut found = Vec::with_capacity(alloc, batch.len())?;
+        let answered = ask_few(
+            rt,
+            alloc,
+            self.bench.workspaces(),
+            &self.remembered,
+            &self.crowd,
+            batch,
+        )?;
         for version in 0..batch.len() {
-            let counts = self.counted(rt, alloc, &batch[version])?;
+            let counts = self.counted(rt, alloc, &answered, &batch[version])?;
             found.push(counts)?;
         }
         Ok(found)
