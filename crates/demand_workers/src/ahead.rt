@@ -1,4 +1,4 @@
-// Questions of walks to least prices, asked ahead by several workers.
+// Questions of a walk to a least price, asked ahead by several workers.
 ghost use Rattle.std.specs.Prelude.{◌≡◌, ◌<◌, ◌≤◌, All, IfOk, length};
 ghost use Rattle.demand_api.specs.Asking.{ArePricesFor};
 ghost use Rattle.price_board.specs.Openings.{IsMade};
@@ -7,7 +7,7 @@ ghost use Rattle.demand_workers.specs.Remembered.{AreRemembered};
 ghost use Rattle.demand_workers.specs.Rounds.{data_of};
 
 use crate::leaving::{holder_of, holders_of};
-use crate::questions::{Question, answer_all, answer_of};
+use crate::questions::{Question, WORTHWHILE, answer_all, answer_of};
 use crate::remembered::Remembered;
 use bundle_rules::Bundle;
 use demand_api::Crowd;
@@ -17,28 +17,29 @@ use std::alloc::Global;
 use std::sync::{Mutex, Wait};
 use std::thread::Threads;
 
-// How often the workers are started for the walks of one call. What is not asked by then, each walk asks for itself.
+// How often the workers are started for one walk. What is not asked by then, the walk asks for itself.
 const PHASES: usize = 8;
 
-// How many holders are looked at for the questions of one walk.
+// How many holders are looked at for the questions of one phase.
 const STEPS: usize = 4000;
 
-// What those take who are asked on the walks to these least prices, or of most of them, asked by all workers at once.
-// Of one worker it asks nothing.
+// What those take who are surely asked on the walk to the least price of a section, or of most of them, asked by all
+// workers at once, as long as that is worth their start. Of one worker it asks nothing.
 pub(crate) fn ask_ahead<R: Threads + Wait + Sync>(
     rt: &R,
     alloc: Global,
     workspaces: &[Mutex<Workspace>],
     remembered: &Remembered,
     crowd: &Crowd,
-    pairs: &[(SectionNo, u32)],
+    section: SectionNo,
+    limit: u32,
 ) -> Result<Vec<Question>, NoMemory>
     requires remembered { AreRemembered (data_of crowd.now) remembered.now.prices.items remembered.now.bundles.items }
     requires all { length remembered.now.bundles.items ≡ length crowd.now.menus.items }
     requires crowd { IsMade crowd.now }
     requires prices { ArePricesFor (data_of crowd.now) remembered.now.prices.items }
     requires workers { 1 ≤ length workspaces.now }
-    requires sections { All (λ pair. pair.0.0 < crowd.now.sections) pairs.now }
+    requires section { section.0 < crowd.now.sections }
     ensures { IfOk result (λ answered. AreAnswered (data_of crowd.now) answered.items) }
 {
     let mut answered = Vec::new(alloc);
@@ -46,15 +47,8 @@ pub(crate) fn ask_ahead<R: Threads + Wait + Sync>(
         return Ok(answered);
     }
     for _ in 0..PHASES {
-        let mut questions = next_of_all(
-            alloc,
-            remembered,
-            crowd,
-            pairs,
-            &answered,
-            workspaces.len(),
-        )?;
-        if questions.len() < 2 {
+        let mut questions = next_questions(alloc, remembered, crowd, section, limit, &answered)?;
+        if questions.len() < WORTHWHILE {
             break;
         }
         answer_all(rt, workspaces, remembered, crowd, &mut questions);
@@ -63,44 +57,16 @@ pub(crate) fn ask_ahead<R: Threads + Wait + Sync>(
     Ok(answered)
 }
 
-// What is asked next on each of the walks.
-fn next_of_all(
-    alloc: Global,
-    remembered: &Remembered,
-    crowd: &Crowd,
-    pairs: &[(SectionNo, u32)],
-    answered: &[Question],
-    workers: usize,
-) -> Result<Vec<Question>, NoMemory>
-    requires remembered { AreRemembered (data_of crowd.now) remembered.now.prices.items remembered.now.bundles.items }
-    requires all { length remembered.now.bundles.items ≡ length crowd.now.menus.items }
-    requires crowd { IsMade crowd.now }
-    requires prices { ArePricesFor (data_of crowd.now) remembered.now.prices.items }
-    requires sections { All (λ pair. pair.0.0 < crowd.now.sections) pairs.now }
-    requires answered { AreAnswered (data_of crowd.now) answered.now }
-    ensures { IfOk result (λ questions. All (IsQuestion crowd.now) questions.items) }
-{
-    // One walk alone leaves workers idle where it has fewer questions, so it asks what may come after them too.
-    let even = if pairs.len() == 1 { workers } else { 1 };
-    let mut questions = Vec::new(alloc);
-    for (section, limit) in pairs {
-        let mut more = next_of_one(alloc, remembered, crowd, *section, *limit, answered, even)?;
-        questions.append(&mut more)?;
-    }
-    Ok(questions)
-}
-
 // What is asked next on a walk: of each of the first holders to leave, as many as there are too many, what it takes at
 // the price from which it does not keep what it holds. None of them can be left out: while one of them stays, a later
-// one would have to leave in its place. Then of further ones, up to a number that parts evenly, where there are some.
-fn next_of_one(
+// one would have to leave in its place. Where they are not worth a start, it may be nothing.
+fn next_questions(
     alloc: Global,
     remembered: &Remembered,
     crowd: &Crowd,
     section: SectionNo,
     limit: u32,
     answered: &[Question],
-    even: usize,
 ) -> Result<Vec<Question>, NoMemory>
     requires remembered { AreRemembered (data_of crowd.now) remembered.now.prices.items remembered.now.bundles.items }
     requires all { length remembered.now.bundles.items ≡ length crowd.now.menus.items }
@@ -110,12 +76,15 @@ fn next_of_one(
     requires answered { AreAnswered (data_of crowd.now) answered.now }
     ensures { IfOk result (λ questions. All (IsQuestion crowd.now) questions.items) }
 {
-    let place = usize::from(section.0);
-    let mut trial = remembered.prices.as_slice().to_vec(alloc)?;
     let mut questions = Vec::new(alloc);
     let mut holders = holders_of(alloc, remembered, crowd, section)?;
+    if holders.len().saturating_sub(limit as usize) < WORTHWHILE {
+        return Ok(questions);
+    }
+    let place = usize::from(section.0);
+    let mut trial = remembered.prices.as_slice().to_vec(alloc)?;
     for _ in 0..STEPS {
-        if holders.len() <= limit as usize && is_even(questions.len(), even) {
+        if holders.len() <= limit as usize {
             break;
         }
         let Some(first) = holders.pop() else {
@@ -138,9 +107,4 @@ fn next_of_one(
         holders.push(holder)?;
     }
     Ok(questions)
-}
-
-// Whether so many questions part evenly, or are too few to be parted.
-fn is_even(questions: usize, even: usize) -> bool {
-    questions < 2 || even == 0 || questions % even == 0
 }

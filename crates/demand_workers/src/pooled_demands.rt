@@ -35,9 +35,9 @@ pub type AnyGate<'g> = &'g (dyn Gate + Sync);
 
 /// A crowd that is asked by the workers of a bench, each with a workspace of its own. They draw the tasks of a call from one board, each
 /// in a thread of its own where one can be started, and pass the gate before their first draw and after each post. Where what is
-/// remembered of earlier calls leaves few students to ask, the caller's own thread asks them, without a board. Whom the walks to least
-/// prices ask is known before they begin, so several workers ask those at once, also without a board. Its one form is
-/// `PooledDemands<AnyGate>`, which `make` gives.
+/// remembered of earlier calls leaves few students to ask, the caller's own thread asks them, without a board. Students who
+/// are surely asked, at several versions of which few are asked, or on the walk to a least price, are asked by several workers at once
+/// where they are enough for that, also without a board. Its one form is `PooledDemands<AnyGate>`, which `make` gives.
 #[derive(Drop)]
 pub struct PooledDemands<G> {
     crowd: Arc<Crowd>,
@@ -198,7 +198,8 @@ impl<'g> PooledDemands<AnyGate<'g>> {
             self.bench.workspaces(),
             &self.remembered,
             &self.crowd,
-            &[(section, limit)],
+            section,
+            limit,
         )?;
         let (least, memory) = {
             let mut workspace = self.bench.workspaces()[0].lock(rt);
@@ -388,21 +389,13 @@ impl Demands for PooledDemands<AnyGate<'_>> {
         if let [(section, limit)] = pairs {
             return self.least_alone(rt, alloc, *section, *limit);
         }
-        let answered = ask_ahead(
-            rt,
-            alloc,
-            self.bench.workspaces(),
-            &self.remembered,
-            &self.crowd,
-            pairs,
-        )?;
         let mut workspace = self.bench.workspaces()[0].lock(rt);
         least_for_each(
             alloc,
             &mut workspace,
             &self.remembered,
             &self.crowd,
-            &answered,
+            &[],
             pairs,
         )
     }

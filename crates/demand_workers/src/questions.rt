@@ -19,6 +19,12 @@ use std::sync::{Mutex, Wait};
 use std::thread;
 use std::thread::Threads;
 
+// For so many questions each one more worker is started: a start takes about as long as one or two answers.
+const SHARE: usize = 4;
+
+// Fewer questions are not worth a start.
+pub(crate) const WORTHWHILE: usize = 2 * SHARE;
+
 // A student and prices, with what the student takes at them once it was asked.
 #[derive(Drop)]
 pub(crate) struct Question {
@@ -72,7 +78,7 @@ pub(crate) fn answered_or_asked(
     }
 }
 
-// Answers the questions, by as many workers as there are workspaces. It takes no memory.
+// Answers the questions, by so many workers as they are worth, of as many as there are workspaces. It takes no memory.
 pub(crate) fn answer_all<R: Threads + Wait + Sync>(
     rt: &R,
     workspaces: &[Mutex<Workspace>],
@@ -86,7 +92,7 @@ pub(crate) fn answer_all<R: Threads + Wait + Sync>(
     ensures count { length questions.new ≡ length questions.old }
     ensures answered { AreAnswered (data_of crowd.now) questions.new }
 {
-    let workers = workspaces.len();
+    let workers = (questions.len() / SHARE).min(workspaces.len()).max(1);
     // A worker answers so many neighbours, as `for_each_mut` parts them.
     let size = questions.len().div_ceil(workers).max(1);
     thread::for_each_mut(

@@ -2,7 +2,7 @@ use Rattle.std.proofs.Common.{All, heap_items}
 use Rattle.demand_api.specs.Asking.{ArePricesFor}
 use Rattle.demand_workers.specs.Questions.{IsQuestion, IsListed}
 use Rattle.demand_workers.specs.Rounds.{data_of}
-use Rattle.demand_workers.proofs.ahead.next_of_one.Given as goal
+use Rattle.demand_workers.proofs.ahead.next_questions.Given as goal
 
 -- the trial has prices, the holders are students of the crowd, and the questions can be asked
 abbrev pub invariant-loop : goal.invariant-loop

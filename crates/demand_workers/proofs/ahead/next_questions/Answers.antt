@@ -5,7 +5,7 @@ use Rattle.demand_workers.specs.Leaving.{leaves}
 use Rattle.demand_workers.specs.Rounds.{data_of}
 use Rattle.demand_workers.proofs.HoldersLeave.{raised_prices}
 use Rattle.demand_workers.proofs.Listing.{listed_left, first_listed, rest_listed, more_listed, one_asked}
-use Rattle.demand_workers.proofs.ahead.next_of_one.Goals as goal
+use Rattle.demand_workers.proofs.ahead.next_questions.Goals as goal
 
 pub overflow_sub-first : goal.overflow_sub-first
 overflow_sub-first c = (first_listed c.args.crowd.now (heap_items c.loop.holders) (heap_items c.pop.new.self) c.in-Some.first c.in-Some.ensures.permutation c.loop.invariant.listed).room
