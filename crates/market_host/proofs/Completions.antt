@@ -12,7 +12,7 @@ use Rattle.market_words.specs.Forms.{inputs_of}
 use Rattle.market_words.proofs.OneForm.{one_form}
 use Rattle.market_host.specs.declared.cause.Cause.{Cause}
 use Rattle.market_host.specs.declared.status.Status.{Status}
-use Rattle.market_host.specs.declared.status.Status.TheVariants.{Done, Usage, ShelfFault, Refused, TooLong, NoPrices, Found, SinkFault, OutOfMemory}
+use Rattle.market_host.specs.declared.status.Status.TheVariants.{Done, Usage, ShelfFault, Refused, TooLong, NoPrices, Found, Unknown, SinkFault, OutOfMemory}
 use Rattle.market_host.specs.declared.trouble.Trouble.{Trouble}
 use Rattle.market_host.specs.declared.trouble.Trouble.TheVariants as trouble
 use Rattle.market_host.specs.Completeness.{CanBeDone, EndsWork}
@@ -119,6 +119,7 @@ completes words seen (Refused n row cause) text can outcome = memory_alone words
 completes words seen (TooLong n) text can outcome = memory_alone words seen (trouble.TooLong n) text can outcome
 completes words seen (NoPrices least) text can outcome = tt
 completes words seen (Found finding) text can outcome = tt
+completes words seen (Unknown word) text can outcome = tt
 completes words seen OutOfMemory text can outcome = tt
 completes words seen SinkFault text can outcome = absurd outcome
 

@@ -16,13 +16,13 @@ use Rattle.utility_language.proofs.StreamLemmas.{one_list_a_text_law}
 use Rattle.certificate_checker.specs.declared.findings.Finding.{Finding}
 use Rattle.market_host.specs.declared.cause.Cause.{Cause}
 use Rattle.market_host.specs.declared.status.Status.{Status}
-use Rattle.market_host.specs.declared.status.Status.TheVariants.{Done, Usage, ShelfFault, Refused, TooLong, NoPrices, Found, SinkFault, OutOfMemory}
+use Rattle.market_host.specs.declared.status.Status.TheVariants.{Done, Usage, ShelfFault, Refused, TooLong, NoPrices, Found, Unknown, SinkFault, OutOfMemory}
 use Rattle.market_host.specs.declared.trouble.Trouble.{Trouble}
 use Rattle.market_host.specs.declared.trouble.Trouble.TheVariants as stops
 use Rattle.market_host.specs.Confirmations.{Confirms, RunIsConfirmed}
 use Rattle.market_host.specs.Inputs.{AreInOrder, AreRead, AreTold, HasFault}
 use Rattle.market_host.specs.Kinds.{kind_of}
-use Rattle.market_host.specs.Outcomes.{IsOutcome, IsStopped, Prints, TellsFinding, TellsNoPrices}
+use Rattle.market_host.specs.Outcomes.{IsOutcome, IsStopped, Prints, TellsFinding, TellsNoName, TellsNoPrices}
 use Rattle.market_host.specs.Markets.{IsMarketOf}
 use Rattle.market_host.specs.Sessions.{AreStreams, session_text}
 use Rattle.market_host.specs.Sights.{Sight}
@@ -192,6 +192,10 @@ not_found check seen workers a b c sessions text line finding run has told (form
 not_unpriced : (check : List (List ℕ)) (seen : Sight) (least : ℕ) (line : List ℕ) → HasForm check Check → IsOutcome check seen (NoPrices least) line → ⊥
 not_unpriced check seen least line has (form, have, texts, read, ended, tells) = subst (λ f. TellsNoPrices f texts least line) (one_form check form Check have has) tells
 
+-- `check` tells of no name
+not_unknown : (check : List (List ℕ)) (seen : Sight) (word : ℕ) (line : List ℕ) → HasForm check Check → IsOutcome check seen (Unknown word) line → ⊥
+not_unknown check seen word line has (form, have, texts, read, ended, tells) = subst (λ f. TellsNoName f texts word line) (one_form check form Check have has) tells
+
 confirm : (check : List (List ℕ)) (seen : Sight) (workers : ℕ) (a b c : List ℕ) (sessions : List (List ℕ)) (text line : List ℕ) (status : Status) → IsRunRead workers a b c sessions text → HasForm check Check
     → AreTold seen.held (inputs_of Check check) (a ∷ b ∷ c ∷ text ∷ sessions) → IsOutcome check seen status line → Confirms check seen text status
 confirm check seen workers a b c sessions text line Done run has told outcome = tt
@@ -201,6 +205,7 @@ confirm check seen workers a b c sessions text line (Refused n row cause) run ha
 confirm check seen workers a b c sessions text line (TooLong n) run has told outcome = stop_confirmed check seen workers a b c text sessions (stops.TooLong n) line run.order has told outcome
 confirm check seen workers a b c sessions text line (NoPrices least) run has told outcome = not_unpriced check seen least line has outcome
 confirm check seen workers a b c sessions text line (Found finding) run has told outcome = not_found check seen workers a b c sessions text line finding run has told outcome
+confirm check seen workers a b c sessions text line (Unknown word) run has told outcome = not_unknown check seen word line has outcome
 confirm check seen workers a b c sessions text line SinkFault run has told outcome = outcome
 confirm check seen workers a b c sessions text line OutOfMemory run has told outcome = tt
 

@@ -2,6 +2,7 @@ pub mod CheckFacts
 pub mod Completions
 pub mod Confirming
 pub mod DemandFacts
+pub mod ExplainFacts
 pub mod InputTroubles
 pub mod LineTexts
 pub mod ListedSections

@@ -6,11 +6,11 @@ use Rattle.market_words.specs.declared.words.Form.{Form}
 use Rattle.market_words.specs.Forms.{inputs_of}
 use Rattle.market_words.proofs.OneForm.{one_form}
 use Rattle.market_host.specs.declared.status.Status.{Status}
-use Rattle.market_host.specs.declared.status.Status.TheVariants.{Done, Usage, ShelfFault, Refused, TooLong, NoPrices, Found, SinkFault, OutOfMemory}
+use Rattle.market_host.specs.declared.status.Status.TheVariants.{Done, Usage, ShelfFault, Refused, TooLong, NoPrices, Found, Unknown, SinkFault, OutOfMemory}
 use Rattle.market_host.specs.declared.trouble.Trouble.{Trouble}
 use Rattle.market_host.specs.declared.trouble.Trouble.TheVariants as trouble
 use Rattle.market_host.specs.Ends.{IsReadOutAt, IsWhollyRead}
-use Rattle.market_host.specs.Outcomes.{IsLastAtEnd, IsOutcome, IsStopped, IsWorkedOut, Prints, TellsFinding, TellsNoPrices}
+use Rattle.market_host.specs.Outcomes.{IsLastAtEnd, IsOutcome, IsStopped, IsWorkedOut, Prints, TellsFinding, TellsNoName, TellsNoPrices}
 use Rattle.market_host.specs.Sights.{Sight}
 use Rattle.market_host.specs.Statuses.{status_of}
 use Rattle.market_host.specs.Troubles.{IsAtEnd}
@@ -61,6 +61,7 @@ read_out : (words : List (List ℕ)) (seen : Sight) (status : Status) (text : Li
 read_out words seen Done text outcome = wholly_read words seen (λ form texts. Prints form texts text) outcome
 read_out words seen (NoPrices least) text outcome = wholly_read words seen (λ form texts. TellsNoPrices form texts least text) outcome
 read_out words seen (Found finding) text outcome = wholly_read words seen (λ form texts. TellsFinding form texts finding text) outcome
+read_out words seen (Unknown word) text outcome = wholly_read words seen (λ form texts. TellsNoName form texts word text) outcome
 read_out words seen (Refused n row cause) text (form, has, (earlier, name, later, texts, split, number, read, faulty), line) = λ other have earlier' name' later' split' number'.
     let names : earlier ++ name ∷ later ≡ earlier' ++ name' ∷ later' = sym split ∙ ap (λ f. inputs_of f words) (one_form words form other has have) ∙ split' in
     let same : name' ≡ name = one_name earlier later earlier' later' name name' names (omega arith) in
@@ -90,6 +91,7 @@ sink_fault_or_not (Refused n row cause) = inr (apart (Refused n row cause) (λ i
 sink_fault_or_not (TooLong n) = inr (apart (TooLong n) (λ is. is))
 sink_fault_or_not (NoPrices least) = inr (apart (NoPrices least) (λ is. is))
 sink_fault_or_not (Found finding) = inr (apart (Found finding) (λ is. is))
+sink_fault_or_not (Unknown word) = inr (apart (Unknown word) (λ is. is))
 sink_fault_or_not OutOfMemory = inr (apart OutOfMemory (λ is. is))
 
 settled : (P : Status → Type 0) (result status : Status) → (result ≡ SinkFault) ⊎ (result ≢ SinkFault) → (result ≡ SinkFault → P result) → (result ≢ SinkFault → result ≡ status) → P status → P result

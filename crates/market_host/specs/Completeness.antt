@@ -4,7 +4,7 @@ use Rattle.market_edge.specs.Faults.{Rose}
 use Rattle.market_words.specs.declared.words.Form.{Form}
 use Rattle.market_words.specs.Forms.{HasForm, inputs_of}
 use Rattle.market_host.specs.declared.status.Status.{Status}
-use Rattle.market_host.specs.declared.status.Status.TheVariants.{Done, Usage, ShelfFault, Refused, TooLong, NoPrices, Found, SinkFault, OutOfMemory}
+use Rattle.market_host.specs.declared.status.Status.TheVariants.{Done, Usage, ShelfFault, Refused, TooLong, NoPrices, Found, Unknown, SinkFault, OutOfMemory}
 use Rattle.market_host.specs.Inputs.{AreInOrder, AreTold}
 use Rattle.market_host.specs.Sights.{Sight}
 
@@ -20,6 +20,7 @@ abbrev pub EndsWork : Status → Type 0
 EndsWork Done = ⊤
 EndsWork (NoPrices least) = ⊤
 EndsWork (Found finding) = ⊤
+EndsWork (Unknown word) = ⊤
 EndsWork OutOfMemory = ⊤
 EndsWork Usage = ⊥
 EndsWork (ShelfFault number) = ⊥

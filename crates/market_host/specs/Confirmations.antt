@@ -4,7 +4,7 @@ use Rattle.market_edge.specs.Faults.{Rose}
 use Rattle.market_words.specs.declared.words.Form.TheVariants.{Check, Run}
 use Rattle.market_words.specs.Forms.{HasForm, inputs_of}
 use Rattle.market_host.specs.declared.status.Status.{Status}
-use Rattle.market_host.specs.declared.status.Status.TheVariants.{Done, Usage, ShelfFault, Refused, TooLong, NoPrices, Found, SinkFault, OutOfMemory}
+use Rattle.market_host.specs.declared.status.Status.TheVariants.{Done, Usage, ShelfFault, Refused, TooLong, NoPrices, Found, Unknown, SinkFault, OutOfMemory}
 use Rattle.market_host.specs.Inputs.{AreTold}
 use Rattle.market_host.specs.Outcomes.{IsOutcome}
 use Rattle.market_host.specs.Sights.{Sight}
@@ -35,6 +35,7 @@ Confirms check seen text Usage = ⊥
 Confirms check seen text (Refused number row cause) = ⊥
 Confirms check seen text (NoPrices least) = ⊥
 Confirms check seen text (Found finding) = ⊥
+Confirms check seen text (Unknown word) = ⊥
 Confirms check seen text SinkFault = ⊥
 
 -- whatever the outcome of `check` is, where it is given a text that `run` printed for the same inputs

@@ -3,7 +3,7 @@ use Rattle.std.specs.Prelude.{ℕ, ◌≡◌, ◌+◌, List, ◌∷◌, ◌++◌
 use Rattle.market_words.specs.declared.words.Form.{Form}
 use Rattle.market_words.specs.Forms.{HasForm, inputs_of}
 use Rattle.market_host.specs.declared.status.Status.{Status}
-use Rattle.market_host.specs.declared.status.Status.TheVariants.{Done, Usage, ShelfFault, Refused, TooLong, NoPrices, Found, SinkFault, OutOfMemory}
+use Rattle.market_host.specs.declared.status.Status.TheVariants.{Done, Usage, ShelfFault, Refused, TooLong, NoPrices, Found, Unknown, SinkFault, OutOfMemory}
 use Rattle.market_host.specs.Outcomes.{IsLastAtEnd}
 use Rattle.market_host.specs.Sights.{Sight}
 use Rattle.market_host.specs.Troubles.{IsAtEnd}
@@ -19,6 +19,7 @@ abbrev pub IsReadOutAt : List (List ℕ) → Sight → Status → Type 0
 IsReadOutAt words seen Done = IsWhollyRead words seen
 IsReadOutAt words seen (NoPrices least) = IsWhollyRead words seen
 IsReadOutAt words seen (Found finding) = IsWhollyRead words seen
+IsReadOutAt words seen (Unknown word) = IsWhollyRead words seen
 IsReadOutAt words seen (Refused number row cause) =
     (form : Form) → HasForm words form → (earlier : List (List ℕ)) (name : List ℕ) (later : List (List ℕ)) → inputs_of form words ≡ earlier ++ name ∷ later
     → number ≡ length earlier + 1 → IsAtEnd seen name

@@ -4,6 +4,7 @@ pub mod Confirmations
 pub mod Demands
 pub mod Endings
 pub mod Ends
+pub mod Explains
 pub mod Inputs
 pub mod Kinds
 pub mod Lines

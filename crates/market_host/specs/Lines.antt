@@ -25,11 +25,15 @@ cause_words (Range key) = codes "range of " ++ key_name key
 
 -- the line of words that have no form
 abbrev pub usage_line : List ℕ
-usage_line = codes "usage: run, check, prefer, demand, quote, make\n"
+usage_line = codes "usage: run, check, prefer, demand, quote, make, explain\n"
 
 -- the line that says that no prices are found, with the least error
 abbrev pub no_prices_line : ℕ → List ℕ
 no_prices_line least = codes "no prices: least error " ++ decimal least ++ codes "\n"
+
+-- the line that says which word of the command line names nothing
+abbrev pub unknown_line : ℕ → List ℕ
+unknown_line word = codes "no such name: word " ++ decimal word ++ codes "\n"
 
 -- the line that says what stops a call
 abbrev pub line_of : Trouble → List ℕ

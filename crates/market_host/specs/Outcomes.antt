@@ -3,10 +3,10 @@ use Rattle.std.specs.Prelude.{ℕ, ◌≡◌, List, [], ◌∷◌, ◌++◌}
 use Rattle.made_run.specs.Made.{IsMadeSummary}
 use Rattle.market_units.specs.Name.{name_bytes}
 use Rattle.market_words.specs.declared.words.Form.{Form}
-use Rattle.market_words.specs.declared.words.Form.TheVariants.{Check, Demand, Make, Prefer, Quote, Run}
+use Rattle.market_words.specs.declared.words.Form.TheVariants.{Check, Demand, Explain, Make, Prefer, Quote, Run}
 use Rattle.market_words.specs.Forms.{HasForm, HasNoForm, inputs_of}
 use Rattle.market_host.specs.declared.status.Status.{Status}
-use Rattle.market_host.specs.declared.status.Status.TheVariants.{Done, Usage, ShelfFault, Refused, TooLong, NoPrices, Found, SinkFault, OutOfMemory}
+use Rattle.market_host.specs.declared.status.Status.TheVariants.{Done, Usage, ShelfFault, Refused, TooLong, NoPrices, Found, Unknown, SinkFault, OutOfMemory}
 use Rattle.market_host.specs.declared.trouble.Trouble.{Trouble}
 use Rattle.market_host.specs.declared.trouble.Trouble.TheVariants as trouble
 use Rattle.market_host.specs.declared.ended.Ended.{Ended}
@@ -14,6 +14,7 @@ use Rattle.certificate_checker.specs.declared.findings.Finding.{Finding}
 use Rattle.market_host.specs.Checks.{PrintsAccepted, TellsFound}
 use Rattle.market_host.specs.Demands.{PrintsDemand}
 use Rattle.market_host.specs.Endings.{bytes_of}
+use Rattle.market_host.specs.Explains.{PrintsReason, TellsFoundOfKnown, TellsUnknown}
 use Rattle.market_host.specs.Inputs.{AreRead}
 use Rattle.market_host.specs.Lines.{line_of, usage_line}
 use Rattle.market_host.specs.Makes.{TellsMadeUnpriced}
@@ -31,6 +32,7 @@ Prints (Demand workers) texts text = PrintsDemand texts text
 Prints (Run workers) texts text = PrintsRun texts text
 Prints (Make workers seed students sections accept) texts text = IsMadeSummary seed students sections accept text
 Prints Check texts text = PrintsAccepted texts text
+Prints (Explain student section) texts text = PrintsReason (name_bytes student) (name_bytes section) texts text
 
 -- the text that a form writes that finds no prices, where its inputs have these texts and this is the least error
 abbrev pub TellsNoPrices : Form → List (List ℕ) → ℕ → List ℕ → Type 0
@@ -40,6 +42,7 @@ TellsNoPrices (Demand workers) texts least text = ⊥
 TellsNoPrices (Run workers) texts least text = TellsUnpriced texts least text
 TellsNoPrices (Make workers seed students sections accept) texts least text = TellsMadeUnpriced seed students sections accept least text
 TellsNoPrices Check texts least text = ⊥
+TellsNoPrices (Explain student section) texts least text = ⊥
 
 -- the line that a form writes that finds a published text not accepted, where its inputs have these texts and this is the first finding
 abbrev pub TellsFinding : Form → List (List ℕ) → Finding → List ℕ → Type 0
@@ -49,6 +52,17 @@ TellsFinding (Demand workers) texts finding text = ⊥
 TellsFinding (Run workers) texts finding text = ⊥
 TellsFinding (Make workers seed students sections accept) texts finding text = ⊥
 TellsFinding Check texts finding text = TellsFound texts finding text
+TellsFinding (Explain student section) texts finding text = TellsFoundOfKnown (name_bytes student) (name_bytes section) texts finding text
+
+-- the line that a form writes one of whose words names nothing, where its inputs have these texts and this is the first such word
+abbrev pub TellsNoName : Form → List (List ℕ) → ℕ → List ℕ → Type 0
+TellsNoName (Quote name credits courses) texts word text = ⊥
+TellsNoName Prefer texts word text = ⊥
+TellsNoName (Demand workers) texts word text = ⊥
+TellsNoName (Run workers) texts word text = ⊥
+TellsNoName (Make workers seed students sections accept) texts word text = ⊥
+TellsNoName Check texts word text = ⊥
+TellsNoName (Explain student section) texts word text = TellsUnknown (name_bytes student) (name_bytes section) texts word text
 
 -- the last of these inputs, where there is one, was read to its end
 abbrev pub IsLastAtEnd : Sight → List (List ℕ) → Type 0
@@ -69,6 +83,7 @@ abbrev pub IsOutcome : List (List ℕ) → Sight → Status → List ℕ → Typ
 IsOutcome words seen Done text = IsWorkedOut words seen (λ form texts. Prints form texts text)
 IsOutcome words seen (NoPrices least) text = IsWorkedOut words seen (λ form texts. TellsNoPrices form texts least text)
 IsOutcome words seen (Found finding) text = IsWorkedOut words seen (λ form texts. TellsFinding form texts finding text)
+IsOutcome words seen (Unknown word) text = IsWorkedOut words seen (λ form texts. TellsNoName form texts word text)
 IsOutcome words seen Usage text = HasNoForm words × (text ≡ usage_line)
 IsOutcome words seen (ShelfFault number) text = IsStopped words seen (trouble.ShelfFault number) text
 IsOutcome words seen (Refused number row cause) text = IsStopped words seen (trouble.Refused number row cause) text

@@ -1,7 +1,7 @@
 -- The status of each trouble, and the number of each status.
 use Rattle.std.specs.Prelude.{ℕ}
 use Rattle.market_host.specs.declared.status.Status.{Status}
-use Rattle.market_host.specs.declared.status.Status.TheVariants.{Done, Usage, ShelfFault, Refused, TooLong, NoPrices, Found, SinkFault, OutOfMemory}
+use Rattle.market_host.specs.declared.status.Status.TheVariants.{Done, Usage, ShelfFault, Refused, TooLong, NoPrices, Found, Unknown, SinkFault, OutOfMemory}
 use Rattle.market_host.specs.declared.trouble.Trouble.{Trouble}
 use Rattle.market_host.specs.declared.trouble.Trouble.TheVariants as trouble
 
@@ -23,3 +23,4 @@ number_of (NoPrices least) = 5
 number_of SinkFault = 6
 number_of OutOfMemory = 7
 number_of (Found finding) = 8
+number_of (Unknown word) = 9

@@ -15,6 +15,7 @@ use crate::Status;
 use crate::check::check;
 use crate::demand::demand;
 use crate::ended::Ended;
+use crate::explain::explain;
 use crate::line::{line_for, usage};
 use crate::make::make;
 use crate::prefer::prefer;
@@ -118,6 +119,7 @@ fn answer<R: Threads + Wait + Sync, H: Shelf>(
             courses,
         } => quote(alloc, words, shelf, name, credits, courses),
         Form::Check => check(alloc, words, shelf),
+        Form::Explain { student, section } => explain(alloc, words, shelf, student, section),
         Form::Prefer => prefer(rt, alloc, words, shelf, gate),
         Form::Demand { workers } => demand(rt, alloc, words, workers, shelf, gate),
         Form::Run { workers } => run(rt, alloc, words, workers, shelf, gate),

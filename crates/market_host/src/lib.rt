@@ -7,6 +7,7 @@ mod cause;
 mod check;
 mod demand;
 mod ended;
+mod explain;
 mod gate;
 mod host;
 mod inputs;

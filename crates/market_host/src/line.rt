@@ -3,7 +3,7 @@ ghost use Rattle.std.specs.Prelude.{◌≡◌, ◌≤◌, ◌+◌, ◌++◌, len
 ghost use Rattle.std.specs.Fmt.{decimal};
 ghost use Rattle.market_settings.specs.Keys.{key_name};
 ghost use Rattle.market_host.specs.Checks.{accepted_line};
-ghost use Rattle.market_host.specs.Lines.{cause_words, line_of, no_prices_line, usage_line};
+ghost use Rattle.market_host.specs.Lines.{cause_words, line_of, no_prices_line, unknown_line, usage_line};
 
 use crate::Cause;
 use crate::trouble::Trouble;
@@ -14,7 +14,7 @@ use status_line::Line;
 pub fn usage() -> Line
     ensures { result ≡ usage_line }
 {
-    Line::empty().with(b"usage: run, check, prefer, demand, quote, make\n")
+    Line::empty().with(b"usage: run, check, prefer, demand, quote, make, explain\n")
 }
 
 /// The line that says that no prices are found, with the least error.
@@ -32,6 +32,16 @@ pub fn accepted() -> Line
     ensures { result ≡ accepted_line }
 {
     Line::empty().with(b"accepted\n")
+}
+
+/// The line that says which word of the command line names nothing.
+pub fn unknown_name(word: u16) -> Line
+    ensures { result ≡ unknown_line word }
+{
+    Line::empty()
+        .with(b"no such name: word ")
+        .with_number(u64::from(word))
+        .with(b"\n")
 }
 
 /// The line that says what stops a call.

@@ -26,6 +26,9 @@ pub enum Status {
     OutOfMemory,
     /// The published text is not accepted, and this is the first finding on it.
     Found { finding: Finding },
+    /// This word of the command line, the first such one, names no student or no section. Words are counted from 1, the
+    /// form's own word being the first.
+    Unknown { word: u16 },
 }
 
 impl Status {
@@ -43,6 +46,7 @@ impl Status {
             Status::SinkFault => 6,
             Status::OutOfMemory => 7,
             Status::Found { .. } => 8,
+            Status::Unknown { .. } => 9,
         }
     }
 }

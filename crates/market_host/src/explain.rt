@@ -1,0 +1,105 @@
+// Why a student does not have a section.
+ghost use Rattle.std.specs.Prelude.{◌≡◌, ◌≤◌, ◌<◌, ◌^◌, ◌-◌, List, ℕ, IfOk, length, map, MatchResult};
+ghost use Rattle.std.specs.String.{string_bytes};
+ghost use Rattle.market_settings.specs.Settings.{AreInRange};
+ghost use Rattle.market_units.specs.Name.{name_bytes};
+ghost use Rattle.market_words.specs.Forms.{HasForm};
+ghost use Rattle.published_parts.specs.Markets.{market_of};
+ghost use Rattle.session_hall.specs.Streams.{command_lists};
+ghost use Rattle.market_host.specs.Endings.{bytes_of};
+ghost use Rattle.market_host.specs.Explains.{IsReasonEnd};
+ghost use Rattle.market_host.specs.Lines.{line_of, unknown_line};
+ghost use Rattle.market_host.specs.Outcomes.{IsEnded, IsStopped};
+ghost use Rattle.market_host.specs.Sights.{sight};
+
+use crate::Status;
+use crate::ended::{Ended, Output};
+use crate::line::unknown_name;
+use crate::published::{Published, take_published};
+use crate::trouble::Trouble;
+use certificate_checker::{CheckEnd, finding_line};
+use market_edge::Shelf;
+use market_units::{Name, NoMemory};
+use market_words::Form;
+use published_reasons::published_reason;
+use std::alloc::Global;
+
+/// Why the student that `explain` names does not have the section, by the published text that it names, or that one of
+/// the two is not known, or the first finding on the text, or why there is none of these.
+pub fn explain<H: Shelf>(
+    alloc: Global,
+    words: &[String],
+    shelf: &mut H,
+    student: Name,
+    section: Name,
+) -> Result<Ended, Trouble>
+    requires { HasForm (map string_bytes words.now) (Form.Explain student section) }
+    ensures answer { MatchResult result (IsEnded (map string_bytes words.now) (sight H.Shelf shelf.old shelf.new))
+        (λ stop. IsStopped (map string_bytes words.now) (sight H.Shelf shelf.old shelf.new) stop (line_of stop)) }
+    ensures holds { H.holds shelf.new ≡ H.holds shelf.old }
+    ensures later { (other : List ℕ) → H.faults shelf.old other ≤ H.faults shelf.new other }
+{
+    let published = take_published(
+        alloc,
+        shelf,
+        words[1].as_str(),
+        words[2].as_str(),
+        words[3].as_str(),
+        words[4].as_str(),
+        &words[7..],
+    )?;
+    let ended = reason_for(alloc, &published, &student, &section)?;
+    Ok(ended)
+}
+
+// How it ends for what the inputs say.
+fn reason_for(
+    alloc: Global,
+    published: &Published,
+    student: &Name,
+    section: &Name,
+) -> Result<Ended, NoMemory>
+    requires short { length published.now.text.items < 2 ^ 32 - 1 }
+    requires in_range { AreInRange published.now.market.settings }
+    ensures { IfOk result (λ ended. IsReasonEnd (market_of published.now.market.catalog published.now.market.roll published.now.market.settings) (command_lists published.now.streams.items)
+        published.now.text.items (name_bytes student.now) (name_bytes section.now) ended.status (bytes_of ended.output)) }
+{
+    let market = &published.market;
+    let Some(enrolled) = market.roll.find(student) else {
+        return Ok(unknown(6));
+    };
+    let Some(listed) = market.catalog.find(section) else {
+        return Ok(unknown(7));
+    };
+    match published_reason(
+        alloc,
+        &market.catalog,
+        &market.roll,
+        &market.settings,
+        &published.streams,
+        &published.text,
+        enrolled,
+        listed,
+    ) {
+        Ok(text) => Ok(Ended {
+            status: Status::Done,
+            output: Output::Text(text),
+        }),
+        Err(CheckEnd::Found(finding)) => Ok(Ended {
+            status: Status::Found { finding },
+            output: Output::Line(finding_line(&market.catalog, &market.roll, finding)),
+        }),
+        Err(CheckEnd::NoMemory) => Err(NoMemory),
+    }
+}
+
+// The end of a call one of whose words, this one, names nothing.
+fn unknown(word: u16) -> Ended
+    ensures status { result.status ≡ Status.Unknown word }
+    ensures line { bytes_of result.output ≡ unknown_line word }
+{
+    Ended {
+        status: Status::Unknown { word },
+        output: Output::Line(unknown_name(word)),
+    }
+}
