@@ -1,0 +1,3 @@
+pub mod Allocating
+pub mod Fairness
+pub mod Joining

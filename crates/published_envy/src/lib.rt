@@ -1,0 +1,10 @@
+//! Whom the students of an accepted text envy, and the law that in stage two nobody envies one with no greater budget.
+#![tactic(auto)]
+
+mod audits;
+pub mod laws;
+
+pub use audits::published_audit;
+
+#[cfg(test)]
+mod tests;

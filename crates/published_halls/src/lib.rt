@@ -1,0 +1,11 @@
+//! Dropping and adding sections after a market's text is published.
+#![tactic(auto)]
+
+mod halls;
+pub mod laws;
+mod opening;
+
+pub use halls::published_hall;
+
+#[cfg(test)]
+mod tests;
