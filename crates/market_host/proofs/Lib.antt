@@ -1,3 +1,4 @@
+pub mod AuditFacts
 pub mod CheckFacts
 pub mod Completions
 pub mod Confirming

@@ -3,7 +3,7 @@ use Rattle.std.specs.Prelude.{ℕ, ◌≡◌, List, [], ◌∷◌, ◌++◌}
 use Rattle.made_run.specs.Made.{IsMadeSummary}
 use Rattle.market_units.specs.Name.{name_bytes}
 use Rattle.market_words.specs.declared.words.Form.{Form}
-use Rattle.market_words.specs.declared.words.Form.TheVariants.{Check, Demand, Explain, Make, Prefer, Quote, Run}
+use Rattle.market_words.specs.declared.words.Form.TheVariants.{Audit, Check, Demand, Explain, Make, Prefer, Quote, Run}
 use Rattle.market_words.specs.Forms.{HasForm, HasNoForm, inputs_of}
 use Rattle.market_host.specs.declared.status.Status.{Status}
 use Rattle.market_host.specs.declared.status.Status.TheVariants.{Done, Usage, ShelfFault, Refused, TooLong, NoPrices, Found, Unknown, SinkFault, OutOfMemory}
@@ -11,6 +11,7 @@ use Rattle.market_host.specs.declared.trouble.Trouble.{Trouble}
 use Rattle.market_host.specs.declared.trouble.Trouble.TheVariants as trouble
 use Rattle.market_host.specs.declared.ended.Ended.{Ended}
 use Rattle.certificate_checker.specs.declared.findings.Finding.{Finding}
+use Rattle.market_host.specs.Audits.{PrintsAudit}
 use Rattle.market_host.specs.Checks.{PrintsAccepted, TellsFound}
 use Rattle.market_host.specs.Demands.{PrintsDemand}
 use Rattle.market_host.specs.Endings.{bytes_of}
@@ -33,6 +34,7 @@ Prints (Run workers) texts text = PrintsRun texts text
 Prints (Make workers seed students sections accept) texts text = IsMadeSummary seed students sections accept text
 Prints Check texts text = PrintsAccepted texts text
 Prints (Explain student section) texts text = PrintsReason (name_bytes student) (name_bytes section) texts text
+Prints (Audit workers) texts text = PrintsAudit texts text
 
 -- the text that a form writes that finds no prices, where its inputs have these texts and this is the least error
 abbrev pub TellsNoPrices : Form → List (List ℕ) → ℕ → List ℕ → Type 0
@@ -43,6 +45,7 @@ TellsNoPrices (Run workers) texts least text = TellsUnpriced texts least text
 TellsNoPrices (Make workers seed students sections accept) texts least text = TellsMadeUnpriced seed students sections accept least text
 TellsNoPrices Check texts least text = ⊥
 TellsNoPrices (Explain student section) texts least text = ⊥
+TellsNoPrices (Audit workers) texts least text = ⊥
 
 -- the line that a form writes that finds a published text not accepted, where its inputs have these texts and this is the first finding
 abbrev pub TellsFinding : Form → List (List ℕ) → Finding → List ℕ → Type 0
@@ -53,6 +56,7 @@ TellsFinding (Run workers) texts finding text = ⊥
 TellsFinding (Make workers seed students sections accept) texts finding text = ⊥
 TellsFinding Check texts finding text = TellsFound texts finding text
 TellsFinding (Explain student section) texts finding text = TellsFoundOfKnown (name_bytes student) (name_bytes section) texts finding text
+TellsFinding (Audit workers) texts finding text = TellsFound texts finding text
 
 -- the line that a form writes one of whose words names nothing, where its inputs have these texts and this is the first such word
 abbrev pub TellsNoName : Form → List (List ℕ) → ℕ → List ℕ → Type 0
@@ -63,6 +67,7 @@ TellsNoName (Run workers) texts word text = ⊥
 TellsNoName (Make workers seed students sections accept) texts word text = ⊥
 TellsNoName Check texts word text = ⊥
 TellsNoName (Explain student section) texts word text = TellsUnknown (name_bytes student) (name_bytes section) texts word text
+TellsNoName (Audit workers) texts word text = ⊥
 
 -- the last of these inputs, where there is one, was read to its end
 abbrev pub IsLastAtEnd : Sight → List (List ℕ) → Type 0

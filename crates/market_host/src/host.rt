@@ -12,6 +12,7 @@ ghost use Rattle.market_host.specs.Sights.{sight};
 ghost use Rattle.market_host.specs.declared.trouble.Trouble.TheVariants as trouble;
 
 use crate::Status;
+use crate::audit::audit;
 use crate::check::check;
 use crate::demand::demand;
 use crate::ended::Ended;
@@ -120,6 +121,7 @@ fn answer<R: Threads + Wait + Sync, H: Shelf>(
         } => quote(alloc, words, shelf, name, credits, courses),
         Form::Check => check(alloc, words, shelf),
         Form::Explain { student, section } => explain(alloc, words, shelf, student, section),
+        Form::Audit { workers } => audit(rt, alloc, words, workers, shelf, gate),
         Form::Prefer => prefer(rt, alloc, words, shelf, gate),
         Form::Demand { workers } => demand(rt, alloc, words, workers, shelf, gate),
         Form::Run { workers } => run(rt, alloc, words, workers, shelf, gate),

@@ -2,6 +2,7 @@
 //! status, and from the bytes of the inputs to the bytes of the output.
 #![tactic(auto)]
 
+mod audit;
 mod catalog;
 mod cause;
 mod check;

@@ -9,6 +9,7 @@ use std::sync::Wait;
 use std::test::Fail;
 use std::thread::Threads;
 
+mod audit;
 mod check;
 mod cuts;
 mod demand;
@@ -134,7 +135,7 @@ fn each_status_has_its_number(rt: HostRuntime) {
 #[test]
 fn no_form(rt: HostRuntime) -> Result<(), Fail> {
     let alloc = rt.alloc();
-    let usage = "usage: run, check, prefer, demand, quote, make\n";
+    let usage = "usage: run, check, prefer, demand, quote, make, audit\n";
     for line in [
         "quote CAT S1 ann 010 1",
         "quote CAT S1 ann 10 9",
@@ -148,6 +149,9 @@ fn no_form(rt: HostRuntime) -> Result<(), Fail> {
         "run 2 CAT STU SET",
         "make 2 7 0 2 0",
         "make 2 7 2 2 1000000000001",
+        "audit 0 CAT STU SET TEXT S1",
+        "audit 17 CAT STU SET TEXT S1",
+        "audit 2 CAT STU SET TEXT",
     ] {
         let files = [("CAT", TWO), ("STU", ANN), ("S1", TIE)];
         let (found, written) = run(&rt, alloc, line, &files)?;

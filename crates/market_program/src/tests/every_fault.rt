@@ -1,4 +1,5 @@
 // Each call of the shelf in turn fails, and each place of the text at which the sink has no more room.
+use super::audit::ENVY_OF_TERM;
 use super::demand::{EQUAL, FOUR, SEAT};
 use super::term::{CATALOGUE, PUBLISHED, ROLL, SESSION, SETTINGS};
 use super::*;
@@ -104,6 +105,7 @@ fn faults_of_a_whole_term(rt: HostRuntime) -> Result<(), Fail> {
     let alloc = rt.alloc();
     try_faults(&rt, alloc, "run 2 CAT STU SET S1", &files, 4)?;
     try_faults(&rt, alloc, "check CAT STU SET TEXT S1", &files, 5)?;
+    try_faults(&rt, alloc, "audit 2 CAT STU SET TEXT S1", &files, 5)?;
     try_rooms(&rt, alloc, "run 2 CAT STU SET S1", &files, PUBLISHED)?;
     try_rooms(
         &rt,
@@ -111,6 +113,13 @@ fn faults_of_a_whole_term(rt: HostRuntime) -> Result<(), Fail> {
         "check CAT STU SET TEXT S1",
         &files,
         "accepted\n",
+    )?;
+    try_rooms(
+        &rt,
+        alloc,
+        "audit 2 CAT STU SET TEXT S1",
+        &files,
+        ENVY_OF_TERM,
     )
 }
 

@@ -1,5 +1,8 @@
 // Sessions and workers that meet, and how often they pass the gate.
-use super::demand::{EQUAL, FIRST as OF_FIRST, FOUR, ORDERS, SEAT, SECOND as OF_SECOND, is_lawful};
+use super::audit::{ENVY_OF_FOUR, OF_FOUR};
+use super::demand::{
+    EQUAL, FIRST as OF_FIRST, FOUR, ORDERS, RATED, SEAT, SECOND as OF_SECOND, is_lawful,
+};
 use super::*;
 use market_edge::Stop;
 use std::sync::atomic::{AtomicU64, Ordering};
@@ -262,6 +265,33 @@ fn a_made_market_passes_the_gate(rt: HostRuntime) -> Result<(), Fail> {
     assert_eq!(rt; gate.second.counts(), (1, 3));
     let (_, calls) = gate.workers.counts();
     assert!(rt; calls >= 2);
+    assert_eq!(rt; count_of(&gate.others), 0);
+    Ok(())
+}
+
+// Two workers of an audit whose calls meet: neither can post all rows before the other has posted one. Both look for the rows of stage two,
+// and then for the final ones.
+#[test]
+fn two_workers_of_an_audit_post_at_once(rt: HostRuntime) -> Result<(), Fail> {
+    let gate = MeetingGate::new();
+    let files = [
+        ("CAT", SEAT),
+        ("STU", FOUR),
+        ("SET", EQUAL),
+        ("TEXT", OF_FOUR.as_bytes()),
+        ("S1", RATED),
+    ];
+    let line = "audit 2 CAT STU SET TEXT S1";
+    let (status, text) = run_by(&rt, rt.alloc(), line, &files, (0, 0), 1000, &gate)?;
+    assert_eq!(rt; status, Status::Done);
+    assert_eq!(rt; text.as_str(), ENVY_OF_FOUR);
+    assert_eq!(rt; count_of(&gate.missed), 0);
+    let (first_starts, of_first) = gate.first_worker.counts();
+    let (second_starts, of_second) = gate.second_worker.counts();
+    assert_eq!(rt; (first_starts, second_starts), (2, 2));
+    assert!(rt; of_first > 0 && of_second > 0);
+    assert_eq!(rt; of_first.saturating_add(of_second), 8);
+    assert_eq!(rt; gate.first.counts(), (0, 0));
     assert_eq!(rt; count_of(&gate.others), 0);
     Ok(())
 }

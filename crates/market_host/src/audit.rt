@@ -1,0 +1,70 @@
+// Whom the students of a published text envy.
+ghost use Rattle.std.specs.Prelude.{◌≡◌, ◌≤◌, List, ℕ, map, MatchResult};
+ghost use Rattle.std.specs.String.{string_bytes};
+ghost use Rattle.market_host.specs.Lines.{line_of};
+ghost use Rattle.market_host.specs.Outcomes.{IsEnded, IsStopped};
+ghost use Rattle.market_host.specs.Sights.{sight};
+ghost use Rattle.market_words.specs.Forms.{HasForm};
+
+use crate::Status;
+use crate::ended::{Ended, Output};
+use crate::gate::Passed;
+use crate::published::take_published;
+use crate::trouble::Trouble;
+use certificate_checker::{CheckEnd, finding_line};
+use market_edge::{Gate, Shelf};
+use market_words::Form;
+use published_envy::published_audit;
+use std::alloc::Global;
+use std::sync::Wait;
+use std::thread::Threads;
+
+/// The text of an audit of the text which `audit` names, where that is accepted for the market and the sessions that it
+/// names, or the first finding on it, or why there is neither.
+pub fn audit<R: Threads + Wait + Sync, H: Shelf>(
+    rt: &R,
+    alloc: Global,
+    words: &[String],
+    workers: u16,
+    shelf: &mut H,
+    gate: &(dyn Gate + Sync),
+) -> Result<Ended, Trouble>
+    requires { HasForm (map string_bytes words.now) (Form.Audit workers) }
+    ensures answer { MatchResult result (IsEnded (map string_bytes words.now) (sight H.Shelf shelf.old shelf.new))
+        (λ stop. IsStopped (map string_bytes words.now) (sight H.Shelf shelf.old shelf.new) stop (line_of stop)) }
+    ensures holds { H.holds shelf.new ≡ H.holds shelf.old }
+    ensures later { (other : List ℕ) → H.faults shelf.old other ≤ H.faults shelf.new other }
+{
+    let published = take_published(
+        alloc,
+        shelf,
+        words[2].as_str(),
+        words[3].as_str(),
+        words[4].as_str(),
+        words[5].as_str(),
+        &words[6..],
+    )?;
+    let market = &published.market;
+    let passed = Passed { gate };
+    match published_audit(
+        rt,
+        alloc,
+        workers,
+        &market.catalog,
+        &market.roll,
+        &market.settings,
+        &published.streams,
+        &published.text,
+        &passed,
+    ) {
+        Ok(text) => Ok(Ended {
+            status: Status::Done,
+            output: Output::Text(text),
+        }),
+        Err(CheckEnd::Found(finding)) => Ok(Ended {
+            status: Status::Found { finding },
+            output: Output::Line(finding_line(&market.catalog, &market.roll, finding)),
+        }),
+        Err(CheckEnd::NoMemory) => Err(Trouble::OutOfMemory),
+    }
+}
