@@ -4,6 +4,7 @@ pub mod Completions
 pub mod Confirming
 pub mod DemandFacts
 pub mod ExplainFacts
+pub mod HallFacts
 pub mod InputTroubles
 pub mod LineTexts
 pub mod ListedSections
@@ -14,6 +15,7 @@ pub mod PublishedFacts
 pub mod QuoteFacts
 pub mod QuoteWords
 pub mod ReadOut
+pub mod RequestsRead
 pub mod RunFacts
 pub mod SessionsRead
 pub mod Shelves

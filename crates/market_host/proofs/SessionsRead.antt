@@ -125,21 +125,29 @@ pub streams_of_names : (held : Option Holding) (names sessions : List (List ℕ)
 streams_of_names held names sessions streams room are =
     as_many_streams sessions streams are.commands ∙ AllZip-long (λ name text. IsTextOf held name text × (length text ≤ 16777216)) names sessions are.each
 
--- the trouble of one session is the trouble of all
-pub trouble_among : (held : Option Holding) (before : List ℕ → ℕ) (seen : Sight) (names : List (String Global)) (k : ℕ) (name : String Global) (first input room : ℕ) (sessions : List (List ℕ))
-    (streams : List (Vec Command Global)) (trouble : Trouble) → k < length names → name ≡ get_or names k name → input ≡ first + k → seen.held ≡ held → ((other : List ℕ) → before other ≤ seen.before other)
-    → AreReadSessions held (map string_bytes (take k names)) sessions streams room → IsTroubleOfSession seen room (string_bytes name) input trouble
-    → IsTroubleOfSessions (seen_from held before seen) (map string_bytes names) first trouble
-trouble_among held before seen names k name first input room sessions streams trouble below is number same later are stops = λ form earlier texts read of behind counted.
+-- the trouble of one session is the trouble of all, whatever those before it say
+pub trouble_behind : (held : Option Holding) (before : List ℕ → ℕ) (seen : Sight) (names : List (String Global)) (k : ℕ) (name : String Global) (first input room : ℕ) (sessions : List (List ℕ)) (trouble : Trouble)
+    → k < length names → name ≡ get_or names k name → input ≡ first + k → seen.held ≡ held → ((other : List ℕ) → before other ≤ seen.before other)
+    → AllZip (λ given text. IsTextOf held given text × (length text ≤ limit_of Session)) (map string_bytes (take k names)) sessions → total command_count sessions + room ≡ 200000
+    → IsTroubleOfSession seen room (string_bytes name) input trouble → IsTroubleOfSessions (seen_from held before seen) (map string_bytes names) first trouble
+trouble_behind held before seen names k name first input room sessions trouble below is number same later each left stops = λ form earlier texts read of behind counted.
     let done = map string_bytes (take k names) in
     let long : length texts ≡ length earlier = texts_long form held earlier texts read in
     let none : commands_among form texts ≡ 0 = no_commands form texts (omega arith) in
     let all : commands_among form (texts ++ sessions) ≡ commands_among form texts + total command_count sessions = commands_behind form texts sessions of (omega arith) in
-    let so_far : AreRead form held (earlier ++ done) (texts ++ sessions) = sessions_read form held earlier texts done sessions read of (omega arith) are.each (omega (arith, are.count)) in
+    let so_far : AreRead form held (earlier ++ done) (texts ++ sessions) = sessions_read form held earlier texts done sessions read of (omega arith) each (omega (arith, left)) in
     let count : length (earlier ++ done) ≡ length earlier + k =
     length-append earlier done ∙ ap (λ n. length earlier + n) (length-map (take k names) string_bytes ∙ length-take-le k names (omega arith)) in
     let found = stops form (earlier ++ done) (texts ++ sessions) (map string_bytes (drop (suc k) names)) (subst (λ h. AreRead form h (earlier ++ done) (texts ++ sessions)) (sym same) so_far) of (omega arith) (omega arith)
-    (omega (arith, are.count)) in
+    (omega (arith, left)) in
     let split : (earlier ++ done) ++ string_bytes name ∷ map string_bytes (drop (suc k) names) ≡ earlier ++ map string_bytes names =
     append_assoc earlier done (string_bytes name ∷ map string_bytes (drop (suc k) names)) ∙ ap (λ rest. earlier ++ rest) (sym (names_split names k name below is)) in
     trouble_before form held before seen (earlier ++ map string_bytes names) trouble same later (subst (λ inputs. HasTrouble form seen inputs trouble) split found)
+
+-- so it is of sessions of commands
+pub trouble_among : (held : Option Holding) (before : List ℕ → ℕ) (seen : Sight) (names : List (String Global)) (k : ℕ) (name : String Global) (first input room : ℕ) (sessions : List (List ℕ))
+    (streams : List (Vec Command Global)) (trouble : Trouble) → k < length names → name ≡ get_or names k name → input ≡ first + k → seen.held ≡ held → ((other : List ℕ) → before other ≤ seen.before other)
+    → AreReadSessions held (map string_bytes (take k names)) sessions streams room → IsTroubleOfSession seen room (string_bytes name) input trouble
+    → IsTroubleOfSessions (seen_from held before seen) (map string_bytes names) first trouble
+trouble_among held before seen names k name first input room sessions streams trouble below is number same later are stops =
+    trouble_behind held before seen names k name first input room sessions trouble below is number same later are.each are.count stops

@@ -1,7 +1,7 @@
 -- The kinds of inputs. Limits, grammars and faults go by kind; a form says which kinds its inputs have.
 use Rattle.std.specs.Prelude.{ℕ, ◌≡◌, zero, suc, List, [], ◌∷◌}
 use Rattle.market_words.specs.declared.words.Form.{Form}
-use Rattle.market_words.specs.declared.words.Form.TheVariants.{Audit, Check, Demand, Explain, Make, Prefer, Quote, Run}
+use Rattle.market_words.specs.declared.words.Form.TheVariants.{Audit, Check, Demand, Explain, Hall, Make, Prefer, Quote, Run}
 
 pub data Kind : Type 0 where
   Catalog : Kind
@@ -20,13 +20,14 @@ front_of (Run workers) = Catalog ∷ Roll ∷ Settings ∷ []
 front_of (Make workers seed students sections accept) = []
 front_of Check = Catalog ∷ Roll ∷ Settings ∷ Published ∷ []
 front_of (Explain student section) = Catalog ∷ Roll ∷ Settings ∷ Published ∷ []
+front_of Hall = Catalog ∷ Roll ∷ Published ∷ []
 front_of (Audit workers) = Catalog ∷ Roll ∷ Settings ∷ Published ∷ []
 
 -- the first three inputs of a form are a catalogue, a roll and settings
 abbrev pub OpensMarket : Form → Type 0
 OpensMarket form = (kinds : List Kind) × (front_of form ≡ Catalog ∷ Roll ∷ Settings ∷ kinds)
 
--- the kind of a form's streams of commands
+-- the kind of a form's streams of commands; a stream of requests is read as a session is
 abbrev pub streams_of : Form → Kind
 streams_of (Quote name credits courses) = Session
 streams_of Prefer = Session
@@ -35,6 +36,7 @@ streams_of (Run workers) = Session
 streams_of (Make workers seed students sections accept) = Session
 streams_of Check = Session
 streams_of (Explain student section) = Session
+streams_of Hall = Session
 streams_of (Audit workers) = Session
 
 -- the inputs of a form are a catalogue, a roll, settings, a published text, and sessions

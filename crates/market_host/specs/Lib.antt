@@ -6,6 +6,7 @@ pub mod Demands
 pub mod Endings
 pub mod Ends
 pub mod Explains
+pub mod Halls
 pub mod Inputs
 pub mod Kinds
 pub mod Lines
@@ -17,6 +18,7 @@ pub mod Preferences
 pub mod Quotes
 pub mod Reading
 pub mod Refusals
+pub mod Requests
 pub mod Runs
 pub mod Sessions
 pub mod Sights

@@ -25,7 +25,7 @@ cause_words (Range key) = codes "range of " ++ key_name key
 
 -- the line of words that have no form
 abbrev pub usage_line : List ℕ
-usage_line = codes "usage: run, check, prefer, demand, quote, make, explain, audit\n"
+usage_line = codes "usage: run, check, prefer, demand, quote, make, explain, hall, audit\n"
 
 -- the line that says that no prices are found, with the least error
 abbrev pub no_prices_line : ℕ → List ℕ

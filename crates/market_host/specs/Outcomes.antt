@@ -3,7 +3,7 @@ use Rattle.std.specs.Prelude.{ℕ, ◌≡◌, List, [], ◌∷◌, ◌++◌}
 use Rattle.made_run.specs.Made.{IsMadeSummary}
 use Rattle.market_units.specs.Name.{name_bytes}
 use Rattle.market_words.specs.declared.words.Form.{Form}
-use Rattle.market_words.specs.declared.words.Form.TheVariants.{Audit, Check, Demand, Explain, Make, Prefer, Quote, Run}
+use Rattle.market_words.specs.declared.words.Form.TheVariants.{Audit, Check, Demand, Explain, Hall, Make, Prefer, Quote, Run}
 use Rattle.market_words.specs.Forms.{HasForm, HasNoForm, inputs_of}
 use Rattle.market_host.specs.declared.status.Status.{Status}
 use Rattle.market_host.specs.declared.status.Status.TheVariants.{Done, Usage, ShelfFault, Refused, TooLong, NoPrices, Found, Unknown, SinkFault, OutOfMemory}
@@ -16,6 +16,7 @@ use Rattle.market_host.specs.Checks.{PrintsAccepted, TellsFound}
 use Rattle.market_host.specs.Demands.{PrintsDemand}
 use Rattle.market_host.specs.Endings.{bytes_of}
 use Rattle.market_host.specs.Explains.{PrintsReason, TellsFoundOfKnown, TellsUnknown}
+use Rattle.market_host.specs.Halls.{PrintsHall, TellsNoHall}
 use Rattle.market_host.specs.Inputs.{AreRead}
 use Rattle.market_host.specs.Lines.{line_of, usage_line}
 use Rattle.market_host.specs.Makes.{TellsMadeUnpriced}
@@ -34,6 +35,7 @@ Prints (Run workers) texts text = PrintsRun texts text
 Prints (Make workers seed students sections accept) texts text = IsMadeSummary seed students sections accept text
 Prints Check texts text = PrintsAccepted texts text
 Prints (Explain student section) texts text = PrintsReason (name_bytes student) (name_bytes section) texts text
+Prints Hall texts text = PrintsHall texts text
 Prints (Audit workers) texts text = PrintsAudit texts text
 
 -- the text that a form writes that finds no prices, where its inputs have these texts and this is the least error
@@ -45,9 +47,11 @@ TellsNoPrices (Run workers) texts least text = TellsUnpriced texts least text
 TellsNoPrices (Make workers seed students sections accept) texts least text = TellsMadeUnpriced seed students sections accept least text
 TellsNoPrices Check texts least text = ⊥
 TellsNoPrices (Explain student section) texts least text = ⊥
+TellsNoPrices Hall texts least text = ⊥
 TellsNoPrices (Audit workers) texts least text = ⊥
 
--- the line that a form writes that finds a published text not accepted, where its inputs have these texts and this is the first finding
+-- the line that a form writes that finds a published text not accepted, or no hall that opens with it, where its inputs have these texts and this
+-- is the first finding
 abbrev pub TellsFinding : Form → List (List ℕ) → Finding → List ℕ → Type 0
 TellsFinding (Quote name credits courses) texts finding text = ⊥
 TellsFinding Prefer texts finding text = ⊥
@@ -56,6 +60,7 @@ TellsFinding (Run workers) texts finding text = ⊥
 TellsFinding (Make workers seed students sections accept) texts finding text = ⊥
 TellsFinding Check texts finding text = TellsFound texts finding text
 TellsFinding (Explain student section) texts finding text = TellsFoundOfKnown (name_bytes student) (name_bytes section) texts finding text
+TellsFinding Hall texts finding text = TellsNoHall texts finding text
 TellsFinding (Audit workers) texts finding text = TellsFound texts finding text
 
 -- the line that a form writes one of whose words names nothing, where its inputs have these texts and this is the first such word
@@ -67,6 +72,7 @@ TellsNoName (Run workers) texts word text = ⊥
 TellsNoName (Make workers seed students sections accept) texts word text = ⊥
 TellsNoName Check texts word text = ⊥
 TellsNoName (Explain student section) texts word text = TellsUnknown (name_bytes student) (name_bytes section) texts word text
+TellsNoName Hall texts word text = ⊥
 TellsNoName (Audit workers) texts word text = ⊥
 
 -- the last of these inputs, where there is one, was read to its end

@@ -17,6 +17,7 @@ use crate::check::check;
 use crate::demand::demand;
 use crate::ended::Ended;
 use crate::explain::explain;
+use crate::hall::hall;
 use crate::line::{line_for, usage};
 use crate::make::make;
 use crate::prefer::prefer;
@@ -121,6 +122,7 @@ fn answer<R: Threads + Wait + Sync, H: Shelf>(
         } => quote(alloc, words, shelf, name, credits, courses),
         Form::Check => check(alloc, words, shelf),
         Form::Explain { student, section } => explain(alloc, words, shelf, student, section),
+        Form::Hall => hall(rt, alloc, words, shelf, gate),
         Form::Audit { workers } => audit(rt, alloc, words, workers, shelf, gate),
         Form::Prefer => prefer(rt, alloc, words, shelf, gate),
         Form::Demand { workers } => demand(rt, alloc, words, workers, shelf, gate),

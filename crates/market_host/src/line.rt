@@ -14,7 +14,7 @@ use status_line::Line;
 pub fn usage() -> Line
     ensures { result ≡ usage_line }
 {
-    Line::empty().with(b"usage: run, check, prefer, demand, quote, make, explain, audit\n")
+    Line::empty().with(b"usage: run, check, prefer, demand, quote, make, explain, hall, audit\n")
 }
 
 /// The line that says that no prices are found, with the least error.

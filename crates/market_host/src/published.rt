@@ -62,8 +62,8 @@ pub fn take_published<H: Shelf>(
     })
 }
 
-// The bytes of the published text that the input of this name and number is, or why there are none. No text is refused.
-fn take_text<H: Shelf>(
+/// The bytes of the published text that the input of this name and number is, or why there are none. No text is refused.
+pub fn take_text<H: Shelf>(
     alloc: Global,
     shelf: &mut H,
     name: &str,

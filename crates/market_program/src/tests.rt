@@ -16,6 +16,7 @@ mod demand;
 mod every_fault;
 mod faults;
 mod gates;
+mod hall;
 mod limits;
 mod make;
 mod prefer;
@@ -135,7 +136,7 @@ fn each_status_has_its_number(rt: HostRuntime) {
 #[test]
 fn no_form(rt: HostRuntime) -> Result<(), Fail> {
     let alloc = rt.alloc();
-    let usage = "usage: run, check, prefer, demand, quote, make, audit\n";
+    let usage = "usage: run, check, prefer, demand, quote, make, explain, hall, audit\n";
     for line in [
         "quote CAT S1 ann 010 1",
         "quote CAT S1 ann 10 9",
@@ -149,6 +150,7 @@ fn no_form(rt: HostRuntime) -> Result<(), Fail> {
         "run 2 CAT STU SET",
         "make 2 7 0 2 0",
         "make 2 7 2 2 1000000000001",
+        "hall CAT STU TEXT",
         "audit 0 CAT STU SET TEXT S1",
         "audit 17 CAT STU SET TEXT S1",
         "audit 2 CAT STU SET TEXT",

@@ -1,6 +1,7 @@
 // Each call of the shelf in turn fails, and each place of the text at which the sink has no more room.
 use super::audit::ENVY_OF_TERM;
 use super::demand::{EQUAL, FOUR, SEAT};
+use super::hall::{ONE_END, ONE_SECTION, text_of};
 use super::term::{CATALOGUE, PUBLISHED, ROLL, SESSION, SETTINGS};
 use super::*;
 
@@ -149,5 +150,26 @@ fn faults_of_the_other_forms(rt: HostRuntime) -> Result<(), Fail> {
         "quote CAT S1 s1 10 1",
         &files,
         "bundle s1 [X]\nutility 50\n",
+    )
+}
+
+#[test]
+fn faults_of_a_hall(rt: HostRuntime) -> Result<(), Fail> {
+    let alloc = rt.alloc();
+    let published = text_of(alloc, &ONE_SECTION, ONE_END)?;
+    let files = [
+        ("CAT", ONE_SECTION.catalogue),
+        ("STU", ONE_SECTION.roll),
+        ("TEXT", published.as_bytes()),
+        ("R1", b"drop u X\n".as_slice()),
+        ("R2", b"\n".as_slice()),
+    ];
+    try_faults(&rt, alloc, "hall CAT STU TEXT R1 R2", &files, 5)?;
+    try_rooms(
+        &rt,
+        alloc,
+        "hall CAT STU TEXT R1 R2",
+        &files,
+        "entry 1 drop u X: dropped 0\nfinal u []\nfinal v []\nused X 0 1\n",
     )
 }

@@ -3,6 +3,7 @@ use super::audit::{ENVY_OF_FOUR, OF_FOUR};
 use super::demand::{
     EQUAL, FIRST as OF_FIRST, FOUR, ORDERS, RATED, SEAT, SECOND as OF_SECOND, is_lawful,
 };
+use super::hall::{FIVE_END, FIVE_SECTIONS, text_of};
 use super::*;
 use market_edge::Stop;
 use std::sync::atomic::{AtomicU64, Ordering};
@@ -183,6 +184,54 @@ fn two_workers_post_at_once(rt: HostRuntime) -> Result<(), Fail> {
     let (_, of_second) = gate.second_worker.counts();
     assert!(rt; of_first > 0 && of_second > 0);
     assert!(rt; of_first.saturating_add(of_second) >= 4);
+    Ok(())
+}
+
+const FIRST_REQUESTS: &[u8] = b"drop u A\nadd u D\nadd u E\nadd u Q\n";
+
+const SECOND_REQUESTS: &[u8] = b"add v B\nno request\nadd w C\n";
+
+const FIRST_REPLIES: [&str; 4] = [
+    "entry 1 drop u A: dropped 0",
+    "entry 1 add u D: added",
+    "entry 1 add u E: added",
+    "entry 1 add u Q: no-section",
+];
+
+const SECOND_REPLIES: [&str; 3] = [
+    "entry 2 add v B: added",
+    "entry 2 unreadable: unreadable",
+    "entry 2 add w C: added",
+];
+
+const HELD: &str =
+    "final u [D,E]\nfinal v [B]\nfinal w [C]\nused A 0 1\nused B 1 2\nused C 1 9\nused D 1 9\nused E 1 9\n";
+
+// Two sessions of a hall whose calls meet: neither can make all its requests before the other has made one. A third session has no
+// request.
+#[test]
+fn two_sessions_of_a_hall_request_at_once(rt: HostRuntime) -> Result<(), Fail> {
+    let gate = MeetingGate::new();
+    let published = text_of(rt.alloc(), &FIVE_SECTIONS, FIVE_END)?;
+    let files = [
+        ("CAT", FIVE_SECTIONS.catalogue),
+        ("STU", FIVE_SECTIONS.roll),
+        ("TEXT", published.as_bytes()),
+        ("R1", FIRST_REQUESTS),
+        ("R2", SECOND_REQUESTS),
+        ("R3", b"# nothing\n".as_slice()),
+    ];
+    let line = "hall CAT STU TEXT R1 R2 R3";
+    let (status, text) = run_by(&rt, rt.alloc(), line, &files, (0, 0), 1000, &gate)?;
+    assert_eq!(rt; status, Status::Done);
+    assert_eq!(rt; count_of(&gate.missed), 0);
+    assert!(rt; has_entries(text.as_str(), "entry 1 ", &FIRST_REPLIES));
+    assert!(rt; has_entries(text.as_str(), "entry 2 ", &SECOND_REPLIES));
+    assert!(rt; text.as_str().ends_with(HELD));
+    assert_eq!(rt; gate.first.counts(), (1, 4));
+    assert_eq!(rt; gate.second.counts(), (1, 3));
+    assert_eq!(rt; gate.third.counts(), (1, 0));
+    assert_eq!(rt; count_of(&gate.others), 0);
     Ok(())
 }
 

@@ -1,0 +1,56 @@
+// Drop and add after publication.
+ghost use Rattle.std.specs.Prelude.{◌≡◌, ◌≤◌, List, ℕ, map, MatchResult};
+ghost use Rattle.std.specs.String.{string_bytes};
+ghost use Rattle.market_host.specs.Lines.{line_of};
+ghost use Rattle.market_host.specs.Outcomes.{IsEnded, IsStopped};
+ghost use Rattle.market_host.specs.Sights.{sight};
+ghost use Rattle.market_words.specs.Forms.{HasForm};
+
+use crate::Status;
+use crate::catalog::take_catalog;
+use crate::ended::{Ended, Output};
+use crate::gate::Passed;
+use crate::published::take_text;
+use crate::request_streams::take_request_streams;
+use crate::roll::take_roll;
+use crate::trouble::Trouble;
+use certificate_checker::{CheckEnd, finding_line};
+use market_edge::{Gate, Shelf};
+use market_words::Form;
+use published_halls::published_hall;
+use std::alloc::Global;
+use std::sync::Wait;
+use std::thread::Threads;
+
+/// The text of the hall that opens with the published text which `hall` names, or the first finding, where none opens with
+/// it, or why there is neither.
+pub fn hall<R: Threads + Wait + Sync, H: Shelf>(
+    rt: &R,
+    alloc: Global,
+    words: &[String],
+    shelf: &mut H,
+    gate: &(dyn Gate + Sync),
+) -> Result<Ended, Trouble>
+    requires { HasForm (map string_bytes words.now) Form.Hall }
+    ensures answer { MatchResult result (IsEnded (map string_bytes words.now) (sight H.Shelf shelf.old shelf.new))
+        (λ stop. IsStopped (map string_bytes words.now) (sight H.Shelf shelf.old shelf.new) stop (line_of stop)) }
+    ensures holds { H.holds shelf.new ≡ H.holds shelf.old }
+    ensures later { (other : List ℕ) → H.faults shelf.old other ≤ H.faults shelf.new other }
+{
+    let catalog = take_catalog(alloc, shelf, words[1].as_str(), 1)?;
+    let roll = take_roll(alloc, shelf, words[2].as_str(), 2)?;
+    let text = take_text(alloc, shelf, words[3].as_str(), 3)?;
+    let streams = take_request_streams(alloc, shelf, &words[4..], 4)?;
+    let passed = Passed { gate };
+    match published_hall(rt, alloc, &catalog, &roll, &text, &streams, &passed) {
+        Ok(text) => Ok(Ended {
+            status: Status::Done,
+            output: Output::Text(text),
+        }),
+        Err(CheckEnd::Found(finding)) => Ok(Ended {
+            status: Status::Found { finding },
+            output: Output::Line(finding_line(&catalog, &roll, finding)),
+        }),
+        Err(CheckEnd::NoMemory) => Err(Trouble::OutOfMemory),
+    }
+}

@@ -1,0 +1,42 @@
+// The requests of all sessions of a call.
+ghost use Rattle.std.specs.Prelude.{◌≡◌, ◌≤◌, ◌+◌, List, ℕ, length, map, IfOk, IfErr, OnOk};
+ghost use Rattle.std.specs.String.{string_bytes};
+ghost use Rattle.market_host.specs.Outcomes.{IsLastAtEnd};
+ghost use Rattle.market_host.specs.Reading.{IsTroubleOfSessions};
+ghost use Rattle.market_host.specs.Requests.{AreReadRequests};
+ghost use Rattle.market_host.specs.Sights.{sight};
+
+use crate::requests::take_requests;
+use crate::trouble::Trouble;
+use dropadd_desk::HallCommand;
+use market_edge::Shelf;
+use market_units::MAX_COMMANDS;
+use std::alloc::Global;
+
+/// The requests of the sessions of these names, which are numbered from `first` on: a stream for each, at most 200,000
+/// requests together, or what the first session has that stops the reading.
+pub fn take_request_streams<H: Shelf>(
+    alloc: Global,
+    shelf: &mut H,
+    names: &[String],
+    first: u16,
+) -> Result<Vec<Vec<HallCommand>>, Trouble>
+    requires count { (1 ≤ length names.now) × (length names.now ≤ 64) }
+    requires first { first ≤ 100 }
+    ensures read { IfOk result (λ streams. (texts : List (List ℕ)) × (room : ℕ) × AreReadRequests (H.holds shelf.old) (map string_bytes names.now) texts streams.items room) }
+    ensures trouble { IfErr result (IsTroubleOfSessions (sight H.Shelf shelf.old shelf.new) (map string_bytes names.now) first) }
+    ensures end { OnOk result (IsLastAtEnd (sight H.Shelf shelf.old shelf.new) (map string_bytes names.now)) }
+    ensures holds { H.holds shelf.new ≡ H.holds shelf.old }
+    ensures later { (other : List ℕ) → H.faults shelf.old other ≤ H.faults shelf.new other }
+{
+    let mut streams = Vec::new(alloc);
+    let mut room = MAX_COMMANDS;
+    let mut input = first;
+    'sessions: for name in names {
+        let requests = take_requests(alloc, shelf, name.as_str(), input, room)?;
+        room -= requests.len() as u32;
+        input += 1;
+        streams.push(requests)?;
+    }
+    Ok(streams)
+}
