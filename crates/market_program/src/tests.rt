@@ -14,6 +14,7 @@ mod check;
 mod cuts;
 mod demand;
 mod every_fault;
+mod explain;
 mod faults;
 mod gates;
 mod hall;
@@ -116,7 +117,7 @@ fn each_status_has_its_number(rt: HostRuntime) {
     let found = Status::Found {
         finding: Finding::NotQuiet { turns: 0 },
     };
-    let cases: [(Status, u8); 9] = [
+    let cases: [(Status, u8); 10] = [
         (Status::Done, 0),
         (Status::Usage, 1),
         (Status::ShelfFault { input: 1 }, 2),
@@ -126,6 +127,7 @@ fn each_status_has_its_number(rt: HostRuntime) {
         (Status::SinkFault, 6),
         (Status::OutOfMemory, 7),
         (found, 8),
+        (Status::Unknown { word: 6 }, 9),
     ];
     for (status, number) in cases {
         assert_eq!(rt; exit_code(status), ExitCode::from(number), "{status:?}");
@@ -150,6 +152,8 @@ fn no_form(rt: HostRuntime) -> Result<(), Fail> {
         "run 2 CAT STU SET",
         "make 2 7 0 2 0",
         "make 2 7 2 2 1000000000001",
+        "explain CAT STU SET TEXT ann A",
+        "explain CAT STU SET TEXT ann B/C S1",
         "hall CAT STU TEXT",
         "audit 0 CAT STU SET TEXT S1",
         "audit 17 CAT STU SET TEXT S1",

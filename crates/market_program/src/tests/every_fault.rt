@@ -94,19 +94,23 @@ fn try_rooms<R: Threads + Wait + Sync + Abort>(
     Ok(())
 }
 
-#[test]
-fn faults_of_a_whole_term(rt: HostRuntime) -> Result<(), Fail> {
-    let files: [File; 5] = [
+// What a term says, with its published text.
+fn whole_term() -> [File; 5] {
+    [
         ("CAT", CATALOGUE),
         ("STU", ROLL),
         ("SET", SETTINGS),
         ("S1", SESSION),
         ("TEXT", PUBLISHED.as_bytes()),
-    ];
+    ]
+}
+
+#[test]
+fn faults_of_a_whole_term(rt: HostRuntime) -> Result<(), Fail> {
     let alloc = rt.alloc();
+    let files = whole_term();
     try_faults(&rt, alloc, "run 2 CAT STU SET S1", &files, 4)?;
     try_faults(&rt, alloc, "check CAT STU SET TEXT S1", &files, 5)?;
-    try_faults(&rt, alloc, "audit 2 CAT STU SET TEXT S1", &files, 5)?;
     try_rooms(&rt, alloc, "run 2 CAT STU SET S1", &files, PUBLISHED)?;
     try_rooms(
         &rt,
@@ -114,14 +118,25 @@ fn faults_of_a_whole_term(rt: HostRuntime) -> Result<(), Fail> {
         "check CAT STU SET TEXT S1",
         &files,
         "accepted\n",
-    )?;
-    try_rooms(
-        &rt,
-        alloc,
-        "audit 2 CAT STU SET TEXT S1",
-        &files,
-        ENVY_OF_TERM,
     )
+}
+
+#[test]
+fn faults_of_an_explanation(rt: HostRuntime) -> Result<(), Fail> {
+    let alloc = rt.alloc();
+    let files = whole_term();
+    let line = "explain CAT STU SET TEXT bob A S1";
+    try_faults(&rt, alloc, line, &files, 5)?;
+    try_rooms(&rt, alloc, line, &files, "bob A alone price\n")
+}
+
+#[test]
+fn faults_of_an_audit(rt: HostRuntime) -> Result<(), Fail> {
+    let alloc = rt.alloc();
+    let files = whole_term();
+    let line = "audit 2 CAT STU SET TEXT S1";
+    try_faults(&rt, alloc, line, &files, 5)?;
+    try_rooms(&rt, alloc, line, &files, ENVY_OF_TERM)
 }
 
 #[test]
