@@ -95,7 +95,7 @@ fn try_rooms<R: Threads + Wait + Sync + Abort>(
 }
 
 // What a term says, with its published text.
-fn whole_term() -> [File; 5] {
+fn whole_term() -> [File<'static>; 5] {
     [
         ("CAT", CATALOGUE),
         ("STU", ROLL),
