@@ -123,6 +123,7 @@ fn audited<R: Abort + Threads + Wait + Sync>(
 ) -> Result<Vec<u8>, CheckEnd>
     requires { (1 ≤ workers) × (workers ≤ 16) }
 {
+    assert!(rt; case.catalog.len() < 1000 && case.roll.len() < 1000);
     let catalog = read_catalog(alloc, case.catalog).expect(rt, "a catalogue");
     let roll = read_roll(alloc, case.roll).expect(rt, "a roll");
     let settings = read_settings(alloc, case.settings).expect(rt, "settings");
