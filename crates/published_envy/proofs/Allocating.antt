@@ -1,13 +1,13 @@
 -- Each student of an accepted text may take its bundles, of stage two and the final one.
-use Rattle.std.proofs.Common.{ℕ, zero, suc, ◌≡◌, ◌<◌, ◌≤◌, ◌+◌, ◌∙◌, add-one, List, [], length, map, take, get_or, ap, sym, subst, inl, inr, arith}
+use Rattle.std.proofs.Common.{ℕ, zero, suc, ◌≡◌, ◌<◌, ◌∙◌, add-one, List, [], length, take, get_or, ap, sym, subst, inl, inr, arith}
 use Rattle.std.specs.Prelude.{slice_index_or, slice_set}
 use Rattle.std.proofs.lemmas.Bool.{cases_lt}
 use Rattle.std.proofs.lemmas.Bool.Decides.{eqb_tells}
 use Rattle.std.proofs.lemmas.List.{get_or-map, get_or-set_other, get_or-set_same, take_all}
 use Rattle.bundle_rules.specs.Menus.{wishes_of}
 use Rattle.bundle_rules.specs.Wishes.{IsFeasible}
-use Rattle.demand_api.specs.Crowds.{CrowdData, Student}
-use Rattle.fairness_audit.specs.Allocations.{IsAllocation, menu_at}
+use Rattle.demand_api.specs.Crowds.{CrowdData}
+use Rattle.fairness_audit.specs.Allocations.{IsAllocation}
 use Rattle.market_certificate.specs.Publications.{Proved, Publication}
 use Rattle.published_parts.specs.Holdings.{demanded, held_after}
 use Rattle.published_parts.specs.Markets.{Market}
@@ -15,7 +15,7 @@ use Rattle.utility_language.specs.declared.commands.Command.{Command}
 use Rattle.certificate_checker.specs.Certificates.{HoldsBy, IsAccepted, IsTextOf}
 use Rattle.certificate_checker.specs.Students.{proved_in, student_in}
 use Rattle.certificate_checker.specs.Turns.{held_before, turn_in}
-use Rattle.certificate_checker.proofs.Optimal.{allocated, count, printed, students, turn_listed}
+use Rattle.certificate_checker.proofs.Optimal.{allocated, count, printed, students}
 use Rattle.certificate_checker.proofs.Reading.{length_map}
 use Rattle.certificate_checker.proofs.Turning.{held_length, held_next}
 use Rattle.published_envy.specs.Audits.{final_in, settled_in}

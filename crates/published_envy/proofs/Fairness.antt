@@ -1,17 +1,16 @@
 -- In stage two nobody has lower envy.
-use Rattle.std.proofs.Common.{ℕ, ◌≡◌, ◌≢◌, ◌<◌, ◌≤◌, ◌∙◌, Bool, true, List, [], length, ap, sym, subst, inl, inr, arith}
-use Rattle.std.specs.Prelude.{ℤ, ◌<ℤ◌, ◌≤ℤ◌, ◌⊎◌, nat_lt, slice_index, slice_index_or}
+use Rattle.std.proofs.Common.{ℕ, ◌≡◌, ◌≢◌, ◌≤◌, ◌∙◌, Bool, true, List, [], length, sym, subst, inl, inr, arith}
+use Rattle.std.specs.Prelude.{ℤ, ◌<ℤ◌, ◌≤ℤ◌, ◌⊎◌, nat_lt, slice_index}
 use Rattle.std.proofs.lemmas.Int.{ints}
 use Rattle.std.proofs.lemmas.List.{get_or-map}
 use Rattle.market_lists.specs.Totals.{total}
 use Rattle.bundle_rules.specs.Demand.{IsBest, IsChoice}
-use Rattle.bundle_rules.specs.Menus.{wishes_of}
 use Rattle.bundle_rules.specs.Preferences.{IsPreferred}
 use Rattle.bundle_rules.specs.Sets.{has}
 use Rattle.bundle_rules.specs.Wishes.{IsFeasible, Wishes, utility}
 use Rattle.bundle_rules.proofs.BestValue.{best-only}
 use Rattle.bundle_rules.proofs.Parts.{total_part}
-use Rattle.demand_api.specs.Crowds.{CrowdData, Student, demand, demand_of, demands}
+use Rattle.demand_api.specs.Crowds.{CrowdData, Student, demand, demands}
 use Rattle.fairness_audit.specs.Laws.{AreTakenAt}
 use Rattle.fairness_audit.proofs.Prices.{none_counted_lower}
 use Rattle.market_certificate.specs.Publications.{Publication}
@@ -23,8 +22,8 @@ use Rattle.certificate_checker.specs.Certificates.{IsAccepted}
 use Rattle.certificate_checker.specs.Laws.{IsOptimal}
 use Rattle.certificate_checker.specs.Students.{student_in}
 use Rattle.certificate_checker.proofs.Optimal.{accepted_is_optimal, best_in_stage_two}
-use Rattle.published_envy.specs.Audits.{CountsNoLower, settled_in}
-use Rattle.published_envy.specs.Laws.{NoLowerCountInAccepted, NoLowerEnvyInAccepted, SeesNoMore, settled_of}
+use Rattle.published_envy.specs.Audits.{settled_in}
+use Rattle.published_envy.specs.Laws.{NoLowerCountInAccepted, NoLowerEnvyInAccepted, settled_of}
 use Rattle.published_envy.proofs.Allocating.{settled_is}
 
 none_below : (z : ℤ) → z <ℤ z → ⊥

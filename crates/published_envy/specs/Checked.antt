@@ -1,5 +1,5 @@
 -- What is known of an accepted text where envy is sought.
-use Rattle.std.specs.Prelude.{ℕ, ◌≡◌, length}
+use Rattle.std.specs.Prelude.{◌≡◌, length}
 use Rattle.course_catalog.specs.Catalog.{CatalogData}
 use Rattle.demand_api.specs.Crowds.{CrowdData}
 use Rattle.fairness_audit.specs.Allocations.{IsAllocation}

@@ -1,4 +1,4 @@
-use Rattle.std.proofs.Common.{◌≡◌, List, map, subst, sym}
+use Rattle.std.proofs.Common.{map}
 use Rattle.std.specs.Arc.{arc_value}
 use Rattle.certificate_checker.proofs.Composing.{ok_then}
 use Rattle.fairness_audit.specs.Views.{row_of}
