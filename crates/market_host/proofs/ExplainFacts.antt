@@ -1,16 +1,15 @@
 -- The inputs of `explain`, and what it writes.
-use Rattle.std.proofs.Common.{ℕ, ◌≡◌, ◌≤◌, ◌<◌, ◌+◌, ◌-◌, ◌≢◌, Bool, true, false, true≢false, List, [], ◌∷◌, ◌++◌, length, take, drop, get_or, map, arith, ap, sym, subst, ◌∙◌, refl, inl, inr, Global}
+use Rattle.std.proofs.Common.{ℕ, ◌≡◌, ◌≤◌, ◌<◌, ◌+◌, ◌-◌, ◌≢◌, true, false, true≢false, List, [], ◌∷◌, ◌++◌, length, take, drop, get_or, map, arith, ap, sym, subst, ◌∙◌, refl, inl, inr, Global}
 use Rattle.std.specs.Prelude.{◌↔◌, IfNone, IfSome, None, Ok, Option, Some, String, Vec, is_some, nat_lt, option_map}
 use Rattle.std.specs.List.{position}
 use Rattle.std.specs.Str.{bytes_eq}
 use Rattle.std.specs.String.{string_bytes}
 use Rattle.std.proofs.lemmas.Bool.{cases_Bool, lt-ltb}
 use Rattle.std.proofs.lemmas.List.{length-map}
-use Rattle.bundle_rules.specs.Demand.{IsChoice}
+use Rattle.bundle_bounds.specs.Offers.{Offer}
 use Rattle.bundle_rules.specs.Given.{SomeHas}
-use Rattle.bundle_rules.specs.Menus.{MenuData, wishes_of}
+use Rattle.bundle_rules.specs.Menus.{wishes_of}
 use Rattle.bundle_rules.specs.Sets.{has}
-use Rattle.certificate_checker.specs.declared.findings.Finding.{Finding}
 use Rattle.certificate_checker.specs.Students.{offer_in, proved_in}
 use Rattle.course_catalog.specs.Catalog.{CatalogData}
 use Rattle.course_catalog.specs.Reading.{catalog_of}
@@ -20,7 +19,6 @@ use Rattle.explain_desk.specs.Explanations.{ExplainedData, IsExplained}
 use Rattle.explain_desk.specs.Reasons.{stage, tells_best}
 use Rattle.explain_desk.specs.Texts.{explained_text}
 use Rattle.explain_desk.proofs.Leaving.{reasons_leave_a_bundle}
-use Rattle.bundle_bounds.specs.Offers.{Offer}
 use Rattle.market_certificate.specs.Tables.{name_at, section_names}
 use Rattle.market_certificate.proofs.NamesOf.{found_named, found_none, found_within}
 use Rattle.market_settings.specs.declared.reader.Settings.{Settings as SettingsData}
