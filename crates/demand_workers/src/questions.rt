@@ -19,11 +19,12 @@ use std::sync::{Mutex, Wait};
 use std::thread;
 use std::thread::Threads;
 
-// For so many questions each one more worker is started: a start takes about as long as one or two answers.
-const SHARE: usize = 4;
+// For so many questions each one more worker is started: a start and its end take about as long as several answers, and much
+// longer where the processors are busy.
+const SHARE: usize = 16;
 
 // Fewer questions are not worth a start.
-pub(crate) const WORTHWHILE: usize = 2 * SHARE;
+pub(crate) const WORTHWHILE: usize = 4 * SHARE;
 
 // A student and prices, with what the student takes at them once it was asked.
 #[derive(Drop)]
