@@ -27,12 +27,14 @@ pub struct Workspace {
     frames: Frames,
 }
 
-// The branches that wait in a search, what more each can reach, and how many were opened.
+// The branches that wait in a search, how many were opened, and what more each can reach. The table stands last: its end is
+// seldom written, so that what a search writes at each node shares no line of the cache with the workspace of another
+// thread that stands next to it.
 #[derive(Drop)]
 struct Frames {
     pending: Pending,
-    reach: Reach,
     opened: u64,
+    reach: Reach,
 }
 
 impl Model for Workspace {
