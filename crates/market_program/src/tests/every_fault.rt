@@ -168,23 +168,28 @@ fn faults_of_the_other_forms(rt: HostRuntime) -> Result<(), Fail> {
     )
 }
 
+// The faults and the rooms of a hall with two streams, where the text is so.
+fn try_hall<R: Threads + Wait + Sync + Abort>(
+    rt: &R,
+    alloc: Global,
+    published: &[u8],
+) -> Result<(), Fail> {
+    let files = [
+        ("CAT", ONE_SECTION.catalogue),
+        ("STU", ONE_SECTION.roll),
+        ("TEXT", published),
+        ("R1", b"drop u X\n".as_slice()),
+        ("R2", b"\n".as_slice()),
+    ];
+    let line = "hall CAT STU TEXT R1 R2";
+    try_faults(rt, alloc, line, &files, 5)?;
+    let told = "entry 1 drop u X: dropped 0\nfinal u []\nfinal v []\nused X 0 1\n";
+    try_rooms(rt, alloc, line, &files, told)
+}
+
 #[test]
 fn faults_of_a_hall(rt: HostRuntime) -> Result<(), Fail> {
     let alloc = rt.alloc();
     let published = text_of(alloc, &ONE_SECTION, ONE_END)?;
-    let files = [
-        ("CAT", ONE_SECTION.catalogue),
-        ("STU", ONE_SECTION.roll),
-        ("TEXT", published.as_bytes()),
-        ("R1", b"drop u X\n".as_slice()),
-        ("R2", b"\n".as_slice()),
-    ];
-    try_faults(&rt, alloc, "hall CAT STU TEXT R1 R2", &files, 5)?;
-    try_rooms(
-        &rt,
-        alloc,
-        "hall CAT STU TEXT R1 R2",
-        &files,
-        "entry 1 drop u X: dropped 0\nfinal u []\nfinal v []\nused X 0 1\n",
-    )
+    try_hall(&rt, alloc, published.as_bytes())
 }

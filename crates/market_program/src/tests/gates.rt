@@ -207,22 +207,32 @@ const SECOND_REPLIES: [&str; 3] = [
 const HELD: &str =
     "final u [D,E]\nfinal v [B]\nfinal w [C]\nused A 0 1\nused B 1 2\nused C 1 9\nused D 1 9\nused E 1 9\n";
 
+// The answer for two streams of requests whose calls pass this gate, and a third that has none.
+fn answer_by<R: Threads + Wait + Sync + Abort>(
+    rt: &R,
+    alloc: Global,
+    published: &[u8],
+    gate: &MeetingGate,
+) -> Result<(Status, String), Fail> {
+    let files = [
+        ("CAT", FIVE_SECTIONS.catalogue),
+        ("STU", FIVE_SECTIONS.roll),
+        ("TEXT", published),
+        ("R1", FIRST_REQUESTS),
+        ("R2", SECOND_REQUESTS),
+        ("R3", b"# nothing\n".as_slice()),
+    ];
+    let line = "hall CAT STU TEXT R1 R2 R3";
+    run_by(rt, alloc, line, &files, (0, 0), 1000, gate)
+}
+
 // Two sessions of a hall whose calls meet: neither can make all its requests before the other has made one. A third session has no
 // request.
 #[test]
 fn two_sessions_of_a_hall_request_at_once(rt: HostRuntime) -> Result<(), Fail> {
     let gate = MeetingGate::new();
     let published = text_of(rt.alloc(), &FIVE_SECTIONS, FIVE_END)?;
-    let files = [
-        ("CAT", FIVE_SECTIONS.catalogue),
-        ("STU", FIVE_SECTIONS.roll),
-        ("TEXT", published.as_bytes()),
-        ("R1", FIRST_REQUESTS),
-        ("R2", SECOND_REQUESTS),
-        ("R3", b"# nothing\n".as_slice()),
-    ];
-    let line = "hall CAT STU TEXT R1 R2 R3";
-    let (status, text) = run_by(&rt, rt.alloc(), line, &files, (0, 0), 1000, &gate)?;
+    let (status, text) = answer_by(&rt, rt.alloc(), published.as_bytes(), &gate)?;
     assert_eq!(rt; status, Status::Done);
     assert_eq!(rt; count_of(&gate.missed), 0);
     assert!(rt; has_entries(text.as_str(), "entry 1 ", &FIRST_REPLIES));

@@ -306,6 +306,23 @@ pub fn text_of(alloc: Global, term: &Term, end: &str) -> Result<String, Fail> {
     Ok(text)
 }
 
+// The answer for these requests of a term, where the text is so.
+fn answer_of<R: Threads + Wait + Sync + Abort>(
+    rt: &R,
+    alloc: Global,
+    term: &Term,
+    text: &[u8],
+    requests: &[u8],
+) -> Result<(Status, String), Fail> {
+    let files = [
+        ("CAT", term.catalogue),
+        ("STU", term.roll),
+        ("TEXT", text),
+        ("R1", requests),
+    ];
+    run(rt, alloc, "hall CAT STU TEXT R1", &files)
+}
+
 // Each case has its answer.
 fn try_each<R: Threads + Wait + Sync + Abort>(
     rt: &R,
@@ -314,13 +331,7 @@ fn try_each<R: Threads + Wait + Sync + Abort>(
 ) -> Result<(), Fail> {
     for (shows, term, end, requests, status, told) in cases {
         let text = text_of(alloc, term, end)?;
-        let files = [
-            ("CAT", term.catalogue),
-            ("STU", term.roll),
-            ("TEXT", text.as_bytes()),
-            ("R1", *requests),
-        ];
-        let (found, written) = run(rt, alloc, "hall CAT STU TEXT R1", &files)?;
+        let (found, written) = answer_of(rt, alloc, term, text.as_bytes(), requests)?;
         assert_eq!(rt; found.number(), *status, "{shows}");
         assert_eq!(rt; written.as_str(), *told, "{shows}");
     }
@@ -337,6 +348,24 @@ fn no_halls(rt: HostRuntime) -> Result<(), Fail> {
     try_each(&rt, rt.alloc(), &NO_HALLS)
 }
 
+// The answer for the requests of two streams, where the text is so.
+fn answer_for_two<R: Threads + Wait + Sync + Abort>(
+    rt: &R,
+    alloc: Global,
+    text: &[u8],
+    first: &[u8],
+    second: &[u8],
+) -> Result<(Status, String), Fail> {
+    let files = [
+        ("CAT", TWO_SECTIONS.catalogue),
+        ("STU", TWO_SECTIONS.roll),
+        ("TEXT", text),
+        ("R1", first),
+        ("R2", second),
+    ];
+    run(rt, alloc, "hall CAT STU TEXT R1 R2", &files)
+}
+
 // Each text is one of those that some order of the sessions gives.
 #[test]
 fn the_last_seat_goes_to_the_first_to_ask(rt: HostRuntime) -> Result<(), Fail> {
@@ -346,14 +375,13 @@ fn the_last_seat_goes_to_the_first_to_ask(rt: HostRuntime) -> Result<(), Fail> {
         &TWO_SECTIONS,
         "final u [X]\nfinal v []\nused X 1 1\nused Y 0 2\nend\n",
     )?;
-    let files = [
-        ("CAT", TWO_SECTIONS.catalogue),
-        ("STU", TWO_SECTIONS.roll),
-        ("TEXT", text.as_bytes()),
-        ("R1", b"drop u X\nadd u X\n".as_slice()),
-        ("R2", b"add v X\n".as_slice()),
-    ];
-    let (status, written) = run(&rt, alloc, "hall CAT STU TEXT R1 R2", &files)?;
+    let (status, written) = answer_for_two(
+        &rt,
+        alloc,
+        text.as_bytes(),
+        b"drop u X\nadd u X\n",
+        b"add v X\n",
+    )?;
     assert_eq!(rt; status, Status::Done);
     assert!(rt; LAST_SEAT.contains(&written.as_str()), "{written}");
     Ok(())
