@@ -1,5 +1,5 @@
 -- A bound closes a node exactly where it is below the limit.
-use Rattle.std.proofs.Common.{◌≡◌, ℕ, ◌-◌, ◌<◌, true, List, [], ◌∷◌, Option, Some, None, length, take, drop, sym, ap, ◌∙◌, subst, arith, inl, inr}
+use Rattle.std.proofs.Common.{◌≡◌, ℕ, ◌-◌, ◌<◌, true, List, [], ◌∷◌, Option, Some, None, length, take, drop, min, sym, ap, ◌∙◌, subst, arith, inl, inr}
 use Rattle.std.specs.Prelude.{ℤ, pos, ◌+ℤ◌, ◌*ℤ◌, ◌<ℤ◌, IfSome, IfNone}
 use Rattle.std.proofs.lemmas.Int.{ints}
 use Rattle.std.proofs.lemmas.Bool.{cases_Bool}
@@ -9,16 +9,25 @@ use Rattle.bundle_rules.specs.Menus.{by_place}
 use Rattle.bundle_bounds.specs.declared.nodes.Leaf.{Leaf}
 use Rattle.bundle_bounds.specs.declared.prospects.Prospect.{Prospect}
 use Rattle.bundle_bounds.specs.Offers.{Offer}
-use Rattle.bundle_bounds.specs.Opens.{budget_left, credits_left, courses_left, open_places, prospects}
+use Rattle.bundle_bounds.specs.Opens.{budget_left, credits_left, courses_left, open_places, opens_from, prospects}
 use Rattle.bundle_bounds.specs.Bounds.{base_of, all_bounds, bounds, Closes, NoneCloses, IsFirstClosing}
 use Rattle.bundle_bounds.specs.Limits.{NoneBelow, IsFirstBelow}
 use Rattle.bundle_rules.specs.Ahead.{is_ahead}
 use Rattle.bundle_rules.proofs.FirstDifference.{ahead_to, ahead_from}
 use Rattle.bundle_bounds.specs.Ahead.{limit_of}
-use Rattle.bundle_bounds.proofs.Outlook.{rest_whole}
+use Rattle.bundle_bounds.proofs.Outlook.{open_places-within, rest_whole}
 
 pub rest_of_room : (room : List Prospect) (s : ℕ) → length room ≡ 60 → take (60 - s) (drop s room) ≡ drop s room
 rest_of_room room s whole = ap (λ n. take (n - s) (drop s room)) (sym whole) ∙ rest_whole room s
+
+-- what the code collects from its place on is the node's open places with their worth
+pub collected : (offer : Offer) (k : ℕ) (cs slice : List ℕ) (room : List Prospect) (start from places : ℕ) → slice ≡ cs → length room ≡ 60 → from ≡ min k places → places ≡ length offer.menu.places
+    → drop start room ≡ prospects offer slice (opens_from offer slice from (length offer.menu.places - from)) → take (60 - start) (drop start room) ≡ prospects offer cs (open_places offer k cs)
+collected offer k cs slice room start from places same whole from_is places_is found =
+    rest_of_room room start whole ∙ found
+    ∙ ap (λ l. prospects offer l (opens_from offer l from (length offer.menu.places - from))) same
+    ∙ ap (λ n. prospects offer cs (opens_from offer cs n (length offer.menu.places - n))) (from_is ∙ ap (min k) places_is)
+    ∙ ap (prospects offer cs) (sym (open_places-within offer k cs))
 
 -- what the code computes with is the node's menu of bounds
 pub same_numbers : (offer : Offer) (k : ℕ) (cs : List ℕ) (base : ℤ) (budget credits courses : ℕ) (ps : List Prospect) → base ≡ base_of offer cs → budget ≡ budget_left offer cs → credits ≡ credits_left offer cs → courses ≡ courses_left offer cs

@@ -20,6 +20,13 @@ times_less a b s up = let e : b ≡ a + (b - a) = omega arith in of_sum a (b - a
     of_sum : (a d s b : ℕ) → b ≡ a + d → a * s ≤ b * s
     of_sum a d s b e = rw e (omega arith)
 
+-- a number from which another is away by a few steps of at most the margin in all is at most the margin more
+few_steps : (g o far steps d e margin : ℕ) → g ≤ o + far * d → far ≤ steps → e ≡ d → steps * e ≤ margin → g ≤ o + margin
+few_steps g o far steps d e margin line near same few =
+    let less : far * d ≤ steps * d = times_less far steps d near in
+    let few' : steps * d ≤ margin = subst (λ k. steps * k ≤ margin) same few in
+    omega arith
+
 module _ (base limit : ℤ) (rest : ℕ) (resource : Resource) (all : List Prospect) (known : Known) (is : IsKnown base limit rest resource all known) (price sum next margin : ℕ)
     (sum_is : sum ≡ at_price resource rest price all) (next_is : next ≡ at_price resource rest (price + 1) all) (high : (limit +ℤ pos margin) ≤ℤ (base +ℤ pos sum)) where
   pub known_rising : (steps from highest : ℕ) → sum ≤ next → steps * (next - sum) ≤ margin → from ≡ price - steps → highest ≡ min known.high from → IsKnown base limit rest resource all record { low = known.low; high = highest }
@@ -35,11 +42,7 @@ module _ (base limit : ℤ) (rest : ℕ) (resource : Resource) (all : List Prosp
           let rise' : g ≤ n = omega arith in
           elim (cases_lt other price) [
             | inl left ↦
-                let near : price - other ≤ steps = omega arith in
-                let line : g ≤ o + (price - other) * (n - g) = falls_before resource rest price all other (omega arith) rise' in
-                let few' : (price - other) * (next - sum) ≤ steps * (next - sum) = times_less (price - other) steps (next - sum) near in
-                let same : next - sum ≡ n - g = λ i. next_is i - sum_is i in
-                let few'' : (price - other) * (n - g) ≤ steps * (next - sum) = subst (λ d. (price - other) * d ≤ steps * (next - sum)) same few' in
+                let near : g ≤ o + margin = few_steps g o (price - other) steps (n - g) (next - sum) margin (falls_before resource rest price all other (omega arith) rise') (omega arith) (λ i. next_is i - sum_is i) few in
                 over base limit margin sum (at_price resource rest other all) high (let goal : sum ≤ o + margin = omega arith in goal)
             | inr right ↦ elim (cases_lt price other) [
               | inl later ↦
@@ -69,11 +72,7 @@ module _ (base limit : ℤ) (rest : ℕ) (resource : Resource) (all : List Prosp
           let fall' : n ≤ g = omega arith in
           elim (cases_lt price other) [
             | inl right ↦
-                let near : other - price ≤ steps = omega arith in
-                let line : g ≤ o + (other - price) * (g - n) = falls_after resource rest price all other (omega arith) fall' in
-                let few' : (other - price) * (sum - next) ≤ steps * (sum - next) = times_less (other - price) steps (sum - next) near in
-                let same : sum - next ≡ g - n = λ i. sum_is i - next_is i in
-                let few'' : (other - price) * (g - n) ≤ steps * (sum - next) = subst (λ d. (other - price) * d ≤ steps * (sum - next)) same few' in
+                let near : g ≤ o + margin = few_steps g o (other - price) steps (g - n) (sum - next) margin (falls_after resource rest price all other (omega arith) fall') (omega arith) (λ i. sum_is i - next_is i) few in
                 over base limit margin sum (at_price resource rest other all) high (let goal : sum ≤ o + margin = omega arith in goal)
             | inr left ↦
                 let up : g ≤ o = no_less_before resource rest price (price + 1) all (omega arith) fall' other (omega arith) in

@@ -1,13 +1,15 @@
 -- A stem at its node, and at the one that follows.
-use Rattle.std.proofs.Common.{◌≡◌, ℕ, zero, suc, ◌+◌, ◌-◌, ◌*◌, ◌≤◌, ◌<◌, Bool, true, false, List, [], ◌∷◌, length, drop, get_or, Option, None, Some, refl, sym, ap, subst, ◌∙◌, arith}
+use Rattle.std.proofs.Common.{◌≡◌, ℕ, zero, suc, ◌+◌, ◌-◌, ◌*◌, ◌≤◌, ◌<◌, Bool, true, false, List, [], ◌∷◌, length, take, drop, get_or, Option, None, Some, refl, sym, ap, subst, ◌∙◌, arith}
 use Rattle.std.specs.Prelude.{ℤ, pos, ◌*ℤ◌, IfSome, IfNone, All, nat_lt, not}
 use Rattle.std.specs.Option.{is_some}
 use Rattle.std.proofs.lemmas.Bool.{false≢true, true≢false}
 use Rattle.std.proofs.lemmas.Bool.Decides.{nat_tests}
 use Rattle.std.proofs.lemmas.List.{drop-drop, length-drop}
 use Rattle.bundle_rules.specs.Ahead.{is_ahead}
-use Rattle.bundle_rules.specs.Wishes.{IsFeasible}
-use Rattle.bundle_rules.specs.Menus.{wishes_of, IsMenu}
+use Rattle.bundle_rules.specs.Sets.{has, IsAscending}
+use Rattle.bundle_rules.specs.Wishes.{IsFeasible, utility}
+use Rattle.bundle_rules.specs.Menus.{by_place, wishes_of, IsMenu}
+use Rattle.bundle_rules.specs.PlaceLists.{listed}
 use Rattle.bundle_rules.proofs.Feasibility.{place_of_rated, utility_by_place}
 use Rattle.bundle_bounds.specs.declared.nodes.Leaf.{Leaf}
 use Rattle.bundle_bounds.specs.declared.prospects.Prospect.{Prospect}
@@ -25,7 +27,7 @@ use Rattle.bundle_bounds.specs.Opens.{is_open, open_places, prospect}
 use Rattle.bundle_bounds.specs.Stems.{IsStem, IsQuiet, open_ones_at}
 use Rattle.bundle_bounds.specs.Tangents.{AreTangents}
 use Rattle.bundle_bounds.proofs.Adding.{plain_over}
-use Rattle.bundle_bounds.proofs.BelowLimit.{some_closes, none_closes}
+use Rattle.bundle_bounds.proofs.BelowLimit.{rest_of_room, some_closes, none_closes}
 use Rattle.bundle_bounds.proofs.ByPlace.{ascending_places, has-places}
 use Rattle.bundle_bounds.proofs.Steps.{no_prospect}
 use Rattle.bundle_bounds.proofs.Stemming.{after_open, after_shut}
@@ -67,26 +69,28 @@ module _ (offer : Offer) (champion : List ℕ) (k : ℕ) (chosen : List ℕ) (st
   cs = places_of offer.menu chosen
 
   module _ (menu : IsMenu offer.menu) (node : IsNode offer k chosen) (feasible : IsFeasible (wishes_of offer.menu) champion) where
+    champion_up : IsAscending (places_of offer.menu champion)
+    champion_up = ascending_places offer.menu.places champion menu.places.ascending (place_of_rated offer.menu champion feasible.rated) feasible.set
+
+    chosen_up : IsAscending (places_of offer.menu chosen)
+    chosen_up = ascending_places offer.menu.places chosen menu.places.ascending (place_of_rated offer.menu chosen node.takable.feasible.rated) node.takable.feasible.set
+
+    decided : (p : ℕ) → has (places_of offer.menu chosen) p ≡ true → p < k
+    decided p in_it = let at = has-places offer.menu.places chosen p in_it in rw (← at.2) (node.decided at.0 at.1)
+
+    limit_here : stem.limit ≡ limit_of (utility (by_place offer.menu) (places_of offer.menu champion)) (is_ahead k (places_of offer.menu champion) (places_of offer.menu chosen))
+    limit_here = is.limit_is ∙ ap (λ z. limit_of z (is_ahead k (places_of offer.menu champion) (places_of offer.menu chosen))) (is.has_chosen.most_is ∙ sym (utility_by_place offer.menu champion))
+
     pub stem_first : (r : Option Leaf) → IfSome r (IsFirstBelow stem.limit (all_bounds (pos 1000 *ℤ stem.utility) stem.rests.budget stem.rests.credits stem.rests.courses (drop stem.start stem.room)))
         → IfSome r (IsFirstClosing offer k (places_of offer.menu chosen) (places_of offer.menu champion) (bounds offer k (places_of offer.menu chosen)))
     stem_first r h =
-        some_closes offer k (places_of offer.menu chosen) (places_of offer.menu champion)
-        (ascending_places offer.menu.places champion menu.places.ascending (place_of_rated offer.menu champion feasible.rated) feasible.set)
-        (ascending_places offer.menu.places chosen menu.places.ascending (place_of_rated offer.menu chosen node.takable.feasible.rated) node.takable.feasible.set)
-        (λ p in_it. (let at = has-places offer.menu.places chosen p in_it in rw (← at.2) (node.decided at.0 at.1)))
-        _ _ _ _ _ _ (ap (λ z. pos 1000 *ℤ z) is.has_chosen.utility_is)
-        (is.limit_is ∙ ap (λ z. limit_of z (is_ahead k (places_of offer.menu champion) (places_of offer.menu chosen))) (is.has_chosen.most_is ∙ sym (utility_by_place offer.menu champion)))
+        some_closes offer k (places_of offer.menu chosen) (places_of offer.menu champion) champion_up chosen_up decided _ _ _ _ _ _ (ap (λ z. pos 1000 *ℤ z) is.has_chosen.utility_is) limit_here
         is.has_chosen.budget_is is.has_chosen.credits_is is.has_chosen.courses_is is.keeps.kept_is r h
 
     pub stem_none : (r : Option Leaf) → IfNone r (NoneBelow stem.limit (all_bounds (pos 1000 *ℤ stem.utility) stem.rests.budget stem.rests.credits stem.rests.courses (drop stem.start stem.room)))
         → IfNone r (NoneCloses offer k (places_of offer.menu chosen) (places_of offer.menu champion) (bounds offer k (places_of offer.menu chosen)))
     stem_none r h =
-        none_closes offer k (places_of offer.menu chosen) (places_of offer.menu champion)
-        (ascending_places offer.menu.places champion menu.places.ascending (place_of_rated offer.menu champion feasible.rated) feasible.set)
-        (ascending_places offer.menu.places chosen menu.places.ascending (place_of_rated offer.menu chosen node.takable.feasible.rated) node.takable.feasible.set)
-        (λ p in_it. (let at = has-places offer.menu.places chosen p in_it in rw (← at.2) (node.decided at.0 at.1)))
-        _ _ _ _ _ _ (ap (λ z. pos 1000 *ℤ z) is.has_chosen.utility_is)
-        (is.limit_is ∙ ap (λ z. limit_of z (is_ahead k (places_of offer.menu champion) (places_of offer.menu chosen))) (is.has_chosen.most_is ∙ sym (utility_by_place offer.menu champion)))
+        none_closes offer k (places_of offer.menu chosen) (places_of offer.menu champion) champion_up chosen_up decided _ _ _ _ _ _ (ap (λ z. pos 1000 *ℤ z) is.has_chosen.utility_is) limit_here
         is.has_chosen.budget_is is.has_chosen.credits_is is.has_chosen.courses_is is.keeps.kept_is r h
 
   -- other tangents, and perhaps quiet
@@ -107,6 +111,12 @@ module _ (offer : Offer) (champion : List ℕ) (k : ℕ) (chosen : List ℕ) (st
     };
     quiet = quiet;
   }
+
+  -- the limit of the next node, as it is asked of the places that are kept
+  pub next_limit : (most limit told : ℤ) (champions : List ℕ) → most ≡ stem.most → limit ≡ told → told ≡ limit_of most (is_ahead (k + 1) champions (take stem.count stem.chosen)) → champions ≡ listed stem.champion
+      → limit ≡ limit_of stem.most (is_ahead (k + 1) (places_of offer.menu champion) (places_of offer.menu chosen))
+  next_limit most limit told champions most_is limit_is asked same =
+      limit_is ∙ asked ∙ (λ i. limit_of (most_is i) (is_ahead (k + 1) ((same ∙ is.has_chosen.champion_is) i) (is.has_chosen.chosen_is i)))
 
   module _ (low : k < length offer.menu.places) where
     -- behind a place that is not open
@@ -138,6 +148,14 @@ module _ (offer : Offer) (champion : List ℕ) (k : ℕ) (chosen : List ℕ) (st
           let size : length (drop stem.start stem.room) ≡ length stem.room - stem.start = length-drop stem.start stem.room in
           let more : length (drop stem.start stem.room) ≡ suc (length (open_ones_at offer (k + 1) (places_of offer.menu chosen))) = ap length kept_first in
           let whole = is.keeps.whole in omega arith
+
+      -- so what is lent of the room has one
+      pub lent_some : 1 ≤ length (take (60 - stem.start) (drop stem.start stem.room))
+      lent_some =
+          let size : length (drop stem.start stem.room) ≡ length stem.room - stem.start = length-drop stem.start stem.room in
+          let some : stem.start < 60 = kept_some in
+          let whole = is.keeps.whole in
+          subst (λ ps. 1 ≤ length ps) (sym (rest_of_room stem.room stem.start is.keeps.whole)) (let goal : 1 ≤ length (drop stem.start stem.room) = omega arith in goal)
 
       pub kept_later : drop (stem.start + 1) stem.room ≡ open_ones_at offer (k + 1) (places_of offer.menu chosen)
       kept_later = sym (drop-drop 1 stem.start stem.room) ∙ ap (drop 1) kept_first

@@ -14,33 +14,49 @@ use Rattle.bundle_reach.specs.Covers.{IsAdded}
 use Rattle.bundle_reach.specs.Reaches.{number_at, HoldsHopes}
 use Rattle.bundle_bounds.specs.Closings.{MayClose, ComesFirst}
 
-module _ (offer : Offer) (wanted : List ℕ → Bool) (k : ℕ) (chosen champion : List ℕ) (added : ℤ) (is : IsAdded offer k chosen added) where
+-- what is compared at a node: what may be added, what is hoped for, both utilities, and what lacks
+pub record IsWeighed (offer : Offer) (k : ℕ) (chosen champion : List ℕ) (added : ℤ) (hopes : ℕ) (u worth lacking : ℤ) : Type 0 where
+  pub is_added : IsAdded offer k chosen added
+  pub hopes_are : hopes ≡ total (hopes_from offer k) (places_of offer.menu chosen)
+  pub u_is : u ≡ utility (by_place offer.menu) (places_of offer.menu chosen)
+  pub worth_is : worth ≡ utility (wishes_of offer.menu) champion
+  pub lacks : lacking ≡ (worth -ℤ u) -ℤ pos hopes
+  pub high : lacking ≤ℤ pos (2 ^ 34)
+
+module _ (offer : Offer) (wanted : List ℕ → Bool) (k : ℕ) (chosen champion : List ℕ) (added : ℤ) (hopes : ℕ) (u worth lacking : ℤ) (is : IsWeighed offer k chosen champion added hopes u worth lacking) where
+  -- a bundle that completes the node has no more than what is hoped for and added
+  most_reached : (bundle : List ℕ) → (pos 1000000 *ℤ utility (wishes_of offer.menu) bundle) ≤ℤ ((pos 1000000 *ℤ (utility (by_place offer.menu) (places_of offer.menu chosen) +ℤ pos (total (hopes_from offer k) (places_of offer.menu chosen)))) +ℤ added)
+      → (pos 1000000 *ℤ utility (wishes_of offer.menu) bundle) ≤ℤ ((pos 1000000 *ℤ (u +ℤ pos hopes)) +ℤ added)
+  most_reached bundle reached = rw (is.u_is, is.hopes_are) reached
+
   -- less than the champion has can be reached
-  pub less_closes : (hopes : ℕ) (u worth lacking : ℤ) → u ≡ utility (by_place offer.menu) (places_of offer.menu chosen) → hopes ≡ total (hopes_from offer k) (places_of offer.menu chosen) → worth ≡ utility (wishes_of offer.menu) champion
-      → lacking ≡ (worth -ℤ u) -ℤ pos hopes → lacking ≤ℤ pos (2 ^ 34) → added <ℤ (pos 1000000 *ℤ lacking) → MayClose offer wanted k chosen champion
-  less_closes hopes u worth lacking u_is hopes_are worth_is lacks high below bundle may is_wanted completes =
-      elim (is bundle may completes) [
+  pub less_closes : added <ℤ (pos 1000000 *ℤ lacking) → MayClose offer wanted k chosen champion
+  less_closes below bundle may is_wanted completes =
+      let lacks = is.lacks in
+      let high = is.high in
+      elim (is.is_added bundle may completes) [
         | inl enough ↦ absurd (omega (arith, ints))
         | inr reached ↦
             let v : ℤ = utility (wishes_of offer.menu) bundle in
-            let reached' : (pos 1000000 *ℤ v) ≤ℤ ((pos 1000000 *ℤ (u +ℤ pos hopes)) +ℤ added) = rw (u_is, hopes_are) reached in
+            let reached' : (pos 1000000 *ℤ v) ≤ℤ ((pos 1000000 *ℤ (u +ℤ pos hopes)) +ℤ added) = most_reached bundle reached in
             let less : v <ℤ worth = omega (arith, ints) in
-            inr (inl (subst (λ z. v <ℤ z) worth_is less))
+            inr (inl (subst (λ z. v <ℤ z) is.worth_is less))
       ]
 
   -- no more than the champion has can be reached, and the champion comes first
-  pub no_more_closes : (hopes : ℕ) (u worth lacking : ℤ) → u ≡ utility (by_place offer.menu) (places_of offer.menu chosen) → hopes ≡ total (hopes_from offer k) (places_of offer.menu chosen) → worth ≡ utility (wishes_of offer.menu) champion
-      → lacking ≡ (worth -ℤ u) -ℤ pos hopes → lacking ≤ℤ pos (2 ^ 34) → added <ℤ (pos 1000000 *ℤ (lacking +ℤ pos 1)) → ComesFirst offer k chosen champion → MayClose offer wanted k chosen champion
-  no_more_closes hopes u worth lacking u_is hopes_are worth_is lacks high below first bundle may is_wanted completes =
-      elim (is bundle may completes) [
+  pub no_more_closes : added <ℤ (pos 1000000 *ℤ (lacking +ℤ pos 1)) → ComesFirst offer k chosen champion → MayClose offer wanted k chosen champion
+  no_more_closes below first bundle may is_wanted completes =
+      let lacks = is.lacks in
+      let high = is.high in
+      elim (is.is_added bundle may completes) [
         | inl enough ↦ absurd (omega (arith, ints))
         | inr reached ↦
             let v : ℤ = utility (wishes_of offer.menu) bundle in
-            let reached' : (pos 1000000 *ℤ v) ≤ℤ ((pos 1000000 *ℤ (u +ℤ pos hopes)) +ℤ added) = rw (u_is, hopes_are) reached in
+            let reached' : (pos 1000000 *ℤ v) ≤ℤ ((pos 1000000 *ℤ (u +ℤ pos hopes)) +ℤ added) = most_reached bundle reached in
             let no_more : v ≤ℤ worth = omega (arith, ints) in
             elim (int_order v worth) [
-              | inl less ↦ inr (inl (subst (λ z. v <ℤ z) worth_is less))
-              | inr (inl equal) ↦ inr (inr (sym (equal ∙ worth_is), first bundle may completes))
+              | inl less ↦ inr (inl (subst (λ z. v <ℤ z) is.worth_is less))
+              | inr (inl equal) ↦ inr (inr (sym (equal ∙ is.worth_is), first bundle may completes))
               | inr (inr more) ↦ absurd (omega (arith, ints))
             ]
       ]

@@ -10,7 +10,7 @@ use Rattle.market_lists.proofs.Sums.{total-append}
 use Rattle.bundle_rules.specs.Sets.{has}
 use Rattle.bundle_rules.specs.Existence.Members.{has-here}
 use Rattle.bundle_rules.specs.Wishes.{utility}
-use Rattle.bundle_rules.specs.Menus.{IsMenu, by_place, credits_at, place_in}
+use Rattle.bundle_rules.specs.Menus.{IsMenu, by_place, credits_at, place_in, wishes_of}
 use Rattle.bundle_rules.proofs.Feasibility.{utility_by_place}
 use Rattle.bundle_bounds.specs.Offers.{Offer, places_of, price_at}
 use Rattle.bundle_bounds.specs.Opens.{budget_left, credits_left}
@@ -82,8 +82,11 @@ reached offer multipliers k most cs ps ds added covered =
     let covered' : x ≤ most = covered in
     let goal : (pos 1000000 *ℤ u) ≤ℤ ((pos 1000000 *ℤ (v +ℤ pos h)) +ℤ pos (m + most)) = omega (arith, ints) in goal
 
-pub reach_is_sound : ReachIsSound
-reach_is_sound offer multipliers k chosen bundle count most menu node may completes few covers =
+-- and by a bundle, where a number covers so many places as it may add
+reached_by : (offer : Offer) (multipliers : Multipliers) (k : ℕ) (chosen bundle : List ℕ) (count most : ℕ) → IsMenu offer.menu → IsNode offer k chosen → IsTakable offer bundle → Completes offer k chosen bundle → length bundle ≤ length chosen + count
+    → ((ds : List ℕ) → AreAdded offer k (places_of offer.menu chosen) (places_of offer.menu bundle) ds → length ds ≤ count → total (value offer multipliers) ds ≤ most)
+    → (pos 1000000 *ℤ utility (wishes_of offer.menu) bundle) ≤ℤ reach_of offer multipliers k (places_of offer.menu chosen) most
+reached_by offer multipliers k chosen bundle count most menu node may completes few covers =
     let cs = places_of offer.menu chosen in
     let ps = places_of offer.menu bundle in
     let added = added_places offer k chosen bundle menu node may completes in
@@ -92,7 +95,11 @@ reach_is_sound offer multipliers k chosen bundle count most menu node may comple
     let front : length cs ≡ length chosen = length-map chosen (place_in offer.menu.places) in
     let split : length ps ≡ length cs + length ds = added.1.count in
     let within : length ds ≤ count = omega arith in
-    subst (λ u. (pos 1000000 *ℤ u) ≤ℤ reach_of offer multipliers k cs most) (utility_by_place offer.menu bundle) (reached offer multipliers k most cs ps ds added.1 (covers ds added.1.free within))
+    subst (λ u. (pos 1000000 *ℤ u) ≤ℤ reach_of offer multipliers k cs most) (utility_by_place offer.menu bundle) (reached offer multipliers k most cs ps ds added.1 (covers ds added.1 within))
+
+pub reach_is_sound : ReachIsSound
+reach_is_sound offer multipliers k chosen bundle count most menu node may completes few covers =
+    reached_by offer multipliers k chosen bundle count most menu node may completes few (λ ds added within. covers ds added.free within)
 
 -- whole units of places are no more than those of their prices
 units_times : (offer : Offer) (shift : ℕ) (ds : List ℕ) → total (units_at offer shift) ds * 2 ^ shift ≤ total (price_at offer) ds
@@ -119,16 +126,8 @@ units_fit offer shift budget ds affordable =
 
 pub reach_within_is_sound : ReachWithinIsSound
 reach_within_is_sound offer multipliers shift k chosen bundle count most menu node may completes few covers =
-    let cs = places_of offer.menu chosen in
-    let ps = places_of offer.menu bundle in
-    let added = added_places offer k chosen bundle menu node may completes in
-    let ds = added.0 in
-    let whole : length ps ≡ length bundle = length-map bundle (place_in offer.menu.places) in
-    let front : length cs ≡ length chosen = length-map chosen (place_in offer.menu.places) in
-    let split : length ps ≡ length cs + length ds = added.1.count in
-    let within : length ds ≤ count = omega arith in
-    let cheap = units_fit offer shift (budget_left offer cs) ds added.1.affordable in
-    subst (λ u. (pos 1000000 *ℤ u) ≤ℤ reach_of offer multipliers k cs (1000 * most)) (utility_by_place offer.menu bundle) (reached offer multipliers k (1000 * most) cs ps ds added.1 (covers ds added.1.free within cheap))
+    reached_by offer multipliers k chosen bundle count (1000 * most) menu node may completes few
+    (λ ds added within. covers ds added.free within (units_fit offer shift (budget_left offer (places_of offer.menu chosen)) ds added.affordable))
 
 -- so many places have at least so many times the credits of the lightest
 lightest_times : (offer : Offer) (lightest k : ℕ) (ds : List ℕ) → IsLightest offer lightest → AreApartFrom offer k ds → length ds * lightest ≤ total (credits_at offer.menu.places) ds

@@ -54,44 +54,18 @@ can_check market streams terms p is crowd same whole low = record {
 -- a finding on the order is the first on the publication
 pub order_first : (market : Market) (streams : List (List Command)) (p : Publication) (finding : Finding) → IsOrderFinding streams p.order finding → IsFirstOf market streams p finding
 order_first market streams p (Journal at) is = is
-order_first market streams p (Text line kind) is = absurd is
-order_first market streams p (Budget number) is = absurd is
-order_first market streams p (Unaffordable number) is = absurd is
-order_first market streams p (Infeasible number) is = absurd is
-order_first market streams p (Tree number defect) is = absurd is
-order_first market streams p (Seats section used free) is = absurd is
-order_first market streams p (Turn turn fault) is = absurd is
-order_first market streams p (NotQuiet turns) is = absurd is
-order_first market streams p (Allocation number) is = absurd is
-order_first market streams p (Used section) is = absurd is
+order_first market streams p finding is = absurd is
 
 -- and so is one on what is printed
 pub printed_first : (market : Market) (streams : List (List Command)) (p : Publication) (crowd : CrowdData) (finding : Finding) → IsCrowdAfter market streams p.order crowd → IsFirstIn (terms_in market crowd) p finding → IsFirstOf market streams p finding
 printed_first market streams p crowd (Journal at) after is = absurd is.found
 printed_first market streams p crowd (Text line kind) after is = absurd is.found
-printed_first market streams p crowd (Budget number) after is = (crowd, after, is)
-printed_first market streams p crowd (Unaffordable number) after is = (crowd, after, is)
-printed_first market streams p crowd (Infeasible number) after is = (crowd, after, is)
-printed_first market streams p crowd (Tree number defect) after is = (crowd, after, is)
-printed_first market streams p crowd (Seats section used free) after is = (crowd, after, is)
-printed_first market streams p crowd (Turn turn fault) after is = (crowd, after, is)
-printed_first market streams p crowd (NotQuiet turns) after is = (crowd, after, is)
-printed_first market streams p crowd (Allocation number) after is = (crowd, after, is)
-printed_first market streams p crowd (Used section) after is = (crowd, after, is)
+printed_first market streams p crowd finding after is = (crowd, after, is)
 
 -- the first finding on the publication of a text is the first on the text
 pub text_first : (market : Market) (streams : List (List Command)) (p : Publication) (text : List ℕ) (finding : Finding) → IsTextOf market p text → IsFirstOf market streams p finding → IsFirstFinding market streams text finding
 text_first market streams p text (Text line kind) of is = absurd is
-text_first market streams p text (Journal at) of is = (p, of, is)
-text_first market streams p text (Budget number) of is = (p, of, is)
-text_first market streams p text (Unaffordable number) of is = (p, of, is)
-text_first market streams p text (Infeasible number) of is = (p, of, is)
-text_first market streams p text (Tree number defect) of is = (p, of, is)
-text_first market streams p text (Seats section used free) of is = (p, of, is)
-text_first market streams p text (Turn turn fault) of is = (p, of, is)
-text_first market streams p text (NotQuiet turns) of is = (p, of, is)
-text_first market streams p text (Allocation number) of is = (p, of, is)
-text_first market streams p text (Used section) of is = (p, of, is)
+text_first market streams p text finding of is = (p, of, is)
 
 -- what is so of each finding is so where a check ends with one
 pub on_found : (P Q : Finding → Type 0) (e : CheckEnd) → ((finding : Finding) → P finding → Q finding) → OnFound e P → OnFound e Q

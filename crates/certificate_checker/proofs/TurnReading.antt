@@ -68,6 +68,11 @@ menu_priced terms publication k m prices is low same menu listed = λ j d inside
           (is.is_publication.prices.each (get_or m.places j d).section.0 0 (let many = is.is_publication.prices.count in let sections = is.sections in omega arith));
     }
 
+-- what is told of the choices at a floor is so of what the publication held, and of the turn's student
+pub told_choices : (seats : List ℕ) (held before : List (List ℕ)) (student k : ℕ) (choices : set.FinSet nat_cmp) → ((s : ℕ) → set.contains choices s ≡ may_choose seats held student s) → held ≡ before → student ≡ k
+    → (s : ℕ) → set.contains choices s ≡ may_choose seats before k s
+told_choices seats held before student k choices told same who s = told s ∙ (λ i. may_choose seats (same i) (who i) s)
+
 module _ (terms : Terms) (publication : declared.Publication) (place : ℕ) (order : List ℕ) (progress : Progress) (item : declared_turn.ProvedTurn) (at : IsTurnAt terms publication place order progress item) where
   read : turn_of item ≡ turn_in (publication_of publication) place
   read = sym (turn_is publication place item at.low at.printed)

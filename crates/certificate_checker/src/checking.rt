@@ -1,7 +1,9 @@
 // The check.
 ghost use Rattle.std.specs.Prelude.{◌≡◌, ◌≤◌, ◌<◌, ◌^◌, ◌-◌, IfOk, IfErr, OnOk, length, map};
+ghost use Rattle.market_certificate.specs.Finding.{Finds, OnDefect};
 ghost use Rattle.market_certificate.specs.Publications.{IsPublication};
 ghost use Rattle.market_certificate.specs.Tables.{tables_of};
+ghost use Rattle.market_certificate.specs.Texts.{ArePublished, IsPublished, text_of};
 ghost use Rattle.market_certificate.specs.Views.{publication_of};
 ghost use Rattle.held_seats.specs.Floors.{IsFloor, held_on};
 ghost use Rattle.published_parts.specs.Holdings.{demanded};
@@ -49,6 +51,27 @@ pub fn check(
     ensures refused { IfErr result (λ end. OnFound end (λ _. ¬ IsAccepted (market_of catalog.now roll.now settings.now) (map (λ stream. stream.items) streams.now) text.now)) }
     ensures named { IfErr result (λ end. OnFound end (IsNamedIn (tables_of catalog.now roll.now))) }
 {
+    let copy = text.to_vec(alloc)?;
+    check_owned(alloc, catalog, roll, settings, streams, copy)
+}
+
+/// The same, of a text that is let go as soon as it is read: what the check makes stands in its room.
+pub fn check_owned(
+    alloc: Global,
+    catalog: &Catalog,
+    roll: &Roll,
+    settings: &Settings,
+    streams: &[Vec<Command>],
+    text: Vec<u8>,
+) -> Result<(), CheckEnd>
+    requires text { length text.items < 2 ^ 32 - 1 }
+    requires spread { settings.now.spread ≤ 49 }
+    requires raise { settings.now.raise ≤ 50 }
+    ensures accepted { OnOk result (IsAccepted (market_of catalog.now roll.now settings.now) (map (λ stream. stream.items) streams.now) text.items) }
+    ensures first { IfErr result (λ end. OnFound end (IsFirstFinding (market_of catalog.now roll.now settings.now) (map (λ stream. stream.items) streams.now) text.items)) }
+    ensures refused { IfErr result (λ end. OnFound end (λ _. ¬ IsAccepted (market_of catalog.now roll.now settings.now) (map (λ stream. stream.items) streams.now) text.items)) }
+    ensures named { IfErr result (λ end. OnFound end (IsNamedIn (tables_of catalog.now roll.now))) }
+{
     let _accepted = accept(alloc, catalog, roll, settings, streams, text)?;
     Ok(())
 }
@@ -60,24 +83,41 @@ pub fn accept(
     roll: &Roll,
     settings: &Settings,
     streams: &[Vec<Command>],
-    text: &[u8],
+    text: Vec<u8>,
 ) -> Result<Accepted, CheckEnd>
-    requires text { length text.now < 2 ^ 32 - 1 }
+    requires text { length text.items < 2 ^ 32 - 1 }
     requires spread { settings.now.spread ≤ 49 }
     requires raise { settings.now.raise ≤ 50 }
-    ensures text { IfOk result (λ accepted. IsTextOf (market_of catalog.now roll.now settings.now) (publication_of accepted.publication) text.now) }
+    ensures text { IfOk result (λ accepted. IsTextOf (market_of catalog.now roll.now settings.now) (publication_of accepted.publication) text.items) }
     ensures holds { IfOk result (λ accepted. HoldsBy (market_of catalog.now roll.now settings.now) (map (λ stream. stream.items) streams.now) (publication_of accepted.publication) (crowd_seen accepted.crowd)) }
     ensures whole { IfOk result (λ accepted. MakeCrowd accepted.crowd.menus.items accepted.crowd.budgets.items accepted.crowd.sections) }
-    ensures first { IfErr result (λ end. OnFound end (IsFirstFinding (market_of catalog.now roll.now settings.now) (map (λ stream. stream.items) streams.now) text.now)) }
-    ensures refused { IfErr result (λ end. OnFound end (λ _. ¬ IsAccepted (market_of catalog.now roll.now settings.now) (map (λ stream. stream.items) streams.now) text.now)) }
+    ensures first { IfErr result (λ end. OnFound end (IsFirstFinding (market_of catalog.now roll.now settings.now) (map (λ stream. stream.items) streams.now) text.items)) }
+    ensures refused { IfErr result (λ end. OnFound end (λ _. ¬ IsAccepted (market_of catalog.now roll.now settings.now) (map (λ stream. stream.items) streams.now) text.items)) }
     ensures named { IfErr result (λ end. OnFound end (IsNamedIn (tables_of catalog.now roll.now))) }
 {
     let _few_sections = catalog.len();
     let _few_students = roll.len();
-    match read_publication(alloc, catalog, roll, text) {
+    match publication_in(alloc, catalog, roll, text) {
         Ok(publication) => accept_publication(alloc, catalog, roll, settings, streams, publication),
         Err(refusal) => Err(end_of(refusal)),
     }
+}
+
+// The publication that the text is, or its first defect. The text, which may be the greater part of all that is held, is
+// let go here, before the check makes anything of its own.
+fn publication_in(
+    alloc: Global,
+    catalog: &Catalog,
+    roll: &Roll,
+    text: Vec<u8>,
+) -> Result<Publication, TextRefusal>
+    requires { length text.items < 2 ^ 32 - 1 }
+    ensures publication { IfOk result (λ publication. IsPublication (tables_of catalog.now roll.now) (publication_of publication)) }
+    ensures text { IfOk result (λ publication. text.items ≡ text_of (tables_of catalog.now roll.now) (publication_of publication)) }
+    ensures defect { IfErr result (λ refusal. OnDefect refusal (Finds (ArePublished (tables_of catalog.now roll.now)) 1 text.items)) }
+    ensures refused { IfErr result (λ refusal. OnDefect refusal (λ _ _. ¬ IsPublished (tables_of catalog.now roll.now) text.items)) }
+{
+    read_publication(alloc, catalog, roll, &text)
 }
 
 // The publication, where the certificate holds of it, with the students by whom it was checked, or the first finding.

@@ -16,7 +16,7 @@ mod turns;
 mod words;
 
 pub use accepted::Accepted;
-pub use checking::{accept, check};
+pub use checking::{accept, check, check_owned};
 pub use findings::{CheckEnd, Finding, TurnFault};
 pub use words::finding_line;
 

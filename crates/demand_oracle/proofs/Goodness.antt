@@ -29,3 +29,8 @@ module _ (offer : Offer) where
     | inr (inl more) ↦ absurd (none more)
     | inr (inr less) ↦ inr less
   ]
+
+  -- what is as good as another bundle is preferred to it
+  pub over_other : (a b : List ℕ) → b ≢ a → IsAsGood offer a b → IsPreferred (wishes_of offer.menu) a b
+  over_other a b apart (inl same) = absurd (apart same)
+  over_other a b apart (inr more) = more

@@ -3,3 +3,4 @@ pub mod Searching
 pub mod Branches
 pub mod Stepping
 pub mod Wanting
+pub mod Beside

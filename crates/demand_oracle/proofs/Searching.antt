@@ -1,12 +1,12 @@
 -- The search finds the best bundle.
-use Rattle.std.proofs.Common.{◌≡◌, ◌≢◌, ◌<◌, ◌≤◌, ◌+◌, ◌++◌, ℕ, zero, suc, Bool, true, true≢false, List, [], ◌∷◌, length, map, drop, refl, sym, ◌∙◌, ap, subst, inl, inr, arith, append_assoc}
+use Rattle.std.proofs.Common.{◌≡◌, ◌<◌, ◌≤◌, ◌+◌, ◌++◌, ℕ, zero, suc, Bool, true, true≢false, List, [], ◌∷◌, length, map, drop, refl, sym, ◌∙◌, ap, subst, inl, inr, arith, append_assoc}
 use Rattle.std.proofs.lemmas.Bool.{cases_Bool}
 use Rattle.std.proofs.lemmas.List.{append-nil}
 use Rattle.bundle_rules.specs.declared.menu.Rated.{Rated}
 use Rattle.bundle_rules.specs.Sets.{has, IsAscending}
 use Rattle.bundle_rules.specs.Menus.{IsMenu, wishes_of, section_at}
 use Rattle.bundle_rules.specs.Places.{menu_sections}
-use Rattle.bundle_rules.specs.Preferences.{IsPreferred}
+use Rattle.bundle_rules.specs.Given.{IsBestOf}
 use Rattle.bundle_rules.specs.Extensions.{Extends}
 use Rattle.bundle_rules.specs.Existence.Members.{has-here, has-there, has-above, IsAscending-middle}
 use Rattle.bundle_rules.specs.Existence.Fronts.{choice_front}
@@ -17,9 +17,9 @@ use Rattle.bundle_bounds.specs.Laws.{IsTakable, IsNode, Completes}
 use Rattle.bundle_bounds.proofs.NodeFacts.{nothing_chosen}
 use Rattle.bundle_bounds.proofs.Openings.{node_with, node_without}
 use Rattle.bundle_bounds.specs.Closings.{IsAsGood}
-use Rattle.demand_oracle.specs.Search.{IsSearched}
+use Rattle.demand_oracle.specs.Search.{IsSearched, LeadsWanted}
 use Rattle.demand_oracle.specs.Laws.{SearchFindsTheBest}
-use Rattle.demand_oracle.proofs.Goodness.{as_good_trans, as_good_where_other, as_good_where_not}
+use Rattle.demand_oracle.proofs.Goodness.{as_good_trans, as_good_where_other, as_good_where_not, over_other}
 
 -- the sections of places
 abbrev pub sections : List Rated → List ℕ
@@ -77,10 +77,9 @@ module _ (offer : Offer) (menu : IsMenu offer.menu) where
       ap (λ b. has b (section_at offer.menu.places place)) extends.whole
       ∙ has-append_none chosen extends.more (section_at offer.menu.places place) (λ is. decided_section offer.menu.places k place menu.places.ascending low on (extends.among _ is))
 
-  -- what a search leaves: wanted, and as good as the champion before and as all below the node that are wanted
+  -- what a search leaves: as good as the champion before and as all below the node that are wanted
   pub record IsFound (wanted : List ℕ → Bool) (chosen undecided champion result : List ℕ) : Type 0 where
     pub takable : IsTakable offer result
-    pub is_wanted : wanted result ≡ true
     pub over_champion : IsAsGood offer result champion
     pub over_all : (bundle : List ℕ) → IsTakable offer bundle → wanted bundle ≡ true → Extends chosen undecided bundle → IsAsGood offer result bundle
 
@@ -94,48 +93,44 @@ module _ (offer : Offer) (menu : IsMenu offer.menu) where
   no_more front other e (x ∷ xs) is = absurd (true≢false (sym (e.among x (subst (λ ys. has ys x ≡ true) (sym is) (has-here x xs)))))
 
   module _ (wanted : List ℕ → Bool) where
-    finds : (k : ℕ) (chosen undecided champion result : List ℕ) → IsNode offer k chosen → undecided ≡ drop k (menu_sections offer.menu) → IsAscending (chosen ++ undecided) → IsTakable offer champion → wanted champion ≡ true
+    finds : (k : ℕ) (chosen undecided champion result : List ℕ) → IsNode offer k chosen → undecided ≡ drop k (menu_sections offer.menu) → IsAscending (chosen ++ undecided) → IsTakable offer champion
         → IsSearched offer wanted k chosen undecided champion result → IsFound wanted chosen undecided champion result
-    finds k chosen [] champion result node is up takable fits (inl more) =
-        subst (IsFound wanted chosen [] champion) (sym more.1) record { takable = node.takable; is_wanted = more.0.0; over_champion = inr more.0.1; over_all = λ bundle may is_wanted extends. over_extensions chosen node.takable bundle may extends }
-    finds k chosen [] champion result node is up takable fits (inr none) =
+    finds k chosen [] champion result node is up takable (inl more) =
+        subst (IsFound wanted chosen [] champion) (sym more.1) record { takable = node.takable; over_champion = inr more.0.1; over_all = λ bundle may is_wanted extends. over_extensions chosen node.takable bundle may extends }
+    finds k chosen [] champion result node is up takable (inr none) =
         subst (IsFound wanted chosen [] champion) (sym none.1) record {
           takable = takable;
-          is_wanted = fits;
           over_champion = inl refl;
           over_all = λ bundle may is_wanted extends.
               let same : bundle ≡ chosen = no_more chosen bundle extends extends.more refl in
               subst (IsAsGood offer champion) (sym same) (as_good_where_not offer champion chosen takable.feasible.set node.takable.feasible.set (λ more. none.0 (subst (λ b. wanted b ≡ true) same is_wanted, more)));
         }
-    finds k chosen (s ∷ undecided) champion result node is up takable fits (inl closed) =
+    finds k chosen (s ∷ undecided) champion result node is up takable (inl closed) =
         subst (IsFound wanted chosen (s ∷ undecided) champion) (sym closed.1) record {
           takable = takable;
-          is_wanted = fits;
           over_champion = inl refl;
           over_all = λ bundle may is_wanted extends. closed.0 bundle may is_wanted (extends_completes k chosen bundle (subst (λ later. Extends chosen later bundle) is extends));
         }
-    finds k chosen (s ∷ undecided) champion result node is up takable fits (inr (inl both)) =
+    finds k chosen (s ∷ undecided) champion result node is up takable (inr (inl both)) =
         let split = split_off offer.menu.places k s undecided is in
         let at : chosen ++ s ∷ [] ≡ chosen ++ section_at offer.menu.places k ∷ [] = ap (λ x. chosen ++ x ∷ []) split.first in
         let node' : IsNode offer (k + 1) (chosen ++ s ∷ []) = subst (IsNode offer (k + 1)) (sym at) (node_with offer k chosen menu split.on_menu node (subst (IsTakable offer) at both.1)) in
         let up' : IsAscending ((chosen ++ s ∷ []) ++ undecided) = rw append_assoc up in
-        let first = finds (k + 1) (chosen ++ s ∷ []) undecided champion both.0 node' split.later up' takable fits both.2 in
-        let second = finds (k + 1) chosen undecided both.0 result (node_without offer k chosen node) split.later (IsAscending-middle chosen s undecided up) first.takable first.is_wanted both.3 in
+        let first = finds (k + 1) (chosen ++ s ∷ []) undecided champion both.0 node' split.later up' takable both.2 in
+        let second = finds (k + 1) chosen undecided both.0 result (node_without offer k chosen node) split.later (IsAscending-middle chosen s undecided up) first.takable both.3 in
         record {
           takable = second.takable;
-          is_wanted = second.is_wanted;
           over_champion = as_good_trans offer result both.0 champion second.over_champion first.over_champion;
           over_all = λ bundle may is_wanted extends. elim (with_or_without chosen s undecided bundle up may.feasible.set extends) [
             | inl with_it ↦ as_good_trans offer result both.0 bundle second.over_champion (first.over_all bundle may is_wanted with_it)
             | inr without ↦ second.over_all bundle may is_wanted without
           ];
         }
-    finds k chosen (s ∷ undecided) champion result node is up takable fits (inr (inr shut)) =
+    finds k chosen (s ∷ undecided) champion result node is up takable (inr (inr shut)) =
         let split = split_off offer.menu.places k s undecided is in
-        let rest = finds (k + 1) chosen undecided champion result (node_without offer k chosen node) split.later (IsAscending-middle chosen s undecided up) takable fits shut.1 in
+        let rest = finds (k + 1) chosen undecided champion result (node_without offer k chosen node) split.later (IsAscending-middle chosen s undecided up) takable shut.1 in
         record {
           takable = rest.takable;
-          is_wanted = rest.is_wanted;
           over_champion = rest.over_champion;
           over_all = λ bundle may is_wanted extends. elim (with_or_without chosen s undecided bundle up may.feasible.set extends) [
             | inl with_it ↦ absurd (shut.0 (choice_front (wishes_of offer.menu) offer.price offer.budget offer.allowed (chosen ++ s ∷ []) with_it.more (subst (IsTakable offer) with_it.whole may)))
@@ -143,15 +138,36 @@ module _ (offer : Offer) (menu : IsMenu offer.menu) where
           ];
         }
 
+  -- a search that begins with a wanted champion leaves a wanted one
+  stays_wanted : (wanted : List ℕ → Bool) (k : ℕ) (chosen undecided champion result : List ℕ) → wanted champion ≡ true → IsSearched offer wanted k chosen undecided champion result → wanted result ≡ true
+  stays_wanted wanted k chosen [] champion result fits (inl more) = subst (λ b. wanted b ≡ true) (sym more.1) more.0.0
+  stays_wanted wanted k chosen [] champion result fits (inr none) = subst (λ b. wanted b ≡ true) (sym none.1) fits
+  stays_wanted wanted k chosen (s ∷ undecided) champion result fits (inl closed) = subst (λ b. wanted b ≡ true) (sym closed.1) fits
+  stays_wanted wanted k chosen (s ∷ undecided) champion result fits (inr (inl both)) =
+      stays_wanted wanted (k + 1) chosen undecided both.0 result (stays_wanted wanted (k + 1) (chosen ++ s ∷ []) undecided champion both.0 fits both.2) both.3
+  stays_wanted wanted k chosen (s ∷ undecided) champion result fits (inr (inr shut)) = stays_wanted wanted (k + 1) chosen undecided champion result fits shut.1
+
+  -- a search of all places leaves what leads all that is wanted
+  pub leads_wanted : (wanted : List ℕ → Bool) (champion result : List ℕ) → IsTakable offer champion → IsSearched offer wanted 0 [] (menu_sections offer.menu) champion result → LeadsWanted offer wanted result
+  leads_wanted wanted champion result takable searched =
+      let found = finds wanted 0 [] (menu_sections offer.menu) champion result (nothing_chosen offer 0) refl menu.places.ascending takable searched in
+      record {
+        takable = found.takable;
+        over = λ other is is_wanted. found.over_all other is is_wanted record { more = other; whole = refl; among = choice_among offer.menu offer.price offer.budget offer.allowed other is };
+      }
+
+  -- and a wanted one, where it began with one
+  pub wanted_at_end : (wanted : List ℕ → Bool) (champion result : List ℕ) → wanted champion ≡ true → IsSearched offer wanted 0 [] (menu_sections offer.menu) champion result → wanted result ≡ true
+  wanted_at_end wanted champion result = stays_wanted wanted 0 [] (menu_sections offer.menu) champion result
+
+-- what leads all that is wanted, and is wanted, is the best of it
+pub best_of_wanted : (offer : Offer) (wanted : List ℕ → Bool) (bundle : List ℕ) → LeadsWanted offer wanted bundle → wanted bundle ≡ true → IsBestOf (wishes_of offer.menu) offer.price offer.budget offer.allowed wanted bundle
+best_of_wanted offer wanted bundle leads fits = record {
+  choice = leads.takable;
+  is_wanted = fits;
+  preferred = λ other is is_wanted apart. over_other offer bundle other apart (leads.over other is is_wanted);
+}
+
 pub search_finds_the_best : SearchFindsTheBest
 search_finds_the_best offer wanted champion result menu takable fits searched =
-    let found = finds offer menu wanted 0 [] (menu_sections offer.menu) champion result (nothing_chosen offer 0) refl menu.places.ascending takable fits searched in
-    record {
-      choice = found.takable;
-      is_wanted = found.is_wanted;
-      preferred = λ other is is_wanted apart. over other apart (found.over_all other is is_wanted record { more = other; whole = refl; among = choice_among offer.menu offer.price offer.budget offer.allowed other is });
-    }
-  where
-    over : (other : List ℕ) → other ≢ result → IsAsGood offer result other → IsPreferred (wishes_of offer.menu) result other
-    over other apart (inl same) = absurd (apart same)
-    over other apart (inr more) = more
+    best_of_wanted offer wanted result (leads_wanted offer menu wanted champion result takable searched) (wanted_at_end offer menu wanted champion result fits searched)

@@ -6,7 +6,7 @@ use Rattle.bundle_rules.specs.Menus.{MenuData, wishes_of, section_at}
 use Rattle.bundle_rules.specs.Preferences.{IsPreferred}
 use Rattle.bundle_bounds.specs.Offers.{Offer}
 use Rattle.bundle_bounds.specs.Laws.{IsTakable}
-use Rattle.bundle_bounds.specs.Closings.{MayClose}
+use Rattle.bundle_bounds.specs.Closings.{IsAsGood, MayClose}
 
 -- which bundles are wanted: all, or those with the section of a given place
 abbrev pub wanted_by : MenuData → Option ℕ → List ℕ → Bool
@@ -26,3 +26,8 @@ IsSearched offer wanted k chosen (s ∷ undecided) champion result =
     (MayClose offer wanted k chosen champion × (result ≡ champion))
     ⊎ (((between : List ℕ) × IsTakable offer (chosen ++ s ∷ []) × IsSearched offer wanted (k + 1) (chosen ++ s ∷ []) undecided champion between × IsSearched offer wanted (k + 1) chosen undecided between result)
     ⊎ ((¬ IsTakable offer (chosen ++ s ∷ [])) × IsSearched offer wanted (k + 1) chosen undecided champion result))
+
+-- a bundle that may be taken, and is as good as every wanted one that may be
+pub record LeadsWanted (offer : Offer) (wanted : List ℕ → Bool) (bundle : List ℕ) : Type 0 where
+  pub takable : IsTakable offer bundle
+  pub over : (other : List ℕ) → IsTakable offer other → wanted other ≡ true → IsAsGood offer bundle other

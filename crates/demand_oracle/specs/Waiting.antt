@@ -1,5 +1,5 @@
 -- The search of branches that wait, one after another.
-use Rattle.std.specs.Prelude.{ℕ, zero, suc, ◌+◌, ◌-◌, ◌<◌, ◌≤◌, ◌≡◌, ⊤, Bool, true, List, [], ◌∷◌, length, drop, Option, None, Some}
+use Rattle.std.specs.Prelude.{ℕ, zero, suc, ◌+◌, ◌-◌, ◌<◌, ◌≤◌, ◌≡◌, ⊤, Bool, List, [], ◌∷◌, length, drop, Option, None, Some}
 use Rattle.bundle_rules.specs.Places.{menu_sections}
 use Rattle.bundle_bounds.specs.Offers.{Offer}
 use Rattle.bundle_bounds.specs.Laws.{IsTakable, IsNode}
@@ -34,10 +34,9 @@ abbrev pub nodes_left : Offer → List Branch → ℕ
 nodes_left offer [] = 0
 nodes_left offer (branch ∷ under) = nodes_below (length offer.menu.places - branch.node.place) + nodes_left offer under
 
--- a champion may be taken, is wanted, and is a branch with its sums
-pub record IsChampion (offer : Offer) (wanted : List ℕ → Bool) (champion : Branch) : Type 0 where
+-- a champion may be taken, and is a branch with its sums
+pub record IsChampion (offer : Offer) (champion : Branch) : Type 0 where
   pub takable : IsTakable offer (chosen_of champion)
-  pub is_wanted : wanted (chosen_of champion) ≡ true
   pub sums : IsBranch offer.menu offer.price champion
 
 -- one step of the search: what the branches that wait after it give is what those before it give, and fewer nodes are left

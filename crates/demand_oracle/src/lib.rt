@@ -5,7 +5,7 @@ pub mod laws;
 mod oracle;
 mod pending;
 
-pub use oracle::{Workspace, demand, demand_from, demand_with};
+pub use oracle::{Workspace, demand, demand_beside, demand_from, demand_with};
 
 #[cfg(test)]
 mod tests;

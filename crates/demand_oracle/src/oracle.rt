@@ -1,9 +1,10 @@
 // The best bundle, by a depth-first search that closes nodes by what can still be reached from them.
-ghost use Rattle.std.specs.Prelude.{◌≡◌, ◌<◌, ◌≤◌, ◌⊎◌, ◌↔◌, [], ◌∷◌, ℕ, List, Some, IfSome, IfNone, IfOk, IsTrue, length};
+ghost use Rattle.std.specs.Prelude.{◌≡◌, ◌<◌, ◌≤◌, ◌⊎◌, ◌↔◌, [], ◌∷◌, ℕ, List, true, Some, IfSome, IfNone, IfOk, IsTrue, length};
 ghost use Rattle.std.specs.FinSet as set;
 ghost use Rattle.bundle_rules.specs.Bundles.{sections_of};
+ghost use Rattle.bundle_rules.specs.Sets.{has};
 ghost use Rattle.bundle_rules.specs.Demand.{price_in, HasPrices, IsBest};
-ghost use Rattle.bundle_rules.specs.Given.{IsBestOf, IsBestWith, SomeHas};
+ghost use Rattle.bundle_rules.specs.Given.{IsBestWith, SomeHas};
 ghost use Rattle.bundle_rules.specs.Menus.{wishes_of, section_at, IsMenu};
 ghost use Rattle.bundle_rules.specs.Wishes.{IsFeasible};
 ghost use Rattle.bundle_bounds.specs.Closings.{MayClose};
@@ -11,7 +12,8 @@ ghost use Rattle.bundle_bounds.specs.Laws.{IsNode, IsTakable};
 ghost use Rattle.bundle_bounds.specs.Offers.{offer_of};
 ghost use Rattle.bundle_reach.specs.Branches.{chosen_of, IsBranch};
 ghost use Rattle.bundle_reach.specs.Reaches.{IsReach};
-ghost use Rattle.demand_oracle.specs.Search.{wanted_by, IsBetter};
+ghost use Rattle.demand_oracle.specs.Beside.{LeadsThoseWithout};
+ghost use Rattle.demand_oracle.specs.Search.{wanted_by, IsBetter, LeadsWanted};
 ghost use Rattle.demand_oracle.specs.Waiting.{IsChampion, MayWait, before_waiting, HasStepped};
 
 use crate::pending::Pending;
@@ -134,13 +136,7 @@ pub fn demand_with(
     ensures none { IfNone result (¬ SomeHas (wishes_of menu.now) (price_in prices.now) budget.0 (set.contains allowed.now) section.0) }
 {
     workspace.frames.opened = 0;
-    let place = menu.place(section);
-    if place >= menu.len() {
-        return None;
-    }
-    if !Branch::root().may_take(menu, prices, budget, allowed, place) {
-        return None;
-    }
+    let place = place_alone(menu, prices, budget, allowed, section)?;
     let bundle = search(
         &mut workspace.frames,
         menu,
@@ -153,9 +149,68 @@ pub fn demand_with(
     Some(bundle)
 }
 
+/// The best bundle, found sooner where a bundle is known that is preferred to every other choice without a given section,
+/// as the best bundle before this section alone became cheaper is: only bundles with the section are searched for a
+/// better one. It takes no memory. There is a price for each section of the menu, each at most 1,000,001.
+pub fn demand_beside(
+    workspace: &mut Workspace,
+    menu: &Menu,
+    prices: &[Tokens],
+    budget: Tokens,
+    allowed: &SectionSet,
+    section: SectionNo,
+    first: &Bundle,
+) -> Bundle
+    requires prices { HasPrices menu.now prices.now }
+    requires first { LeadsThoseWithout (wishes_of menu.now) (price_in prices.now) budget.0 (set.contains allowed.now) section.0 (sections_of first.now) }
+    ensures { IsBest (wishes_of menu.now) (price_in prices.now) budget.0 (set.contains allowed.now) (sections_of result) }
+{
+    workspace.frames.opened = 0;
+    let Some(place) = place_alone(menu, prices, budget, allowed, section) else {
+        return *first;
+    };
+    let given = Some(place);
+    let found = search(
+        &mut workspace.frames,
+        menu,
+        prices,
+        budget,
+        allowed,
+        given,
+        Some(first),
+    );
+    if prefers(menu, first, &found) {
+        return *first;
+    }
+    found
+}
+
+// The place of a section that may be taken alone; `None` exactly where it may be in no bundle.
+fn place_alone(
+    menu: &Menu,
+    prices: &[Tokens],
+    budget: Tokens,
+    allowed: &SectionSet,
+    section: SectionNo,
+) -> Option<u8>
+    requires { HasPrices menu.now prices.now }
+    ensures place { IfSome result (λ place. (place < length menu.now.places) × (section_at menu.now.places place ≡ section.0)) }
+    ensures alone { IfSome result (λ place. IsTakable (offer_of menu.now prices.now budget.0 allowed.now) (section_at menu.now.places place ∷ [])) }
+    ensures none { IfNone result (¬ SomeHas (wishes_of menu.now) (price_in prices.now) budget.0 (set.contains allowed.now) section.0) }
+{
+    let place = menu.place(section);
+    if place >= menu.len() {
+        return None;
+    }
+    if !Branch::root().may_take(menu, prices, budget, allowed, place) {
+        return None;
+    }
+    Some(place)
+}
+
 // The best bundle, of those with the section of a place where one is given, which may be taken alone: the root is looked
-// at first, and while branches are left, the next one. Where a first bundle is told, the search may begin with it. Each
-// of the demands has its own copy of the machine code of this and of what it calls, so that the plain one asks nothing
+// at first, and while branches are left, the next one. Where a first bundle is told, the search may begin with it, and
+// where both are, it may end with it: with what is as good as all bundles with the section. Each of the demands has its own copy of the machine code of this and of what it calls, so that the plain one asks nothing
 // about a given place.
 #[inline(always)]
 fn search(
@@ -171,7 +226,8 @@ fn search(
     requires none { frames.old.pending ≡ [] }
     requires given { IfSome given (λ place. place < length menu.now.places) }
     requires alone { IfSome given (λ place. IsTakable (offer_of menu.now prices.now budget.0 allowed.now) (section_at menu.now.places place ∷ [])) }
-    ensures best { IsBestOf (wishes_of menu.now) (price_in prices.now) budget.0 (set.contains allowed.now) (wanted_by menu.now given) (sections_of result) }
+    ensures leads { LeadsWanted (offer_of menu.now prices.now budget.0 allowed.now) (wanted_by menu.now given) (sections_of result) }
+    ensures wanted { IfNone first.entry (wanted_by menu.now given (sections_of result) ≡ true) }
     ensures none { frames.new.pending ≡ [] }
 {
     frames.opened = 0;
@@ -194,8 +250,8 @@ fn search(
     champion.node.chosen
 }
 
-// The champion that a search begins with: the section of the given place alone, and where none is given a branch that
-// begins well, of the first bundle where it is worth no less.
+// The champion that a search begins with: where a place is given, its section alone, or the first bundle where one is
+// told; and where none is given a branch that begins well, of the first bundle where it is worth no less.
 #[inline(always)]
 fn first_champion(
     reach: &Reach,
@@ -209,14 +265,37 @@ fn first_champion(
     requires prices { HasPrices menu.now prices.now }
     requires given { IfSome given (λ place. place < length menu.now.places) }
     requires alone { IfSome given (λ place. IsTakable (offer_of menu.now prices.now budget.0 allowed.now) (section_at menu.now.places place ∷ [])) }
-    ensures { IsChampion (offer_of menu.now prices.now budget.0 allowed.now) (wanted_by menu.now given) result }
+    ensures champion { IsChampion (offer_of menu.now prices.now budget.0 allowed.now) result }
+    ensures wanted { IfNone first.entry (wanted_by menu.now given (chosen_of result) ≡ true) }
 {
     match given {
-        Some(place) => Branch::alone(menu, prices, place),
+        Some(place) => begun_beside(menu, prices, budget, allowed, place, first),
         None => {
             let drafted = reach.first_champion(menu, prices, budget, allowed);
             from_first(menu, prices, budget, allowed, first, drafted)
         }
+    }
+}
+
+// The section of the given place alone, or what may be taken of the first bundle, where one is told.
+#[inline(always)]
+fn begun_beside(
+    menu: &Menu,
+    prices: &[Tokens],
+    budget: Tokens,
+    allowed: &SectionSet,
+    place: u8,
+    first: Option<&Bundle>,
+) -> Branch
+    requires prices { HasPrices menu.now prices.now }
+    requires place { place < length menu.now.places }
+    requires alone { IsTakable (offer_of menu.now prices.now budget.0 allowed.now) (section_at menu.now.places place ∷ []) }
+    ensures champion { IsChampion (offer_of menu.now prices.now budget.0 allowed.now) result }
+    ensures wanted { IfNone first.entry (has (chosen_of result) (section_at menu.now.places place) ≡ true) }
+{
+    match first {
+        Some(bundle) => begun_with(menu, prices, budget, allowed, bundle),
+        None => Branch::alone(menu, prices, place),
     }
 }
 
@@ -264,10 +343,10 @@ fn step(
     requires given { IfSome given (λ place. place < length menu.now.places) }
     requires reach { IsReach (offer_of menu.now prices.now budget.0 allowed.now) frames.old.reach }
     requires branch { MayWait (offer_of menu.now prices.now budget.0 allowed.now) (branch ∷ frames.old.pending) }
-    requires champion { IsChampion (offer_of menu.now prices.now budget.0 allowed.now) (wanted_by menu.now given) champion.old }
+    requires champion { IsChampion (offer_of menu.now prices.now budget.0 allowed.now) champion.old }
     ensures menu { IsMenu menu.now }
     ensures reach { frames.new.reach ≡ frames.old.reach }
-    ensures champion { IsChampion (offer_of menu.now prices.now budget.0 allowed.now) (wanted_by menu.now given) champion.new }
+    ensures champion { IsChampion (offer_of menu.now prices.now budget.0 allowed.now) champion.new }
     ensures last { IfNone result (frames.new.pending ≡ []) }
     ensures stepped { HasStepped (offer_of menu.now prices.now budget.0 allowed.now) (wanted_by menu.now given) (branch ∷ frames.old.pending) (chosen_of champion.old) (before_waiting result frames.new.pending) (chosen_of champion.new) }
 {

@@ -1,5 +1,6 @@
 // A menu whose best bundle is plain to see, and made menus at which trying all bundles tells the answer.
 ghost use Rattle.std.specs.Prelude.{◌<◌, ◌≤◌};
+ghost use Rattle.bundle_rules.specs.Demand.{HasPrices};
 
 use super::*;
 use crate::pending::Pending;
@@ -266,6 +267,50 @@ fn the_best_with_a_given_section(rt: HostRuntime) -> Result<(), Fail> {
     // Both kinds occur: a section of the menu that fits nowhere, and one that the plain demand lacks.
     assert!(rt; no_bundle >= 10);
     assert!(rt; not_wanted >= 10);
+    Ok(())
+}
+
+// The best bundle, found beside the best one without a section.
+fn best_beside(
+    workspace: &mut Workspace,
+    menu: &Menu,
+    prices: &[Tokens],
+    budget: Tokens,
+    allowed: &SectionSet,
+    section: SectionNo,
+) -> Bundle
+    requires prices { HasPrices menu.now prices.now }
+    requires section { section.0 < 400 }
+{
+    let fewer = allowed.without(section);
+    let first = demand(workspace, menu, prices, budget, &fewer);
+    demand_beside(workspace, menu, prices, budget, allowed, section, &first)
+}
+
+#[test]
+fn the_best_beside_one_without_a_section(rt: HostRuntime) -> Result<(), Fail> {
+    let mut seed = 3;
+    let mut workspace = Workspace::reserve(rt.alloc()).expect(&rt, "memory");
+    let (mut with_it, mut without) = (0u32, 0u32);
+    for turn in 0..100 {
+        let menu = made_menu(&rt, rt.alloc(), &mut seed);
+        let prices = made_prices(&mut seed);
+        let budget = Tokens(u32::from(made(&mut seed, 200)));
+        let allowed = made_allowed(&mut seed);
+        assert!(rt; menu.len() > 0);
+        let place = made(&mut seed, u16::from(menu.len())) as u8;
+        assert!(rt; place < menu.len());
+        let section = menu.rated(place).section;
+        assert!(rt; has_prices(&menu, &prices));
+        let best = best_beside(&mut workspace, &menu, &prices, budget, &allowed, section);
+        let plain = demand(&mut workspace, &menu, &prices, budget, &allowed);
+        assert!(rt; best == plain, "at turn {turn}");
+        with_it = with_it.wrapping_add(u32::from(best.has(section)));
+        without = without.wrapping_add(u32::from(!best.has(section)));
+    }
+    // Both kinds occur.
+    assert!(rt; with_it >= 5);
+    assert!(rt; without >= 20);
     Ok(())
 }
 

@@ -4,7 +4,7 @@ ghost use Rattle.std.specs.Fmt.{decimal};
 ghost use Rattle.market_units.specs.Name.{name_bytes};
 ghost use Rattle.bundle_rules.specs.Bundles.{sections_of};
 ghost use Rattle.market_certificate.specs.Tables.{section_names};
-ghost use Rattle.market_certificate.specs.Texts.{error_line, order_line};
+ghost use Rattle.market_certificate.specs.Texts.{order_line};
 ghost use Rattle.preference_desk.specs.Journals.{sessions_of};
 ghost use Rattle.demand_text.specs.Texts.{count_line, taken_line};
 ghost use Rattle.std.specs.List.{flat_map};
@@ -60,16 +60,6 @@ pub(crate) fn put_count(text: &mut Vec<u8>, section: &Name, count: u32) -> Resul
     text.extend_from_slice(b"count")?;
     put_field(text, section.bytes())?;
     put_number_field(text, u64::from(count))?;
-    text.push(b'\n')?;
-    Ok(())
-}
-
-// Puts the line of the clearing error behind the text.
-pub(crate) fn put_error(text: &mut Vec<u8>, error: u64) -> Result<(), NoMemory>
-    ensures { OnOk result (text.new.items ≡ text.old.items ++ error_line error ++ 10 ∷ []) }
-{
-    text.extend_from_slice(b"error")?;
-    put_number_field(text, error)?;
     text.push(b'\n')?;
     Ok(())
 }

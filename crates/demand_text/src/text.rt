@@ -9,9 +9,10 @@ ghost use Rattle.market_certificate.specs.Texts.{each_line};
 ghost use Rattle.student_roll.specs.Students.{names_of};
 
 use crate::Taken;
-use crate::lines::{put_count, put_error, put_order, put_taken};
+use crate::lines::{put_count, put_order, put_taken};
 use bundle_rules::Bundle;
 use course_catalog::Catalog;
+use market_certificate::put_error;
 use market_units::{NoMemory, SectionNo, StudentNo};
 use preference_desk::Entry;
 use std::alloc::Global;

@@ -1,3 +1,4 @@
+pub mod Surveying
 pub mod Counting
 pub mod HolderSums
 pub mod HoldersLeave
@@ -6,3 +7,4 @@ pub mod Rounds
 pub mod Working
 pub mod Noting
 pub mod Listing
+pub mod LeadingOthers

@@ -19,3 +19,12 @@ pub record AreRemembered (crowd : CrowdData) (prices : List Tokens) (bundles : L
 -- no section at these places became cheaper
 abbrev pub NoneIsCheaper : List Rated → List Tokens → List Tokens → Type 0
 NoneIsCheaper places before after = All (λ rated. price_in before rated.section.0 ≤ price_in after rated.section.0) places
+
+-- a section that is below the first number, or not below the second, did not become cheaper
+pub record AreWithin (first past : ℕ) (before after : List Tokens) : Type 0 where
+  pub below : (s : ℕ) → s < length before → s < length after → s < first → price_in before s ≤ price_in after s
+  pub above : (s : ℕ) → s < length before → s < length after → past ≤ s → price_in before s ≤ price_in after s
+
+-- the student takes the bundle of its place at these prices
+abbrev pub IsKept : CrowdData → List Tokens → List Bundle → ℕ → Type 0
+IsKept crowd prices bundles student = (d : Bundle) → sections_of (slice_index_or bundles student d) ≡ demand_of crowd (price_in prices) student

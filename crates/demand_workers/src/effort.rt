@@ -13,6 +13,10 @@ use market_units::{StudentNo, Tokens};
 // on a shared board, and the starts of threads, take about as long.
 const FEW: usize = 16;
 
+// At a version of a batch at which at most one student in so many has to be asked, they are asked with those of the other versions, by all
+// workers at once. A board draws and posts a task for each other student too, and so is worth it only where most are asked.
+const FEW_OF_BATCH: usize = 2;
+
 // Whether few of the students have to be asked.
 pub(crate) fn few_at(remembered: &Remembered, crowd: &Crowd, prices: &[Tokens]) -> bool
     requires remembered { AreRemembered (data_of crowd.now) remembered.now.prices.items remembered.now.bundles.items }
@@ -45,6 +49,11 @@ pub(crate) fn few_listed(
 // Whether so many are few of so many students. One alone needs no worker beside the caller, unless nobody else is there.
 pub(crate) fn are_few(asked: usize, students: usize) -> bool {
     asked <= students / FEW || (asked == 1 && students > 1)
+}
+
+// Whether so many are few of so many students, at a version of a batch.
+pub(crate) fn are_few_of_batch(asked: usize, students: usize) -> bool {
+    asked <= students / FEW_OF_BATCH
 }
 
 // How many students have to be asked.

@@ -14,7 +14,9 @@ ghost use Rattle.demand_workers.specs.Notes.{AreNoted};
 ghost use Rattle.demand_workers.specs.Questions.{AreAnswered};
 ghost use Rattle.demand_workers.specs.Remembered.{AreRemembered};
 ghost use Rattle.demand_workers.specs.Rounds.{data_of};
+ghost use Rattle.demand_workers.specs.Walks.{IsForeseen};
 
+use crate::ahead::{Foreseen, answers_at};
 use crate::questions::{Question, answered_or_asked};
 use crate::remembered::{Remembered, cost_of};
 use bundle_rules::Bundle;
@@ -41,31 +43,33 @@ pub(crate) struct Walk {
 
 // A holder of a section: how far below the greatest price it does not keep what it holds any more, and its number. So the greatest is the
 // first to leave.
-type Holder = (u32, u16);
+pub(crate) type Holder = (u32, u16);
 
 // For each pair of a section and a limit the least price of the section from its remembered one up at which at most so many students take it,
-// the other prices as remembered. What each student takes at the remembered prices is remembered.
+// the other prices as remembered. What each student takes at the remembered prices is remembered, and of some walks something is known.
 pub(crate) fn least_for_each(
     alloc: Global,
     workspace: &mut Workspace,
     remembered: &Remembered,
     crowd: &Crowd,
-    answered: &[Question],
+    walks: &[Foreseen],
     pairs: &[(SectionNo, u32)],
 ) -> Result<Vec<Tokens>, NoMemory>
     requires remembered { AreRemembered (data_of crowd.now) remembered.now.prices.items remembered.now.bundles.items }
     requires all { length remembered.now.bundles.items ≡ length crowd.now.menus.items }
     requires crowd { IsMade crowd.now }
     requires prices { ArePricesFor (data_of crowd.now) remembered.now.prices.items }
-    requires answered { AreAnswered (data_of crowd.now) answered.now }
+    requires walks { All (IsForeseen crowd.now) walks.now }
     requires sections { All (λ pair. pair.0.0 < crowd.now.sections) pairs.now }
     ensures { IfOk result (λ found. AreLeastPrices (data_of crowd.now) (price_in remembered.now.prices.items) pairs.now found.items) }
 {
     let mut found = Vec::new(alloc);
     let mut trial = remembered.prices.as_slice().to_vec(alloc)?;
-    for (section, limit) in pairs {
+    for place in 0..pairs.len() {
+        let (section, limit) = pairs[place];
+        let answered = answers_at(crowd, walks, place);
         let walk = least_price(
-            alloc, workspace, remembered, crowd, answered, &mut trial, *section, *limit,
+            alloc, workspace, remembered, crowd, answered, &mut trial, section, limit,
         )?;
         found.push(walk.least)?;
     }

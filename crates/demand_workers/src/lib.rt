@@ -3,7 +3,10 @@
 
 mod ahead;
 mod answering;
+mod batch;
 mod bench;
+mod beside;
+mod cheaper;
 mod effort;
 mod leaving;
 mod pooled_demands;

@@ -1,26 +1,26 @@
 // Demands of a crowd that workers find.
-ghost use Rattle.std.specs.Prelude.{◌≡◌, ◌<◌, ◌≤◌, [], ◌∷◌, All, IfOk, length};
+ghost use Rattle.std.specs.Prelude.{◌≡◌, ◌<◌, ◌≤◌, [], ◌∷◌, All, IfOk, length, slice_index_or};
 ghost use Rattle.std.specs.Arc.{arc_value};
 ghost use Rattle.bundle_rules.specs.Demand.{price_in};
 ghost use Rattle.demand_api.specs.Asking.{ArePricesFor};
 ghost use Rattle.demand_api.specs.Crowds.{counts};
 ghost use Rattle.demand_api.specs.Prices.{AreLeastPrices};
 ghost use Rattle.price_board.specs.Openings.{IsMade};
-ghost use Rattle.demand_workers.specs.Questions.{AreAnswered};
+ghost use Rattle.demand_workers.specs.Batches.{IsFound, IsSurvey};
 ghost use Rattle.demand_workers.specs.Remembered.{AreRemembered, AreTaken};
-ghost use Rattle.demand_workers.specs.Rounds.{data_of};
+ghost use Rattle.demand_workers.specs.Rounds.{data_of, AreVersionsFor};
 
 use crate::Bench;
-use crate::ahead::ask_ahead;
+use crate::ahead::{answers_at, ask_ahead};
 use crate::answering::read_all;
+use crate::batch::bundles_at;
 use crate::effort::{few_at, few_listed};
 use crate::leaving::{least_for_each, least_price};
-use crate::questions::Question;
 use crate::raised::raised_memory;
 use crate::remembered::Remembered;
 use crate::round::ask_workers;
 use crate::taking::{count_all, count_takers, take_all, take_listed};
-use crate::unsettled::ask_few;
+use crate::unsettled::{Survey, ask_few};
 use bundle_rules::Bundle;
 use demand_api::{Crowd, Demands};
 use market_edge::Gate;
@@ -81,8 +81,8 @@ impl<'g> PooledDemands<AnyGate<'g>> {
         ensures len { IfOk result (λ bundles. length bundles.items ≡ length (arc_value self.now.crowd).menus.items) }
         ensures taken { IfOk result (λ bundles. AreTaken (data_of (arc_value self.now.crowd)) prices.now bundles.items) }
     {
-        let mut bundles = vec![in alloc; Bundle::empty(); self.crowd.menus.len()]?;
         if few_at(&self.remembered, &self.crowd, prices) {
+            let mut bundles = vec![in alloc; Bundle::empty(); self.crowd.menus.len()]?;
             let mut workspace = self.bench.workspaces()[0].lock(rt);
             take_all(
                 &mut workspace,
@@ -93,6 +93,21 @@ impl<'g> PooledDemands<AnyGate<'g>> {
             );
             return Ok(bundles);
         }
+        self.board_bundles(rt, alloc, prices)
+    }
+
+    // The same, where all workers draw the students from a board.
+    fn board_bundles<R: Threads + Wait + Sync>(
+        &self,
+        rt: &R,
+        alloc: Global,
+        prices: &[Tokens],
+    ) -> Result<Vec<Bundle>, NoMemory>
+        requires prices { ArePricesFor (data_of (arc_value self.now.crowd)) prices.now }
+        ensures len { IfOk result (λ bundles. length bundles.items ≡ length (arc_value self.now.crowd).menus.items) }
+        ensures taken { IfOk result (λ bundles. AreTaken (data_of (arc_value self.now.crowd)) prices.now bundles.items) }
+    {
+        let mut bundles = vec![in alloc; Bundle::empty(); self.crowd.menus.len()]?;
         let version = prices.to_vec(alloc)?;
         let asks = vec![in alloc; Ask::Counts; 1]?;
         let answers = ask_workers(
@@ -192,15 +207,15 @@ impl<'g> PooledDemands<AnyGate<'g>> {
         ensures least { IfOk result (λ found. AreLeastPrices (data_of (arc_value self.old.crowd)) (price_in self.old.remembered.prices.items) ((section, limit) ∷ []) found.items) }
     {
         let mut trial = self.remembered.prices.as_slice().to_vec(alloc)?;
-        let answered = ask_ahead(
+        let walks = ask_ahead(
             rt,
             alloc,
             self.bench.workspaces(),
             &self.remembered,
             &self.crowd,
-            section,
-            limit,
+            &[(section, limit)],
         )?;
+        let answered = answers_at(&self.crowd, &walks, 0);
         let (least, memory) = {
             let mut workspace = self.bench.workspaces()[0].lock(rt);
             let walk = least_price(
@@ -208,7 +223,7 @@ impl<'g> PooledDemands<AnyGate<'g>> {
                 &mut workspace,
                 &self.remembered,
                 &self.crowd,
-                &answered,
+                answered,
                 &mut trial,
                 section,
                 limit,
@@ -228,56 +243,75 @@ impl<'g> PooledDemands<AnyGate<'g>> {
         Ok(found)
     }
 
-    // How many students take each section at these prices. What they take is remembered where nothing was: of several
-    // versions that lie about one, that one may serve for the others.
-    fn counted<R: Threads + Wait + Sync>(
+    // Remembers what each student takes at these prices, where nothing is remembered: of several versions that lie about one,
+    // that one may serve for the others.
+    fn recall_first<R: Threads + Wait + Sync>(
         &mut self,
         rt: &R,
         alloc: Global,
-        answered: &[Question],
         prices: &[Tokens],
-    ) -> Result<Vec<u32>, NoMemory>
-        requires answered { AreAnswered (data_of (arc_value self.old.crowd)) answered.now }
+    ) -> Result<(), NoMemory>
         requires prices { ArePricesFor (data_of (arc_value self.old.crowd)) prices.now }
         ensures crowd { self.new.crowd ≡ self.old.crowd }
         ensures asked { self.new.asked ≡ self.old.asked }
-        ensures counts { IfOk result (λ found. found.items ≡ counts (data_of (arc_value self.old.crowd)) (price_in prices.now)) }
+        ensures all { IfOk result (λ done. length self.new.remembered.bundles.items ≡ length (arc_value self.old.crowd).menus.items) }
     {
-        if self.remembered.bundles.is_empty() {
-            self.recall(rt, alloc, prices)?;
+        if self.remembered.bundles.len() == self.crowd.menus.len() {
+            return Ok(());
         }
-        if few_at(&self.remembered, &self.crowd, prices) {
-            return self.counted_from(rt, alloc, &self.remembered, answered, prices);
-        }
-        let memory = self.memory_at(rt, alloc, prices)?;
-        self.counted_from(rt, alloc, &memory, answered, prices)
+        self.recall(rt, alloc, prices)
     }
 
-    // How many students take each section at these prices, of whom most take what is remembered.
-    fn counted_from<R: Threads + Wait + Sync>(
+    // How many students take each section at a version of the batch.
+    fn counted<R: Threads + Wait + Sync>(
         &self,
         rt: &R,
         alloc: Global,
-        memory: &Remembered,
-        answered: &[Question],
-        prices: &[Tokens],
+        survey: &Survey,
+        batch: &[Vec<Tokens>],
+        version: usize,
     ) -> Result<Vec<u32>, NoMemory>
-        requires memory { AreRemembered (data_of (arc_value self.now.crowd)) memory.now.prices.items memory.now.bundles.items }
-        requires answered { AreAnswered (data_of (arc_value self.now.crowd)) answered.now }
-        requires prices { ArePricesFor (data_of (arc_value self.now.crowd)) prices.now }
-        ensures { IfOk result (λ found. found.items ≡ counts (data_of (arc_value self.now.crowd)) (price_in prices.now)) }
+        requires all { length self.now.remembered.bundles.items ≡ length (arc_value self.now.crowd).menus.items }
+        requires batch { AreVersionsFor (data_of (arc_value self.now.crowd)) batch.now }
+        requires version { version < length batch.now }
+        requires survey { IsSurvey (arc_value self.now.crowd) self.now.remembered.bundles.items batch.now survey.now.few.items survey.now.inquiries.items }
+        requires found { All (IsFound (data_of (arc_value self.now.crowd)) batch.now) survey.now.inquiries.items }
+        ensures { IfOk result (λ found. (d : _) → found.items ≡ counts (data_of (arc_value self.now.crowd)) (price_in (slice_index_or batch.now version d).items)) }
     {
         let mut found = vec![in alloc; 0; usize::from(self.crowd.sections)]?;
-        let mut workspace = self.bench.workspaces()[0].lock(rt);
-        count_all(
-            &mut workspace,
-            memory,
-            &self.crowd,
-            answered,
-            prices,
-            &mut found,
-        );
+        let bundles = self.surveyed(rt, alloc, survey, batch, version)?;
+        count_all(&self.crowd, &batch[version], &bundles, &mut found);
         Ok(found)
+    }
+
+    // What each student takes at a version of the batch.
+    fn surveyed<R: Threads + Wait + Sync>(
+        &self,
+        rt: &R,
+        alloc: Global,
+        survey: &Survey,
+        batch: &[Vec<Tokens>],
+        version: usize,
+    ) -> Result<Vec<Bundle>, NoMemory>
+        requires all { length self.now.remembered.bundles.items ≡ length (arc_value self.now.crowd).menus.items }
+        requires batch { AreVersionsFor (data_of (arc_value self.now.crowd)) batch.now }
+        requires version { version < length batch.now }
+        requires survey { IsSurvey (arc_value self.now.crowd) self.now.remembered.bundles.items batch.now survey.now.few.items survey.now.inquiries.items }
+        requires found { All (IsFound (data_of (arc_value self.now.crowd)) batch.now) survey.now.inquiries.items }
+        ensures len { IfOk result (λ bundles. length bundles.items ≡ length (arc_value self.now.crowd).menus.items) }
+        ensures taken { IfOk result (λ bundles. (d : _) → AreTaken (data_of (arc_value self.now.crowd)) (slice_index_or batch.now version d).items bundles.items) }
+    {
+        if !survey.few[version] {
+            return self.board_bundles(rt, alloc, &batch[version]);
+        }
+        bundles_at(
+            alloc,
+            &self.remembered,
+            &self.crowd,
+            batch,
+            &survey.inquiries,
+            version,
+        )
     }
 }
 
@@ -303,7 +337,8 @@ impl Demands for PooledDemands<AnyGate<'_>> {
     ) -> Result<Vec<Vec<u32>>, NoMemory> {
         self.asked = self.asked.saturating_add(1);
         let mut found = Vec::with_capacity(alloc, batch.len())?;
-        let answered = ask_few(
+        self.recall_first(rt, alloc, &batch[0])?;
+        let survey = ask_few(
             rt,
             alloc,
             self.bench.workspaces(),
@@ -312,7 +347,7 @@ impl Demands for PooledDemands<AnyGate<'_>> {
             batch,
         )?;
         for version in 0..batch.len() {
-            let counts = self.counted(rt, alloc, &answered, &batch[version])?;
+            let counts = self.counted(rt, alloc, &survey, batch, version)?;
             found.push(counts)?;
         }
         Ok(found)
@@ -389,13 +424,21 @@ impl Demands for PooledDemands<AnyGate<'_>> {
         if let [(section, limit)] = pairs {
             return self.least_alone(rt, alloc, *section, *limit);
         }
+        let walks = ask_ahead(
+            rt,
+            alloc,
+            self.bench.workspaces(),
+            &self.remembered,
+            &self.crowd,
+            pairs,
+        )?;
         let mut workspace = self.bench.workspaces()[0].lock(rt);
         least_for_each(
             alloc,
             &mut workspace,
             &self.remembered,
             &self.crowd,
-            &[],
+            &walks,
             pairs,
         )
     }

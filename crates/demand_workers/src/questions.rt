@@ -21,7 +21,7 @@ use std::thread::Threads;
 
 // For so many questions each one more worker is started: a start and its end take about as long as several answers, and much
 // longer where the processors are busy.
-const SHARE: usize = 16;
+pub(crate) const SHARE: usize = 16;
 
 // Fewer questions are not worth a start.
 pub(crate) const WORTHWHILE: usize = 4 * SHARE;
@@ -91,6 +91,7 @@ pub(crate) fn answer_all<R: Threads + Wait + Sync>(
     requires workers { 1 ≤ length workspaces.now }
     requires questions { All (IsQuestion crowd.now) questions.old }
     ensures count { length questions.new ≡ length questions.old }
+    ensures questions { All (IsQuestion crowd.now) questions.new }
     ensures answered { AreAnswered (data_of crowd.now) questions.new }
 {
     let workers = (questions.len() / SHARE).min(workspaces.len()).max(1);
@@ -102,7 +103,7 @@ pub(crate) fn answer_all<R: Threads + Wait + Sync>(
         workers,
         &|n, question|
             requires { (0 < size) × (1 ≤ length workspaces.now) × IsQuestion crowd.now question.now × IsMade crowd.now }
-            ensures { IsAnswered (data_of crowd.entry.now) question.exit.now }
+            ensures { IsQuestion crowd.entry.now question.exit.now × IsAnswered (data_of crowd.entry.now) question.exit.now }
         {
             let worker = (n / size).min(workspaces.len() - 1);
             answer(rt, &workspaces[worker], remembered, crowd, question)
@@ -120,7 +121,8 @@ fn answer<R: Wait>(
 )
     requires crowd { IsMade crowd.now }
     requires question { IsQuestion crowd.now question.old }
-    ensures { IsAnswered (data_of crowd.now) question.new }
+    ensures question { IsQuestion crowd.now question.new }
+    ensures answered { IsAnswered (data_of crowd.now) question.new }
 {
     let mut workspace = workspace.lock(rt);
     let allowed = SectionSet::full(crowd.sections);

@@ -1,5 +1,5 @@
 // What is remembered of a crowd, and which of it serves at other prices.
-ghost use Rattle.std.specs.Prelude.{◌≡◌, ◌<◌, ◌≤◌, ◌*◌, ◌↔◌, ℕ, All, IfSome, IsTrue, length};
+ghost use Rattle.std.specs.Prelude.{◌≡◌, ◌<◌, ◌≤◌, ◌*◌, All, IfSome, IsTrue, length};
 ghost use Rattle.bundle_rules.specs.Bundles.{sections_of};
 ghost use Rattle.bundle_rules.specs.Demand.{price_in, IsPriced};
 ghost use Rattle.bundle_rules.specs.Ordinals.{ordinals};
@@ -7,10 +7,11 @@ ghost use Rattle.market_lists.specs.Totals.{total};
 ghost use Rattle.demand_api.specs.Asking.{ArePricesFor};
 ghost use Rattle.demand_api.specs.Crowds.{CrowdData, demand_of};
 ghost use Rattle.price_board.specs.Openings.{IsMade};
-ghost use Rattle.demand_workers.specs.Remembered.{AreRemembered, NoneIsCheaper};
+ghost use Rattle.demand_workers.specs.Remembered.{AreRemembered, AreWithin, IsKept};
 ghost use Rattle.demand_workers.specs.Rounds.{data_of};
 
-use bundle_rules::{Bundle, Rated};
+use crate::cheaper::Cheaper;
+use bundle_rules::Bundle;
 use demand_api::Crowd;
 use market_units::{SectionNo, StudentNo, Tokens};
 use std::alloc::Global;
@@ -44,8 +45,7 @@ impl Remembered {
         are_same(&self.prices, prices)
     }
 
-    // What is remembered of the student, where the student takes the same at these prices: the bundle is still affordable, and no section
-    // of the menu became cheaper.
+    // What is remembered of the student, where the student takes the same at these prices.
     pub(crate) fn kept(
         &self,
         crowd: &Crowd,
@@ -62,14 +62,35 @@ impl Remembered {
         if place >= self.bundles.len() {
             return None;
         }
+        let cheaper = Cheaper::anywhere(&self.prices, prices);
+        if !self.stays(crowd, prices, cheaper, place) {
+            return None;
+        }
+        Some(self.bundles[place])
+    }
+
+    // Whether the student at a place takes what is remembered of it at these prices too: the bundle is still affordable, and no section
+    // of the menu became cheaper.
+    pub(crate) fn stays(
+        &self,
+        crowd: &Crowd,
+        prices: &[Tokens],
+        cheaper: Cheaper,
+        place: usize,
+    ) -> bool
+        requires remembered { AreRemembered (data_of crowd.now) self.now.prices.items self.now.bundles.items }
+        requires crowd { IsMade crowd.now }
+        requires prices { ArePricesFor (data_of crowd.now) prices.now }
+        requires cheaper { AreWithin cheaper.first cheaper.past self.now.prices.items prices.now }
+        requires student { place < length crowd.now.menus.items }
+        requires there { place < length self.now.bundles.items }
+        ensures { IsTrue result → IsKept (data_of crowd.now) prices.now self.now.bundles.items place }
+    {
         let bundle = self.bundles[place];
         if cost_of(prices, bundle.sections()) > crowd.budgets[place].0 {
-            return None;
+            return false;
         }
-        if !none_is_cheaper(crowd.menus[place].places(), &self.prices, prices) {
-            return None;
-        }
-        Some(bundle)
+        cheaper.spares(crowd.menus[place].places(), &self.prices, prices)
     }
 }
 
@@ -91,27 +112,4 @@ pub(crate) fn cost_of(prices: &[Tokens], sections: &[SectionNo]) -> u32
         [] => 0,
         [section, more @ ..] => prices[usize::from(section.0)].0 + cost_of(prices, more),
     }
-}
-
-// Whether no section at these places became cheaper.
-fn none_is_cheaper(places: &[Rated], before: &[Tokens], after: &[Tokens]) -> bool
-    requires before { All (λ rated. rated.section.0 < length before.now) places.now }
-    requires after { All (λ rated. rated.section.0 < length after.now) places.now }
-    ensures { IsTrue result ↔ NoneIsCheaper places.now before.now after.now }
-{
-    match places {
-        [] => true,
-        [rated, more @ ..] => {
-            is_no_cheaper(rated.section, before, after) && none_is_cheaper(more, before, after)
-        }
-    }
-}
-
-fn is_no_cheaper(section: SectionNo, before: &[Tokens], after: &[Tokens]) -> bool
-    requires before { section.0 < length before.now }
-    requires after { section.0 < length after.now }
-    ensures { IsTrue result ↔ (price_in before.now section.0 ≤ price_in after.now section.0) }
-{
-    let place = usize::from(section.0);
-    before[place].0 <= after[place].0
 }

@@ -1,16 +1,14 @@
 // What students take, found in one thread: remembered where that serves, else asked.
-ghost use Rattle.std.specs.Prelude.{◌≡◌, ◌<◌, ◌≤◌, ℕ, All, length, map, nat_lt, replicate};
+ghost use Rattle.std.specs.Prelude.{◌≡◌, ◌<◌, ℕ, All, length, map, nat_lt, replicate};
 ghost use Rattle.std.specs.FinSet as set;
 ghost use Rattle.bundle_rules.specs.Bundles.{sections_of};
 ghost use Rattle.bundle_rules.specs.Demand.{price_in};
 ghost use Rattle.demand_api.specs.Asking.{ArePricesFor};
 ghost use Rattle.demand_api.specs.Crowds.{count, counts, demand_of};
 ghost use Rattle.price_board.specs.Openings.{IsMade};
-ghost use Rattle.demand_workers.specs.Questions.{AreAnswered};
 ghost use Rattle.demand_workers.specs.Remembered.{AreRemembered, AreTaken};
 ghost use Rattle.demand_workers.specs.Rounds.{data_of};
 
-use crate::questions::{Question, answered_or_asked};
 use crate::remembered::Remembered;
 use bundle_rules::Bundle;
 use demand_api::{Crowd, count_bundle};
@@ -36,32 +34,6 @@ pub(crate) fn taken(
     match remembered.kept(crowd, prices, student) {
         Some(bundle) => bundle,
         None => asked_again(workspace, remembered, crowd, prices, allowed, student),
-    }
-}
-
-// The same, where some students were asked at some prices.
-fn taken_or_answered(
-    workspace: &mut Workspace,
-    remembered: &Remembered,
-    crowd: &Crowd,
-    prices: &[Tokens],
-    allowed: &SectionSet,
-    answered: &[Question],
-    student: StudentNo,
-) -> Bundle
-    requires remembered { AreRemembered (data_of crowd.now) remembered.now.prices.items remembered.now.bundles.items }
-    requires crowd { IsMade crowd.now }
-    requires prices { ArePricesFor (data_of crowd.now) prices.now }
-    requires allowed { (s : ℕ) → set.contains allowed.now s ≡ nat_lt s crowd.now.sections }
-    requires answered { AreAnswered (data_of crowd.now) answered.now }
-    requires student { student.0 < length crowd.now.menus.items }
-    ensures { sections_of result ≡ demand_of (data_of crowd.now) (price_in prices.now) student.0 }
-{
-    match remembered.kept(crowd, prices, student) {
-        Some(bundle) => bundle,
-        None => answered_or_asked(
-            workspace, remembered, crowd, prices, allowed, answered, student,
-        ),
     }
 }
 
@@ -163,29 +135,16 @@ pub(crate) fn take_all(
     }
 }
 
-// Counts, from 0, how many students take each section.
-pub(crate) fn count_all(
-    workspace: &mut Workspace,
-    remembered: &Remembered,
-    crowd: &Crowd,
-    answered: &[Question],
-    prices: &[Tokens],
-    found: &mut [u32],
-)
-    requires remembered { AreRemembered (data_of crowd.now) remembered.now.prices.items remembered.now.bundles.items }
-    requires crowd { IsMade crowd.now }
-    requires answered { AreAnswered (data_of crowd.now) answered.now }
-    requires prices { ArePricesFor (data_of crowd.now) prices.now }
-    requires zeros { found.old ≡ replicate crowd.now.sections 0 }
-    ensures { found.new ≡ counts (data_of crowd.now) (price_in prices.now) }
+// Counts, from 0, how many students take each section, of what each takes at these prices.
+pub(crate) fn count_all(_crowd: &Crowd, _prices: &[Tokens], bundles: &[Bundle], found: &mut [u32])
+    requires crowd { IsMade _crowd.now }
+    requires all { length bundles.now ≡ length _crowd.now.menus.items }
+    requires taken { AreTaken (data_of _crowd.now) _prices.now bundles.now }
+    requires zeros { found.old ≡ replicate _crowd.now.sections 0 }
+    ensures { found.new ≡ counts (data_of _crowd.now) (price_in _prices.now) }
 {
-    let allowed = SectionSet::full(crowd.sections);
-    for place in 0..crowd.menus.len() {
-        let student = StudentNo(place as u16);
-        let bundle = taken_or_answered(
-            workspace, remembered, crowd, prices, &allowed, answered, student,
-        );
-        count_bundle(found, bundle.sections());
+    for place in 0..bundles.len() {
+        count_bundle(found, bundles[place].sections());
     }
 }
 

@@ -68,13 +68,14 @@ fn one_section<R: Abort>(rt: &R, alloc: Global) -> Result<Menu, NoMemory> {
     Ok(menu)
 }
 
-// Four such students, with budgets from 100 to 103.
-fn four_students<R: Abort>(rt: &R, alloc: Global) -> Result<Arc<Crowd>, Fail>
+// So many such students, with budgets from 100 on.
+fn students_from_100<R: Abort>(rt: &R, alloc: Global, count: u32) -> Result<Arc<Crowd>, Fail>
+    requires { count ≤ 100 }
     ensures { IfOk result (λ crowd. IsMade (arc_value crowd)) }
 {
     let mut menus = Vec::new(alloc);
     let mut budgets = Vec::new(alloc);
-    for more in 0..4u32 {
+    for more in 0..count {
         let menu = one_section(rt, alloc)?;
         menus.push(menu)?;
         budgets.push(Tokens(100 + more))?;
@@ -86,6 +87,13 @@ fn four_students<R: Abort>(rt: &R, alloc: Global) -> Result<Arc<Crowd>, Fail>
     };
     assert!(rt; crowd.is_whole());
     Ok(Arc::new(alloc, crowd)?)
+}
+
+// Four of them, with budgets from 100 to 103.
+fn four_students<R: Abort>(rt: &R, alloc: Global) -> Result<Arc<Crowd>, Fail>
+    ensures { IfOk result (λ crowd. IsMade (arc_value crowd)) }
+{
+    students_from_100(rt, alloc, 4)
 }
 
 // Whether each of these vectors has prices that can be asked of the crowd.
@@ -261,5 +269,25 @@ fn least_prices_of_four_students(rt: HostRuntime) -> Result<(), Fail> {
     let found = demands.least_prices(&rt, alloc, &prices, &pairs)?;
     let wanted = [102, 50, 104, 103].map(Tokens);
     assert_eq!(rt; found.as_slice(), wanted.as_slice());
+    Ok(())
+}
+
+// The least prices from 50 up at which at most 30, 10 and all of a hundred take the section: two workers ask ahead.
+#[test]
+fn least_prices_of_many(rt: HostRuntime) -> Result<(), Fail> {
+    let alloc = rt.alloc();
+    let crowd = students_from_100(&rt, alloc, 100)?;
+    let prices = [Tokens(50)];
+    assert!(rt; crowd.has_prices(&prices));
+    assert_eq!(rt; crowd.sections, 1);
+    let mut demands = PooledDemands::make(Bench::reserve(alloc, 2)?, crowd, &OpenGate);
+    let section = SectionNo(0);
+    let pairs = [(section, 30), (section, 10), (section, 100)];
+    let found = demands.least_prices(&rt, alloc, &prices, &pairs)?;
+    let wanted = [170, 190, 50].map(Tokens);
+    assert_eq!(rt; found.as_slice(), wanted.as_slice());
+    let found = demands.least_prices(&rt, alloc, &prices, &[(section, 30)])?;
+    assert_eq!(rt; found.len(), 1);
+    assert_eq!(rt; found[0], Tokens(170));
     Ok(())
 }

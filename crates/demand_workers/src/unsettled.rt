@@ -1,13 +1,13 @@
 // Students whom what is remembered does not settle, asked by several workers.
-ghost use Rattle.std.specs.Prelude.{◌≡◌, ◌≤◌, All, IfOk, length};
-ghost use Rattle.demand_api.specs.Asking.{ArePricesFor};
+ghost use Rattle.std.specs.Prelude.{◌≡◌, ◌<◌, ◌≤◌, All, IfOk, IfSome, length, slice_index_or};
 ghost use Rattle.price_board.specs.Openings.{IsMade};
-ghost use Rattle.demand_workers.specs.Questions.{IsQuestion, AreAnswered};
+ghost use Rattle.demand_workers.specs.Batches.{AreOthersKept, IsFound, IsInquiry, IsSurvey};
 ghost use Rattle.demand_workers.specs.Remembered.{AreRemembered};
 ghost use Rattle.demand_workers.specs.Rounds.{data_of, AreVersionsFor};
 
-use crate::effort::are_few;
-use crate::questions::{Question, answer_all};
+use crate::batch::{Inquiry, answer_batch};
+use crate::cheaper::Cheaper;
+use crate::effort::are_few_of_batch;
 use crate::remembered::Remembered;
 use bundle_rules::Bundle;
 use demand_api::Crowd;
@@ -17,78 +17,101 @@ use std::alloc::Global;
 use std::sync::{Mutex, Wait};
 use std::thread::Threads;
 
-// What those take who have to be asked at these versions, asked by all workers at once, but for versions at which they
-// are not few. Of one worker it asks nothing.
+// At which versions of a batch few students have to be asked, and what was asked of them there.
+#[derive(Drop)]
+pub(crate) struct Survey {
+    pub few: Vec<bool>,
+    pub inquiries: Vec<Inquiry>,
+}
+
+// What those take who have to be asked at the versions of a batch, asked by all workers at once, but for versions at which
+// they are not few. What each student takes at some prices is remembered.
 pub(crate) fn ask_few<R: Threads + Wait + Sync>(
     rt: &R,
     alloc: Global,
     workspaces: &[Mutex<Workspace>],
     remembered: &Remembered,
     crowd: &Crowd,
-    versions: &[Vec<Tokens>],
-) -> Result<Vec<Question>, NoMemory>
+    batch: &[Vec<Tokens>],
+) -> Result<Survey, NoMemory>
     requires remembered { AreRemembered (data_of crowd.now) remembered.now.prices.items remembered.now.bundles.items }
+    requires all { length remembered.now.bundles.items ≡ length crowd.now.menus.items }
     requires crowd { IsMade crowd.now }
-    requires versions { AreVersionsFor (data_of crowd.now) versions.now }
+    requires batch { AreVersionsFor (data_of crowd.now) batch.now }
     requires workers { 1 ≤ length workspaces.now }
-    ensures { IfOk result (λ answered. AreAnswered (data_of crowd.now) answered.items) }
+    ensures survey { IfOk result (λ survey. IsSurvey crowd.now remembered.now.bundles.items batch.now survey.few.items survey.inquiries.items) }
+    ensures found { IfOk result (λ survey. All (IsFound (data_of crowd.now) batch.now) survey.inquiries.items) }
 {
-    let mut questions = few_of_all(alloc, remembered, crowd, versions, workspaces.len())?;
-    answer_all(rt, workspaces, remembered, crowd, &mut questions);
-    Ok(questions)
+    let mut survey = few_of_all(alloc, remembered, crowd, batch)?;
+    answer_batch(
+        rt,
+        workspaces,
+        remembered,
+        crowd,
+        batch,
+        &mut survey.inquiries,
+    );
+    Ok(survey)
 }
 
-// The questions of all versions, where there are several workers.
+// The inquiries of all versions, not yet answered.
 fn few_of_all(
     alloc: Global,
     remembered: &Remembered,
     crowd: &Crowd,
-    versions: &[Vec<Tokens>],
-    workers: usize,
-) -> Result<Vec<Question>, NoMemory>
+    batch: &[Vec<Tokens>],
+) -> Result<Survey, NoMemory>
     requires remembered { AreRemembered (data_of crowd.now) remembered.now.prices.items remembered.now.bundles.items }
+    requires all { length remembered.now.bundles.items ≡ length crowd.now.menus.items }
     requires crowd { IsMade crowd.now }
-    requires versions { AreVersionsFor (data_of crowd.now) versions.now }
-    ensures { IfOk result (λ questions. All (IsQuestion crowd.now) questions.items) }
+    requires batch { AreVersionsFor (data_of crowd.now) batch.now }
+    ensures survey { IfOk result (λ survey. IsSurvey crowd.now remembered.now.bundles.items batch.now survey.few.items survey.inquiries.items) }
 {
-    let mut questions = Vec::new(alloc);
-    if workers < 2 {
-        return Ok(questions);
+    let mut few = Vec::with_capacity(alloc, batch.len())?;
+    let mut inquiries = Vec::new(alloc);
+    for version in 0..batch.len() {
+        let Some(mut more) = few_of_one(alloc, remembered, crowd, batch, version)? else {
+            few.push(false)?;
+            continue;
+        };
+        inquiries.append(&mut more)?;
+        few.push(true)?;
     }
-    for prices in versions {
-        let mut more = few_of_one(alloc, remembered, crowd, prices)?;
-        questions.append(&mut more)?;
-    }
-    Ok(questions)
+    Ok(Survey { few, inquiries })
 }
 
-// A question for each student whom what is remembered does not settle at these prices, or none where they are not few.
+// An inquiry for each student whom what is remembered does not settle at a version, or none of it where they are not few.
 fn few_of_one(
     alloc: Global,
     remembered: &Remembered,
     crowd: &Crowd,
-    prices: &[Tokens],
-) -> Result<Vec<Question>, NoMemory>
+    batch: &[Vec<Tokens>],
+    version: usize,
+) -> Result<Option<Vec<Inquiry>>, NoMemory>
     requires remembered { AreRemembered (data_of crowd.now) remembered.now.prices.items remembered.now.bundles.items }
+    requires all { length remembered.now.bundles.items ≡ length crowd.now.menus.items }
     requires crowd { IsMade crowd.now }
-    requires prices { ArePricesFor (data_of crowd.now) prices.now }
-    ensures { IfOk result (λ questions. All (IsQuestion crowd.now) questions.items) }
+    requires batch { AreVersionsFor (data_of crowd.now) batch.now }
+    requires version { version < length batch.now }
+    ensures inquiries { IfOk result (λ found. IfSome found (λ inquiries. All (IsInquiry crowd.now batch.now) inquiries.items)) }
+    ensures others { IfOk result (λ found. IfSome found (λ inquiries. (d : _) → AreOthersKept (data_of crowd.now) remembered.now.bundles.items (slice_index_or batch.now version d).items version inquiries.items)) }
 {
+    let prices: &[Tokens] = &batch[version];
+    let cheaper = Cheaper::between(&remembered.prices, prices);
     let students = crowd.menus.len();
-    let mut questions = Vec::new(alloc);
+    let mut inquiries = Vec::new(alloc);
     for place in 0..students {
-        let student = StudentNo(place as u16);
-        if remembered.kept(crowd, prices, student).is_some() {
+        if remembered.stays(crowd, prices, cheaper, place) {
             continue;
         }
-        if !are_few(questions.len(), students) {
-            return Ok(Vec::new(alloc));
+        if !are_few_of_batch(inquiries.len() + 1, students) {
+            return Ok(None);
         }
-        questions.push(Question {
-            student,
-            prices: prices.to_vec(alloc)?,
+        inquiries.push(Inquiry {
+            student: StudentNo(place as u16),
+            version,
             bundle: Bundle::empty(),
         })?;
     }
-    Ok(questions)
+    Ok(Some(inquiries))
 }

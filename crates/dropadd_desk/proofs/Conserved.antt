@@ -84,48 +84,35 @@ names_or_quiet market state student section made = cases (student_named market s
       made_is = ap (λ o. known o (reply.NoStudent, state) (λ i. known (section_named market section) (reply.NoSection, state) (λ s. made i s))) e ∙ ap (λ p. known p (reply.NoSection, state) (λ s. made i s)) f;
     })
 
+-- a request by two names changes nothing, or is of a known student about a known section, where what is made for these is a step
+of_names : (market : Market) (state : HallState) (command : HallCommand) (student section : Name) (made : ℕ → ℕ → HallReply × HallState) → step_of market state command ≡ by_names market state student section made
+    → ((t : ℕ) → names_section market t command ≡ known (section_named market section) false (λ u. u == t)) → named_student market command ≡ known (student_named market student) 0 (λ (i : ℕ). i)
+    → ((n : Names market state student section made) → IsStepped market state n.i n.s (made n.i n.s)) → IsQuietStep market state command ⊎ ((i : ℕ) × (s : ℕ) × IsAbout market state command i s)
+of_names market state command student section made steps names who stepped = elim (names_or_quiet market state student section made) [
+  | inl q ↦ inl (record { answer = q.0; is = steps ∙ q.1; nothing = quiet q.0 q.2 })
+  | inr n ↦ inr (
+    n.i,
+    n.s,
+    record {
+      section = section_within market section n.s n.section_is;
+      names = λ t. names t ∙ ap (λ p. known p false (λ u. u == t)) n.section_is;
+      who = who ∙ ap (λ o. known o 0 (λ (i : ℕ). i)) n.student_is;
+      stepped = subst (IsStepped market state n.i n.s) (sym (steps ∙ n.made_is)) (stepped n);
+    },
+  )
+]
+
 pub every_step : (market : Market) (state : HallState) → IsHall market state → (command : HallCommand) → IsQuietStep market state command ⊎ ((i : ℕ) × (s : ℕ) × IsAbout market state command i s)
 unfolding step_of
 every_step market state is Unreadable = inl (record { answer = reply.Unreadable; is = refl; nothing = quiet reply.Unreadable refl })
-every_step market state is (Add student section) = elim (names_or_quiet market state student section (add market state)) [
-  | inl q ↦ inl (record { answer = q.0; is = q.1; nothing = quiet q.0 q.2 })
-  | inr n ↦ inr (
-    n.i,
-    n.s,
-    record {
-      section = section_within market section n.s n.section_is;
-      names = λ t. ap (λ p. known p false (λ u. u == t)) n.section_is;
-      who = ap (λ o. known o 0 (λ (i : ℕ). i)) n.student_is;
-      stepped = subst (IsStepped market state n.i n.s) (sym n.made_is) (add_step market state is n.i n.s (student_within market student n.i n.student_is) (section_within market section n.s n.section_is));
-    },
-  )
-]
-every_step market state is (Drop student section) = elim (names_or_quiet market state student section (drop_section market state)) [
-  | inl q ↦ inl (record { answer = q.0; is = q.1; nothing = quiet q.0 q.2 })
-  | inr n ↦ inr (
-    n.i,
-    n.s,
-    record {
-      section = section_within market section n.s n.section_is;
-      names = λ t. ap (λ p. known p false (λ u. u == t)) n.section_is;
-      who = ap (λ o. known o 0 (λ (i : ℕ). i)) n.student_is;
-      stepped = subst (IsStepped market state n.i n.s) (sym n.made_is) (drop_step market state n.i n.s is (student_within market student n.i n.student_is) (section_within market section n.s n.section_is));
-    },
-  )
-]
-every_step market state is (Leave student section) = elim (names_or_quiet market state student section (leave state)) [
-  | inl q ↦ inl (record { answer = q.0; is = q.1; nothing = quiet q.0 q.2 })
-  | inr n ↦ inr (
-    n.i,
-    n.s,
-    record {
-      section = section_within market section n.s n.section_is;
-      names = λ t. ap (λ p. known p false (λ u. u == t)) n.section_is;
-      who = ap (λ o. known o 0 (λ (i : ℕ). i)) n.student_is;
-      stepped = subst (IsStepped market state n.i n.s) (sym n.made_is) (leave_step market state is n.i n.s (section_within market section n.s n.section_is));
-    },
-  )
-]
+every_step market state is (Add student section) =
+    of_names market state (Add student section) student section (add market state) refl (λ t. refl) refl
+    (λ n. add_step market state is n.i n.s (student_within market student n.i n.student_is) (section_within market section n.s n.section_is))
+every_step market state is (Drop student section) =
+    of_names market state (Drop student section) student section (drop_section market state) refl (λ t. refl) refl
+    (λ n. drop_step market state n.i n.s is (student_within market student n.i n.student_is) (section_within market section n.s n.section_is))
+every_step market state is (Leave student section) =
+    of_names market state (Leave student section) student section (leave state) refl (λ t. refl) refl (λ n. leave_step market state is n.i n.s (section_within market section n.s n.section_is))
 
 -- a state that is kept stays one
 pub hall_after : (market : Market) (state : HallState) (command : HallCommand) → IsHall market state → IsHall market (step_of market state command).1

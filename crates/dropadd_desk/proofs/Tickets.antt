@@ -55,19 +55,22 @@ module _ (market : Market) (s : ℕ) where
     | inr other ↦ rw other (omega arith)
   ]
 
-  -- steps of later numbers give no ticket of this one
-  later_count : (m number : ℕ) (history : List HallStep) (line : Line) → m < number → occurs m (line_from market s number history line) ≡ occurs m line
-  later_count m number [] line low = refl
-  later_count m number (step ∷ more) line low =
-      let rest = later_count m (number + 1) more (line_after market s number step line) (omega arith) in
+  -- a step of another number gives no ticket of this one
+  other_count : (m number : ℕ) (step : HallStep) (line : Line) → ¬ (number ≡ m) → occurs m (line_after market s number step line) ≡ occurs m line
+  other_count m number step line other =
       let here = step_count m number step line in
-      let other : (number == m) ≡ false = ne_eqb number m (λ e. omega arith) in
-      let none : one_if (names_section market s step.request && is_queued step.reply && (number == m)) ≡ 0 = ap (λ b. one_if (names_section market s step.request && is_queued step.reply && b)) other ∙ and_nothing (names_section market s step.request && is_queued step.reply) in
-      omega (arith, rest, here, none)
+      let none : one_if (names_section market s step.request && is_queued step.reply && (number == m)) ≡ 0 =
+      ap (λ b. one_if (names_section market s step.request && is_queued step.reply && b)) (ne_eqb number m other) ∙ and_nothing (names_section market s step.request && is_queued step.reply) in
+      omega (arith, here, none)
     where
       and_nothing : (b : Bool) → one_if (b && false) ≡ 0
       and_nothing true = refl
       and_nothing false = refl
+
+  -- nor do steps of later numbers
+  later_count : (m number : ℕ) (history : List HallStep) (line : Line) → m < number → occurs m (line_from market s number history line) ≡ occurs m line
+  later_count m number [] line low = refl
+  later_count m number (step ∷ more) line low = later_count m (number + 1) more (line_after market s number step line) (omega arith) ∙ other_count m number step line (λ e. omega arith)
 
   counted_from : (k number : ℕ) (history : List HallStep) (line : Line) → occurs (number + k) (line_from market s number history line) ≡ occurs (number + k) line + one_if (gives_ticket market s history k)
   counted_from k number [] line = omega arith
@@ -88,14 +91,8 @@ module _ (market : Market) (s : ℕ) where
       let next : number + suc k ≡ (number + 1) + k = omega arith in
       let rest : occurs m (line_from market s (number + 1) more (line_after market s number step line)) ≡ occurs m (line_after market s number step line) + one_if (gives_ticket market s more k) =
       rw next (counted_from k (number + 1) more (line_after market s number step line)) in
-      let here = step_count m number step line in
-      let other : (number == m) ≡ false = ne_eqb number m (λ e. omega arith) in
-      let none : one_if (names_section market s step.request && is_queued step.reply && (number == m)) ≡ 0 = ap (λ b. one_if (names_section market s step.request && is_queued step.reply && b)) other ∙ and_nothing (names_section market s step.request && is_queued step.reply) in
-      omega (arith, rest, here, none)
-    where
-      and_nothing : (b : Bool) → one_if (b && false) ≡ 0
-      and_nothing true = refl
-      and_nothing false = refl
+      let here = other_count m number step line (λ e. omega arith) in
+      omega (arith, rest, here)
 
   pub each_once : (history : List HallStep) (k : ℕ) → occurs k (line_of market s history) ≡ one_if (gives_ticket market s history k)
   each_once history k =

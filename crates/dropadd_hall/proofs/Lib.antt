@@ -1,4 +1,3 @@
 pub mod LineJoins
-pub mod Merging
 pub mod Openings
 pub mod Requested

@@ -1,6 +1,6 @@
 -- Lines behind lines, and fields behind fields.
-use Rattle.std.proofs.Common.{ℕ, zero, suc, ◌≡◌, ◌<◌, ◌≤◌, ◌+◌, ◌++◌, ◌==◌, ◌∙◌, false, List, [], ◌∷◌, length, map, take, get_or, arith, refl, sym, ap, append_assoc, append-nil, Some, None}
-use Rattle.std.specs.Prelude.{Option, option_map, slice_get, codes}
+use Rattle.std.proofs.Common.{ℕ, zero, suc, ◌≡◌, ◌<◌, ◌+◌, ◌++◌, ◌==◌, ◌∙◌, false, List, [], ◌∷◌, length, map, take, get_or, arith, refl, sym, ap, append_assoc, append-nil, Some}
+use Rattle.std.specs.Prelude.{option_map, slice_get, codes}
 use Rattle.std.specs.List.{flat_map, join_with_byte, range_with_len}
 use Rattle.std.proofs.lemmas.Bool.{true≢false}
 use Rattle.std.proofs.lemmas.List.{get_or-map, map_more, take_more}
@@ -8,9 +8,8 @@ use Rattle.std.proofs.lemmas.List.Concat.{flat_map-append}
 use Rattle.std.proofs.lemmas.List.FromFn.{map-range_with_len_more}
 use Rattle.course_catalog.specs.Catalog.{CatalogData}
 use Rattle.course_catalog.specs.Sections.{Section, no_section, section_at}
-use Rattle.student_roll.specs.Students.{RollData, Student, names_of, no_student}
+use Rattle.student_roll.specs.Students.{RollData, Student, names_of}
 use Rattle.demand_api.specs.Crowds.{holders}
-use Rattle.market_units.specs.declared.units.StudentNo.{StudentNo}
 use Rattle.market_certificate.specs.Lines.{joined, spaced}
 use Rattle.market_certificate.specs.Tables.{name_at, section_names}
 use Rattle.market_certificate.specs.Texts.{final_line, used_line}

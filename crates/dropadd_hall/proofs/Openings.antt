@@ -1,5 +1,5 @@
 -- Clashes in a set of sections, and what a roll and a catalogue give at a place.
-use Rattle.std.proofs.Common.{ℕ, zero, suc, ◌≡◌, ◌<◌, ◌≤◌, ◌+◌, ◌++◌, ◌∙◌, Bool, true, false, not, List, [], ◌∷◌, length, map, take, get_or, arith, refl, sym, ap, subst, Some, None, inl, inr}
+use Rattle.std.proofs.Common.{ℕ, zero, suc, ◌≡◌, ◌<◌, ◌≤◌, ◌+◌, ◌++◌, ◌∙◌, Bool, true, false, not, List, [], ◌∷◌, length, take, get_or, arith, refl, sym, ap, subst, Some, inl, inr}
 use Rattle.std.specs.Prelude.{option_map, slice_get, slice_index_or}
 use Rattle.std.specs.List.{list_any}
 use Rattle.std.proofs.lemmas.Bool.{cases_Bool, true≢false, false≢true}

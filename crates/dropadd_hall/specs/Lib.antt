@@ -1,5 +1,4 @@
 pub mod Faults
-pub mod Postings
 pub mod Requests
 pub mod Streams
 pub mod Texts

@@ -6,15 +6,14 @@ ghost use Rattle.dropadd_desk.specs.Replies.{NamesInRange};
 ghost use Rattle.dropadd_desk.specs.Shared.{is_sound, reply_to, state_after};
 ghost use Rattle.dropadd_hall.specs.Streams.{MergesRequests, request_count, request_lists};
 
-use crate::posting::post_all;
-use crate::streams::lengths_of;
-use chronicle::{Chronicle, Journal};
+use chronicle::Journal;
 use dropadd_desk::{HallCommand, HallDesk};
 use market_edge::Gate;
 use market_units::{MAX_SESSIONS, NoMemory};
 use std::alloc::Global;
 use std::sync::Wait;
 use std::thread::Threads;
+use stream_posting::post_streams;
 
 /// A desk to which all sessions have made their requests, and the one history of their calls.
 #[derive(Drop)]
@@ -42,9 +41,6 @@ pub fn open_hall<R: Threads + Wait + Sync, G: Gate + Sync>(
     ensures named { IfOk result (λ closed. All (λ step. NamesInRange (market_of desk) step.reply) closed.journal) }
     ensures state { IfOk result (λ closed. state_of closed.desk ≡ state_after_steps state_after (market_of desk) (state_of desk) closed.journal) }
 {
-    let allotments = lengths_of(alloc, streams)?;
-    let (chronicle, mut seats) = Chronicle::start(alloc, desk, allotments)?;
-    post_all(rt, &chronicle, seats.as_mut_slice(), streams, gate);
-    let (desk, journal) = chronicle.close(seats);
+    let (desk, journal) = post_streams(rt, alloc, desk, streams, gate)?;
     Ok(ClosedHall { desk, journal })
 }

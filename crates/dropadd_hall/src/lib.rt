@@ -10,9 +10,7 @@
 mod hall;
 mod lines;
 mod opening;
-mod posting;
 mod requests;
-mod streams;
 mod text;
 
 pub use hall::{ClosedHall, open_hall};

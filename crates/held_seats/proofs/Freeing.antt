@@ -35,24 +35,22 @@ tells_first test free rest result x more told here others s = elim (cases_Bool (
   | inr apart ↦ let other : s ≢ x = λ e. grind (arith, nat_tests) in rw apart (others s other ∙ told s)
 ]
 
--- one section more, with its seats not all held, and with all held
+-- one section more, which is changed alone
+one_first : (test : ℕ → Bool) (free rest result : set.FinSet nat_cmp) (sections : List SectionNo) (x : ℕ) → 1 ≤ length sections → x ≡ (slice_index_or sections 0 (record { 0 = 0 })).0
+    → Tells test free (ordinals (take (length sections - 1) (drop 1 sections))) rest → set.contains result x ≡ test x → ((q : ℕ) → q ≢ x → set.contains result q ≡ set.contains rest q) → Tells test free (ordinals sections) result
+one_first test free rest result sections x some at told here others =
+    subst (λ ss. Tells test free (ordinals ss) result) (sym (first_rest sections (record { 0 = 0 }) some))
+    (subst (λ y. Tells test free (y ∷ ordinals (take (length sections - 1) (drop 1 sections))) result) at
+    (tells_first test free rest result x (ordinals (take (length sections - 1) (drop 1 sections))) told here others))
+
+-- with its seats not all held, and with all held
 pub freed_first : (test : ℕ → Bool) (free rest : set.FinSet nat_cmp) (sections : List SectionNo) (x : ℕ) → 1 ≤ length sections → x ≡ (slice_index_or sections 0 (record { 0 = 0 })).0 → test x ≡ true
     → Tells test free (ordinals (take (length sections - 1) (drop 1 sections))) rest → Tells test free (ordinals sections) (set.insert rest x)
-freed_first test free rest sections x some at is told =
-    let first : SectionNo = slice_index_or sections 0 (record { 0 = 0 }) in
-    let whole = first_rest sections (record { 0 = 0 }) some in
-    subst (λ ss. Tells test free (ordinals ss) (set.insert rest x)) (sym whole)
-    (subst (λ y. Tells test free (y ∷ ordinals (take (length sections - 1) (drop 1 sections))) (set.insert rest x)) at
-    (tells_first test free rest (set.insert rest x) x (ordinals (take (length sections - 1) (drop 1 sections))) told (insert_here rest x ∙ sym is) (λ q apart. insert_there rest x q apart)))
+freed_first test free rest sections x some at is told = one_first test free rest (set.insert rest x) sections x some at told (insert_here rest x ∙ sym is) (λ q apart. insert_there rest x q apart)
 
 pub taken_first : (test : ℕ → Bool) (free rest : set.FinSet nat_cmp) (sections : List SectionNo) (x : ℕ) → 1 ≤ length sections → x ≡ (slice_index_or sections 0 (record { 0 = 0 })).0 → test x ≡ false
     → Tells test free (ordinals (take (length sections - 1) (drop 1 sections))) rest → Tells test free (ordinals sections) (set.remove rest x)
-taken_first test free rest sections x some at is told =
-    let first : SectionNo = slice_index_or sections 0 (record { 0 = 0 }) in
-    let whole = first_rest sections (record { 0 = 0 }) some in
-    subst (λ ss. Tells test free (ordinals ss) (set.remove rest x)) (sym whole)
-    (subst (λ y. Tells test free (y ∷ ordinals (take (length sections - 1) (drop 1 sections))) (set.remove rest x)) at
-    (tells_first test free rest (set.remove rest x) x (ordinals (take (length sections - 1) (drop 1 sections))) told (remove_here rest x ∙ sym is) (λ q apart. remove_there rest x q apart)))
+taken_first test free rest sections x some at is told = one_first test free rest (set.remove rest x) sections x some at told (remove_here rest x ∙ sym is) (λ q apart. remove_there rest x q apart)
 
 -- one section more that may be chosen
 pub with_first : (free rest : set.FinSet nat_cmp) (sections : List SectionNo) (x : ℕ) → 1 ≤ length sections → x ≡ (slice_index_or sections 0 (record { 0 = 0 })).0

@@ -164,5 +164,9 @@ pub name_here : (items names : List Name) (k : ℕ) (d name : Name) → items �
 name_here items names k d name e inside is =
     subst (λ (ns : List Name). name_bytes name ≡ get_or (map name_bytes ns) k []) e (ap name_bytes is ∙ sym (get_or-map name_bytes items k d [] inside))
 
+-- and that place is one of the names' texts
+pub name_stands : (items names : List Name) (k : ℕ) (d name : Name) → items ≡ names → k < length items → name ≡ get_or items k d → (k < length (map name_bytes names)) × (name_bytes name ≡ get_or (map name_bytes names) k [])
+name_stands items names k d name e inside is = (omega (arith, length-map names name_bytes, ap length e), name_here items names k d name e inside is)
+
 pub mapped_push : {W V : Type 0} (f : W → V) (ws new : List W) (w : W) → new ≡ ws ++ w ∷ [] → map f new ≡ map f ws ++ f w ∷ []
 mapped_push f ws new w e = ap (map f) e ∙ map_last f ws w

@@ -68,7 +68,7 @@ module _ (words : List (List ℕ)) (workers : ℕ) (seen : Sight) (a b c d : Lis
   )
 
   market_read : IsMarketOf first.0 second.0 third.0 sessions (market_of offered enrolled rules) (command_lists streams)
-  market_read = record { catalog_says = first.3; roll_says = second.3; settings_say = third.3; sessions_say = are.commands }
+  market_read = record { catalog_says = first.3; roll_says = second.3; settings_say = third.3; sessions_say = are.items }
 
   -- the text that was read is accepted, and its audit was written
   pub audit_done : (written : List ℕ) → IsAuditOf (market_of offered enrolled rules) (command_lists streams) text written → IsOutcome words seen Done written

@@ -75,7 +75,7 @@ module _ (words : List (List ℕ)) (seen : Sight) (a b c d : List ℕ) (names se
   )
 
   market_read : IsMarketOf first.0 second.0 third.0 sessions (market_of offered enrolled rules) (command_lists streams)
-  market_read = record { catalog_says = first.3; roll_says = second.3; settings_say = third.3; sessions_say = are.commands }
+  market_read = record { catalog_says = first.3; roll_says = second.3; settings_say = third.3; sessions_say = are.items }
 
   -- the text that was read is accepted
   pub check_done : (line : List ℕ) → IsAccepted (market_of offered enrolled rules) (command_lists streams) text → line ≡ accepted_line → IsOutcome words seen Done line

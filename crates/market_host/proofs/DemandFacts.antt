@@ -103,7 +103,7 @@ demand_done words workers before seen held a b c d names sessions room offered e
     let front : AreRead (Demand workers) held (a ∷ b ∷ c ∷ d ∷ []) (first.0 ∷ second.0 ∷ third.0 ∷ fourth.0 ∷ []) = prices_fourth workers held a b c d offered enrolled rules listed first second third fourth in
     let all : AreRead (Demand workers) held (a ∷ b ∷ c ∷ d ∷ names) (first.0 ∷ second.0 ∷ third.0 ∷ fourth.0 ∷ sessions) =
     sessions_read (Demand workers) held (a ∷ b ∷ c ∷ d ∷ []) (first.0 ∷ second.0 ∷ third.0 ∷ fourth.0 ∷ []) names sessions front refl (omega arith) are.each (omega (arith, are.count)) in
-    let market : IsHeld first.0 second.0 sessions offered enrolled journal = record { catalog_says = first.3; roll_says = second.3; legal = legal; merged = (command_lists streams, are.commands, merges) } in
+    let market : IsHeld first.0 second.0 sessions offered enrolled journal = record { catalog_says = first.3; roll_says = second.3; legal = legal; merged = (command_lists streams, are.items, merges) } in
     let read : AreRead (Demand workers) held (inputs_of (Demand workers) words) (first.0 ∷ second.0 ∷ third.0 ∷ fourth.0 ∷ sessions) =
     subst (λ names. AreRead (Demand workers) held names (first.0 ∷ second.0 ∷ third.0 ∷ fourth.0 ∷ sessions)) (sym inputs) all in
     let last : IsLastAtEnd (seen_from held before seen) names = subst (λ h. IsLastAtEnd (seen_from h before seen) names) same ended in (

@@ -151,7 +151,7 @@ module _ (words : List (List ℕ)) (seen : Sight) (student section : Name) (a b 
   )
 
   market_read : IsMarketOf first.0 second.0 third.0 sessions (market_of offered enrolled rules) (command_lists streams)
-  market_read = record { catalog_says = first.3; roll_says = second.3; settings_say = third.3; sessions_say = are.commands }
+  market_read = record { catalog_says = first.3; roll_says = second.3; settings_say = third.3; sessions_say = are.items }
 
   -- however it ends for what the inputs say, that is the outcome
   pub explain_ended : (status : Status) (line : List ℕ) → IsReasonEnd (market_of offered enrolled rules) (command_lists streams) text (name_bytes student) (name_bytes section) status line → IsOutcome words seen status line

@@ -91,7 +91,7 @@ module _ (words : List (List ℕ)) (before : List ℕ → ℕ) (seen : Sight) (h
   -- the hall was told that opens with the text that was read
   pub hall_done : (text : List ℕ) → IsToldHall market (request_lists streams) published text → IsOutcome words (seen_from held before seen) Done text
   hall_done text told =
-      worked_out (λ form texts. Prints form texts text) (market, request_lists streams, market_read, are.requests, subst (λ bytes. IsToldHall market (request_lists streams) bytes text) (sym third.3) told)
+      worked_out (λ form texts. Prints form texts text) (market, request_lists streams, market_read, are.items, subst (λ bytes. IsToldHall market (request_lists streams) bytes text) (sym third.3) told)
 
   -- the first finding on it was told
   pub hall_found : (finding : Finding) (line : List ℕ) → ¬ CanOpen market published → IsOpeningFinding market published finding → line ≡ finding_line (tables_in market) finding

@@ -15,7 +15,6 @@ pub mod PublishedFacts
 pub mod QuoteFacts
 pub mod QuoteWords
 pub mod ReadOut
-pub mod RequestsRead
 pub mod RunFacts
 pub mod SessionsRead
 pub mod Shelves

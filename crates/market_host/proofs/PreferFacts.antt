@@ -58,7 +58,7 @@ prefer_done words before seen held a b names sessions room offered enrolled stre
     let front : AreRead Prefer held (a ∷ b ∷ []) (first.0 ∷ second.0 ∷ []) = roll_second Prefer held a b offered enrolled refl (omega arith) refl first second in
     let all : AreRead Prefer held (a ∷ b ∷ names) (first.0 ∷ second.0 ∷ sessions) =
     sessions_read Prefer held (a ∷ b ∷ []) (first.0 ∷ second.0 ∷ []) names sessions front refl (omega arith) are.each (omega (arith, are.count)) in
-    let market : IsHeld first.0 second.0 sessions offered enrolled journal = record { catalog_says = first.3; roll_says = second.3; legal = legal; merged = (command_lists streams, are.commands, merges) } in
+    let market : IsHeld first.0 second.0 sessions offered enrolled journal = record { catalog_says = first.3; roll_says = second.3; legal = legal; merged = (command_lists streams, are.items, merges) } in
     let read : AreRead Prefer held (inputs_of Prefer words) (first.0 ∷ second.0 ∷ sessions) = subst (λ names. AreRead Prefer held names (first.0 ∷ second.0 ∷ sessions)) (sym inputs) all in
     let last : IsLastAtEnd (seen_from held before seen) names = subst (λ h. IsLastAtEnd (seen_from h before seen) names) same ended in
     (Prefer, has, first.0 ∷ second.0 ∷ sessions, read, behind_at_end (seen_from held before seen) (inputs_of Prefer words) (a ∷ b ∷ []) names inputs some last, (offered, enrolled, journal, market, printed))

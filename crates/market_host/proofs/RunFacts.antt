@@ -78,7 +78,7 @@ module _ (words : List (List ℕ)) (workers : ℕ) (before : List ℕ → ℕ) (
       )
 
   market_read : IsMarketOf first.0 second.0 third.0 sessions (market_of offered enrolled rules) (command_lists streams)
-  market_read = record { catalog_says = first.3; roll_says = second.3; settings_say = third.3; sessions_say = are.commands }
+  market_read = record { catalog_says = first.3; roll_says = second.3; settings_say = third.3; sessions_say = are.items }
 
   -- what is published of the market that was read was printed
   pub run_done : (text : List ℕ) → ((order : List ℕ) × IsPublishedText (market_of offered enrolled rules) (command_lists streams) order text) → IsOutcome words (seen_from held before seen) Done text

@@ -12,13 +12,12 @@ use Rattle.market_edge.specs.Holdings.{Holding, IsTextOf}
 use Rattle.market_lists.specs.Totals.{total}
 use Rattle.market_lists.proofs.Sums.{total-append}
 use Rattle.market_words.specs.declared.words.Form.{Form}
-use Rattle.utility_language.specs.declared.commands.Command.{Command}
-use Rattle.utility_language.specs.Commands.{AreCommands}
+use Rattle.utility_language.specs.Commands.{command_lines}
 use Rattle.market_host.specs.declared.trouble.Trouble.{Trouble}
 use Rattle.market_host.specs.declared.trouble.Trouble.TheVariants.{ShelfFault, Refused, TooLong, OutOfMemory}
 use Rattle.market_host.specs.Inputs.{AreRead, IsInOrder, IsOfGrammar, commands_among, commands_in}
 use Rattle.market_host.specs.Kinds.{Kind, Session, front_of, kind_behind, kind_of, limit_of, streams_of}
-use Rattle.market_host.specs.Reading.{AreReadSessions, IsRead, IsSurplus, IsTroubleOfSession, IsTroubleOfSessions}
+use Rattle.market_host.specs.Reading.{AreReadStreams, IsRead, IsSurplus, IsTroubleOfSession, IsTroubleOfSessions}
 use Rattle.market_host.specs.Sessions.{command_count, session_text}
 use Rattle.market_host.specs.Sights.{Sight}
 use Rattle.market_host.specs.Troubles.{HasSurplus, HasTrouble, IsAtEnd, IsPastLimit}
@@ -106,24 +105,25 @@ pub names_more : (names : List (String Global)) (k : ℕ) (name : String Global)
 names_more names k name below is = map_more string_bytes names k name below ∙ ap (λ (n : String Global). map string_bytes (take k names) ++ string_bytes n ∷ []) (sym is)
 
 -- one session more was read
-pub sessions_more : (held : Option Holding) (names : List (String Global)) (k : ℕ) (name : String Global) (sessions : List (List ℕ)) (streams : List (Vec Command Global)) (room left : ℕ) (stream : Vec Command Global)
-    → k < length names → name ≡ get_or names k name → AreReadSessions held (map string_bytes (take k names)) sessions streams room
-    → (read : IsRead Session held (string_bytes name) (λ text. AreCommands (session_text text) stream.items × (command_count text ≤ room))) → left + length stream.items ≡ room
-    → AreReadSessions held (map string_bytes (take (k + 1) names)) (sessions ++ read.0 ∷ []) (streams ++ stream ∷ []) left
-sessions_more held names k name sessions streams room left stream below is are read fewer =
+pub sessions_more : {A : Type 0} (IsItemOf : List (List ℕ) → A → Type 0) (held : Option Holding) (names : List (String Global)) (k : ℕ) (name : String Global) (sessions : List (List ℕ)) (streams : List (Vec A Global)) (room left : ℕ)
+    (stream : Vec A Global) → k < length names → name ≡ get_or names k name → AreReadStreams IsItemOf held (map string_bytes (take k names)) sessions streams room
+    → (read : IsRead Session held (string_bytes name) (λ text. AllZip IsItemOf (command_lines (session_text text)) stream.items × (command_count text ≤ room))) → left + length stream.items ≡ room
+    → AreReadStreams IsItemOf held (map string_bytes (take (k + 1) names)) (sessions ++ read.0 ∷ []) (streams ++ stream ∷ []) left
+sessions_more IsItemOf held names k name sessions streams room left stream below is are read fewer =
     let one : map string_bytes (take (k + 1) names) ≡ map string_bytes (take k names) ++ string_bytes name ∷ [] = names_more names k name below is in
-    let many : length stream.items ≡ command_count read.0 = count_of_session read.0 stream.items read.3.0 in
+    let many : length stream.items ≡ command_count read.0 = count_of_session IsItemOf read.0 stream.items read.3.0 in
     let all : total command_count (sessions ++ read.0 ∷ []) ≡ total command_count sessions + command_count read.0 = total-append command_count sessions (read.0 ∷ []) ∙ omega arith in
     record {
       each = rw one (AllZip-push (λ given text. IsTextOf held given text × (length text ≤ 16777216)) (map string_bytes (take k names)) sessions (string_bytes name) read.0 are.each (read.1, read.2));
-      commands = streams_more sessions streams read.0 stream are.commands read.3.0;
+      items = streams_more IsItemOf sessions streams read.0 stream are.items read.3.0;
       count = omega (arith, are.count, all, many, fewer);
     }
 
 -- as many streams as names
-pub streams_of_names : (held : Option Holding) (names sessions : List (List ℕ)) (streams : List (Vec Command Global)) (room : ℕ) → AreReadSessions held names sessions streams room → length streams ≡ length names
-streams_of_names held names sessions streams room are =
-    as_many_streams sessions streams are.commands ∙ AllZip-long (λ name text. IsTextOf held name text × (length text ≤ 16777216)) names sessions are.each
+pub streams_of_names : {A : Type 0} (IsItemOf : List (List ℕ) → A → Type 0) (held : Option Holding) (names sessions : List (List ℕ)) (streams : List (Vec A Global)) (room : ℕ) → AreReadStreams IsItemOf held names sessions streams room
+    → length streams ≡ length names
+streams_of_names IsItemOf held names sessions streams room are =
+    as_many_streams IsItemOf sessions streams are.items ∙ AllZip-long (λ name text. IsTextOf held name text × (length text ≤ 16777216)) names sessions are.each
 
 -- the trouble of one session is the trouble of all, whatever those before it say
 pub trouble_behind : (held : Option Holding) (before : List ℕ → ℕ) (seen : Sight) (names : List (String Global)) (k : ℕ) (name : String Global) (first input room : ℕ) (sessions : List (List ℕ)) (trouble : Trouble)
@@ -143,11 +143,3 @@ trouble_behind held before seen names k name first input room sessions trouble b
     let split : (earlier ++ done) ++ string_bytes name ∷ map string_bytes (drop (suc k) names) ≡ earlier ++ map string_bytes names =
     append_assoc earlier done (string_bytes name ∷ map string_bytes (drop (suc k) names)) ∙ ap (λ rest. earlier ++ rest) (sym (names_split names k name below is)) in
     trouble_before form held before seen (earlier ++ map string_bytes names) trouble same later (subst (λ inputs. HasTrouble form seen inputs trouble) split found)
-
--- so it is of sessions of commands
-pub trouble_among : (held : Option Holding) (before : List ℕ → ℕ) (seen : Sight) (names : List (String Global)) (k : ℕ) (name : String Global) (first input room : ℕ) (sessions : List (List ℕ))
-    (streams : List (Vec Command Global)) (trouble : Trouble) → k < length names → name ≡ get_or names k name → input ≡ first + k → seen.held ≡ held → ((other : List ℕ) → before other ≤ seen.before other)
-    → AreReadSessions held (map string_bytes (take k names)) sessions streams room → IsTroubleOfSession seen room (string_bytes name) input trouble
-    → IsTroubleOfSessions (seen_from held before seen) (map string_bytes names) first trouble
-trouble_among held before seen names k name first input room sessions streams trouble below is number same later are stops =
-    trouble_behind held before seen names k name first input room sessions trouble below is number same later are.each are.count stops

@@ -1,19 +1,19 @@
 -- What was read of the inputs of a call, and what stopped the reading.
-use Rattle.std.specs.Prelude.{ℕ, ◌≡◌, ◌+◌, ◌<◌, ◌≤◌, List, ◌∷◌, ◌++◌, length, Option, Vec, ⊤}
+use Rattle.std.specs.Prelude.{ℕ, ◌≡◌, ◌+◌, ◌<◌, ◌≤◌, List, ◌∷◌, ◌++◌, length, map, Option, Vec, ⊤}
 use Rattle.std.proofs.Common.{Global}
 use Rattle.std.specs.List.{AllZip}
 use Rattle.course_catalog.specs.Catalog.{CatalogData}
 use Rattle.market_edge.specs.Holdings.{Holding, IsTextOf, TakesExactly}
 use Rattle.market_lists.specs.Totals.{total}
 use Rattle.market_words.specs.declared.words.Form.{Form}
-use Rattle.session_hall.specs.Streams.{command_lists}
 use Rattle.utility_language.specs.declared.commands.Command.{Command}
+use Rattle.utility_language.specs.Commands.{IsCommandOf}
 use Rattle.market_host.specs.declared.cause.Cause.{Cause}
 use Rattle.market_host.specs.declared.trouble.Trouble.{Trouble}
 use Rattle.market_host.specs.declared.trouble.Trouble.TheVariants.{ShelfFault, Refused, TooLong, OutOfMemory}
 use Rattle.market_host.specs.Inputs.{AreRead, BeginWithCatalog, commands_among}
 use Rattle.market_host.specs.Kinds.{Kind, Prices, Session, OpensMarket, OpensPublished, front_of, kind_of, limit_of, streams_of}
-use Rattle.market_host.specs.Sessions.{AreStreams, command_count}
+use Rattle.market_host.specs.Sessions.{AreItems, command_count}
 use Rattle.market_host.specs.Sights.{Sight}
 use Rattle.market_host.specs.Troubles.{HasTrouble, IsFailed}
 
@@ -80,8 +80,12 @@ IsTroubleOfSessions seen names first trouble =
     → first ≡ length earlier + 1
     → HasTrouble form seen (earlier ++ names) trouble
 
--- sessions of these names were read: their texts are these, the streams are their commands, and they leave room for so many more
-pub record AreReadSessions (held : Option Holding) (names texts : List (List ℕ)) (streams : List (Vec Command Global)) (room : ℕ) : Type 0 where
+-- sessions of these names were read: their texts are these, the streams are their items, and they leave room for so many more
+pub record AreReadStreams {A : Type 0} (IsItemOf : List (List ℕ) → A → Type 0) (held : Option Holding) (names texts : List (List ℕ)) (streams : List (Vec A Global)) (room : ℕ) : Type 0 where
   pub each : AllZip (λ name text. IsTextOf held name text × (length text ≤ limit_of Session)) names texts
-  pub commands : AreStreams texts (command_lists streams)
+  pub items : AreItems IsItemOf texts (map (λ (stream : Vec A Global). stream.items) streams)
   pub count : total command_count texts + room ≡ 200000
+
+-- the same of sessions whose items are commands
+abbrev pub AreReadSessions : Option Holding → List (List ℕ) → List (List ℕ) → List (Vec Command Global) → ℕ → Type 0
+AreReadSessions held names texts streams room = AreReadStreams IsCommandOf held names texts streams room

@@ -9,7 +9,7 @@ ghost use Rattle.market_words.specs.Forms.{HasForm};
 use crate::Status;
 use crate::ended::{Ended, Output};
 use crate::gate::Passed;
-use crate::published::take_published;
+use crate::published::{Published, take_published};
 use crate::trouble::Trouble;
 use certificate_checker::{CheckEnd, finding_line};
 use market_edge::{Gate, Shelf};
@@ -44,7 +44,11 @@ pub fn audit<R: Threads + Wait + Sync, H: Shelf>(
         words[5].as_str(),
         &words[6..],
     )?;
-    let market = &published.market;
+    let Published {
+        market,
+        text,
+        streams,
+    } = published;
     let passed = Passed { gate };
     match published_audit(
         rt,
@@ -53,8 +57,8 @@ pub fn audit<R: Threads + Wait + Sync, H: Shelf>(
         &market.catalog,
         &market.roll,
         &market.settings,
-        &published.streams,
-        &published.text,
+        &streams,
+        text,
         &passed,
     ) {
         Ok(text) => Ok(Ended {

@@ -9,9 +9,9 @@ ghost use Rattle.market_words.specs.Forms.{HasForm};
 use crate::Status;
 use crate::ended::{Ended, Output};
 use crate::line::accepted;
-use crate::published::take_published;
+use crate::published::{Published, take_published};
 use crate::trouble::Trouble;
-use certificate_checker::{CheckEnd, check as check_text, finding_line};
+use certificate_checker::{CheckEnd, check_owned, finding_line};
 use market_edge::Shelf;
 use market_words::Form;
 use std::alloc::Global;
@@ -34,14 +34,18 @@ pub fn check<H: Shelf>(alloc: Global, words: &[String], shelf: &mut H) -> Result
         words[4].as_str(),
         &words[5..],
     )?;
-    let market = &published.market;
-    match check_text(
+    let Published {
+        market,
+        text,
+        streams,
+    } = published;
+    match check_owned(
         alloc,
         &market.catalog,
         &market.roll,
         &market.settings,
-        &published.streams,
-        &published.text,
+        &streams,
+        text,
     ) {
         Ok(()) => Ok(Ended {
             status: Status::Done,

@@ -48,23 +48,27 @@ pub fn explain<H: Shelf>(
         words[4].as_str(),
         &words[7..],
     )?;
-    let ended = reason_for(alloc, &published, &student, &section)?;
+    let ended = reason_for(alloc, published, &student, &section)?;
     Ok(ended)
 }
 
 // How it ends for what the inputs say.
 fn reason_for(
     alloc: Global,
-    published: &Published,
+    published: Published,
     student: &Name,
     section: &Name,
 ) -> Result<Ended, NoMemory>
-    requires short { length published.now.text.items < 2 ^ 32 - 1 }
-    requires in_range { AreInRange published.now.market.settings }
-    ensures { IfOk result (λ ended. IsReasonEnd (market_of published.now.market.catalog published.now.market.roll published.now.market.settings) (command_lists published.now.streams.items)
-        published.now.text.items (name_bytes student.now) (name_bytes section.now) ended.status (bytes_of ended.output)) }
+    requires short { length published.text.items < 2 ^ 32 - 1 }
+    requires in_range { AreInRange published.market.settings }
+    ensures { IfOk result (λ ended. IsReasonEnd (market_of published.market.catalog published.market.roll published.market.settings) (command_lists published.streams.items)
+        published.text.items (name_bytes student.now) (name_bytes section.now) ended.status (bytes_of ended.output)) }
 {
-    let market = &published.market;
+    let Published {
+        market,
+        text,
+        streams,
+    } = published;
     let Some(enrolled) = market.roll.find(student) else {
         return Ok(unknown(6));
     };
@@ -76,8 +80,8 @@ fn reason_for(
         &market.catalog,
         &market.roll,
         &market.settings,
-        &published.streams,
-        &published.text,
+        &streams,
+        text,
         enrolled,
         listed,
     ) {

@@ -11,8 +11,8 @@ use crate::catalog::take_catalog;
 use crate::ended::{Ended, Output};
 use crate::gate::Passed;
 use crate::published::take_text;
-use crate::request_streams::take_request_streams;
 use crate::roll::take_roll;
+use crate::sessions::take_sessions;
 use crate::trouble::Trouble;
 use certificate_checker::{CheckEnd, finding_line};
 use market_edge::{Gate, Shelf};
@@ -40,7 +40,7 @@ pub fn hall<R: Threads + Wait + Sync, H: Shelf>(
     let catalog = take_catalog(alloc, shelf, words[1].as_str(), 1)?;
     let roll = take_roll(alloc, shelf, words[2].as_str(), 2)?;
     let text = take_text(alloc, shelf, words[3].as_str(), 3)?;
-    let streams = take_request_streams(alloc, shelf, &words[4..], 4)?;
+    let streams = take_sessions(alloc, shelf, &words[4..], 4)?;
     let passed = Passed { gate };
     match published_hall(rt, alloc, &catalog, &roll, &text, &streams, &passed) {
         Ok(text) => Ok(Ended {

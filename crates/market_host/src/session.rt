@@ -1,6 +1,7 @@
 // One session of a call.
 ghost use Rattle.std.specs.Prelude.{◌≡◌, ◌≤◌, List, ℕ, length, IfOk, IfErr, OnOk};
-ghost use Rattle.utility_language.specs.Commands.{AreCommands};
+ghost use Rattle.std.specs.List.{AllZip};
+ghost use Rattle.utility_language.specs.Commands.{command_lines};
 ghost use Rattle.market_host.specs.Kinds.{Session};
 ghost use Rattle.market_host.specs.Reading.{IsRead, IsSurplus, IsTroubleOfSession};
 ghost use Rattle.market_host.specs.Sights.{sight};
@@ -8,37 +9,43 @@ ghost use Rattle.market_host.specs.Sessions.{command_count, session_text};
 ghost use Rattle.market_host.specs.Troubles.{IsAtEnd};
 
 use crate::inputs::{read_input, without_mark};
+use crate::stream_item::StreamItem;
 use crate::trouble::Trouble;
 use market_edge::Shelf;
 use market_units::MAX_INPUT_BYTES;
 use std::alloc::Global;
-use utility_language::{Command, StreamEnd, read_stream};
+use utility_language::StreamEnd;
 
-/// The commands of the session of this name and number, where there is room for so many, or why there are none. Of the session itself nothing is kept.
-pub fn take_session<H: Shelf>(
+/// What the session says that is of this name and number, where there is room for so many, or why there are none. Of the session itself nothing is kept.
+pub fn take_session<H: Shelf, S: StreamItem>(
     alloc: Global,
     shelf: &mut H,
     name: &str,
     input: u16,
     room: u32,
-) -> Result<Vec<Command>, Trouble>
-    ensures read { IfOk result (λ commands. IsRead Session (H.holds shelf.old) name.now (λ text. AreCommands (session_text text) commands.items × (command_count text ≤ room))) }
+) -> Result<Vec<S>, Trouble>
+    ensures read { IfOk result (λ items. IsRead Session (H.holds shelf.old) name.now (λ text. AllZip S.is_item_of (command_lines (session_text text)) items.items × (command_count text ≤ room))) }
     ensures trouble { IfErr result (IsTroubleOfSession (sight H.Shelf shelf.old shelf.new) room name.now input) }
     ensures end { OnOk result (IsAtEnd (sight H.Shelf shelf.old shelf.new) name.now) }
     ensures holds { H.holds shelf.new ≡ H.holds shelf.old }
     ensures later { (other : List ℕ) → H.faults shelf.old other ≤ H.faults shelf.new other }
 {
     let bytes = read_input(alloc, shelf, name, input, MAX_INPUT_BYTES)?;
-    commands_in(alloc, &bytes, input, room)
+    items_in(alloc, &bytes, input, room)
 }
 
-// The commands that the text of this input says, where there is room for so many, or why there are none.
-fn commands_in(alloc: Global, bytes: &[u8], input: u16, room: u32) -> Result<Vec<Command>, Trouble>
-    ensures commands { IfOk result (λ commands. AreCommands (session_text bytes.now) commands.items × (command_count bytes.now ≤ room)) }
+// What the text of this input says, where there is room for so many, or why there are none.
+fn items_in<S: StreamItem>(
+    alloc: Global,
+    bytes: &[u8],
+    input: u16,
+    room: u32,
+) -> Result<Vec<S>, Trouble>
+    ensures items { IfOk result (λ items. AllZip S.is_item_of (command_lines (session_text bytes.now)) items.items × (command_count bytes.now ≤ room)) }
     ensures surplus { IfErr result (IsSurplus bytes.now room input) }
 {
-    match read_stream(alloc, without_mark(bytes), room) {
-        Ok(commands) => Ok(commands),
+    match S::read_items(alloc, without_mark(bytes), room) {
+        Ok(items) => Ok(items),
         Err(StreamEnd::TooMany) => Err(Trouble::TooLong { input }),
         Err(StreamEnd::NoMemory) => Err(Trouble::OutOfMemory),
     }

@@ -2,27 +2,27 @@
 ghost use Rattle.std.specs.Prelude.{◌≡◌, ◌≤◌, ◌+◌, List, ℕ, length, map, IfOk, IfErr, OnOk};
 ghost use Rattle.std.specs.String.{string_bytes};
 ghost use Rattle.market_host.specs.Outcomes.{IsLastAtEnd};
-ghost use Rattle.market_host.specs.Reading.{AreReadSessions, IsTroubleOfSessions};
+ghost use Rattle.market_host.specs.Reading.{AreReadStreams, IsTroubleOfSessions};
 ghost use Rattle.market_host.specs.Sights.{sight};
 
 use crate::session::take_session;
+use crate::stream_item::StreamItem;
 use crate::trouble::Trouble;
 use market_edge::Shelf;
 use market_units::MAX_COMMANDS;
 use std::alloc::Global;
-use utility_language::Command;
 
-/// The commands of the sessions of these names, which are numbered from `first` on: a stream for each, at most 200,000
-/// commands together, or what the first session has that stops the reading.
-pub fn take_sessions<H: Shelf>(
+/// What the sessions of these names say, which are numbered from `first` on: a stream for each, at most 200,000 items
+/// together, or what the first session has that stops the reading.
+pub fn take_sessions<H: Shelf, S: StreamItem>(
     alloc: Global,
     shelf: &mut H,
     names: &[String],
     first: u16,
-) -> Result<Vec<Vec<Command>>, Trouble>
+) -> Result<Vec<Vec<S>>, Trouble>
     requires count { (1 ≤ length names.now) × (length names.now ≤ 64) }
     requires first { first ≤ 100 }
-    ensures read { IfOk result (λ streams. (texts : List (List ℕ)) × (room : ℕ) × AreReadSessions (H.holds shelf.old) (map string_bytes names.now) texts streams.items room) }
+    ensures read { IfOk result (λ streams. (texts : List (List ℕ)) × (room : ℕ) × AreReadStreams S.is_item_of (H.holds shelf.old) (map string_bytes names.now) texts streams.items room) }
     ensures trouble { IfErr result (IsTroubleOfSessions (sight H.Shelf shelf.old shelf.new) (map string_bytes names.now) first) }
     ensures end { OnOk result (IsLastAtEnd (sight H.Shelf shelf.old shelf.new) (map string_bytes names.now)) }
     ensures holds { H.holds shelf.new ≡ H.holds shelf.old }
@@ -32,10 +32,10 @@ pub fn take_sessions<H: Shelf>(
     let mut room = MAX_COMMANDS;
     let mut input = first;
     'sessions: for name in names {
-        let commands = take_session(alloc, shelf, name.as_str(), input, room)?;
-        room -= commands.len() as u32;
+        let stream = take_session(alloc, shelf, name.as_str(), input, room)?;
+        room -= stream.len() as u32;
         input += 1;
-        streams.push(commands)?;
+        streams.push(stream)?;
     }
     Ok(streams)
 }

@@ -10,6 +10,7 @@ use std::test::Fail;
 use std::thread::Threads;
 
 mod audit;
+mod changes;
 mod check;
 mod cuts;
 mod demand;
@@ -23,6 +24,7 @@ mod make;
 mod prefer;
 mod quote;
 mod runs;
+mod settings;
 mod term;
 
 const HEADER: &[u8] = b"section,course,seats,credits,meetings\n";

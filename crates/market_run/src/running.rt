@@ -98,6 +98,7 @@ pub(crate) fn run<R: Threads + Wait + Sync>(
     let published = publish(
         rt,
         alloc,
+        workers,
         catalog,
         roll,
         settings,

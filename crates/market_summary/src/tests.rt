@@ -61,6 +61,7 @@ fn summary_of<R: Abort + Threads + Wait + Sync>(
     let published = publish(
         rt,
         alloc,
+        1,
         catalog,
         roll,
         settings,

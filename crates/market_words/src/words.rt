@@ -64,31 +64,39 @@ pub fn read_words(words: &[String]) -> Option<Form>
     let [verb, more @ ..] = words else {
         return None;
     };
-    if verb.as_str() == "quote" {
+    read_form(verb.as_str(), more)
+}
+
+// What the words behind this verb ask for.
+fn read_form(verb: &str, more: &[String]) -> Option<Form>
+    ensures form { IfSome result (HasForm (verb.now ∷ map string_bytes more.now)) }
+    ensures none { IfNone result (HasNoForm (verb.now ∷ map string_bytes more.now)) }
+{
+    if verb == "quote" {
         return read_quote(more);
     }
-    if verb.as_str() == "prefer" {
+    if verb == "prefer" {
         return read_prefer(more);
     }
-    if verb.as_str() == "demand" {
+    if verb == "demand" {
         return read_demand(more);
     }
-    if verb.as_str() == "run" {
+    if verb == "run" {
         return read_run(more);
     }
-    if verb.as_str() == "make" {
+    if verb == "make" {
         return read_make(more);
     }
-    if verb.as_str() == "check" {
+    if verb == "check" {
         return read_check(more);
     }
-    if verb.as_str() == "explain" {
+    if verb == "explain" {
         return read_explain(more);
     }
-    if verb.as_str() == "hall" {
+    if verb == "hall" {
         return read_hall(more);
     }
-    if verb.as_str() == "audit" {
+    if verb == "audit" {
         return read_audit(more);
     }
     None

@@ -1,6 +1,7 @@
 pub mod BelowLemmas
 pub mod CopyLemmas
 pub mod JournalLemmas
+pub mod Keeping
 pub mod NameLemmas
 pub mod PairLemmas
 pub mod PreferenceLemmas

@@ -46,6 +46,10 @@ pub record HasCalled (board : Origin Terms Progress) (call : BoardCall) (reply :
 
 -- ---- what a seat has left
 
+-- of two calls a task and one more at least one is left behind so many draws, ends and posts
+left_of : (a b c l n left : ℕ) → a ≤ n → l ≡ a + b + c → b + c ≤ n → left + l ≡ 2 * n + 1 → 1 ≤ left
+left_of a b c l n left few kinds more room = omega arith
+
 module _ (board : Origin Terms Progress) (seat : Standing Terms Progress BoardCall BoardReply) (is_seat : IsSeatOf board seat) where
   pub own_draws : draws seat.own ≤ task_count board.base
   own_draws = subst (λ l. draws l ≤ task_count board.base) is_seat.all_own (few_draws board.base board.opening seat.seen seat.number is_seat.opening is_seat.legal)
@@ -55,31 +59,19 @@ module _ (board : Origin Terms Progress) (seat : Standing Terms Progress BoardCa
 
   pub may_draw : dones seat.own ≡ 0 → 1 ≤ seat.left
   may_draw none =
-      let a : ℕ = draws seat.own in
-      let b : ℕ = dones seat.own in
-      let c : ℕ = posts seat.own in
-      let l : ℕ = length seat.own in
-      let n : ℕ = task_count board.base in
-      let h1 : a ≤ n = own_draws in
-      let h2 : l ≡ a + b + c = own_kinds in
-      let h3 : b ≡ 0 = none in
-      let h4 : c ≤ n = is_seat.few_posts in
-      let h5 : seat.left + l ≡ 2 * n + 1 = is_seat.allotment in
-      let goal : 1 ≤ seat.left = omega arith in goal
+      left_of (draws seat.own) (dones seat.own) (posts seat.own) (length seat.own) (task_count board.base) seat.left own_draws own_kinds (no_end (dones seat.own) (posts seat.own) (task_count board.base) none is_seat.few_posts)
+      is_seat.allotment
+    where
+      no_end : (b c n : ℕ) → b ≡ 0 → c ≤ n → b + c ≤ n
+      no_end b c n none few = omega arith
 
   pub may_post : posts seat.own < task_count board.base → 1 ≤ seat.left
   may_post few =
-      let a : ℕ = draws seat.own in
-      let b : ℕ = dones seat.own in
-      let c : ℕ = posts seat.own in
-      let l : ℕ = length seat.own in
-      let n : ℕ = task_count board.base in
-      let h1 : a ≤ n = own_draws in
-      let h2 : l ≡ a + b + c = own_kinds in
-      let h3 : b ≤ 1 = is_seat.one_done in
-      let h4 : c < n = few in
-      let h5 : seat.left + l ≡ 2 * n + 1 = is_seat.allotment in
-      let goal : 1 ≤ seat.left = omega arith in goal
+      left_of (draws seat.own) (dones seat.own) (posts seat.own) (length seat.own) (task_count board.base) seat.left own_draws own_kinds (one_end (dones seat.own) (posts seat.own) (task_count board.base) is_seat.one_done few)
+      is_seat.allotment
+    where
+      one_end : (b c n : ℕ) → b ≤ 1 → c < n → b + c ≤ n
+      one_end b c n one few = omega arith
 
 front_of : {X : Type 0} (xs : List X) (x : X) → take (length (xs ++ x ∷ []) - 1) (xs ++ x ∷ []) ≡ xs
 front_of xs x =

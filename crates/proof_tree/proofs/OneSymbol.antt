@@ -25,32 +25,8 @@ pub digits_of : Option ℕ → List ℕ
 digits_of None = []
 digits_of (Some place) = decimal place
 
-pub by_letter : (sign : Sign) → symbol sign ≡ letter_of sign ∷ digits_of (number_of sign)
-unfolding letter_of digits_of
-by_letter Champion = refl
-by_letter Shut = refl
-by_letter (Closed Plain) = refl
-by_letter (Closed (Budget place)) = refl
-by_letter (Closed (Credits place)) = refl
-by_letter (Closed (Number place)) = refl
-by_letter Forced = refl
-by_letter Open = refl
-by_letter Passed = refl
-
 is_lettered : ℕ → Bool
 is_lettered byte = byte == 98 || (byte == 99 || byte == 109)
-
-has_number : (sign : Sign) → is_some (number_of sign) ≡ is_lettered (letter_of sign)
-unfolding letter_of is_lettered
-has_number Champion = refl
-has_number Shut = refl
-has_number (Closed Plain) = refl
-has_number (Closed (Budget place)) = refl
-has_number (Closed (Credits place)) = refl
-has_number (Closed (Number place)) = refl
-has_number Forced = refl
-has_number Open = refl
-has_number Passed = refl
 
 single_by : ℕ → Sign
 single_by byte = if byte == 42 then Champion else (if byte == 120 then Shut else (if byte == 110 then Closed Plain else (if byte == 33 then Forced else (if byte == 43 then Open else Passed))))
@@ -60,20 +36,29 @@ sign_by : ℕ → Option ℕ → Sign
 sign_by byte None = single_by byte
 sign_by byte (Some place) = Closed (if byte == 98 then Budget place else (if byte == 99 then Credits place else Number place))
 
-sign_back : (sign : Sign) → sign_by (letter_of sign) (number_of sign) ≡ sign
-unfolding letter_of sign_by single_by
-sign_back Champion = refl
-sign_back Shut = refl
-sign_back (Closed Plain) = refl
-sign_back (Closed (Budget place)) = refl
-sign_back (Closed (Credits place)) = refl
-sign_back (Closed (Number place)) = refl
-sign_back Forced = refl
-sign_back Open = refl
-sign_back Passed = refl
+-- a sign is spelled by its letter and its digits, the letter tells whether digits follow, and both together tell the sign
+record IsLettered (sign : Sign) : Type 0 where
+  spelled : symbol sign ≡ letter_of sign ∷ digits_of (number_of sign)
+  numbered : is_some (number_of sign) ≡ is_lettered (letter_of sign)
+  back : sign_by (letter_of sign) (number_of sign) ≡ sign
+
+lettered : (sign : Sign) → IsLettered sign
+unfolding letter_of digits_of is_lettered sign_by single_by
+lettered Champion = record { spelled = refl; numbered = refl; back = refl }
+lettered Shut = record { spelled = refl; numbered = refl; back = refl }
+lettered (Closed Plain) = record { spelled = refl; numbered = refl; back = refl }
+lettered (Closed (Budget place)) = record { spelled = refl; numbered = refl; back = refl }
+lettered (Closed (Credits place)) = record { spelled = refl; numbered = refl; back = refl }
+lettered (Closed (Number place)) = record { spelled = refl; numbered = refl; back = refl }
+lettered Forced = record { spelled = refl; numbered = refl; back = refl }
+lettered Open = record { spelled = refl; numbered = refl; back = refl }
+lettered Passed = record { spelled = refl; numbered = refl; back = refl }
+
+pub by_letter : (sign : Sign) → symbol sign ≡ letter_of sign ∷ digits_of (number_of sign)
+by_letter sign = (lettered sign).spelled
 
 same_sign : (a b : Sign) → letter_of a ≡ letter_of b → number_of a ≡ number_of b → a ≡ b
-same_sign a b letter number = sym (sign_back a) ∙ ap (λ l. sign_by l (number_of a)) letter ∙ ap (sign_by (letter_of b)) number ∙ sign_back b
+same_sign a b letter number = sym (lettered a).back ∙ ap (λ l. sign_by l (number_of a)) letter ∙ ap (sign_by (letter_of b)) number ∙ (lettered b).back
 
 same_number : (m n : Option ℕ) (r s : List ℕ) → is_some m ≡ is_some n → ((p : ℕ) → m ≡ Some p → (p < 100) × NoDigitFirst r) → ((p : ℕ) → n ≡ Some p → (p < 100) × NoDigitFirst s) → digits_of m ++ r ≡ digits_of n ++ s → m ≡ n
 unfolding digits_of
@@ -89,7 +74,7 @@ one_symbol a b text r s first second =
     let whole : letter_of a ∷ (digits_of (number_of a) ++ r) ≡ letter_of b ∷ (digits_of (number_of b) ++ s) = sym x ∙ y in
     let letter : letter_of a ≡ letter_of b = cc whole in
     let later : digits_of (number_of a) ++ r ≡ digits_of (number_of b) ++ s = cc whole in
-    let both : is_some (number_of a) ≡ is_some (number_of b) = has_number a ∙ ap is_lettered letter ∙ sym (has_number b) in
+    let both : is_some (number_of a) ≡ is_some (number_of b) = (lettered a).numbered ∙ ap is_lettered letter ∙ sym (lettered b).numbered in
     same_sign a b letter (same_number (number_of a) (number_of b) r s both (λ p some. (first.short p some, first.whole p some)) (λ p some. (second.short p some, second.whole p some)) later)
 
 -- a symbol's first byte is no digit

@@ -46,16 +46,16 @@ pub fn published_audit<R: Threads + Wait + Sync, G: Gate + Sync>(
     roll: &Roll,
     settings: &Settings,
     streams: &[Vec<Command>],
-    text: &[u8],
+    text: Vec<u8>,
     gate: &G,
 ) -> Result<Vec<u8>, CheckEnd>
     requires workers { (1 ≤ workers) × (workers ≤ MAX_WORKERS) }
-    requires text { length text.now < 2 ^ 32 - 1 }
+    requires text { length text.items < 2 ^ 32 - 1 }
     requires spread { settings.now.spread ≤ 49 }
     requires raise { settings.now.raise ≤ 50 }
-    ensures audited { IfOk result (λ audited. IsAuditOf (market_of catalog.now roll.now settings.now) (map (λ stream. stream.items) streams.now) text.now audited.items) }
-    ensures first { IfErr result (λ end. OnFound end (IsFirstFinding (market_of catalog.now roll.now settings.now) (map (λ stream. stream.items) streams.now) text.now)) }
-    ensures refused { IfErr result (λ end. OnFound end (λ _. ¬ IsAccepted (market_of catalog.now roll.now settings.now) (map (λ stream. stream.items) streams.now) text.now)) }
+    ensures audited { IfOk result (λ audited. IsAuditOf (market_of catalog.now roll.now settings.now) (map (λ stream. stream.items) streams.now) text.items audited.items) }
+    ensures first { IfErr result (λ end. OnFound end (IsFirstFinding (market_of catalog.now roll.now settings.now) (map (λ stream. stream.items) streams.now) text.items)) }
+    ensures refused { IfErr result (λ end. OnFound end (λ _. ¬ IsAccepted (market_of catalog.now roll.now settings.now) (map (λ stream. stream.items) streams.now) text.items)) }
     ensures named { IfErr result (λ end. OnFound end (IsNamedIn (tables_of catalog.now roll.now))) }
 {
     let accepted = accept(alloc, catalog, roll, settings, streams, text)?;

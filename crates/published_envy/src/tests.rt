@@ -130,6 +130,7 @@ fn audited<R: Abort + Threads + Wait + Sync>(
     let stream = read_stream(alloc, case.session, 100).expect(rt, "commands");
     let mut streams = Vec::new(alloc);
     streams.push(stream).expect(rt, "memory");
+    let text = text.to_vec(alloc).expect(rt, "memory");
     assert!(rt; text.len() < 1000);
     assert!(rt; settings.spread <= 49 && settings.raise <= 50);
     published_audit(

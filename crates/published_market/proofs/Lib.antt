@@ -12,3 +12,4 @@ pub mod Found
 pub mod Telling
 pub mod Existing
 pub mod Merged
+pub mod Rooming

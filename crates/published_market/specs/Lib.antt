@@ -3,3 +3,4 @@ pub mod Publishing
 pub mod Laws
 pub mod Making
 pub mod Stages
+pub mod Rooms

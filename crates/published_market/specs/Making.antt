@@ -1,14 +1,23 @@
 -- What the making of a publication goes by.
-use Rattle.std.specs.Prelude.{ℕ, ◌≡◌, ◌<◌, ◌^◌, Some, List, slice_get}
+use Rattle.std.specs.Prelude.{ℕ, ◌≡◌, ◌<◌, ◌^◌, All, Some, List, length, map, slice_get, take}
+use Rattle.std.specs.List.{AllZip}
 use Rattle.market_units.specs.declared.units.Tokens.{Tokens}
-use Rattle.bundle_rules.specs.Demand.{IsBest}
+use Rattle.bundle_rules.specs.Demand.{IsBest, price_in}
 use Rattle.bundle_rules.specs.Menus.{wishes_of}
 use Rattle.bundle_rules.specs.Ordinals.{IsBundle}
 use Rattle.bundle_bounds.specs.Offers.{Offer}
+use Rattle.demand_api.specs.declared.crowd.Crowd.{Crowd}
 use Rattle.demand_api.specs.Crowds.{CrowdData, Student}
+use Rattle.demand_api.specs.Made.{crowd_of, students_of}
+use Rattle.aftermarket_stage.specs.declared.turns.Turn.{Turn}
+use Rattle.aftermarket_stage.specs.After.{turns_of}
 use Rattle.aftermarket_stage.specs.Turns.{TurnData}
-use Rattle.market_certificate.specs.Publications.{HasTreeBytes, ProvedTurn}
-use Rattle.published_market.specs.Turns.{offer_at}
+use Rattle.market_certificate.specs.declared.publication.Proved as proved
+use Rattle.market_certificate.specs.declared.publication.ProvedTurn as turn
+use Rattle.market_certificate.specs.Publications.{HasTreeBytes, Proved, ProvedTurn}
+use Rattle.market_certificate.specs.Views.{proved_of, turn_of as published_of}
+use Rattle.published_parts.specs.Offers.{IsProvedDemand}
+use Rattle.published_market.specs.Turns.{IsPublishedTurn, offer_at}
 
 -- at most 8 sections, ascending, and a tree of one byte or more, each of its alphabet
 pub record HasForm (bundle tree : List ℕ) : Type 0 where
@@ -29,3 +38,13 @@ pub record IsBestTurn (crowd : CrowdData) (prices : List Tokens) (raise : ℕ) (
   pub who : Student
   pub listed : slice_get crowd.students turn.student ≡ Some who
   pub best : IsBestOf (offer_at prices raise who turn) turn.bundle
+
+-- what the first students take at the prices, with its trees
+pub record AreProved (crowd : Crowd) (prices : List Tokens) (all : List proved.Proved) : Type 0 where
+  pub proved : AllZip (IsProvedDemand crowd.sections (price_in prices)) (take (length all) (students_of crowd.menus.items crowd.budgets.items)) (map proved_of all)
+  pub form : All (λ (proved : Proved). HasForm proved.bundle proved.tree) (map proved_of all)
+
+-- the first turns, each with the tree of its bundle
+pub record AreProvedTurns (crowd : Crowd) (prices : List Tokens) (raise : ℕ) (turns : List Turn) (all : List turn.ProvedTurn) : Type 0 where
+  pub published : AllZip (IsPublishedTurn (crowd_of crowd.menus.items crowd.budgets.items crowd.sections) prices raise) (take (length all) (turns_of turns)) (map published_of all)
+  pub form : All HasTurnForm (map published_of all)

@@ -1,5 +1,5 @@
 // Bundles with their trees.
-ghost use Rattle.std.specs.Prelude.{◌≡◌, All, IfOk, map};
+ghost use Rattle.std.specs.Prelude.{◌≡◌, ◌<◌, ◌≤◌, ◌+◌, ℕ, All, IfOk, OnOk, length, map, nat_lt};
 ghost use Rattle.std.specs.FinSet as set;
 ghost use Rattle.std.specs.List.{AllZip};
 ghost use Rattle.bundle_bounds.specs.Offers.{offer_of};
@@ -11,16 +11,19 @@ ghost use Rattle.demand_api.specs.Made.{MakeCrowd, crowd_of};
 ghost use Rattle.oversubscription_stage.specs.Rounds.{AreTaken};
 ghost use Rattle.market_certificate.specs.Views.{proved_of};
 ghost use Rattle.published_parts.specs.Offers.{IsProvedBest, IsProvedDemand};
-ghost use Rattle.published_market.specs.Making.{HasForm};
+ghost use Rattle.published_market.specs.Making.{AreProved, HasForm};
+ghost use Rattle.published_market.specs.Rooms.{AreRoomsOfStudents, IsRoomOf, IsRoomOfStudent};
 
+use crate::rooms::{Room, reserve_rooms, workers_for};
 use bundle_rules::{Bundle, Menu};
 use demand_api::Crowd;
 use market_certificate::Proved;
 use market_units::{NoMemory, SectionSet, Tokens};
-use proof_tree::build;
 use std::alloc::Global;
+use std::thread;
+use std::thread::Threads;
 
-// The best bundle of a menu with its tree.
+// The best bundle of a menu with its tree, which is in the room where it fits.
 pub(crate) fn prove_bundle(
     alloc: Global,
     menu: &Menu,
@@ -28,25 +31,117 @@ pub(crate) fn prove_bundle(
     budget: Tokens,
     allowed: &SectionSet,
     bundle: &Bundle,
+    room: &Room,
 ) -> Result<Proved, NoMemory>
     requires prices { HasPrices menu.now prices.now }
     requires best { IsBest (wishes_of menu.now) (price_in prices.now) budget.0 (set.contains allowed.now) (sections_of bundle.now) }
+    requires room { IsRoomOf (offer_of menu.now prices.now budget.0 allowed.now) (sections_of bundle.now) room.now }
     ensures bundle { IfOk result (λ proved. sections_of proved.bundle ≡ sections_of bundle.now) }
     ensures proved { IfOk result (λ proved. IsProvedBest (offer_of menu.now prices.now budget.0 allowed.now) (sections_of proved.bundle) proved.tree.items) }
     ensures form { IfOk result (λ proved. HasForm (sections_of proved.bundle) proved.tree.items) }
 {
     prove!(menu.len() <= 60);
     prove!(bundle.sections().len() <= 8);
-    let tree = build(alloc, menu, prices, budget, allowed, bundle)?;
+    let tree = room.tree(alloc, menu, prices, budget, allowed, bundle)?;
     Ok(Proved {
         bundle: *bundle,
         tree,
     })
 }
 
-// What each student of the crowd takes at the prices, with its tree.
-pub(crate) fn prove_bundles(
+// Writes the tree of what the student at a place takes to the room, where it fits.
+fn fill_room(
+    crowd: &Crowd,
+    prices: &[Tokens],
+    allowed: &SectionSet,
+    bundles: &[Bundle],
+    place: usize,
+    room: &mut Room,
+)
+    requires crowd { MakeCrowd crowd.now.menus.items crowd.now.budgets.items crowd.now.sections }
+    requires prices { ArePricesFor (crowd_of crowd.now.menus.items crowd.now.budgets.items crowd.now.sections) prices.now }
+    requires allowed { (s : ℕ) → set.contains allowed.now s ≡ nat_lt s crowd.now.sections }
+    requires bundles { AreTaken (crowd_of crowd.now.menus.items crowd.now.budgets.items crowd.now.sections) prices.now bundles.now }
+    requires place { place < length bundles.now }
+    ensures { IsRoomOfStudent crowd.now prices.now allowed.now bundles.now place room.new }
+{
+    let menu = &crowd.menus[place];
+    let budget = crowd.budgets[place];
+    let bundle = &bundles[place];
+    room.fill(menu, prices, budget, allowed, bundle);
+}
+
+// Writes the trees of what the students from the first on take to the rooms, one to each, in threads.
+fn fill_rooms<R: Threads + Sync>(
+    rt: &R,
+    workers: u16,
+    crowd: &Crowd,
+    prices: &[Tokens],
+    allowed: &SectionSet,
+    bundles: &[Bundle],
+    first: usize,
+    rooms: &mut [Room],
+)
+    requires crowd { MakeCrowd crowd.now.menus.items crowd.now.budgets.items crowd.now.sections }
+    requires prices { ArePricesFor (crowd_of crowd.now.menus.items crowd.now.budgets.items crowd.now.sections) prices.now }
+    requires allowed { (s : ℕ) → set.contains allowed.now s ≡ nat_lt s crowd.now.sections }
+    requires bundles { AreTaken (crowd_of crowd.now.menus.items crowd.now.budgets.items crowd.now.sections) prices.now bundles.now }
+    requires places { first + length rooms.old ≤ length bundles.now }
+    ensures count { length rooms.new ≡ length rooms.old }
+    ensures rooms { AreRoomsOfStudents crowd.now prices.now allowed.now bundles.now first rooms.new }
+{
+    let threads = workers_for(workers, rooms.len());
+    thread::for_each_mut(
+        rt,
+        rooms,
+        threads,
+        &|n, room|
+            requires { (first + n < length bundles.now) × MakeCrowd crowd.now.menus.items crowd.now.budgets.items crowd.now.sections
+                × ArePricesFor (crowd_of crowd.now.menus.items crowd.now.budgets.items crowd.now.sections) prices.now
+                × ((s : ℕ) → set.contains allowed.now s ≡ nat_lt s crowd.now.sections)
+                × AreTaken (crowd_of crowd.now.menus.items crowd.now.budgets.items crowd.now.sections) prices.now bundles.now }
+            ensures { IsRoomOfStudent crowd.entry.now prices.entry.now allowed.entry.now bundles.entry.now (first + n) room.exit.now }
+        { fill_room(crowd, prices, allowed, bundles, first + n, room) },
+    );
+}
+
+// Puts what the next students take behind the others, with its trees: one for each room.
+fn put_bundles(
     alloc: Global,
+    crowd: &Crowd,
+    prices: &[Tokens],
+    allowed: &SectionSet,
+    bundles: &[Bundle],
+    rooms: &[Room],
+    all: &mut Vec<Proved>,
+) -> Result<(), NoMemory>
+    requires crowd { MakeCrowd crowd.now.menus.items crowd.now.budgets.items crowd.now.sections }
+    requires prices { ArePricesFor (crowd_of crowd.now.menus.items crowd.now.budgets.items crowd.now.sections) prices.now }
+    requires allowed { (s : ℕ) → set.contains allowed.now s ≡ nat_lt s crowd.now.sections }
+    requires bundles { AreTaken (crowd_of crowd.now.menus.items crowd.now.budgets.items crowd.now.sections) prices.now bundles.now }
+    requires places { length all.old.items + length rooms.now ≤ length bundles.now }
+    requires rooms { AreRoomsOfStudents crowd.now prices.now allowed.now bundles.now (length all.old.items) rooms.now }
+    requires proved { AreProved crowd.now prices.now all.old.items }
+    ensures count { OnOk result (length all.new.items ≡ length all.old.items + length rooms.now) }
+    ensures proved { OnOk result (AreProved crowd.now prices.now all.new.items) }
+{
+    'rooms: for room in rooms {
+        let place = all.len();
+        let menu = &crowd.menus[place];
+        let budget = crowd.budgets[place];
+        let bundle = &bundles[place];
+        all.push(prove_bundle(alloc, menu, prices, budget, allowed, bundle, room)?)?;
+    }
+    Ok(())
+}
+
+// What each student of the crowd takes at the prices, with its tree. So many workers write the trees to rooms of this size,
+// group after group; one that does not fit is built afterwards.
+pub(crate) fn prove_bundles<R: Threads + Sync>(
+    rt: &R,
+    alloc: Global,
+    workers: u16,
+    size: usize,
     crowd: &Crowd,
     prices: &[Tokens],
     bundles: &[Bundle],
@@ -59,10 +154,13 @@ pub(crate) fn prove_bundles(
 {
     let allowed = SectionSet::full(crowd.sections);
     let mut all = Vec::with_capacity(alloc, bundles.len())?;
-    'students: for (place, bundle) in bundles.iter().enumerate() {
-        let menu = &crowd.menus[place];
-        let budget = crowd.budgets[place];
-        all.push(prove_bundle(alloc, menu, prices, budget, &allowed, bundle)?)?;
+    let mut rooms = reserve_rooms(alloc, bundles.len(), size)?;
+    'groups: while all.len() < bundles.len() {
+        let first = all.len();
+        let count = rooms.len().min(bundles.len() - first);
+        let group = &mut rooms[..count];
+        fill_rooms(rt, workers, crowd, prices, &allowed, bundles, first, group);
+        put_bundles(alloc, crowd, prices, &allowed, bundles, group, &mut all)?;
     }
     Ok(all)
 }

@@ -6,6 +6,7 @@ mod crowd;
 pub mod laws;
 mod order;
 mod publishing;
+mod rooms;
 mod seats;
 mod turns;
 

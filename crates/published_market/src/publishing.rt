@@ -14,6 +14,7 @@ ghost use Rattle.published_market.specs.Stages.{AreStages, stages_of};
 
 use crate::bundles::prove_bundles;
 use crate::order::order_of;
+use crate::rooms::ROOM;
 use crate::seats::used_seats;
 use crate::turns::prove_turns;
 use aftermarket_stage::{After, aftermarket};
@@ -76,11 +77,42 @@ struct Stages {
 
 /// Holds the market after a journal, and gives what it publishes: the budgets; the prices that the search finds; the
 /// prices at which the elimination ends, with each student's best bundle at them; the turns of the aftermarket; and what
-/// is held at the end. Each bundle has its tree. The crowd is that of the market after the journal, and is the one whose
-/// demands are asked. `NoPrices` comes exactly where the search's least error exceeds what the settings accept.
+/// is held at the end. Each bundle has its tree. So many workers write the trees, and one where that is 0; their number
+/// changes nothing that is published. The crowd is that of the market after the journal, and is the one whose demands are
+/// asked. `NoPrices` comes exactly where the search's least error exceeds what the settings accept.
 pub fn publish<R: Threads + Wait + Sync, D: Demands>(
     rt: &R,
     alloc: Global,
+    workers: u16,
+    catalog: &Catalog,
+    roll: &Roll,
+    settings: &Settings,
+    journal: &[Entry],
+    crowd: &Crowd,
+    demands: &mut D,
+) -> Result<Published, PublishEnd>
+    requires sessions { All (λ entry. IsSession entry.session) journal.now }
+    requires crowd { MakeCrowd crowd.now.menus.items crowd.now.budgets.items crowd.now.sections }
+    requires is_crowd { IsCrowdIn (market_of catalog.now roll.now settings.now) journal.now (crowd_of crowd.now.menus.items crowd.now.budgets.items crowd.now.sections) }
+    requires asked { D.crowd demands.old ≡ crowd_of crowd.now.menus.items crowd.now.budgets.items crowd.now.sections }
+    requires settings { AreInRange settings.now }
+    ensures crowd { D.crowd demands.new ≡ D.crowd demands.old }
+    ensures published { IfOk result (λ published. IsPublicationOf (market_of catalog.now roll.now settings.now) journal.now
+        (lengths_of published.turns published.rounds published.passes) (publication_of published.publication)) }
+    ensures in_range { IfOk result (λ published. IsPublication (tables_of catalog.now roll.now) (publication_of published.publication)) }
+    ensures no_prices { (least : ℕ) → result ≡ Err (PublishEnd.NoPrices least) → HasNoPrices (market_of catalog.now roll.now settings.now) journal.now least }
+{
+    publish_by(
+        rt, alloc, workers, ROOM, catalog, roll, settings, journal, crowd, demands,
+    )
+}
+
+// Publishes the market, where the threads that write trees have rooms of this size.
+pub(crate) fn publish_by<R: Threads + Wait + Sync, D: Demands>(
+    rt: &R,
+    alloc: Global,
+    workers: u16,
+    room: usize,
     catalog: &Catalog,
     roll: &Roll,
     settings: &Settings,
@@ -102,7 +134,9 @@ pub fn publish<R: Threads + Wait + Sync, D: Demands>(
     let _few_sections = catalog.len();
     let seats = catalog.all_seats();
     let stages = hold_stages(rt, alloc, seats, settings, crowd, demands)?;
-    Ok(put_together(alloc, journal, seats, settings, crowd, stages)?)
+    Ok(put_together(
+        rt, alloc, workers, room, journal, seats, settings, crowd, stages,
+    )?)
 }
 
 // Holds the three stages, one after another.
@@ -160,8 +194,11 @@ fn find_prices<R: Threads + Wait + Sync, D: Demands>(
 }
 
 // The publication of these stages.
-fn put_together(
+fn put_together<R: Threads + Sync>(
+    rt: &R,
     alloc: Global,
+    workers: u16,
+    room: usize,
     journal: &[Entry],
     seats: &[u16],
     settings: &Settings,
@@ -187,8 +224,25 @@ fn put_together(
     } = stages;
     let order = order_of(alloc, journal)?;
     let budgets = crowd.budgets.to_vec(alloc)?;
-    let bundles = prove_bundles(alloc, crowd, &settled.prices, &settled.bundles)?;
-    let turns = prove_turns(alloc, crowd, &settled.prices, settings.raise, &after.turns)?;
+    let bundles = prove_bundles(
+        rt,
+        alloc,
+        workers,
+        room,
+        crowd,
+        &settled.prices,
+        &settled.bundles,
+    )?;
+    let turns = prove_turns(
+        rt,
+        alloc,
+        workers,
+        room,
+        crowd,
+        &settled.prices,
+        settings.raise,
+        &after.turns,
+    )?;
     let used = used_seats(alloc, &after.used, seats)?;
     Ok(Published {
         publication: Publication {

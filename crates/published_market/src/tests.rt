@@ -5,6 +5,8 @@ ghost use Rattle.preference_desk.specs.DeskView.{names_of};
 ghost use Rattle.published_parts.specs.Markets.{market_of, names_in};
 
 use super::*;
+use crate::publishing::publish_by;
+use crate::rooms::ROOM;
 use course_catalog::{Catalog, read_catalog};
 use demand_api::PlainDemands;
 use market_certificate::put_publication;
@@ -31,6 +33,11 @@ const FOUR_STUDENTS: &[u8] =
 
 const FOUR_WISHES: &[u8] = b"rate s1 X 50\nrate s2 X 50\nrate s3 X 50\nrate s4 X 50\n";
 
+const FOUR_SECTIONS: &[u8] =
+    b"section,course,seats,credits,meetings\nA,AA,9,1,\nB,BB,30,1,\nC,CC,1,1,\nD,DD,2,1,\n";
+
+const FORTY_NAMES: &[u8] = b"abcdefghijklmnopqrstuvwxyzABCDEFGHIJKLMN";
+
 const TWO_WISHES: &[u8] = b"rate u X 50\nrate v X 50\n";
 
 // Whether each entry is of a session from 1 to 64.
@@ -53,10 +60,13 @@ fn say_each(rt: &impl Abort, desk: &mut Desk, commands: &[Command])
     }
 }
 
-// The text that the market publishes after the desk's journal, or the least error where no prices are found.
+// The text that the market publishes after the desk's journal, or the least error where no prices are found. So many
+// workers write trees to rooms of this size.
 fn text_of<R: Abort + Threads + Wait + Sync>(
     rt: &R,
     alloc: Global,
+    workers: u16,
+    room: usize,
     catalog: &Catalog,
     roll: &Roll,
     settings: &Settings,
@@ -70,9 +80,11 @@ fn text_of<R: Abort + Threads + Wait + Sync>(
     let crowd = crowd_after(alloc, catalog, roll, settings, desk).expect(rt, "memory");
     let crowd = Arc::new(alloc, crowd).expect(rt, "memory");
     let mut demands = PlainDemands::make(crowd.clone().expect(rt, "memory"));
-    match publish(
+    match publish_by(
         rt,
         alloc,
+        workers,
+        room,
         catalog,
         roll,
         settings,
@@ -98,6 +110,20 @@ fn held<R: Abort + Threads + Wait + Sync>(
     settings: &[u8],
     session: &[u8],
 ) -> Result<Vec<u8>, u64> {
+    held_by(rt, alloc, 1, ROOM, catalog, roll, settings, session)
+}
+
+// The same, where so many workers write trees to rooms of this size.
+fn held_by<R: Abort + Threads + Wait + Sync>(
+    rt: &R,
+    alloc: Global,
+    workers: u16,
+    room: usize,
+    catalog: &[u8],
+    roll: &[u8],
+    settings: &[u8],
+    session: &[u8],
+) -> Result<Vec<u8>, u64> {
     assert!(rt; catalog.len() < 1000 && roll.len() < 1000);
     let catalog = read_catalog(alloc, catalog).expect(rt, "a catalogue");
     let roll = read_roll(alloc, roll).expect(rt, "a roll");
@@ -105,7 +131,49 @@ fn held<R: Abort + Threads + Wait + Sync>(
     let commands = read_stream(alloc, session, 100).expect(rt, "commands");
     let mut desk = Desk::prepare(alloc, &catalog, &roll, 100).expect(rt, "memory");
     say_each(rt, &mut desk, &commands);
-    text_of(rt, alloc, &catalog, &roll, &settings, &desk)
+    text_of(rt, alloc, workers, room, &catalog, &roll, &settings, &desk)
+}
+
+// The text with a line for each of the forty students: what stands before its name, the name, and what stands behind.
+fn with_lines<R: Abort>(
+    rt: &R,
+    alloc: Global,
+    text: &[u8],
+    before: &[u8],
+    behind: &[u8],
+) -> Vec<u8> {
+    let mut whole = text.to_vec(alloc).expect(rt, "memory");
+    'names: for name in FORTY_NAMES {
+        whole.extend_from_slice(before).expect(rt, "memory");
+        whole.push(*name).expect(rt, "memory");
+        whole.extend_from_slice(behind).expect(rt, "memory");
+    }
+    whole
+}
+
+// What the market of forty students and four sections publishes, where so many workers write trees to rooms of this size.
+fn forty_by<R: Abort + Threads + Wait + Sync>(
+    rt: &R,
+    alloc: Global,
+    workers: u16,
+    room: usize,
+) -> Vec<u8> {
+    let settings =
+        br#"{"seed":5,"spread":9,"accept":1000000,"turns":0,"tabu":5,"patience":3,"steps":[1],"raise":10}"#;
+    let roll = with_lines(rt, alloc, NOBODY, b"", b",100,10,2\n");
+    let once = with_lines(rt, alloc, b"", b"rate ", b" A 50\n");
+    let twice = with_lines(rt, alloc, &once, b"rate ", b" B 40\n");
+    let text = held_by(
+        rt,
+        alloc,
+        workers,
+        room,
+        FOUR_SECTIONS,
+        &roll,
+        settings,
+        &twice,
+    );
+    text.expect(rt, "prices")
 }
 
 #[test]
@@ -201,5 +269,26 @@ fn the_search_moves(rt: HostRuntime) -> Result<(), Fail> {
     let wanted =
         b"course-match 1\norder 1 1\nbudget u 100\nbudget v 105\nstart X 101\nerror 0\nprice X 101\nbundle u [] -*\nbundle v [X] +*n\nturn 1 v [X] +*n\nturn 1 u [] -*\nfinal u []\nfinal v [X]\nused X 1 1\nend\n";
     assert_eq!(rt; text.as_slice(), wanted.as_slice());
+    Ok(())
+}
+
+#[test]
+fn forty_students_by_one_and_more_workers(rt: HostRuntime) -> Result<(), Fail> {
+    let by_one = forty_by(&rt, rt.alloc(), 1, ROOM);
+    let by_two = forty_by(&rt, rt.alloc(), 2, ROOM);
+    let by_sixteen = forty_by(&rt, rt.alloc(), 16, ROOM);
+    assert!(rt; by_one.len() > 1000);
+    assert_eq!(rt; by_two.as_slice(), by_one.as_slice());
+    assert_eq!(rt; by_sixteen.as_slice(), by_one.as_slice());
+    Ok(())
+}
+
+#[test]
+fn trees_that_do_not_fit_their_rooms(rt: HostRuntime) -> Result<(), Fail> {
+    let by_one = forty_by(&rt, rt.alloc(), 1, ROOM);
+    let in_none = forty_by(&rt, rt.alloc(), 2, 0);
+    let in_three_bytes = forty_by(&rt, rt.alloc(), 2, 3);
+    assert_eq!(rt; in_none.as_slice(), by_one.as_slice());
+    assert_eq!(rt; in_three_bytes.as_slice(), by_one.as_slice());
     Ok(())
 }

@@ -16,6 +16,7 @@ use Rattle.preference_desk.specs.DeskNames.{DeskNames, has_name, ordinal_of}
 use Rattle.preference_desk.specs.DeskStep.{DeskState, is_done, changed, reply_to, state_after}
 use Rattle.preference_desk.specs.Journals.{closed_preferences, opening, state_after_all}
 use Rattle.preference_desk.specs.StudentPreferences.{no_preferences, pair_cmp, pair_of, with_pair}
+use Rattle.preference_desk.proofs.Keeping.{at_or_default, closed_keep, done_skips, pair_keeps}
 use Rattle.preference_desk.proofs.NameLemmas.{other_ordinals}
 use Rattle.preference_desk.proofs.PairLemmas.{pair_cmp_total, pair_cmp_same}
 use Rattle.preference_desk.proofs.RowLemmas.{entries-remove, entries-nothing, All-put}
@@ -23,25 +24,6 @@ use Rattle.market_menus.specs.Wanted.{HasLowerFirst}
 
 nothing_lower : HasLowerFirst no_preferences
 nothing_lower = rw (entries-nothing {K = ℕ × ℕ} {X = ℤ} pair_cmp) (All-nil (λ (adjusted : (ℕ × ℕ) × ℤ). adjusted.0.0 < adjusted.0.1))
-
-pair_lower : (pairs : FinMap {K = ℕ × ℕ} pair_cmp ℤ) (pair : ℕ × ℕ) (size : ℤ) → All (λ (adjusted : (ℕ × ℕ) × ℤ). adjusted.0.0 < adjusted.0.1) (entries pairs) → pair.0 < pair.1
-    → All (λ (adjusted : (ℕ × ℕ) × ℤ). adjusted.0.0 < adjusted.0.1) (entries (with_pair pairs pair size))
-pair_lower pairs pair size each here =
-    elim (unsigned_abs size == 0) as (λ b. All (λ (adjusted : (ℕ × ℕ) × ℤ). adjusted.0.0 < adjusted.0.1) (entries (cond b (remove pairs pair) (insert pairs pair size)))) [
-      | true ↦ rw (entries-remove pair_cmp pair_cmp_total pair_cmp_same pairs pair) (All-filter (λ e. not (eq_by_cmp pair_cmp pair e.0)) (λ (adjusted : (ℕ × ℕ) × ℤ). adjusted.0.0 < adjusted.0.1) (entries pairs) each)
-      | false ↦ rw (entries-insert pair_cmp_total pairs pair size) (All-put pair_cmp pair_cmp_total (λ (p : ℕ × ℕ). p.0 < p.1) pair size (entries pairs) each here)
-    ]
-
--- what holds of each item and of the default
-pub at_or_default : {A : Type 0} (P : A → Type 0) (xs : List A) (i : ℕ) (d : A) → All P xs → P d → P (get_or xs i d)
-at_or_default P xs i d each none = elim (cases_lt i (length xs)) [
-  | inl inside ↦ each i d inside
-  | inr above ↦ let e = get_or-eq_default xs d above in subst P (sym e) none
-]
-
-done_skips : (b : Bool) (answer rest : Reply) → is_done answer ≡ false → is_done (cond b answer rest) ≡ true → (b ≡ false) × (is_done rest ≡ true)
-done_skips true answer rest refused e = absurd (true≢false (sym e ∙ refused))
-done_skips false answer rest refused e = (refl, e)
 
 -- two different numbers as a pair
 lower_of : (a b : ℕ) → a ≢ b → min a b < max a b
@@ -60,21 +42,13 @@ changed_lower names state (Pair student first second n) each done =
     other_ordinals names.sections first second (ordinal_of names.sections first) (ordinal_of names.sections second) have.0 have.1 refl refl apart.0 in
     let at = at_or_default HasLowerFirst state.preferences (ordinal_of names.students student) no_preferences each nothing_lower in
     All-set HasLowerFirst state.preferences _ _
-    (pair_lower _ (pair_of (ordinal_of names.sections first) (ordinal_of names.sections second)) n at (lower_of (ordinal_of names.sections first) (ordinal_of names.sections second) other)) each
+    (pair_keeps (λ (pair : ℕ × ℕ). pair.0 < pair.1) _ (pair_of (ordinal_of names.sections first) (ordinal_of names.sections second)) n at (lower_of (ordinal_of names.sections first) (ordinal_of names.sections second) other)) each
 changed_lower names state (Clear student) each done = All-set HasLowerFirst state.preferences _ no_preferences nothing_lower each
 changed_lower names state Close each done = each
 changed_lower names state Unreadable each done = each
 
-step_lower : (names : DeskNames) (state : DeskState) (command : Command) (b : Bool) → is_done (reply_to names state command) ≡ b → All HasLowerFirst state.preferences → All HasLowerFirst (cond b (changed names state command) state).preferences
-step_lower names state command true e each = changed_lower names state command each e
-step_lower names state command false e each = each
-
-steps_lower : (names : DeskNames) (state : DeskState) (entries : List Entry) → All HasLowerFirst state.preferences → All HasLowerFirst (state_after_all names state entries).preferences
-steps_lower names state [] each = each
-steps_lower names state (entry ∷ more) each = steps_lower names (state_after names state entry.command) more (step_lower names state entry.command _ refl each)
-
 pub closed_lower : (names : DeskNames) (journal : List Entry) → All HasLowerFirst (closed_preferences names journal)
-closed_lower names journal = steps_lower names (opening names) journal (All-replicate HasLowerFirst (length names.students) no_preferences nothing_lower)
+closed_lower names = closed_keep HasLowerFirst names nothing_lower (changed_lower names)
 
 -- what a student wants has the lower section of each pair first
 pub wanted_lower : (names : DeskNames) (journal : List Entry) (student : ℕ) → HasLowerFirst (get_or (closed_preferences names journal) student no_preferences)

@@ -32,18 +32,18 @@ pub fn published_reason(
     roll: &Roll,
     settings: &Settings,
     streams: &[Vec<Command>],
-    text: &[u8],
+    text: Vec<u8>,
     student: StudentNo,
     section: SectionNo,
 ) -> Result<Vec<u8>, CheckEnd>
-    requires text { length text.now < 2 ^ 32 - 1 }
+    requires text { length text.items < 2 ^ 32 - 1 }
     requires spread { settings.now.spread ≤ 49 }
     requires raise { settings.now.raise ≤ 50 }
     requires student { student.0 < length roll.now.students }
     requires section { section.0 < length catalog.now.sections }
-    ensures told { IfOk result (λ told. IsToldOf (market_of catalog.now roll.now settings.now) (map (λ stream. stream.items) streams.now) text.now student.0 section.0 told.items) }
-    ensures first { IfErr result (λ end. OnFound end (IsFirstFinding (market_of catalog.now roll.now settings.now) (map (λ stream. stream.items) streams.now) text.now)) }
-    ensures refused { IfErr result (λ end. OnFound end (λ _. ¬ IsAccepted (market_of catalog.now roll.now settings.now) (map (λ stream. stream.items) streams.now) text.now)) }
+    ensures told { IfOk result (λ told. IsToldOf (market_of catalog.now roll.now settings.now) (map (λ stream. stream.items) streams.now) text.items student.0 section.0 told.items) }
+    ensures first { IfErr result (λ end. OnFound end (IsFirstFinding (market_of catalog.now roll.now settings.now) (map (λ stream. stream.items) streams.now) text.items)) }
+    ensures refused { IfErr result (λ end. OnFound end (λ _. ¬ IsAccepted (market_of catalog.now roll.now settings.now) (map (λ stream. stream.items) streams.now) text.items)) }
     ensures named { IfErr result (λ end. OnFound end (IsNamedIn (tables_of catalog.now roll.now))) }
 {
     let accepted = accept(alloc, catalog, roll, settings, streams, text)?;

@@ -70,6 +70,7 @@ fn told<R: Abort>(
     let stream = read_stream(alloc, SESSION, 100).expect(rt, "commands");
     let mut streams = Vec::new(alloc);
     streams.push(stream).expect(rt, "memory");
+    let text = text.to_vec(alloc).expect(rt, "memory");
     assert!(rt; text.len() < 1000);
     assert!(rt; settings.spread <= 49 && settings.raise <= 50);
     assert!(rt; student < roll.len());

@@ -1,7 +1,6 @@
 -- Counts of the commands of streams.
-use Rattle.std.proofs.Common.{ℕ, zero, suc, ◌≡◌, ◌≤◌, ◌<◌, ◌+◌, List, [], ◌∷◌, Vec, Global, arith, length, map, take, slice_index_or, refl, ap}
+use Rattle.std.proofs.Common.{ℕ, zero, suc, ◌≡◌, ◌≤◌, ◌<◌, ◌+◌, List, [], ◌∷◌, Vec, Global, arith, length, take, slice_index_or, ap}
 use Rattle.std.specs.Vec.{vec_len}
-use Rattle.chronicle.specs.Views.{sum_of}
 use Rattle.utility_language.specs.declared.commands.Command.{Command}
 use Rattle.session_hall.specs.Streams.{command_count}
 
@@ -45,8 +44,3 @@ command_count-within (suc k) (first ∷ more) stream below is =
     let others : ℕ = command_count more in
     let h : front + m ≤ others = rest in
     let goal : n + front + m ≤ n + others = omega arith in goal
-
--- the lengths of the streams, added up
-pub sum_of-lengths : (streams : List (Vec Command Global)) → sum_of (map vec_len streams) ≡ command_count streams
-sum_of-lengths [] = refl
-sum_of-lengths (first ∷ more) = ap (λ n. vec_len first + n) (sum_of-lengths more)

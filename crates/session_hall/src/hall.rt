@@ -6,9 +6,8 @@ ghost use Rattle.preference_desk.specs.MarketNames.{market_names};
 ghost use Rattle.preference_desk.specs.Shared.{entry_of_step};
 ghost use Rattle.session_hall.specs.Streams.{command_count, command_lists};
 
-use crate::posting::post_all;
-use crate::streams::{count_commands, lengths_of};
-use chronicle::{Chronicle, Journal};
+use crate::streams::count_commands;
+use chronicle::Journal;
 use course_catalog::Catalog;
 use market_edge::Gate;
 use market_units::{MAX_COMMANDS, MAX_SESSIONS, NoMemory};
@@ -16,6 +15,7 @@ use preference_desk::Desk;
 use std::alloc::Global;
 use std::sync::Wait;
 use std::thread::Threads;
+use stream_posting::post_streams;
 use student_roll::Roll;
 use utility_language::Command;
 
@@ -46,10 +46,7 @@ pub fn hold<R: Threads + Wait + Sync, G: Gate + Sync>(
     ensures merges { IfOk result (λ closed. MergesStreams (command_lists streams.now) (map entry_of_step closed.journal)) }
 {
     let lines = count_commands(streams);
-    let allotments = lengths_of(alloc, streams)?;
     let desk = Desk::prepare(alloc, catalog, roll, lines)?;
-    let (chronicle, mut seats) = Chronicle::start(alloc, desk, allotments)?;
-    post_all(rt, &chronicle, seats.as_mut_slice(), streams, gate);
-    let (desk, journal) = chronicle.close(seats);
+    let (desk, journal) = post_streams(rt, alloc, desk, streams, gate)?;
     Ok(ClosedDesk { desk, journal })
 }

@@ -2,7 +2,6 @@
 #![tactic(auto)]
 
 mod hall;
-mod posting;
 mod streams;
 
 pub use hall::{ClosedDesk, hold};

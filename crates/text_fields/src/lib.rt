@@ -5,7 +5,8 @@ mod bundles;
 mod fields;
 
 pub use bundles::put_bundle_field;
-pub use fields::{put_field, put_number_field, put_signed_field};
+pub use fields::put_signed_field;
+pub use market_certificate::{put_field, put_number_field};
 
 #[cfg(test)]
 mod tests;

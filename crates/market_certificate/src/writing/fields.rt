@@ -9,8 +9,8 @@ ghost use Rattle.market_certificate.specs.Texts.{bundle_text};
 use bundle_rules::Bundle;
 use market_units::{Name, NoMemory, put_number};
 
-// Puts a space and the field behind the text.
-pub(crate) fn put_field(text: &mut Vec<u8>, field: &[u8]) -> Result<(), NoMemory>
+/// Puts a space and the field behind the text. The error is want of memory.
+pub fn put_field(text: &mut Vec<u8>, field: &[u8]) -> Result<(), NoMemory>
     ensures { OnOk result (text.new.items ≡ text.old.items ++ 32 ∷ field.now) }
 {
     text.push(b' ')?;
@@ -18,8 +18,8 @@ pub(crate) fn put_field(text: &mut Vec<u8>, field: &[u8]) -> Result<(), NoMemory
     Ok(())
 }
 
-// Puts a space and the number behind the text.
-pub(crate) fn put_number_field(text: &mut Vec<u8>, n: u64) -> Result<(), NoMemory>
+/// Puts a space and the number's one spelling behind the text. The error is want of memory.
+pub fn put_number_field(text: &mut Vec<u8>, n: u64) -> Result<(), NoMemory>
     ensures { OnOk result (text.new.items ≡ text.old.items ++ 32 ∷ decimal n) }
 {
     let mut room = [0; 20];

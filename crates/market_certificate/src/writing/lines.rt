@@ -24,8 +24,8 @@ pub(crate) fn put_order(text: &mut Vec<u8>, order: &[u8]) -> Result<(), NoMemory
     Ok(())
 }
 
-// Puts the line of the error behind the text.
-pub(crate) fn put_error(text: &mut Vec<u8>, error: u64) -> Result<(), NoMemory>
+/// Puts the line of the clearing error behind the text. The error of the call is want of memory.
+pub fn put_error(text: &mut Vec<u8>, error: u64) -> Result<(), NoMemory>
     ensures { OnOk result (text.new.items ≡ text.old.items ++ error_line error ++ 10 ∷ []) }
 {
     text.extend_from_slice(b"error")?;

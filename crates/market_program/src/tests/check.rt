@@ -1,89 +1,12 @@
 // `check` over texts in memory: forged texts, each with its finding, and texts with one byte changed.
-use super::demand::{EQUAL, FOUR, RATED, SEAT};
-use super::term::{CATALOGUE, PUBLISHED, ROLL, SESSION, SETTINGS};
+use super::changes::{Change, marked, text_with};
+use super::term::{FILLED_MARKET, Market, ONE_SEAT, ORDINARY_MARKET, PUBLISHED, answer_with};
 use super::*;
 
 const LINE: &str = "check CAT STU SET TEXT S1";
 
-// The inputs of a published text, and the text.
-#[derive(Clone, Copy)]
-struct Market {
-    catalogue: &'static [u8],
-    roll: &'static [u8],
-    settings: &'static [u8],
-    session: &'static [u8],
-    text: &'static str,
-}
-
-// Lines by their numbers, from 1, in whose places others stand, or none; and what is written then.
-type Forged = (&'static [(usize, &'static str)], &'static str);
-
-// An ordinary term.
-const ORDINARY_TERM: Market = Market {
-    catalogue: CATALOGUE,
-    roll: ROLL,
-    settings: SETTINGS,
-    session: SESSION,
-    text: PUBLISHED,
-};
-
-// Four students and one seat.
-const ONE_SEAT: Market = Market {
-    catalogue: SEAT,
-    roll: FOUR,
-    settings: EQUAL,
-    session: RATED,
-    text: "course-match 1
-order 1 1 1 1
-budget s1 100
-budget s2 101
-budget s3 102
-budget s4 103
-start X 0
-error 9
-price X 103
-bundle s1 [] -*
-bundle s2 [] -*
-bundle s3 [] -*
-bundle s4 [X] +*n
-turn 1 s4 [X] +*n
-turn 1 s3 [] -*
-turn 1 s2 [] -*
-turn 1 s1 [] -*
-final s1 []
-final s2 []
-final s3 []
-final s4 [X]
-used X 1 1
-end
-",
-};
-
-// A seat that nobody can buy is filled in the aftermarket, in two passes.
-const A_SEAT_IS_FILLED: Market = Market {
-    catalogue: SEAT,
-    roll: b"student,budget,credits,courses\nu,100,10,1\nv,100,10,1\n",
-    settings: br#"{"seed":0,"spread":0,"accept":1,"turns":0,"tabu":5,"patience":3,"steps":[1],"raise":10}"#,
-    session: b"rate u X 50\nrate v X 50\n",
-    text: "course-match 1
-order 1 1
-budget u 100
-budget v 100
-start X 0
-error 1
-price X 101
-bundle u [] -*
-bundle v [] -*
-turn 1 u [X] +*n
-turn 1 v [] -*
-turn 2 u [X] +*n
-turn 2 v [] -*
-final u [X]
-final v []
-used X 1 1
-end
-",
-};
+// The lines that are changed, and what is written then.
+type Forged = (&'static [Change], &'static str);
 
 // Changes of the ordinary term.
 const FORGED_TERM: [Forged; 39] = [
@@ -201,60 +124,6 @@ const FORGED_AFTERMARKET: [Forged; 3] = [
     (&[], "accepted\n"),
 ];
 
-// The text with other lines in these places, or without them where none is given.
-fn text_with(
-    alloc: Global,
-    text: &[u8],
-    changes: &[(usize, &'static str)],
-) -> Result<Vec<u8>, Fail> {
-    let mut made = Vec::new(alloc);
-    for (place, line) in text.split(|byte| *byte == b'\n').enumerate() {
-        let Some(line) = line_with(line, place, changes) else {
-            continue;
-        };
-        if place > 0 {
-            made.push(b'\n')?;
-        }
-        made.extend_from_slice(line)?;
-    }
-    Ok(made)
-}
-
-// The line that stands in this place, from 0, if one does.
-fn line_with<'a>(
-    line: &'a [u8],
-    place: usize,
-    changes: &[(usize, &'static str)],
-) -> Option<&'a [u8]> {
-    for (number, with) in changes {
-        if *number == place.wrapping_add(1) {
-            return if with.is_empty() {
-                None
-            } else {
-                Some(with.as_bytes())
-            };
-        }
-    }
-    Some(line)
-}
-
-// How `check` ends for this text, and what it writes.
-fn checked<R: Threads + Wait + Sync + Abort>(
-    rt: &R,
-    alloc: Global,
-    market: &Market,
-    text: &[u8],
-) -> Result<(Status, String), Fail> {
-    let files = [
-        ("CAT", market.catalogue),
-        ("STU", market.roll),
-        ("SET", market.settings),
-        ("TEXT", text),
-        ("S1", market.session),
-    ];
-    run(rt, alloc, LINE, &files)
-}
-
 // Each forged text has its line.
 fn try_each<R: Threads + Wait + Sync + Abort>(
     rt: &R,
@@ -263,8 +132,8 @@ fn try_each<R: Threads + Wait + Sync + Abort>(
     forged: &[Forged],
 ) -> Result<(), Fail> {
     for (changes, line) in forged {
-        let text = text_with(alloc, market.text.as_bytes(), changes)?;
-        let (status, written) = checked(rt, alloc, market, &text)?;
+        let text = text_with(alloc, market.term.text.as_bytes(), changes)?;
+        let (status, written) = answer_with(rt, alloc, LINE, market, &text)?;
         let number = if *line == "accepted\n" { 0 } else { 8 };
         assert_eq!(rt; status.number(), number, "{line}");
         assert_eq!(rt; written.as_str(), *line);
@@ -275,9 +144,9 @@ fn try_each<R: Threads + Wait + Sync + Abort>(
 #[test]
 fn forged_texts(rt: HostRuntime) -> Result<(), Fail> {
     let alloc = rt.alloc();
-    try_each(&rt, alloc, &ORDINARY_TERM, &FORGED_TERM)?;
+    try_each(&rt, alloc, &ORDINARY_MARKET, &FORGED_TERM)?;
     try_each(&rt, alloc, &ONE_SEAT, &FORGED_SEAT)?;
-    try_each(&rt, alloc, &A_SEAT_IS_FILLED, &FORGED_AFTERMARKET)
+    try_each(&rt, alloc, &FILLED_MARKET, &FORGED_AFTERMARKET)
 }
 
 // What stands in the place of a byte.
@@ -291,11 +160,11 @@ fn try_byte<R: Threads + Wait + Sync + Abort>(
     is_only_read: bool,
 ) -> Result<(), Fail> {
     for other in OTHERS {
-        let mut text = ORDINARY_TERM.text.as_bytes().to_vec(alloc)?;
+        let mut text = PUBLISHED.as_bytes().to_vec(alloc)?;
         assert!(rt; place < text.len());
         let is_other = text[place] != other;
         text[place] = other;
-        let (status, _) = checked(rt, alloc, &ORDINARY_TERM, &text)?;
+        let (status, _) = answer_with(rt, alloc, LINE, &ORDINARY_MARKET, &text)?;
         let is_accepted = status == Status::Done;
         assert!(rt;
             !is_accepted || !is_other || is_only_read,
@@ -315,12 +184,12 @@ fn is_only_read(line: &[u8]) -> bool {
 fn texts_with_one_byte_changed(rt: HostRuntime) -> Result<(), Fail> {
     let alloc = rt.alloc();
     let mut place: usize = 0;
-    for line in ORDINARY_TERM.text.as_bytes().split(|byte| *byte == b'\n') {
+    for line in PUBLISHED.as_bytes().split(|byte| *byte == b'\n') {
         for _ in line {
             try_byte(&rt, alloc, place, is_only_read(line))?;
             place = place.wrapping_add(1);
         }
-        if place < ORDINARY_TERM.text.len() {
+        if place < PUBLISHED.len() {
             try_byte(&rt, alloc, place, false)?;
         }
         place = place.wrapping_add(1);
@@ -334,10 +203,10 @@ fn texts_at_their_limit(rt: HostRuntime) -> Result<(), Fail> {
     let alloc = rt.alloc();
     let bytes = vec![in alloc; b'x'; 67_108_865]?;
     let long = bytes.as_slice();
-    let (status, written) = checked(&rt, alloc, &ORDINARY_TERM, long)?;
+    let (status, written) = answer_with(&rt, alloc, LINE, &ORDINARY_MARKET, long)?;
     assert_eq!(rt; status, Status::TooLong { input: 4 });
     assert_eq!(rt; written.as_str(), "input 4 is too long\n");
-    let (status, written) = checked(&rt, alloc, &ORDINARY_TERM, &long[1..])?;
+    let (status, written) = answer_with(&rt, alloc, LINE, &ORDINARY_MARKET, &long[1..])?;
     assert_eq!(rt; status.number(), 8);
     assert_eq!(rt; written.as_str(), "finding: line 1 missing\n");
     Ok(())
@@ -347,9 +216,8 @@ fn texts_at_their_limit(rt: HostRuntime) -> Result<(), Fail> {
 #[test]
 fn a_byte_order_mark_is_a_fault_of_line_1(rt: HostRuntime) -> Result<(), Fail> {
     let alloc = rt.alloc();
-    let mut text = b"\xef\xbb\xbf".to_vec(alloc)?;
-    text.extend_from_slice(ORDINARY_TERM.text.as_bytes())?;
-    let (status, written) = checked(&rt, alloc, &ORDINARY_TERM, &text)?;
+    let text = marked(alloc, PUBLISHED.as_bytes())?;
+    let (status, written) = answer_with(&rt, alloc, LINE, &ORDINARY_MARKET, &text)?;
     assert_eq!(rt; status.number(), 8);
     assert_eq!(rt; written.as_str(), "finding: line 1 form\n");
     Ok(())

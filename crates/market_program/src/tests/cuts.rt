@@ -1,206 +1,193 @@
 // The ordinary term with one input cut behind each of its bytes. The answers were computed apart from this program.
+use super::changes::{Change, text_with};
 use super::term::{CATALOGUE, PUBLISHED, ROLL, SESSION, SETTINGS};
 use super::*;
 
-// The first and the last number of bytes that are kept, the number of the status, and what is written.
-type Cut = (usize, usize, u8, &'static str);
+// What is written: that an input is refused, or what is published of the whole term, but for these lines.
+#[derive(Clone, Copy)]
+enum Written {
+    Refusal(&'static str),
+    Text(&'static [Change]),
+}
 
-const OF_NO_SECTION: &str = "course-match 1
-order 1 1 1 1 1 1 1 1
-budget ann 104
-budget bob 103
-budget cat 102
-error 0
-bundle ann [] *
-bundle bob [] *
-bundle cat [] *
-turn 1 ann [] *
-turn 1 bob [] *
-turn 1 cat [] *
-final ann []
-final bob []
-final cat []
-end
-";
+// The first and the last number of bytes that are kept, and what is written.
+type Cut = (usize, usize, Written);
 
-const OF_A: &str = "course-match 1
-order 1 1 1 1 1 1 1 1
-budget ann 104
-budget bob 103
-budget cat 102
-start A 103
-error 1
-price A 104
-bundle ann [A] +*n
-bundle bob [] -*
-bundle cat [] -*
-turn 1 ann [A] +*n
-turn 1 bob [] -*
-turn 1 cat [] -*
-final ann [A]
-final bob []
-final cat []
-used A 1 1
-end
-";
+const OF_NO_SECTION: Written = Written::Text(&[
+    (6, ""),
+    (7, ""),
+    (8, ""),
+    (9, ""),
+    (10, "error 0"),
+    (11, ""),
+    (12, ""),
+    (13, ""),
+    (14, ""),
+    (15, "bundle ann [] *"),
+    (16, "bundle bob [] *"),
+    (17, "bundle cat [] *"),
+    (18, "turn 1 ann [] *"),
+    (19, "turn 1 bob [] *"),
+    (20, "turn 1 cat [] *"),
+    (21, "final ann []"),
+    (22, "final bob []"),
+    (23, "final cat []"),
+    (24, ""),
+    (25, ""),
+    (26, ""),
+    (27, ""),
+]);
 
-const OF_A_AND_B: &str = "course-match 1
-order 1 1 1 1 1 1 1 1
-budget ann 104
-budget bob 103
-budget cat 102
-start A 103
-start B 0
-error 1
-price A 104
-price B 0
-bundle ann [A,B] ++*nn
-bundle bob [] -*
-bundle cat [] -*
-turn 1 ann [A,B] ++*nn
-turn 1 bob [] -*
-turn 1 cat [] -*
-final ann [A,B]
-final bob []
-final cat []
-used A 1 1
-used B 1 2
-end
-";
+const OF_A: Written = Written::Text(&[
+    (6, "start A 103"),
+    (7, ""),
+    (8, ""),
+    (9, ""),
+    (12, ""),
+    (13, ""),
+    (14, ""),
+    (15, "bundle ann [A] +*n"),
+    (16, "bundle bob [] -*"),
+    (17, "bundle cat [] -*"),
+    (18, "turn 1 ann [A] +*n"),
+    (19, "turn 1 bob [] -*"),
+    (20, "turn 1 cat [] -*"),
+    (21, "final ann [A]"),
+    (22, "final bob []"),
+    (23, "final cat []"),
+    (25, ""),
+    (26, ""),
+    (27, ""),
+]);
 
-const OF_A_B_AND_C: &str = "course-match 1
-order 1 1 1 1 1 1 1 1
-budget ann 104
-budget bob 103
-budget cat 102
-start A 103
-start B 0
-start C 0
-error 1
-price A 104
-price B 0
-price C 0
-bundle ann [A,B] ++*nn
-bundle bob [C] -+*n
-bundle cat [] -*
-turn 1 ann [A,B] ++*nn
-turn 1 bob [C] -+*n
-turn 1 cat [] -*
-final ann [A,B]
-final bob [C]
-final cat []
-used A 1 1
-used B 1 2
-used C 1 2
-end
-";
+const OF_A_AND_B: Written = Written::Text(&[
+    (6, "start A 103"),
+    (8, ""),
+    (9, ""),
+    (13, ""),
+    (14, ""),
+    (16, "bundle bob [] -*"),
+    (17, "bundle cat [] -*"),
+    (19, "turn 1 bob [] -*"),
+    (20, "turn 1 cat [] -*"),
+    (22, "final bob []"),
+    (23, "final cat []"),
+    (26, ""),
+    (27, ""),
+]);
 
-const OF_NOBODY: &str = "course-match 1
-order 1 1 1 1 1 1 1 1
-start A 0
-start B 0
-start C 0
-start D 0
-error 0
-price A 0
-price B 0
-price C 0
-price D 0
-used A 0 1
-used B 0 2
-used C 0 2
-used D 0 1
-end
-";
+const OF_A_B_AND_C: Written = Written::Text(&[
+    (6, "start A 103"),
+    (9, ""),
+    (14, ""),
+    (17, "bundle cat [] -*"),
+    (20, "turn 1 cat [] -*"),
+    (23, "final cat []"),
+    (27, ""),
+]);
 
-const OF_ANN: &str = "course-match 1
-order 1 1 1 1 1 1 1 1
-budget ann 100
-start A 0
-start B 0
-start C 0
-start D 0
-error 0
-price A 0
-price B 0
-price C 0
-price D 0
-bundle ann [A,B] ++*nn
-turn 1 ann [A,B] ++*nn
-final ann [A,B]
-used A 1 1
-used B 1 2
-used C 0 2
-used D 0 1
-end
-";
+const OF_NOBODY: Written = Written::Text(&[
+    (3, ""),
+    (4, ""),
+    (5, ""),
+    (10, "error 0"),
+    (11, "price A 0"),
+    (15, ""),
+    (16, ""),
+    (17, ""),
+    (18, ""),
+    (19, ""),
+    (20, ""),
+    (21, ""),
+    (22, ""),
+    (23, ""),
+    (24, "used A 0 1"),
+    (25, "used B 0 2"),
+    (26, "used C 0 2"),
+    (27, "used D 0 1"),
+]);
 
-const OF_ANN_AND_BOB: &str = "course-match 1
-order 1 1 1 1 1 1 1 1
-budget ann 102
-budget bob 101
-start A 0
-start B 0
-start C 0
-start D 0
-error 1
-price A 102
-price B 0
-price C 0
-price D 0
-bundle ann [A,B] ++*nn
-bundle bob [C] -+*n
-turn 1 ann [A,B] ++*nn
-turn 1 bob [C] -+*n
-final ann [A,B]
-final bob [C]
-used A 1 1
-used B 1 2
-used C 1 2
-used D 0 1
-end
-";
+const OF_ANN: Written = Written::Text(&[
+    (3, "budget ann 100"),
+    (4, ""),
+    (5, ""),
+    (10, "error 0"),
+    (11, "price A 0"),
+    (16, ""),
+    (17, ""),
+    (19, ""),
+    (20, ""),
+    (22, ""),
+    (23, ""),
+    (26, "used C 0 2"),
+    (27, "used D 0 1"),
+]);
+
+const OF_ANN_AND_BOB: Written = Written::Text(&[
+    (3, "budget ann 102"),
+    (4, "budget bob 101"),
+    (5, ""),
+    (11, "price A 102"),
+    (17, ""),
+    (20, ""),
+    (23, ""),
+    (27, "used D 0 1"),
+]);
+
+const OF_ALL: Written = Written::Text(&[]);
 
 const CATALOGUE_CUTS: [Cut; 20] = [
-    (0, 36, 3, "input 1 row 1: header\n"),
-    (37, 38, 0, OF_NO_SECTION),
-    (39, 48, 3, "input 1 row 2: fields\n"),
-    (49, 49, 0, OF_A),
-    (50, 58, 3, "input 1 row 2: meetings\n"),
-    (59, 59, 0, OF_A),
-    (60, 69, 3, "input 1 row 2: meetings\n"),
-    (70, 71, 0, OF_A),
-    (72, 81, 3, "input 1 row 3: fields\n"),
-    (82, 82, 0, OF_A_AND_B),
-    (83, 91, 3, "input 1 row 3: meetings\n"),
-    (92, 93, 0, OF_A_AND_B),
-    (94, 103, 3, "input 1 row 4: fields\n"),
-    (104, 104, 0, OF_A_B_AND_C),
-    (105, 113, 3, "input 1 row 4: meetings\n"),
-    (114, 115, 0, OF_A_B_AND_C),
-    (116, 125, 3, "input 1 row 5: fields\n"),
-    (126, 126, 0, PUBLISHED),
-    (127, 135, 3, "input 1 row 5: meetings\n"),
-    (136, 137, 0, PUBLISHED),
+    (0, 36, Written::Refusal("input 1 row 1: header\n")),
+    (37, 38, OF_NO_SECTION),
+    (39, 48, Written::Refusal("input 1 row 2: fields\n")),
+    (49, 49, OF_A),
+    (50, 58, Written::Refusal("input 1 row 2: meetings\n")),
+    (59, 59, OF_A),
+    (60, 69, Written::Refusal("input 1 row 2: meetings\n")),
+    (70, 71, OF_A),
+    (72, 81, Written::Refusal("input 1 row 3: fields\n")),
+    (82, 82, OF_A_AND_B),
+    (83, 91, Written::Refusal("input 1 row 3: meetings\n")),
+    (92, 93, OF_A_AND_B),
+    (94, 103, Written::Refusal("input 1 row 4: fields\n")),
+    (104, 104, OF_A_B_AND_C),
+    (105, 113, Written::Refusal("input 1 row 4: meetings\n")),
+    (114, 115, OF_A_B_AND_C),
+    (116, 125, Written::Refusal("input 1 row 5: fields\n")),
+    (126, 126, OF_ALL),
+    (127, 135, Written::Refusal("input 1 row 5: meetings\n")),
+    (136, 137, OF_ALL),
 ];
 
 const ROLL_CUTS: [Cut; 11] = [
-    (0, 29, 3, "input 2 row 1: header\n"),
-    (30, 31, 0, OF_NOBODY),
-    (32, 41, 3, "input 2 row 2: fields\n"),
-    (42, 42, 3, "input 2 row 2: number in column 4\n"),
-    (43, 44, 0, OF_ANN),
-    (45, 54, 3, "input 2 row 3: fields\n"),
-    (55, 55, 3, "input 2 row 3: number in column 4\n"),
-    (56, 57, 0, OF_ANN_AND_BOB),
-    (58, 67, 3, "input 2 row 4: fields\n"),
-    (68, 68, 3, "input 2 row 4: number in column 4\n"),
-    (69, 70, 0, PUBLISHED),
+    (0, 29, Written::Refusal("input 2 row 1: header\n")),
+    (30, 31, OF_NOBODY),
+    (32, 41, Written::Refusal("input 2 row 2: fields\n")),
+    (
+        42,
+        42,
+        Written::Refusal("input 2 row 2: number in column 4\n"),
+    ),
+    (43, 44, OF_ANN),
+    (45, 54, Written::Refusal("input 2 row 3: fields\n")),
+    (
+        55,
+        55,
+        Written::Refusal("input 2 row 3: number in column 4\n"),
+    ),
+    (56, 57, OF_ANN_AND_BOB),
+    (58, 67, Written::Refusal("input 2 row 4: fields\n")),
+    (
+        68,
+        68,
+        Written::Refusal("input 2 row 4: number in column 4\n"),
+    ),
+    (69, 70, OF_ALL),
 ];
 
 const SETTINGS_CUTS: [Cut; 2] = [
-    (0, 86, 3, "input 3 row 0: not json\n"),
-    (87, 87, 0, PUBLISHED),
+    (0, 86, Written::Refusal("input 3 row 0: not json\n")),
+    (87, 87, OF_ALL),
 ];
 
 // What is written where the first so many bytes alone are there of an input.
@@ -225,6 +212,14 @@ fn answer_to_front<R: Threads + Wait + Sync + Abort>(
     run(rt, alloc, line, &files)
 }
 
+// The number of the status, and what is written.
+fn answer_of(alloc: Global, written: Written) -> Result<(u8, Vec<u8>), Fail> {
+    match written {
+        Written::Refusal(line) => Ok((3, line.as_bytes().to_vec(alloc)?)),
+        Written::Text(changes) => Ok((0, text_with(alloc, PUBLISHED.as_bytes(), changes)?)),
+    }
+}
+
 // Each front of these lengths has this answer.
 fn try_cut<R: Threads + Wait + Sync + Abort>(
     rt: &R,
@@ -233,11 +228,12 @@ fn try_cut<R: Threads + Wait + Sync + Abort>(
     whole: &[u8],
     cut: &Cut,
 ) -> Result<(), Fail> {
-    let (first, last, number, text) = cut;
+    let (first, last, told) = cut;
+    let (number, text) = answer_of(alloc, *told)?;
     for kept in *first..=*last {
         let (status, written) = answer_to_front(rt, alloc, line, whole, kept)?;
-        assert_eq!(rt; status.number(), *number, "{kept}");
-        assert_eq!(rt; written.as_str(), *text, "{kept}");
+        assert_eq!(rt; status.number(), number, "{kept}");
+        assert_eq!(rt; written.as_bytes(), text.as_slice(), "{kept}");
     }
     Ok(())
 }

@@ -1,5 +1,6 @@
 // `demand` over texts in memory.
-use super::term::{CATALOGUE, ROLL, SESSION, SETTINGS};
+use super::settings::ACCEPT_9;
+use super::term::{CATALOGUE, FOUR, RATED, ROLL, SEAT, SESSION, SETTINGS};
 use super::*;
 
 // Each number of workers gives the same bytes.
@@ -9,21 +10,11 @@ const LINES: [&str; 3] = [
     "demand 16 CAT STU SET PRICES S1",
 ];
 
-pub(super) const FOUR: &[u8] =
-    b"student,budget,credits,courses\ns1,100,10,1\ns2,101,10,1\ns3,102,10,1\ns4,103,10,1\n";
-
 const CARRIED: &[u8] =
     b"student,budget,credits,courses,carry\ns1,100,10,1,3\ns2,101,10,1,0\ns3,102,10,1,0\ns4,103,10,1,0\n";
 
-pub(super) const SEAT: &[u8] = b"section,course,seats,credits,meetings\nX,XX,1,1,\n";
-
-pub(super) const EQUAL: &[u8] =
-    br#"{"seed":0,"spread":0,"accept":9,"turns":0,"tabu":5,"patience":3,"steps":[1],"raise":10}"#;
-
 const MARKED: &[u8] =
     b"\xef\xbb\xbf{\"seed\":0,\"spread\":0,\"accept\":9,\"turns\":0,\"tabu\":5,\"patience\":3,\"steps\":[1],\"raise\":10}";
-
-pub(super) const RATED: &[u8] = b"rate s1 X 50\nrate s2 X 50\nrate s3 X 50\nrate s4 X 50\n";
 
 // What the case shows, the roll, the settings, the prices, the number of the status, and the text.
 type Case = (
@@ -39,7 +30,7 @@ const OF_ONE_SEAT: [Case; 6] = [
     (
         "four students of one seat",
         FOUR,
-        EQUAL,
+        ACCEPT_9,
         b"section,price\nX,102\n",
         0,
         "order 1 1 1 1\nbundle s1 []\nbundle s2 []\nbundle s3 [X]\nbundle s4 [X]\ncount X 2\nerror 1\n",
@@ -47,7 +38,7 @@ const OF_ONE_SEAT: [Case; 6] = [
     (
         "a price that is the budget is affordable",
         FOUR,
-        EQUAL,
+        ACCEPT_9,
         b"section,price\nX,103\n",
         0,
         "order 1 1 1 1\nbundle s1 []\nbundle s2 []\nbundle s3 []\nbundle s4 [X]\ncount X 1\nerror 0\n",
@@ -55,7 +46,7 @@ const OF_ONE_SEAT: [Case; 6] = [
     (
         "the greatest price",
         FOUR,
-        EQUAL,
+        ACCEPT_9,
         b"section,price\nX,1000001\n",
         0,
         "order 1 1 1 1\nbundle s1 []\nbundle s2 []\nbundle s3 []\nbundle s4 []\ncount X 0\nerror 1\n",
@@ -63,7 +54,7 @@ const OF_ONE_SEAT: [Case; 6] = [
     (
         "a section without a price has price 0",
         FOUR,
-        EQUAL,
+        ACCEPT_9,
         b"section,price\n",
         0,
         "order 1 1 1 1\nbundle s1 [X]\nbundle s2 [X]\nbundle s3 [X]\nbundle s4 [X]\ncount X 4\nerror 9\n",
@@ -71,7 +62,7 @@ const OF_ONE_SEAT: [Case; 6] = [
     (
         "carried tokens are budget",
         CARRIED,
-        EQUAL,
+        ACCEPT_9,
         b"section,price\nX,103\n",
         0,
         "order 1 1 1 1\nbundle s1 [X]\nbundle s2 []\nbundle s3 []\nbundle s4 [X]\ncount X 2\nerror 1\n",
@@ -90,7 +81,7 @@ const REFUSED_PRICES: [Case; 5] = [
     (
         "an empty price file",
         FOUR,
-        EQUAL,
+        ACCEPT_9,
         b"",
         3,
         "input 4 row 1: header\n",
@@ -98,7 +89,7 @@ const REFUSED_PRICES: [Case; 5] = [
     (
         "a price above its limit",
         FOUR,
-        EQUAL,
+        ACCEPT_9,
         b"section,price\nX,1000002\n",
         3,
         "input 4 row 2: number in column 2\n",
@@ -106,7 +97,7 @@ const REFUSED_PRICES: [Case; 5] = [
     (
         "a price that is given twice",
         FOUR,
-        EQUAL,
+        ACCEPT_9,
         b"section,price\nX,1\nX,1\n",
         3,
         "input 4 row 3: repeats row 2\n",
@@ -114,7 +105,7 @@ const REFUSED_PRICES: [Case; 5] = [
     (
         "a price of no section",
         FOUR,
-        EQUAL,
+        ACCEPT_9,
         b"section,price\nX,1\nY,2\n",
         3,
         "input 4 row 3: name in column 1\n",
@@ -122,7 +113,7 @@ const REFUSED_PRICES: [Case; 5] = [
     (
         "a price with three fields",
         FOUR,
-        EQUAL,
+        ACCEPT_9,
         b"section,price\nX,1,2\n",
         3,
         "input 4 row 2: fields\n",
@@ -278,7 +269,7 @@ fn demands_of_two_sessions(rt: HostRuntime) -> Result<(), Fail> {
     let files = [
         ("CAT", SEAT),
         ("STU", FOUR),
-        ("SET", EQUAL),
+        ("SET", ACCEPT_9),
         ("PRICES", b"section,price\nX,102\n".as_slice()),
         ("S1", FIRST),
         ("S2", SECOND),

@@ -1,8 +1,7 @@
 // Each call of the shelf in turn fails, and each place of the text at which the sink has no more room.
 use super::audit::ENVY_OF_TERM;
-use super::demand::{EQUAL, FOUR, SEAT};
-use super::hall::{ONE_END, ONE_SECTION, text_of};
-use super::term::{CATALOGUE, PUBLISHED, ROLL, SESSION, SETTINGS};
+use super::settings::ACCEPT_9;
+use super::term::{CATALOGUE, FILLED_SEAT, FOUR, PUBLISHED, ROLL, SEAT, SESSION, SETTINGS};
 use super::*;
 
 // An input of a few bytes takes so many calls of the shelf: its begin, its reading, its end.
@@ -21,7 +20,7 @@ fn answer_without<R: Threads + Wait + Sync + Abort>(
 }
 
 // The input that is being read is told, and nothing else is written.
-fn try_fault<R: Threads + Wait + Sync + Abort>(
+pub(super) fn try_fault<R: Threads + Wait + Sync + Abort>(
     rt: &R,
     alloc: Global,
     line: &str,
@@ -145,7 +144,7 @@ fn faults_of_the_other_forms(rt: HostRuntime) -> Result<(), Fail> {
     let files: [File; 5] = [
         ("CAT", SEAT),
         ("STU", FOUR),
-        ("SET", EQUAL),
+        ("SET", ACCEPT_9),
         ("PRICES", b"section,price\nX,102\n"),
         ("S1", b"rate s1 X 50\n"),
     ];
@@ -168,28 +167,19 @@ fn faults_of_the_other_forms(rt: HostRuntime) -> Result<(), Fail> {
     )
 }
 
-// The faults and the rooms of a hall with two streams, where the text is so.
-fn try_hall<R: Threads + Wait + Sync + Abort>(
-    rt: &R,
-    alloc: Global,
-    published: &[u8],
-) -> Result<(), Fail> {
+// The faults and the rooms of a hall with two streams.
+#[test]
+fn faults_of_a_hall(rt: HostRuntime) -> Result<(), Fail> {
+    let alloc = rt.alloc();
     let files = [
-        ("CAT", ONE_SECTION.catalogue),
-        ("STU", ONE_SECTION.roll),
-        ("TEXT", published),
+        ("CAT", FILLED_SEAT.catalogue),
+        ("STU", FILLED_SEAT.roll),
+        ("TEXT", FILLED_SEAT.text.as_bytes()),
         ("R1", b"drop u X\n".as_slice()),
         ("R2", b"\n".as_slice()),
     ];
     let line = "hall CAT STU TEXT R1 R2";
-    try_faults(rt, alloc, line, &files, 5)?;
+    try_faults(&rt, alloc, line, &files, 5)?;
     let told = "entry 1 drop u X: dropped 0\nfinal u []\nfinal v []\nused X 0 1\n";
-    try_rooms(rt, alloc, line, &files, told)
-}
-
-#[test]
-fn faults_of_a_hall(rt: HostRuntime) -> Result<(), Fail> {
-    let alloc = rt.alloc();
-    let published = text_of(alloc, &ONE_SECTION, ONE_END)?;
-    try_hall(&rt, alloc, published.as_bytes())
+    try_rooms(&rt, alloc, line, &files, told)
 }

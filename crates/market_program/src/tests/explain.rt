@@ -1,99 +1,46 @@
 // `explain` over texts in memory.
-use super::term::{CATALOGUE, PUBLISHED, ROLL, SESSION, SETTINGS};
+use super::changes::{Change, marked, text_with};
+use super::settings::{ACCEPT_0, ACCEPT_9};
+use super::term::{
+    CATALOGUE, Market, ORDINARY_MARKET, PUBLISHED, ROLL, SESSION, SETTINGS, Term, answer_with,
+};
 use super::*;
-
-// What a call looks at: the catalogue, the roll, the settings, the session, and the published text.
-type Market = (
-    &'static [u8],
-    &'static [u8],
-    &'static [u8],
-    &'static [u8],
-    &'static str,
-);
 
 // What the case shows, the student and the section, the number of the status, and the text.
 type Case = (&'static str, &'static str, u8, &'static str);
-
-const QUIET: &[u8] =
-    br#"{"seed":0,"spread":0,"accept":0,"turns":0,"tabu":5,"patience":3,"steps":[1],"raise":10}"#;
-
-const ACCEPT_NINE: &[u8] =
-    br#"{"seed":0,"spread":0,"accept":9,"turns":0,"tabu":5,"patience":3,"steps":[1],"raise":10}"#;
-
-const TERM: Market = (CATALOGUE, ROLL, SETTINGS, SESSION, PUBLISHED);
 
 const OF_TERM: [Case; 2] = [
     ("alone price", "bob A", 0, "bob A alone price\n"),
     ("unrated", "ann C", 0, "ann C unrated\n"),
 ];
 
-// The term with three seats in its first section.
-const WIDER_TERM: Market = (
-    b"section,course,seats,credits,meetings
-A,ACCT,3,1,M0900-1020;W0900-1020
-B,BIOL,2,1,M1020-1140
-C,CHEM,2,1,T0900-1020
-D,ACCT,1,1,M1000-1100
-",
-    ROLL,
-    SETTINGS,
-    SESSION,
-    "course-match 1
-order 1 1 1 1 1 1 1 1
-budget ann 104
-budget bob 103
-budget cat 102
-start A 0
-start B 0
-start C 0
-start D 0
-error 0
-price A 0
-price B 0
-price C 0
-price D 0
-bundle ann [A,B] ++*nn
-bundle bob [A,C] ++*nn
-bundle cat [D] +n+*n
-turn 1 ann [A,B] ++*nn
-turn 1 bob [A,C] ++*nn
-turn 1 cat [D] +n+*n
-final ann [A,B]
-final bob [A,C]
-final cat [D]
-used A 2 3
-used B 1 2
-used C 1 2
-used D 1 1
-end
-",
-);
+// The term with three seats in its first section: the lines of the catalogue and of the text that are changed.
+const WIDER_CATALOGUE: &[Change] = &[(2, "A,ACCT,3,1,M0900-1020;W0900-1020")];
 
-const OF_WIDER_TERM: [Case; 1] = [(
-    "clash",
-    "cat A",
-    0,
-    "cat A clash D\nbest [A] 20\nlost 25\ntree !-*\n",
-)];
+const OF_WIDER_CATALOGUE: &[Change] = &[
+    (10, "error 0"),
+    (11, "price A 0"),
+    (16, "bundle bob [A,C] ++*nn"),
+    (17, "bundle cat [D] +n+*n"),
+    (19, "turn 1 bob [A,C] ++*nn"),
+    (20, "turn 1 cat [D] +n+*n"),
+    (22, "final bob [A,C]"),
+    (24, "used A 2 3"),
+];
 
 // Credits and courses that do not suffice.
-const TIGHT: Market = (
-    b"section,course,seats,credits,meetings
+const TIGHT: Market = Market {
+    term: Term {
+        catalogue: b"section,course,seats,credits,meetings
 A,AA,1,3,
 B,BB,1,2,
 C,CC,1,5,
 ",
-    b"student,budget,credits,courses
+        roll: b"student,budget,credits,courses
 ann,0,4,2
 bob,0,4,0
 ",
-    QUIET,
-    b"rate ann A 50
-rate ann B 40
-rate ann C 99
-rate bob B 9
-",
-    "course-match 1
+        text: "course-match 1
 order 1 1 1 1
 budget ann 0
 budget bob 0
@@ -115,7 +62,14 @@ used B 0 1
 used C 0 1
 end
 ",
-);
+    },
+    settings: ACCEPT_0,
+    session: b"rate ann A 50
+rate ann B 40
+rate ann C 99
+rate bob B 9
+",
+};
 
 const OF_TIGHT: [Case; 3] = [
     ("alone courses", "bob B", 0, "bob B alone courses\n"),
@@ -129,22 +83,15 @@ const OF_TIGHT: [Case; 3] = [
 ];
 
 // Prices for which one of three students can pay.
-const DEAR: Market = (
-    TWO,
-    b"student,budget,credits,courses
+const DEAR: Market = Market {
+    term: Term {
+        catalogue: TWO,
+        roll: b"student,budget,credits,courses
 u,100,10,2
 v,100,10,2
 w,150,10,2
 ",
-    ACCEPT_NINE,
-    b"rate u A 60
-rate u B 50
-rate v A 50
-rate v B 60
-rate w A 60
-rate w B 59
-",
-    "course-match 1
+        text: "course-match 1
 order 1 1 1 1 1 1
 budget u 100
 budget v 100
@@ -170,7 +117,16 @@ used A 1 1
 used B 1 1
 end
 ",
-);
+    },
+    settings: ACCEPT_9,
+    session: b"rate u A 60
+rate u B 50
+rate v A 50
+rate v B 60
+rate w A 60
+rate w B 59
+",
+};
 
 const OF_DEAR: [Case; 1] = [(
     "beside price",
@@ -180,12 +136,11 @@ const OF_DEAR: [Case; 1] = [(
 )];
 
 // One student who takes one of two sections.
-const ONE_COURSE: Market = (
-    TWO,
-    b"student,budget,credits,courses\nann,0,10,1\n",
-    QUIET,
-    TIE,
-    "course-match 1
+const ONE_COURSE: Market = Market {
+    term: Term {
+        catalogue: TWO,
+        roll: b"student,budget,credits,courses\nann,0,10,1\n",
+        text: "course-match 1
 order 1 1
 budget ann 0
 start A 0
@@ -200,7 +155,10 @@ used A 1 1
 used B 0 1
 end
 ",
-);
+    },
+    settings: ACCEPT_0,
+    session: TIE,
+};
 
 const OF_ONE_COURSE: [Case; 4] = [
     (
@@ -220,12 +178,11 @@ const OF_ONE_COURSE: [Case; 4] = [
 ];
 
 // Two sections that are worth less together.
-const APART: Market = (
-    TWO,
-    b"student,budget,credits,courses\nann,0,10,2\n",
-    QUIET,
-    b"rate ann A 50\nrate ann B 50\npair ann A B -200\n",
-    "course-match 1
+const APART: Market = Market {
+    term: Term {
+        catalogue: TWO,
+        roll: b"student,budget,credits,courses\nann,0,10,2\n",
+        text: "course-match 1
 order 1 1 1
 budget ann 0
 start A 0
@@ -240,7 +197,10 @@ used A 1 1
 used B 0 1
 end
 ",
-);
+    },
+    settings: ACCEPT_0,
+    session: b"rate ann A 50\nrate ann B 50\npair ann A B -200\n",
+};
 
 const OF_APART: [Case; 1] = [(
     "less",
@@ -249,39 +209,16 @@ const OF_APART: [Case; 1] = [(
     "ann B less\nbest [B] 50\nlost 0\ntree +!n!*\n",
 )];
 
-// The text of one student with a number that is not written as it should be.
-const FORGED: &str = "course-match 1
-order 1 1
-budget ann 0
-start A 0
-start B 0
-error 00
-price A 0
-price B 0
-bundle ann [A] +-*n
-turn 1 ann [A] +-*n
-final ann [A]
-used A 1 1
-used B 0 1
-end
-";
-
-// How `explain` ends for a student and a section, and what it writes.
+// How `explain` ends for a student and a section where the published text is so, and what it writes.
 fn explained<R: Threads + Wait + Sync + Abort>(
     rt: &R,
     alloc: Global,
     market: &Market,
+    text: &[u8],
     names: &str,
 ) -> Result<(Status, String), Fail> {
     let line = format!(in alloc; "explain CAT STU SET TEXT {names} S1")?;
-    let files = [
-        ("CAT", market.0),
-        ("STU", market.1),
-        ("SET", market.2),
-        ("S1", market.3),
-        ("TEXT", market.4.as_bytes()),
-    ];
-    run(rt, alloc, line.as_str(), &files)
+    answer_with(rt, alloc, line.as_str(), market, text)
 }
 
 // Each case has its answer.
@@ -292,7 +229,8 @@ fn try_each<R: Threads + Wait + Sync + Abort>(
     cases: &[Case],
 ) -> Result<(), Fail> {
     for (what, names, number, text) in cases {
-        let (status, written) = explained(rt, alloc, market, names)?;
+        let published = market.term.text.as_bytes();
+        let (status, written) = explained(rt, alloc, market, published, names)?;
         assert_eq!(rt; status.number(), *number, "{what}");
         assert_eq!(rt; written.as_str(), *text, "{what}");
     }
@@ -302,25 +240,46 @@ fn try_each<R: Threads + Wait + Sync + Abort>(
 #[test]
 fn reasons_are_told(rt: HostRuntime) -> Result<(), Fail> {
     let alloc = rt.alloc();
-    try_each(&rt, alloc, &TERM, &OF_TERM)?;
-    try_each(&rt, alloc, &WIDER_TERM, &OF_WIDER_TERM)?;
+    try_each(&rt, alloc, &ORDINARY_MARKET, &OF_TERM)?;
     try_each(&rt, alloc, &TIGHT, &OF_TIGHT)?;
     try_each(&rt, alloc, &DEAR, &OF_DEAR)?;
     try_each(&rt, alloc, &ONE_COURSE, &OF_ONE_COURSE)?;
     try_each(&rt, alloc, &APART, &OF_APART)
 }
 
+// A section with a free seat clashes with what the student holds.
+#[test]
+fn a_clash_is_told(rt: HostRuntime) -> Result<(), Fail> {
+    let alloc = rt.alloc();
+    let catalogue = text_with(alloc, CATALOGUE, WIDER_CATALOGUE)?;
+    let text = text_with(alloc, PUBLISHED.as_bytes(), OF_WIDER_CATALOGUE)?;
+    let files = [
+        ("CAT", catalogue.as_slice()),
+        ("STU", ROLL),
+        ("SET", SETTINGS),
+        ("TEXT", text.as_slice()),
+        ("S1", SESSION),
+    ];
+    let line = "explain CAT STU SET TEXT cat A S1";
+    let (status, written) = run(&rt, alloc, line, &files)?;
+    assert_eq!(rt; status, Status::Done);
+    assert_eq!(rt;
+        written.as_str(),
+        "cat A clash D\nbest [A] 20\nlost 25\ntree !-*\n"
+    );
+    Ok(())
+}
+
 // A name that is not known is told before a finding, and a finding before a reason.
 #[test]
 fn names_come_before_findings(rt: HostRuntime) -> Result<(), Fail> {
     let alloc = rt.alloc();
-    let (catalogue, roll, settings, session, _) = ONE_COURSE;
-    let forged = (catalogue, roll, settings, session, FORGED);
-    let (status, written) = explained(&rt, alloc, &forged, "ann A")?;
+    let text = ONE_COURSE.term.text.as_bytes();
+    let forged = text_with(alloc, text, &[(6, "error 00")])?;
+    let (status, written) = explained(&rt, alloc, &ONE_COURSE, &forged, "ann A")?;
     assert_eq!(rt; status.number(), 8);
     assert_eq!(rt; written.as_str(), "finding: line 6 form\n");
-    let none: Market = (catalogue, roll, settings, session, "forged\n");
-    let (status, written) = explained(&rt, alloc, &none, "zoe A")?;
+    let (status, written) = explained(&rt, alloc, &ONE_COURSE, b"forged\n", "zoe A")?;
     assert_eq!(rt; status, Status::Unknown { word: 6 });
     assert_eq!(rt; written.as_str(), "no such name: word 6\n");
     Ok(())
@@ -330,15 +289,9 @@ fn names_come_before_findings(rt: HostRuntime) -> Result<(), Fail> {
 #[test]
 fn inputs_come_before_names(rt: HostRuntime) -> Result<(), Fail> {
     let alloc = rt.alloc();
-    let (catalogue, roll, settings, _, text) = ONE_COURSE;
-    let files = [
-        ("CAT", catalogue),
-        ("STU", roll),
-        ("SET", settings),
-        ("TEXT", text.as_bytes()),
-    ];
-    let line = "explain CAT STU SET TEXT zoe A S1";
-    let (status, written) = run(&rt, alloc, line, &files)?;
+    let line = "explain CAT STU SET TEXT zoe A NONE";
+    let text = ONE_COURSE.term.text.as_bytes();
+    let (status, written) = answer_with(&rt, alloc, line, &ONE_COURSE, text)?;
     assert_eq!(rt; status, Status::ShelfFault { input: 5 });
     assert_eq!(rt; written.as_str(), "input 5 can not be read\n");
     Ok(())
@@ -348,17 +301,8 @@ fn inputs_come_before_names(rt: HostRuntime) -> Result<(), Fail> {
 #[test]
 fn limits_come_before_names(rt: HostRuntime) -> Result<(), Fail> {
     let alloc = rt.alloc();
-    let (catalogue, roll, settings, session, _) = ONE_COURSE;
     let bytes = vec![in alloc; b'x'; 67_108_865]?;
-    let files = [
-        ("CAT", catalogue),
-        ("STU", roll),
-        ("SET", settings),
-        ("TEXT", bytes.as_slice()),
-        ("S1", session),
-    ];
-    let line = "explain CAT STU SET TEXT zoe A S1";
-    let (status, written) = run(&rt, alloc, line, &files)?;
+    let (status, written) = explained(&rt, alloc, &ONE_COURSE, &bytes, "zoe A")?;
     assert_eq!(rt; status, Status::TooLong { input: 4 });
     assert_eq!(rt; written.as_str(), "input 4 is too long\n");
     Ok(())
@@ -368,18 +312,8 @@ fn limits_come_before_names(rt: HostRuntime) -> Result<(), Fail> {
 #[test]
 fn a_byte_order_mark_is_a_finding(rt: HostRuntime) -> Result<(), Fail> {
     let alloc = rt.alloc();
-    let (catalogue, roll, settings, session, text) = ONE_COURSE;
-    let mut marked = b"\xef\xbb\xbf".to_vec(alloc)?;
-    marked.extend_from_slice(text.as_bytes())?;
-    let files = [
-        ("CAT", catalogue),
-        ("STU", roll),
-        ("SET", settings),
-        ("TEXT", marked.as_slice()),
-        ("S1", session),
-    ];
-    let line = "explain CAT STU SET TEXT ann A S1";
-    let (status, written) = run(&rt, alloc, line, &files)?;
+    let text = marked(alloc, ONE_COURSE.term.text.as_bytes())?;
+    let (status, written) = explained(&rt, alloc, &ONE_COURSE, &text, "ann A")?;
     assert_eq!(rt; status.number(), 8);
     assert_eq!(rt; written.as_str(), "finding: line 1 form\n");
     Ok(())

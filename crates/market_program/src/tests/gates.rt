@@ -1,9 +1,9 @@
 // Sessions and workers that meet, and how often they pass the gate.
-use super::audit::{ENVY_OF_FOUR, OF_FOUR};
-use super::demand::{
-    EQUAL, FIRST as OF_FIRST, FOUR, ORDERS, RATED, SEAT, SECOND as OF_SECOND, is_lawful,
-};
-use super::hall::{FIVE_END, FIVE_SECTIONS, text_of};
+use super::audit::ENVY_OF_FOUR;
+use super::demand::{FIRST as OF_FIRST, ORDERS, SECOND as OF_SECOND, is_lawful};
+use super::hall::FIVE_SECTIONS;
+use super::settings::ACCEPT_9;
+use super::term::{FOUR, OF_FOUR, RATED, SEAT};
 use super::*;
 use market_edge::Stop;
 use std::sync::atomic::{AtomicU64, Ordering};
@@ -132,6 +132,27 @@ fn has_entries(text: &str, start: &str, entries: &[&str]) -> bool {
     rest.is_empty()
 }
 
+// Two sessions met, of four and of three calls, and a third has made no call.
+fn assert_sessions_met<R: Abort>(rt: &R, gate: &MeetingGate) {
+    assert_eq!(rt; count_of(&gate.missed), 0);
+    assert_eq!(rt; gate.first.counts(), (1, 4));
+    assert_eq!(rt; gate.second.counts(), (1, 3));
+    assert_eq!(rt; gate.third.counts(), (1, 0));
+    assert_eq!(rt; count_of(&gate.others), 0);
+}
+
+// Two sessions of two calls met, and two workers of at least a call for each of four students.
+fn assert_workers_met<R: Abort>(rt: &R, gate: &MeetingGate) {
+    assert_eq!(rt; count_of(&gate.missed), 0);
+    assert_eq!(rt; gate.first.counts(), (1, 2));
+    assert_eq!(rt; gate.second.counts(), (1, 2));
+    assert_eq!(rt; count_of(&gate.others), 0);
+    let (_, of_first) = gate.first_worker.counts();
+    let (_, of_second) = gate.second_worker.counts();
+    assert!(rt; of_first > 0 && of_second > 0);
+    assert!(rt; of_first.saturating_add(of_second) >= 4);
+}
+
 // Two sessions whose calls meet: neither can post all its commands before the other has posted one. A third session
 // has no command.
 #[test]
@@ -147,15 +168,11 @@ fn two_sessions_post_at_once(rt: HostRuntime) -> Result<(), Fail> {
     let line = "prefer CAT STU S1 S2 S3";
     let (status, text) = run_by(&rt, rt.alloc(), line, &files, (0, 0), 1000, &gate)?;
     assert_eq!(rt; status, Status::Done);
-    assert_eq!(rt; count_of(&gate.missed), 0);
+    assert_sessions_met(&rt, &gate);
     assert!(rt; has_entries(text.as_str(), "entry 1 ", &FIRST_ENTRIES));
     assert!(rt; has_entries(text.as_str(), "entry 2 ", &SECOND_ENTRIES));
     assert!(rt; has_entries(text.as_str(), "entry 3 ", &[]));
     assert!(rt; text.as_str().ends_with(CLOSED));
-    assert_eq!(rt; gate.first.counts(), (1, 4));
-    assert_eq!(rt; gate.second.counts(), (1, 3));
-    assert_eq!(rt; gate.third.counts(), (1, 0));
-    assert_eq!(rt; count_of(&gate.others), 0);
     Ok(())
 }
 
@@ -167,7 +184,7 @@ fn two_workers_post_at_once(rt: HostRuntime) -> Result<(), Fail> {
     let files = [
         ("CAT", SEAT),
         ("STU", FOUR),
-        ("SET", EQUAL),
+        ("SET", ACCEPT_9),
         ("PRICES", b"section,price\nX,102\n".as_slice()),
         ("S1", OF_FIRST),
         ("S2", OF_SECOND),
@@ -176,14 +193,7 @@ fn two_workers_post_at_once(rt: HostRuntime) -> Result<(), Fail> {
     let (status, text) = run_by(&rt, rt.alloc(), line, &files, (0, 0), 1000, &gate)?;
     assert_eq!(rt; status, Status::Done);
     assert!(rt; is_lawful(text.as_str()), "{text}");
-    assert_eq!(rt; count_of(&gate.missed), 0);
-    assert_eq!(rt; gate.first.counts(), (1, 2));
-    assert_eq!(rt; gate.second.counts(), (1, 2));
-    assert_eq!(rt; count_of(&gate.others), 0);
-    let (_, of_first) = gate.first_worker.counts();
-    let (_, of_second) = gate.second_worker.counts();
-    assert!(rt; of_first > 0 && of_second > 0);
-    assert!(rt; of_first.saturating_add(of_second) >= 4);
+    assert_workers_met(&rt, &gate);
     Ok(())
 }
 
@@ -207,56 +217,40 @@ const SECOND_REPLIES: [&str; 3] = [
 const HELD: &str =
     "final u [D,E]\nfinal v [B]\nfinal w [C]\nused A 0 1\nused B 1 2\nused C 1 9\nused D 1 9\nused E 1 9\n";
 
-// The answer for two streams of requests whose calls pass this gate, and a third that has none.
-fn answer_by<R: Threads + Wait + Sync + Abort>(
-    rt: &R,
-    alloc: Global,
-    published: &[u8],
-    gate: &MeetingGate,
-) -> Result<(Status, String), Fail> {
-    let files = [
-        ("CAT", FIVE_SECTIONS.catalogue),
-        ("STU", FIVE_SECTIONS.roll),
-        ("TEXT", published),
-        ("R1", FIRST_REQUESTS),
-        ("R2", SECOND_REQUESTS),
-        ("R3", b"# nothing\n".as_slice()),
-    ];
-    let line = "hall CAT STU TEXT R1 R2 R3";
-    run_by(rt, alloc, line, &files, (0, 0), 1000, gate)
-}
-
 // Two sessions of a hall whose calls meet: neither can make all its requests before the other has made one. A third session has no
 // request.
 #[test]
 fn two_sessions_of_a_hall_request_at_once(rt: HostRuntime) -> Result<(), Fail> {
     let gate = MeetingGate::new();
-    let published = text_of(rt.alloc(), &FIVE_SECTIONS, FIVE_END)?;
-    let (status, text) = answer_by(&rt, rt.alloc(), published.as_bytes(), &gate)?;
+    let files = [
+        ("CAT", FIVE_SECTIONS.catalogue),
+        ("STU", FIVE_SECTIONS.roll),
+        ("TEXT", FIVE_SECTIONS.text.as_bytes()),
+        ("R1", FIRST_REQUESTS),
+        ("R2", SECOND_REQUESTS),
+        ("R3", b"# nothing\n".as_slice()),
+    ];
+    let line = "hall CAT STU TEXT R1 R2 R3";
+    let (status, text) = run_by(&rt, rt.alloc(), line, &files, (0, 0), 1000, &gate)?;
     assert_eq!(rt; status, Status::Done);
-    assert_eq!(rt; count_of(&gate.missed), 0);
+    assert_sessions_met(&rt, &gate);
     assert!(rt; has_entries(text.as_str(), "entry 1 ", &FIRST_REPLIES));
     assert!(rt; has_entries(text.as_str(), "entry 2 ", &SECOND_REPLIES));
     assert!(rt; text.as_str().ends_with(HELD));
-    assert_eq!(rt; gate.first.counts(), (1, 4));
-    assert_eq!(rt; gate.second.counts(), (1, 3));
-    assert_eq!(rt; gate.third.counts(), (1, 0));
-    assert_eq!(rt; count_of(&gate.others), 0);
     Ok(())
 }
 
-// Behind the order, the text of the four students of one seat.
-const PUBLISHED: &str =
-    "budget s1 100\nbudget s2 101\nbudget s3 102\nbudget s4 103\nstart X 0\nerror 9\nprice X 103\nbundle s1 [] -*\nbundle s2 [] -*\nbundle s3 [] -*\nbundle s4 [X] +*n\nturn 1 s4 [X] +*n\nturn 1 s3 [] -*\nturn 1 s2 [] -*\nturn 1 s1 [] -*\nfinal s1 []\nfinal s2 []\nfinal s3 []\nfinal s4 [X]\nused X 1 1\nend\n";
-
-// Whether a text is what is published in a lawful order.
+// Whether a text is what is published of the four students of one seat, in a lawful order.
 fn is_published(text: &str) -> bool {
     let Some(rest) = text.strip_prefix("course-match 1\n") else {
         return false;
     };
+    let Some(behind) = OF_FOUR.strip_prefix("course-match 1\norder 1 1 1 1\n") else {
+        return false;
+    };
     ORDERS
         .iter()
-        .any(|order| rest.strip_prefix(*order) == Some(PUBLISHED))
+        .any(|order| rest.strip_prefix(*order) == Some(behind))
 }
 
 // In one run sessions meet and workers meet.
@@ -266,7 +260,7 @@ fn sessions_and_workers_of_a_run_post_at_once(rt: HostRuntime) -> Result<(), Fai
     let files = [
         ("CAT", SEAT),
         ("STU", FOUR),
-        ("SET", EQUAL),
+        ("SET", ACCEPT_9),
         ("S1", OF_FIRST),
         ("S2", OF_SECOND),
     ];
@@ -274,14 +268,7 @@ fn sessions_and_workers_of_a_run_post_at_once(rt: HostRuntime) -> Result<(), Fai
     let (status, text) = run_by(&rt, rt.alloc(), line, &files, (0, 0), 1000, &gate)?;
     assert_eq!(rt; status, Status::Done);
     assert!(rt; is_published(text.as_str()), "{text}");
-    assert_eq!(rt; count_of(&gate.missed), 0);
-    assert_eq!(rt; gate.first.counts(), (1, 2));
-    assert_eq!(rt; gate.second.counts(), (1, 2));
-    assert_eq!(rt; count_of(&gate.others), 0);
-    let (_, of_first) = gate.first_worker.counts();
-    let (_, of_second) = gate.second_worker.counts();
-    assert!(rt; of_first > 0 && of_second > 0);
-    assert!(rt; of_first.saturating_add(of_second) >= 4);
+    assert_workers_met(&rt, &gate);
     Ok(())
 }
 
@@ -336,7 +323,7 @@ fn two_workers_of_an_audit_post_at_once(rt: HostRuntime) -> Result<(), Fail> {
     let files = [
         ("CAT", SEAT),
         ("STU", FOUR),
-        ("SET", EQUAL),
+        ("SET", ACCEPT_9),
         ("TEXT", OF_FOUR.as_bytes()),
         ("S1", RATED),
     ];

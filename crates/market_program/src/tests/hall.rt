@@ -1,49 +1,25 @@
 // `hall` over texts in memory: published texts with which halls open, requests, and what is told.
+use super::changes::{Change, marked, text_with};
+use super::term::{FILLED_SEAT, OF_FILLED_SEAT, ORDINARY_TERM, TWO_EQUAL, Term};
 use super::*;
 
-// A catalogue, a roll, and the lines of a published text in front of the final bundles.
-#[derive(Clone, Copy)]
-pub struct Term {
-    pub catalogue: &'static [u8],
-    pub roll: &'static [u8],
-    pub front: &'static str,
-}
+const LINE: &str = "hall CAT STU TEXT R1";
 
-// What the case shows, the term, the rest of its text, the requests, the number of the status, and what is written.
+// What the case shows, the term, the lines of its text that are changed, the requests, the number of the status, and what is written.
 type Case = (
     &'static str,
     Term,
-    &'static str,
+    &'static [Change],
     &'static [u8],
     u8,
     &'static str,
 );
 
-// Two students and one seat.
-pub const ONE_SECTION: Term = Term {
-    catalogue: b"section,course,seats,credits,meetings\nX,XX,1,1,\n",
-    roll: b"student,budget,credits,courses\nu,100,10,1\nv,100,10,1\n",
-    front: "course-match 1
-order 1 1
-budget u 100
-budget v 100
-start X 0
-error 1
-price X 101
-bundle u [] -*
-bundle v [] -*
-turn 1 u [X] +*n
-turn 1 v [] -*
-turn 2 u [X] +*n
-turn 2 v [] -*
-",
-};
-
 // Three students and five sections, of which two clash.
-pub const FIVE_SECTIONS: Term = Term {
+pub(super) const FIVE_SECTIONS: Term = Term {
     catalogue: b"section,course,seats,credits,meetings\nA,AA,1,2,M0900-1000\nB,BB,2,2,M0930-1030\nC,CC,9,4,\nD,DD,9,1,\nE,EE,9,1,\n",
     roll: b"student,budget,credits,courses\nu,0,5,2\nv,0,5,2\nw,0,5,2\n",
-    front: "course-match 1
+    text: "course-match 1
 order 1
 budget u 0
 budget v 0
@@ -65,60 +41,15 @@ bundle w [] *
 turn 1 u [A] +*n
 turn 1 v [] *
 turn 1 w [] *
-",
-};
-
-// An ordinary term.
-const ORDINARY_TERM: Term = Term {
-    catalogue: b"section,course,seats,credits,meetings\nA,ACCT,1,1,M0900-1020;W0900-1020\nB,BIOL,2,1,M1020-1140\nC,CHEM,2,1,T0900-1020\nD,ACCT,1,1,M1000-1100\n",
-    roll: b"student,budget,credits,courses\nann,100,10,2\nbob,101,10,2\ncat,102,10,2\n",
-    front: "course-match 1
-order 1 1 1 1 1 1 1 1
-budget ann 104
-budget bob 103
-budget cat 102
-start A 0
-start B 0
-start C 0
-start D 0
-error 1
-price A 104
-price B 0
-price C 0
-price D 0
-bundle ann [A,B] ++*nn
-bundle bob [C] -+*n
-bundle cat [D] -+*n
-turn 1 ann [A,B] ++*nn
-turn 1 bob [C] -+*n
-turn 1 cat [D] -+*n
-",
-};
-
-// The same with a budget that no draw gives.
-const OTHER_BUDGETS: Term = Term {
-    catalogue: b"section,course,seats,credits,meetings\nA,ACCT,1,1,M0900-1020;W0900-1020\nB,BIOL,2,1,M1020-1140\nC,CHEM,2,1,T0900-1020\nD,ACCT,1,1,M1000-1100\n",
-    roll: b"student,budget,credits,courses\nann,100,10,2\nbob,101,10,2\ncat,102,10,2\n",
-    front: "course-match 1
-order 1 1 1 1 1 1 1 1
-budget ann 1
-budget bob 103
-budget cat 102
-start A 0
-start B 0
-start C 0
-start D 0
-error 1
-price A 104
-price B 0
-price C 0
-price D 0
-bundle ann [A,B] ++*nn
-bundle bob [C] -+*n
-bundle cat [D] -+*n
-turn 1 ann [A,B] ++*nn
-turn 1 bob [C] -+*n
-turn 1 cat [D] -+*n
+final u [A]
+final v []
+final w []
+used A 1 1
+used B 0 2
+used C 0 9
+used D 0 9
+used E 0 9
+end
 ",
 };
 
@@ -126,7 +57,7 @@ turn 1 cat [D] -+*n
 const FIVE_STUDENTS: Term = Term {
     catalogue: b"section,course,seats,credits,meetings\nA,AA,1,1,M0900-1000\nB,BB,9,1,M0900-1000\nC,CC,9,1,\n",
     roll: b"student,budget,credits,courses\nu,0,9,2\nv,0,9,2\nw,0,9,2\nx,0,9,2\ny,0,9,2\n",
-    front: "course-match 1
+    text: "course-match 1
 order 1
 budget u 0
 budget v 0
@@ -150,42 +81,36 @@ turn 1 v [] *
 turn 1 w [] *
 turn 1 x [] *
 turn 1 y [] *
+final u [A]
+final v []
+final w []
+final x []
+final y []
+used A 1 1
+used B 0 9
+used C 0 9
+end
 ",
 };
 
-// Two students and two sections.
+// The seat that is filled, beside a section that nobody takes: its text has three lines more.
 const TWO_SECTIONS: Term = Term {
     catalogue: b"section,course,seats,credits,meetings\nX,XX,1,1,\nY,YY,2,1,\n",
-    roll: b"student,budget,credits,courses\nu,100,10,1\nv,100,10,1\n",
-    front: "course-match 1
-order 1 1
-budget u 100
-budget v 100
-start X 0
-start Y 0
-error 1
-price X 101
-price Y 0
-bundle u [] -*
-bundle v [] -*
-turn 1 u [X] +*n
-turn 1 v [] -*
-turn 2 u [X] +*n
-turn 2 v [] -*
-",
+    roll: TWO_EQUAL,
+    text: OF_FILLED_SEAT,
 };
 
-// The rest of the text of the five sections, and of that of one.
-pub const FIVE_END: &str =
-    "final u [A]\nfinal v []\nfinal w []\nused A 1 1\nused B 0 2\nused C 0 9\nused D 0 9\nused E 0 9\nend\n";
-
-pub const ONE_END: &str = "final u [X]\nfinal v []\nused X 1 1\nend\n";
+const OTHER_SECTION: &[Change] = &[
+    (5, "start X 0\nstart Y 0"),
+    (7, "price X 101\nprice Y 0"),
+    (16, "used X 1 1\nused Y 0 2"),
+];
 
 const HALLS: [Case; 9] = [
     (
         "dropped seat goes to the first waiting",
-        ONE_SECTION,
-        ONE_END,
+        FILLED_SEAT,
+        &[],
         b"add v X\ndrop u X\nadd u X\ndrop v X\n",
         0,
         "entry 1 add v X: queued 0\nentry 1 drop u X: dropped 0 to v\nentry 1 add u X: queued 0\nentry 1 drop v X: dropped 0 to u\nfinal u [X]\nfinal v []\nused X 1 1\n",
@@ -193,39 +118,39 @@ const HALLS: [Case; 9] = [
     (
         "every reply",
         FIVE_SECTIONS,
-        FIVE_END,
+        &[],
         b"drop\nadd z Q\nadd u Q\nleave z A\nadd u A\nadd u B\nadd u C\nadd u D\nadd u E\nadd v A\nadd v A\nadd w A\nleave w B\ndrop v B\ndrop u A\nadd u A\ndrop v A\nleave w A\nleave u A\nadd w D\nadd w E\nadd w B\ndrop w D\nadd w C #\nadd w C\n",
         0,
         "entry 1 unreadable: unreadable\nentry 1 add z Q: no-student\nentry 1 add u Q: no-section\nentry 1 leave z A: no-student\nentry 1 add u A: holding\nentry 1 add u B: clash A\nentry 1 add u C: credits\nentry 1 add u D: added\nentry 1 add u E: courses\nentry 1 add v A: queued 0\nentry 1 add v A: waiting\nentry 1 add w A: queued 1\nentry 1 leave w B: not-waiting\nentry 1 drop v B: not-holding\nentry 1 drop u A: dropped 0 to v\nentry 1 add u A: queued 1\nentry 1 drop v A: dropped 0 to w\nentry 1 leave w A: not-waiting\nentry 1 leave u A: left\nentry 1 add w D: added\nentry 1 add w E: courses\nentry 1 add w B: clash A\nentry 1 drop w D: dropped 0\nentry 1 unreadable: unreadable\nentry 1 add w C: credits\nfinal u [D]\nfinal v []\nfinal w [A]\nused A 1 1\nused B 0 2\nused C 0 9\nused D 1 9\nused E 0 9\n",
     ),
     (
         "no requests",
-        ONE_SECTION,
-        ONE_END,
+        FILLED_SEAT,
+        &[],
         b"",
         0,
         "final u [X]\nfinal v []\nused X 1 1\n",
     ),
     (
         "ratings and budgets play no part",
-        OTHER_BUDGETS,
-        "final ann [A,B]\nfinal bob [C]\nfinal cat [B]\nused A 1 1\nused B 1 2\nused C 1 2\nused D 1 1\nend\n",
+        ORDINARY_TERM,
+        &[(3, "budget ann 1"), (23, "final cat [B]")],
         b"add bob B\nadd bob D\n",
         0,
         "entry 1 add bob B: queued 0\nentry 1 add bob D: added\nfinal ann [A,B]\nfinal bob [C,D]\nfinal cat [B]\nwait B bob\nused A 1 1\nused B 2 2\nused C 1 2\nused D 1 1\n",
     ),
     (
         "requests with byte order mark and comments",
-        ONE_SECTION,
-        ONE_END,
+        FILLED_SEAT,
+        &[],
         b"\xef\xbb\xbf# drop and add\r\ndrop u X\r\n\r\n  add\tv  X  \r\nadd u X close",
         0,
         "entry 1 drop u X: dropped 0\nentry 1 add v X: added\nentry 1 unreadable: unreadable\nfinal u []\nfinal v [X]\nused X 1 1\n",
     ),
     (
         "seats are those of the catalogue",
-        ONE_SECTION,
-        "final u [X]\nfinal v []\nused X 0 7\nend\n",
+        FILLED_SEAT,
+        &[(16, "used X 0 7")],
         b"add v X\n",
         0,
         "entry 1 add v X: queued 0\nfinal u [X]\nfinal v []\nwait X v\nused X 1 1\n",
@@ -233,7 +158,7 @@ const HALLS: [Case; 9] = [
     (
         "two lapse before the next",
         FIVE_STUDENTS,
-        "final u [A]\nfinal v []\nfinal w []\nfinal x []\nfinal y []\nused A 1 1\nused B 0 9\nused C 0 9\nend\n",
+        &[],
         b"add v A\nadd w A\nadd x A\nadd y A\nadd v B\nadd w B\ndrop u A\nadd u A\ndrop x A\ndrop y A\n",
         0,
         "entry 1 add v A: queued 0\nentry 1 add w A: queued 1\nentry 1 add x A: queued 2\nentry 1 add y A: queued 3\nentry 1 add v B: added\nentry 1 add w B: added\nentry 1 drop u A: dropped 2 to x\nentry 1 add u A: queued 1\nentry 1 drop x A: dropped 0 to y\nentry 1 drop y A: dropped 0 to u\nfinal u [A]\nfinal v [B]\nfinal w [B]\nfinal x []\nfinal y []\nused A 1 1\nused B 2 9\nused C 0 9\n",
@@ -241,7 +166,7 @@ const HALLS: [Case; 9] = [
     (
         "waiting list is printed",
         FIVE_SECTIONS,
-        FIVE_END,
+        &[],
         b"add v A\nadd w A\n",
         0,
         "entry 1 add v A: queued 0\nentry 1 add w A: queued 1\nfinal u [A]\nfinal v []\nfinal w []\nwait A v w\nused A 1 1\nused B 0 2\nused C 0 9\nused D 0 9\nused E 0 9\n",
@@ -249,7 +174,7 @@ const HALLS: [Case; 9] = [
     (
         "waiting student lapses",
         TWO_SECTIONS,
-        "final u [X]\nfinal v []\nused X 1 1\nused Y 0 2\nend\n",
+        OTHER_SECTION,
         b"add v X\nadd v Y\ndrop u X\nadd u X\nleave u X\n",
         0,
         "entry 1 add v X: queued 0\nentry 1 add v Y: added\nentry 1 drop u X: dropped 1\nentry 1 add u X: added\nentry 1 leave u X: not-waiting\nfinal u [X]\nfinal v [Y]\nused X 1 1\nused Y 1 2\n",
@@ -261,7 +186,7 @@ const NO_HALLS: [Case; 4] = [
     (
         "forged final bundle beyond a cap",
         ORDINARY_TERM,
-        "final ann [A,B,C]\nfinal bob [C]\nfinal cat [D]\nused A 1 1\nused B 1 2\nused C 1 2\nused D 1 1\nend\n",
+        &[(21, "final ann [A,B,C]")],
         b"",
         8,
         "finding: student ann infeasible\n",
@@ -269,23 +194,23 @@ const NO_HALLS: [Case; 4] = [
     (
         "forged final bundle that clashes",
         ORDINARY_TERM,
-        "final ann [A,D]\nfinal bob [C]\nfinal cat [D]\nused A 1 1\nused B 1 2\nused C 1 2\nused D 1 1\nend\n",
+        &[(21, "final ann [A,D]")],
         b"",
         8,
         "finding: student ann infeasible\n",
     ),
     (
         "forged final bundles beyond the seats",
-        ONE_SECTION,
-        "final u [X]\nfinal v [X]\nused X 1 1\nend\n",
+        FILLED_SEAT,
+        &[(15, "final v [X]")],
         b"",
         8,
         "finding: seats X 2 of 1\n",
     ),
     (
         "text that is no publication",
-        ONE_SECTION,
-        "final u [X]\nfinal v []\nused X 1 1\nend",
+        FILLED_SEAT,
+        &[(18, "")],
         b"",
         8,
         "finding: line 17 missing\n",
@@ -299,17 +224,11 @@ const LAST_SEAT: [&str; 3] = [
     "entry 2 add v X: queued 0\nentry 1 drop u X: dropped 0 to v\nentry 1 add u X: queued 0\nfinal u []\nfinal v [X]\nwait X u\nused X 1 1\nused Y 0 2\n",
 ];
 
-// The whole text of the term, which ends so.
-pub fn text_of(alloc: Global, term: &Term, end: &str) -> Result<String, Fail> {
-    let mut text = String::from_str(alloc, term.front)?;
-    text.push_str(end)?;
-    Ok(text)
-}
-
 // The answer for these requests of a term, where the text is so.
-fn answer_of<R: Threads + Wait + Sync + Abort>(
+fn answer_to<R: Threads + Wait + Sync + Abort>(
     rt: &R,
     alloc: Global,
+    line: &str,
     term: &Term,
     text: &[u8],
     requests: &[u8],
@@ -320,7 +239,7 @@ fn answer_of<R: Threads + Wait + Sync + Abort>(
         ("TEXT", text),
         ("R1", requests),
     ];
-    run(rt, alloc, "hall CAT STU TEXT R1", &files)
+    run(rt, alloc, line, &files)
 }
 
 // Each case has its answer.
@@ -329,9 +248,9 @@ fn try_each<R: Threads + Wait + Sync + Abort>(
     alloc: Global,
     cases: &[Case],
 ) -> Result<(), Fail> {
-    for (shows, term, end, requests, status, told) in cases {
-        let text = text_of(alloc, term, end)?;
-        let (found, written) = answer_of(rt, alloc, term, text.as_bytes(), requests)?;
+    for (shows, term, changes, requests, status, told) in cases {
+        let text = text_with(alloc, term.text.as_bytes(), changes)?;
+        let (found, written) = answer_to(rt, alloc, LINE, term, &text, requests)?;
         assert_eq!(rt; found.number(), *status, "{shows}");
         assert_eq!(rt; written.as_str(), *told, "{shows}");
     }
@@ -370,15 +289,11 @@ fn answer_for_two<R: Threads + Wait + Sync + Abort>(
 #[test]
 fn the_last_seat_goes_to_the_first_to_ask(rt: HostRuntime) -> Result<(), Fail> {
     let alloc = rt.alloc();
-    let text = text_of(
-        alloc,
-        &TWO_SECTIONS,
-        "final u [X]\nfinal v []\nused X 1 1\nused Y 0 2\nend\n",
-    )?;
+    let text = text_with(alloc, TWO_SECTIONS.text.as_bytes(), OTHER_SECTION)?;
     let (status, written) = answer_for_two(
         &rt,
         alloc,
-        text.as_bytes(),
+        &text,
         b"drop u X\nadd u X\n",
         b"add v X\n",
     )?;
@@ -387,34 +302,16 @@ fn the_last_seat_goes_to_the_first_to_ask(rt: HostRuntime) -> Result<(), Fail> {
     Ok(())
 }
 
-// The answer for these requests, where the text is so.
-fn answer_to<R: Threads + Wait + Sync + Abort>(
-    rt: &R,
-    alloc: Global,
-    text: &[u8],
-    line: &str,
-    requests: &[u8],
-) -> Result<(Status, String), Fail> {
-    let files = [
-        ("CAT", ONE_SECTION.catalogue),
-        ("STU", ONE_SECTION.roll),
-        ("TEXT", text),
-        ("R1", requests),
-    ];
-    run(rt, alloc, line, &files)
-}
-
 // A text at its limit is read, and one byte more is too long.
 #[test]
 fn texts_at_their_limit(rt: HostRuntime) -> Result<(), Fail> {
     let alloc = rt.alloc();
     let bytes = vec![in alloc; b'x'; 67_108_865]?;
     let long = bytes.as_slice();
-    let line = "hall CAT STU TEXT R1";
-    let (status, written) = answer_to(&rt, alloc, long, line, b"")?;
+    let (status, written) = answer_to(&rt, alloc, LINE, &FILLED_SEAT, long, b"")?;
     assert_eq!(rt; status, Status::TooLong { input: 3 });
     assert_eq!(rt; written.as_str(), "input 3 is too long\n");
-    let (status, written) = answer_to(&rt, alloc, &long[1..], line, b"")?;
+    let (status, written) = answer_to(&rt, alloc, LINE, &FILLED_SEAT, &long[1..], b"")?;
     assert_eq!(rt; status.number(), 8);
     assert_eq!(rt; written.as_str(), "finding: line 1 missing\n");
     Ok(())
@@ -424,9 +321,8 @@ fn texts_at_their_limit(rt: HostRuntime) -> Result<(), Fail> {
 #[test]
 fn a_byte_order_mark_is_a_fault_of_line_1(rt: HostRuntime) -> Result<(), Fail> {
     let alloc = rt.alloc();
-    let mut text = b"\xef\xbb\xbf".to_vec(alloc)?;
-    text.extend_from_slice(text_of(alloc, &ONE_SECTION, ONE_END)?.as_bytes())?;
-    let (status, written) = answer_to(&rt, alloc, &text, "hall CAT STU TEXT R1", b"")?;
+    let text = marked(alloc, FILLED_SEAT.text.as_bytes())?;
+    let (status, written) = answer_to(&rt, alloc, LINE, &FILLED_SEAT, &text, b"")?;
     assert_eq!(rt; status.number(), 8);
     assert_eq!(rt; written.as_str(), "finding: line 1 form\n");
     Ok(())
@@ -440,14 +336,14 @@ fn two_hundred_thousand_requests_of_two_streams(rt: HostRuntime) -> Result<(), F
     for _ in 0..100_001u32 {
         requests.extend_from_slice(b"x\n")?;
     }
-    let text = text_of(alloc, &ONE_SECTION, ONE_END)?;
+    let text = FILLED_SEAT.text.as_bytes();
     let line = "hall CAT STU TEXT R1 R1 NONE";
-    let (_, written) = answer_to(&rt, alloc, text.as_bytes(), line, &requests)?;
+    let (_, written) = answer_to(&rt, alloc, line, &FILLED_SEAT, text, &requests)?;
     assert_eq!(rt; written.as_str(), "input 5 is too long\n");
     let Some(fewer) = requests.get(2..) else {
         return Err(Fail::new("requests"));
     };
-    let (_, written) = answer_to(&rt, alloc, text.as_bytes(), line, fewer)?;
+    let (_, written) = answer_to(&rt, alloc, line, &FILLED_SEAT, text, fewer)?;
     assert_eq!(rt; written.as_str(), "input 6 can not be read\n");
     Ok(())
 }

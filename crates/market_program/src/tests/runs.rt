@@ -1,6 +1,10 @@
 // `run` over texts in memory.
-use super::demand::{EQUAL, FIRST, FOUR, ORDERS, RATED, SEAT, SECOND};
-use super::term::{CATALOGUE, PUBLISHED, ROLL, SESSION, SETTINGS};
+use super::demand::{FIRST, ORDERS, SECOND};
+use super::settings::{ACCEPT_1, ACCEPT_8, ACCEPT_9};
+use super::term::{
+    BOTH_RATE_X, CATALOGUE, FOUR, OF_CARRIED, OF_FOUR, PUBLISHED, RATED, ROLL, SEAT, SESSION,
+    SETTINGS,
+};
 use super::*;
 
 // Each number of workers gives the same bytes.
@@ -10,14 +14,7 @@ const LINES: [&str; 3] = [
     "run 16 CAT STU SET S1",
 ];
 
-// The settings that accept no error above 8.
-const STRICT: &[u8] =
-    br#"{"seed":0,"spread":0,"accept":8,"turns":0,"tabu":5,"patience":3,"steps":[1],"raise":10}"#;
-
 const CARRIED: &[u8] = b"student,budget,credits,courses,carry\nu,100,10,1,0\nv,100,10,1,5\n";
-
-const ACCEPT_ONE: &[u8] =
-    br#"{"seed":0,"spread":0,"accept":1,"turns":0,"tabu":5,"patience":3,"steps":[1],"raise":10}"#;
 
 // What the case shows, the catalogue, the roll, the settings, the session, the number of the status, and the text.
 type Case = (
@@ -44,16 +41,16 @@ const CASES: [Case; 6] = [
         "four students of one seat",
         SEAT,
         FOUR,
-        EQUAL,
+        ACCEPT_9,
         RATED,
         0,
-        "course-match 1\norder 1 1 1 1\nbudget s1 100\nbudget s2 101\nbudget s3 102\nbudget s4 103\nstart X 0\nerror 9\nprice X 103\nbundle s1 [] -*\nbundle s2 [] -*\nbundle s3 [] -*\nbundle s4 [X] +*n\nturn 1 s4 [X] +*n\nturn 1 s3 [] -*\nturn 1 s2 [] -*\nturn 1 s1 [] -*\nfinal s1 []\nfinal s2 []\nfinal s3 []\nfinal s4 [X]\nused X 1 1\nend\n",
+        OF_FOUR,
     ),
     (
         "the least error is not accepted",
         SEAT,
         FOUR,
-        STRICT,
+        ACCEPT_8,
         RATED,
         5,
         "order 1 1 1 1\nno prices: least error 9\n",
@@ -62,10 +59,10 @@ const CASES: [Case; 6] = [
         "carried tokens raise the budget",
         SEAT,
         CARRIED,
-        ACCEPT_ONE,
-        b"rate u X 50\nrate v X 50\n",
+        ACCEPT_1,
+        BOTH_RATE_X,
         0,
-        "course-match 2\norder 1 1\nbudget u 100\nbudget v 105\nstart X 0\nerror 1\nprice X 101\nbundle u [] -*\nbundle v [X] +*n\nturn 1 v [X] +*n\nturn 1 u [] -*\nfinal u []\nfinal v [X]\nused X 1 1\nend\n",
+        OF_CARRIED,
     ),
     (
         "no sections",
@@ -114,7 +111,7 @@ fn two_sessions_without_prices(rt: HostRuntime) -> Result<(), Fail> {
     let files = [
         ("CAT", SEAT),
         ("STU", FOUR),
-        ("SET", STRICT),
+        ("SET", ACCEPT_8),
         ("S1", FIRST),
         ("S2", SECOND),
     ];
@@ -131,7 +128,12 @@ fn two_sessions_without_prices(rt: HostRuntime) -> Result<(), Fail> {
 #[test]
 fn failures_of_run(rt: HostRuntime) -> Result<(), Fail> {
     let alloc = rt.alloc();
-    let files = [("CAT", SEAT), ("STU", FOUR), ("SET", STRICT), ("S1", RATED)];
+    let files = [
+        ("CAT", SEAT),
+        ("STU", FOUR),
+        ("SET", ACCEPT_8),
+        ("S1", RATED),
+    ];
     let line = "run 2 CAT STU SET S1";
     let texts = [
         (3, 2, "input 1 can not be read\n"),

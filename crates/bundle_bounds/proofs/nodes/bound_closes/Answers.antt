@@ -1,5 +1,5 @@
-use Rattle.std.proofs.Common.{◌≡◌, ℕ, ◌-◌, ◌<◌, ◌∙◌, ap, sym, subst, true, length, take, drop, min, arith, to_z, of_z, w32, w64}
-use Rattle.std.specs.Prelude.{All, ℤ, pos, ◌*ℤ◌}
+use Rattle.std.proofs.Common.{◌≡◌, ℕ, ◌<◌, ◌∙◌, ap, sym, subst, true, arith, to_z, of_z, w32, w64}
+use Rattle.std.specs.Prelude.{All, ℤ, pos, ◌*ℤ◌, IfNone, IfSome}
 use Rattle.std.proofs.lemmas.Int.{ints}
 use Rattle.bundle_rules.specs.Bundles.{sections_of}
 use Rattle.bundle_rules.specs.Sets.{has, IsAscending}
@@ -7,14 +7,14 @@ use Rattle.bundle_rules.specs.Wishes.{utility}
 use Rattle.bundle_rules.specs.Menus.{by_place}
 use Rattle.bundle_rules.proofs.Feasibility.{places_of_rated, place_of_rated, utility_by_place}
 use Rattle.bundle_bounds.specs.Offers.{offer_of, places_of}
-use Rattle.bundle_bounds.specs.Opens.{budget_left, credits_left, courses_left, opens_from, open_places, prospects}
+use Rattle.bundle_bounds.specs.Opens.{budget_left, credits_left, courses_left}
+use Rattle.bundle_bounds.specs.Bounds.{bounds, IsFirstClosing, NoneCloses}
 use Rattle.bundle_rules.specs.Ahead.{is_ahead}
 use Rattle.bundle_bounds.specs.Ahead.{limit_of}
 use Rattle.bundle_bounds.specs.Modest.{IsModest}
-use Rattle.bundle_bounds.proofs.BelowLimit.{rest_of_room, some_closes, none_closes}
+use Rattle.bundle_bounds.proofs.BelowLimit.{collected, rest_of_room, some_closes, none_closes}
 use Rattle.bundle_bounds.proofs.FirstClosing.{first_closing_is_the_first, found_closing}
 use Rattle.bundle_bounds.proofs.ByPlace.{ascending_places, has-places}
-use Rattle.bundle_bounds.proofs.Outlook.{open_places-within}
 use Rattle.bundle_bounds.proofs.nodes.bound_closes.Goals as goal
 
 pub rests_of-rests-requires-clause-on_menu : goal.rests_of-rests-requires-clause-on_menu
@@ -26,10 +26,9 @@ collect-start-requires-clause-on_menu c = rw (c.as_slice-chosen.ensures.value, c
 pub first_below-requires-clause-modest : goal.first_below-requires-clause-modest
 first_below-requires-clause-modest c = subst (All IsModest) (sym (rest_of_room c.collect-start.new.room c.collect-start.result c.collect-start.auto.room)) c.collect-start.ensures.modest
 
-pub returns-clause-first : goal.returns-clause-first
-returns-clause-first c =
+pub returns : goal.returns
+returns c =
     let menu = c.args.menu.now in
-    let places = menu.places in
     let offer = offer_of menu c.args.prices.now c.args.budget.0 c.args.allowed.now in
     let k = c.args.node.now.place in
     let chosen = sections_of c.args.node.now.chosen in
@@ -39,71 +38,26 @@ returns-clause-first c =
     let slice = c.as_slice-chosen.result.now in
     let same : slice ≡ cs = c.as_slice-chosen.ensures.value ∙ c.of-chosen.ensures in
     let rises = c.len.ensures.menu.places.ascending in
-    let up : IsAscending ch = ascending_places places champion rises (place_of_rated menu champion c.requires.champion.rated) c.requires.champion.set in
-    let up' : IsAscending cs = ascending_places places chosen rises (place_of_rated menu chosen c.requires.node.takable.feasible.rated) c.requires.node.takable.feasible.set in
-    let low : (p : ℕ) → has cs p ≡ true → p < k = λ p is. (let at = has-places places chosen p is in rw (← at.2) (c.requires.node.decided at.0 at.1)) in
+    let up : IsAscending ch = ascending_places menu.places champion rises (place_of_rated menu champion c.requires.champion.rated) c.requires.champion.set in
+    let up' : IsAscending cs = ascending_places menu.places chosen rises (place_of_rated menu chosen c.requires.node.takable.feasible.rated) c.requires.node.takable.feasible.set in
+    let low : (p : ℕ) → has cs p ≡ true → p < k = λ p is. (let at = has-places menu.places chosen p is in rw (← at.2) (c.requires.node.decided at.0 at.1)) in
     let u : ℤ = c.utility.result in
-    let u_is : utility (by_place menu) cs ≡ u = utility_by_place menu chosen ∙ sym c.utility.ensures in
     let from_u : c.from-base.result ≡ to_z w32 (of_z w32 u) = c.from-base.ensures in
     let widened : to_z w64 (of_z w64 (pos 1000 *ℤ to_z w64 (of_z w64 c.from-base.result))) ≡ pos 1000 *ℤ u = omega (arith, ints, from_u) in
-    let base : to_z w64 (of_z w64 (pos 1000 *ℤ to_z w64 (of_z w64 c.from-base.result))) ≡ pos 1000 *ℤ utility (by_place menu) cs = widened ∙ ap (λ z. pos 1000 *ℤ z) (sym u_is) in
+    let base : to_z w64 (of_z w64 (pos 1000 *ℤ to_z w64 (of_z w64 c.from-base.result))) ≡ pos 1000 *ℤ utility (by_place menu) cs = widened ∙ ap (λ z. pos 1000 *ℤ z) (sym (utility_by_place menu chosen ∙ sym c.utility.ensures)) in
     let kept : to_z w64 (of_z w64 c.limit_of-limit.result) ≡ c.limit_of-limit.result = omega (arith, ints) in
     let most : to_z w64 (of_z w64 c.limit_of-limit.result) ≡ limit_of (utility (by_place menu) ch) (is_ahead k ch cs) =
     kept ∙ c.limit_of-limit.ensures ∙ ap (λ z. limit_of z (is_ahead k ch slice)) (sym (utility_by_place menu champion)) ∙ ap (λ l. limit_of (utility (by_place menu) ch) (is_ahead k ch l)) same in
-    let rests = c.rests_of-rests in
-    let budget = rests.ensures.budget c.args.allowed.now in
-    let credits = rests.ensures.credits c.args.allowed.now in
-    let courses = rests.ensures.courses c.args.allowed.now in
-    let from_is : c.min-from.result ≡ min k (length places) = c.min-from.ensures ∙ ap (min k) c.len.ensures.value in
-    let ps : take (60 - c.collect-start.result) (drop c.collect-start.result c.collect-start.new.room) ≡ prospects offer cs (open_places offer k cs) =
-    rest_of_room c.collect-start.new.room c.collect-start.result c.collect-start.auto.room
-    ∙ c.collect-start.ensures.value c.args.budget.0 budget credits courses
-    ∙ ap (λ l. prospects offer l (opens_from offer l c.min-from.result (length places - c.min-from.result))) same
-    ∙ ap (λ n. prospects offer cs (opens_from offer cs n (length places - n))) from_is
-    ∙ ap (prospects offer cs) (sym (open_places-within offer k cs)) in
-    some_closes offer k cs ch up up' low _ _ _ _ _ _ base most (budget ∙ ap (budget_left offer) same) (credits ∙ ap (credits_left offer) same) (courses ∙ ap (courses_left offer) same) ps c.first_below.result c.first_below.ensures.first
-
-pub returns-clause-none : goal.returns-clause-none
-returns-clause-none c =
-    let menu = c.args.menu.now in
-    let places = menu.places in
-    let offer = offer_of menu c.args.prices.now c.args.budget.0 c.args.allowed.now in
-    let k = c.args.node.now.place in
-    let chosen = sections_of c.args.node.now.chosen in
-    let champion = sections_of c.args.champion.now in
-    let cs = places_of menu chosen in
-    let ch = places_of menu champion in
-    let slice = c.as_slice-chosen.result.now in
-    let same : slice ≡ cs = c.as_slice-chosen.ensures.value ∙ c.of-chosen.ensures in
-    let rises = c.len.ensures.menu.places.ascending in
-    let up : IsAscending ch = ascending_places places champion rises (place_of_rated menu champion c.requires.champion.rated) c.requires.champion.set in
-    let up' : IsAscending cs = ascending_places places chosen rises (place_of_rated menu chosen c.requires.node.takable.feasible.rated) c.requires.node.takable.feasible.set in
-    let low : (p : ℕ) → has cs p ≡ true → p < k = λ p is. (let at = has-places places chosen p is in rw (← at.2) (c.requires.node.decided at.0 at.1)) in
-    let u : ℤ = c.utility.result in
-    let u_is : utility (by_place menu) cs ≡ u = utility_by_place menu chosen ∙ sym c.utility.ensures in
-    let from_u : c.from-base.result ≡ to_z w32 (of_z w32 u) = c.from-base.ensures in
-    let widened : to_z w64 (of_z w64 (pos 1000 *ℤ to_z w64 (of_z w64 c.from-base.result))) ≡ pos 1000 *ℤ u = omega (arith, ints, from_u) in
-    let base : to_z w64 (of_z w64 (pos 1000 *ℤ to_z w64 (of_z w64 c.from-base.result))) ≡ pos 1000 *ℤ utility (by_place menu) cs = widened ∙ ap (λ z. pos 1000 *ℤ z) (sym u_is) in
-    let kept : to_z w64 (of_z w64 c.limit_of-limit.result) ≡ c.limit_of-limit.result = omega (arith, ints) in
-    let most : to_z w64 (of_z w64 c.limit_of-limit.result) ≡ limit_of (utility (by_place menu) ch) (is_ahead k ch cs) =
-    kept ∙ c.limit_of-limit.ensures ∙ ap (λ z. limit_of z (is_ahead k ch slice)) (sym (utility_by_place menu champion)) ∙ ap (λ l. limit_of (utility (by_place menu) ch) (is_ahead k ch l)) same in
-    let rests = c.rests_of-rests in
-    let budget = rests.ensures.budget c.args.allowed.now in
-    let credits = rests.ensures.credits c.args.allowed.now in
-    let courses = rests.ensures.courses c.args.allowed.now in
-    let from_is : c.min-from.result ≡ min k (length places) = c.min-from.ensures ∙ ap (min k) c.len.ensures.value in
-    let ps : take (60 - c.collect-start.result) (drop c.collect-start.result c.collect-start.new.room) ≡ prospects offer cs (open_places offer k cs) =
-    rest_of_room c.collect-start.new.room c.collect-start.result c.collect-start.auto.room
-    ∙ c.collect-start.ensures.value c.args.budget.0 budget credits courses
-    ∙ ap (λ l. prospects offer l (opens_from offer l c.min-from.result (length places - c.min-from.result))) same
-    ∙ ap (λ n. prospects offer cs (opens_from offer cs n (length places - n))) from_is
-    ∙ ap (prospects offer cs) (sym (open_places-within offer k cs)) in
-    none_closes offer k cs ch up up' low _ _ _ _ _ _ base most (budget ∙ ap (budget_left offer) same) (credits ∙ ap (credits_left offer) same) (courses ∙ ap (courses_left offer) same) ps c.first_below.result c.first_below.ensures.none
-
-pub returns-clause-value : goal.returns-clause-value
-returns-clause-value c =
-    let offer = offer_of c.args.menu.now c.args.prices.now c.args.budget.0 c.args.allowed.now in
-    let k = c.args.node.now.place in
-    let chosen = sections_of c.args.node.now.chosen in
-    let champion = sections_of c.args.champion.now in
-    found_closing offer k chosen champion c.first_below.result (first_closing_is_the_first offer k chosen champion c.len.ensures.menu c.requires.node c.requires.champion) (returns-clause-first c) (returns-clause-none c)
+    let budget = c.rests_of-rests.ensures.budget c.args.allowed.now in
+    let credits = c.rests_of-rests.ensures.credits c.args.allowed.now in
+    let courses = c.rests_of-rests.ensures.courses c.args.allowed.now in
+    let ps = collected offer k cs slice c.collect-start.new.room c.collect-start.result c.min-from.result c.len.result same c.collect-start.auto.room c.min-from.ensures c.len.ensures.value (c.collect-start.ensures.value c.args.budget.0 budget credits courses) in
+    let some : IfSome c.first_below.result (IsFirstClosing offer k cs ch (bounds offer k cs)) =
+    some_closes offer k cs ch up up' low _ _ _ _ _ _ base most (budget ∙ ap (budget_left offer) same) (credits ∙ ap (credits_left offer) same) (courses ∙ ap (courses_left offer) same) ps c.first_below.result c.first_below.ensures.first in
+    let none : IfNone c.first_below.result (NoneCloses offer k cs ch (bounds offer k cs)) =
+    none_closes offer k cs ch up up' low _ _ _ _ _ _ base most (budget ∙ ap (budget_left offer) same) (credits ∙ ap (credits_left offer) same) (courses ∙ ap (courses_left offer) same) ps c.first_below.result c.first_below.ensures.none in
+    record {
+      first = some;
+      value = found_closing offer k chosen champion c.first_below.result (first_closing_is_the_first offer k chosen champion c.len.ensures.menu c.requires.node c.requires.champion) some none;
+      none = none;
+    }

@@ -1,37 +1,41 @@
-use Rattle.std.proofs.Common.{◌<◌, length, below_more, arith, sym, ◌∙◌}
+use Rattle.std.proofs.Common.{◌≡◌, ◌<◌, length, get_or, map, below_more, arith, sym, ◌∙◌}
+use Rattle.market_units.specs.declared.units.Tokens.{Tokens}
+use Rattle.demand_api.specs.Made.{crowd_of}
+use Rattle.certificate_checker.specs.Students.{student_in}
 use Rattle.certificate_checker.proofs.Reading.{HasLengths, are_apart, are_same, drawn_is, fewer, lengths, printed_is}
 use Rattle.certificate_checker.proofs.budgets.check_budgets.Goals as goal
+use Rattle.certificate_checker.proofs.budgets.check_budgets.Goals.{After-ne}
+
+-- the budget that is printed at the place, and the one that is drawn
+compared : (c : After-ne) → (get_or (map (λ (t : Tokens). t.0) c.args.publication.now.budgets.items) c.loop-place.place 0 ≡ c.index.result.now.0)
+    × ((student_in (crowd_of c.args.terms.now.crowd.menus.items c.args.terms.now.crowd.budgets.items c.args.terms.now.crowd.sections) c.loop-place.place).budget ≡ c.index-in-loop-place.result.now.0)
+compared c =
+    let terms = c.args.terms.now in
+    let place = c.loop-place.place in
+    let long : HasLengths terms c.args.publication.now = lengths terms c.args.publication.now c.requires in
+    let below : place < length c.args.publication.now.budgets.items = omega arith in
+    let inside : place < length terms.crowd.menus.items = omega arith in (
+      printed_is c.args.publication.now.budgets.items place c.index.result.now below c.index.ensures,
+      drawn_is terms.crowd.menus.items terms.crowd.budgets.items terms.crowd.sections place c.index-in-loop-place.result.now long.drawn inside c.index-in-loop-place.ensures,
+    )
 
 pub returns-then-ne-clause-first : goal.returns-then-ne-clause-first
 returns-then-ne-clause-first c =
-    let terms = c.args.terms.now in
-    let publication = c.args.publication.now in
-    let place = c.loop-place.place in
-    let long : HasLengths terms publication = lengths terms publication c.requires in
-    let below : place < length publication.budgets.items = omega arith in
-    let inside : place < length terms.crowd.menus.items = omega arith in
-    let printed = printed_is publication.budgets.items place c.index.result.now below c.index.ensures in
-    let drawn = drawn_is terms.crowd.menus.items terms.crowd.budgets.items terms.crowd.sections place c.index-in-loop-place.result.now long.drawn inside c.index-in-loop-place.ensures in
+    let is = compared (goal.at.returns-then-ne-clause-first c).After-ne in
+    let long : HasLengths c.args.terms.now c.args.publication.now = lengths c.args.terms.now c.args.publication.now c.requires in
     record {
       before = tt;
       found = record {
         within = omega arith;
         before = c.loop-place.invariant;
-        fails = λ has. are_apart c.index.result.now.0 c.index-in-loop-place.result.now.0 (sym c.ne.ensures ∙ c.if-ne.true) (sym printed ∙ has ∙ drawn);
+        fails = λ has. are_apart c.index.result.now.0 c.index-in-loop-place.result.now.0 (sym c.ne.ensures ∙ c.if-ne.true) (sym is.0 ∙ has ∙ is.1);
       };
     }
 
 pub loop-place-preserved : goal.loop-place-preserved
 loop-place-preserved c =
-    let terms = c.args.terms.now in
-    let publication = c.args.publication.now in
-    let place = c.loop-place.place in
-    let long : HasLengths terms publication = lengths terms publication c.requires in
-    let below : place < length publication.budgets.items = omega arith in
-    let inside : place < length terms.crowd.menus.items = omega arith in
-    let printed = printed_is publication.budgets.items place c.index.result.now below c.index.ensures in
-    let drawn = drawn_is terms.crowd.menus.items terms.crowd.budgets.items terms.crowd.sections place c.index-in-loop-place.result.now long.drawn inside c.index-in-loop-place.ensures in
-    below_more _ _ c.loop-place.invariant (printed ∙ are_same c.index.result.now.0 c.index-in-loop-place.result.now.0 (sym c.ne.ensures ∙ c.if-ne.false) ∙ sym drawn)
+    let is = compared (goal.at.loop-place-preserved c).After-ne in
+    below_more _ _ c.loop-place.invariant (is.0 ∙ are_same c.index.result.now.0 c.index-in-loop-place.result.now.0 (sym c.ne.ensures ∙ c.if-ne.false) ∙ sym is.1)
 
 pub returns-clause-ok : goal.returns-clause-ok
 returns-clause-ok c =

@@ -15,20 +15,20 @@ use Rattle.certificate_checker.proofs.checking.accept.Goals as goal
 
 pub accept_publication-requires-clause-entries : goal.accept_publication-requires-clause-entries
 accept_publication-requires-clause-entries c =
-    let short : length c.in-Ok.publication.order.items ≤ length c.args.text.now = order_in_text (tables_of c.args.catalog.now c.args.roll.now) (publication_of c.in-Ok.publication) c.args.text.now c.in-Ok.ensures.text in
+    let short : length c.in-Ok.publication.order.items ≤ length c.args.text.items = order_in_text (tables_of c.args.catalog.now c.args.roll.now) (publication_of c.in-Ok.publication) c.args.text.items c.in-Ok.ensures.text in
     let small = c.requires.text in
     omega arith
 
 pub accept_publication-requires-clause-turns : goal.accept_publication-requires-clause-turns
 accept_publication-requires-clause-turns c =
-    let short = turns_in_text (tables_of c.args.catalog.now c.args.roll.now) (publication_of c.in-Ok.publication) c.args.text.now c.in-Ok.ensures.text in
+    let short = turns_in_text (tables_of c.args.catalog.now c.args.roll.now) (publication_of c.in-Ok.publication) c.args.text.items c.in-Ok.ensures.text in
     let long = length_map turn_of c.in-Ok.publication.turns.items in
     let small = c.requires.text in
     omega arith
 
 pub returns-in-Ok-clause-text : goal.returns-in-Ok-clause-text
 returns-in-Ok-clause-text c =
-    ok_then c.accept_publication.result (λ accepted same. subst (λ p. IsTextOf (market_of c.args.catalog.now c.args.roll.now c.args.settings.now) p c.args.text.now) (sym same) (record { is_publication = c.in-Ok.ensures.publication; written = c.in-Ok.ensures.text })) c.accept_publication.ensures.same
+    ok_then c.accept_publication.result (λ accepted same. subst (λ p. IsTextOf (market_of c.args.catalog.now c.args.roll.now c.args.settings.now) p c.args.text.items) (sym same) (record { is_publication = c.in-Ok.ensures.publication; written = c.in-Ok.ensures.text })) c.accept_publication.ensures.same
 
 pub returns-in-Ok-clause-holds : goal.returns-in-Ok-clause-holds
 returns-in-Ok-clause-holds c =
@@ -37,29 +37,29 @@ returns-in-Ok-clause-holds c =
 
 pub returns-in-Ok-clause-first : goal.returns-in-Ok-clause-first
 returns-in-Ok-clause-first c =
-    err_found c.accept_publication.result (λ finding is. text_first (market_of c.args.catalog.now c.args.roll.now c.args.settings.now) _ (publication_of c.in-Ok.publication) c.args.text.now finding
+    err_found c.accept_publication.result (λ finding is. text_first (market_of c.args.catalog.now c.args.roll.now c.args.settings.now) _ (publication_of c.in-Ok.publication) c.args.text.items finding
     (record { is_publication = c.in-Ok.ensures.publication; written = c.in-Ok.ensures.text }) is) c.accept_publication.ensures.first
 
 pub returns-in-Ok-clause-refused : goal.returns-in-Ok-clause-refused
 returns-in-Ok-clause-refused c =
-    err_found c.accept_publication.result (λ finding is accepted. no_finding (market_of c.args.catalog.now c.args.roll.now c.args.settings.now) _ c.args.text.now finding c.len-few_sections.ensures.kept c.len-few_students.ensures.roll accepted
-    (text_first (market_of c.args.catalog.now c.args.roll.now c.args.settings.now) _ (publication_of c.in-Ok.publication) c.args.text.now finding
+    err_found c.accept_publication.result (λ finding is accepted. no_finding (market_of c.args.catalog.now c.args.roll.now c.args.settings.now) _ c.args.text.items finding c.len-few_sections.ensures.kept c.len-few_students.ensures.roll accepted
+    (text_first (market_of c.args.catalog.now c.args.roll.now c.args.settings.now) _ (publication_of c.in-Ok.publication) c.args.text.items finding
     (record { is_publication = c.in-Ok.ensures.publication; written = c.in-Ok.ensures.text }) is)) c.accept_publication.ensures.first
 
 pub returns-in-Err-clause-first : goal.returns-in-Err-clause-first
 returns-in-Err-clause-first c =
-    subst (λ end. OnFound end (IsFirstFinding (market_of c.args.catalog.now c.args.roll.now c.args.settings.now) (map (λ stream. stream.items) c.args.streams.now) c.args.text.now)) (sym c.end_of.ensures)
-    (defect_first (market_of c.args.catalog.now c.args.roll.now c.args.settings.now) _ c.args.text.now c.in-Err.refusal c.in-Err.ensures.defect)
+    subst (λ end. OnFound end (IsFirstFinding (market_of c.args.catalog.now c.args.roll.now c.args.settings.now) (map (λ stream. stream.items) c.args.streams.now) c.args.text.items)) (sym c.end_of.ensures)
+    (defect_first (market_of c.args.catalog.now c.args.roll.now c.args.settings.now) _ c.args.text.items c.in-Err.refusal c.in-Err.ensures.defect)
 
 pub returns-in-Err-clause-refused : goal.returns-in-Err-clause-refused
 returns-in-Err-clause-refused c =
-    subst (λ end. OnFound end (λ _. ¬ IsAccepted (market_of c.args.catalog.now c.args.roll.now c.args.settings.now) (map (λ stream. stream.items) c.args.streams.now) c.args.text.now)) (sym c.end_of.ensures)
-    (defect_refused (market_of c.args.catalog.now c.args.roll.now c.args.settings.now) _ c.args.text.now c.in-Err.refusal c.in-Err.ensures.refused)
+    subst (λ end. OnFound end (λ _. ¬ IsAccepted (market_of c.args.catalog.now c.args.roll.now c.args.settings.now) (map (λ stream. stream.items) c.args.streams.now) c.args.text.items)) (sym c.end_of.ensures)
+    (defect_refused (market_of c.args.catalog.now c.args.roll.now c.args.settings.now) _ c.args.text.items c.in-Err.refusal c.in-Err.ensures.refused)
 
 pub returns-in-Ok-clause-named : goal.returns-in-Ok-clause-named
 returns-in-Ok-clause-named c =
-    err_found c.accept_publication.result (λ finding is. named_in (market_of c.args.catalog.now c.args.roll.now c.args.settings.now) (map (λ stream. stream.items) c.args.streams.now) c.args.text.now finding
-    (text_first (market_of c.args.catalog.now c.args.roll.now c.args.settings.now) _ (publication_of c.in-Ok.publication) c.args.text.now finding
+    err_found c.accept_publication.result (λ finding is. named_in (market_of c.args.catalog.now c.args.roll.now c.args.settings.now) (map (λ stream. stream.items) c.args.streams.now) c.args.text.items finding
+    (text_first (market_of c.args.catalog.now c.args.roll.now c.args.settings.now) _ (publication_of c.in-Ok.publication) c.args.text.items finding
     (record { is_publication = c.in-Ok.ensures.publication; written = c.in-Ok.ensures.text }) is)) c.accept_publication.ensures.first
 
 pub returns-in-Err-clause-named : goal.returns-in-Err-clause-named

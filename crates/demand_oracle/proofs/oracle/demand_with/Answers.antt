@@ -1,41 +1,18 @@
-use Rattle.std.proofs.Common.{◌≡◌, ◌<◌, ◌++◌, ◌∷◌, [], ℕ, length, ap, sym, subst, ◌∙◌, arith}
+use Rattle.std.proofs.Common.{Some, subst}
 use Rattle.std.specs.FinSet as set
-use Rattle.std.proofs.lemmas.Bool.{true≢false}
 use Rattle.bundle_rules.specs.Sets.{has}
-use Rattle.bundle_rules.specs.Menus.{wishes_of, section_at, place_in}
+use Rattle.bundle_rules.specs.Menus.{wishes_of}
 use Rattle.bundle_rules.specs.Demand.{price_in}
 use Rattle.bundle_rules.specs.Given.{IsBestOf}
 use Rattle.bundle_rules.specs.Bundles.{sections_of}
-use Rattle.bundle_rules.specs.Existence.Places.{section_at-place_in}
-use Rattle.bundle_rules.proofs.Feasibility.{place_of_rated}
-use Rattle.bundle_rules.proofs.GivenBest.{best_with_a_section}
 use Rattle.bundle_bounds.specs.Offers.{offer_of}
-use Rattle.bundle_bounds.specs.Laws.{IsTakable}
+use Rattle.demand_oracle.specs.Search.{wanted_by}
+use Rattle.demand_oracle.proofs.Searching.{best_of_wanted}
 use Rattle.demand_oracle.proofs.oracle.demand_with.Goals as goal
-
-pub returns-then-place-len-clause-none : goal.returns-then-place-len-clause-none
-returns-then-place-len-clause-none c some =
-    let low : place_in c.args.menu.now.places c.args.section.0 < length c.args.menu.now.places = place_of_rated c.args.menu.now some.0 some.1.feasible.rated c.args.section.0 some.2 in
-    omega (arith, c.if-place-len.true, c.place-place.ensures.value, c.len.ensures.value)
-
-pub may_take-requires-clause-branch : goal.may_take-requires-clause-branch
-may_take-requires-clause-branch c = c.root.ensures.branch c.args.menu.now (price_in c.args.prices.now)
-
-pub returns-then-not-may_take-clause-none : goal.returns-then-not-may_take-clause-none
-returns-then-not-may_take-clause-none c some =
-    let menu = c.args.menu.now in
-    let s : ℕ = c.args.section.0 in
-    let offer = offer_of menu c.args.prices.now c.args.budget.0 c.args.allowed.now in
-    let low : place_in menu.places s < length menu.places = omega (arith, c.if-place-len.false, c.place-place.ensures.value, c.len.ensures.value) in
-    let same : section_at menu.places c.place-place.result ≡ s = ap (section_at menu.places) c.place-place.ensures.value ∙ section_at-place_in menu.places s low in
-    let alone : IsTakable offer (s ∷ []) = (best_with_a_section menu (price_in c.args.prices.now) c.args.budget.0 (set.contains c.args.allowed.now) s).alone.0 some in
-    let chosen = ap (λ l. l ++ section_at menu.places c.place-place.result ∷ []) c.root.ensures.chosen ∙ ap (λ t. t ∷ []) same in
-    true≢false (sym (c.may_take.ensures.takable.1 (subst (IsTakable offer) (sym chosen) alone)) ∙ c.if-not-may_take.true)
 
 pub returns-clause-some : goal.returns-clause-some
 returns-clause-some c =
     let menu = c.args.menu.now in
-    let s : ℕ = c.args.section.0 in
-    let low : place_in menu.places s < length menu.places = omega (arith, c.if-place-len.false, c.place-place.ensures.value, c.len.ensures.value) in
-    let same : section_at menu.places c.place-place.result ≡ s = ap (section_at menu.places) c.place-place.ensures.value ∙ section_at-place_in menu.places s low in
-    subst (λ t. IsBestOf (wishes_of menu) (price_in c.args.prices.now) c.args.budget.0 (set.contains c.args.allowed.now) (λ b. has b t) (sections_of c.search-bundle.result)) same c.search-bundle.ensures.best
+    let place = c.in_ok-place.place in
+    let best = best_of_wanted (offer_of menu c.args.prices.now c.args.budget.0 c.args.allowed.now) (wanted_by menu (Some place)) _ c.search-bundle.ensures.leads c.search-bundle.ensures.wanted in
+    subst (λ t. IsBestOf (wishes_of menu) (price_in c.args.prices.now) c.args.budget.0 (set.contains c.args.allowed.now) (λ b. has b t) (sections_of c.search-bundle.result)) c.in_ok-place.ensures.place.1 best

@@ -7,4 +7,4 @@ use Rattle.demand_workers.proofs.taking.count_all.Given as goal
 
 -- the bundles of the students so far are counted
 abbrev pub invariant-loop-place : goal.invariant-loop-place
-invariant-loop-place l = AreCounts l.crowd.sections (take l.place (demands (data_of l.crowd) (price_in l.prices))) l.found
+invariant-loop-place l = AreCounts l._crowd.sections (take l.place (demands (data_of l._crowd) (price_in l._prices))) l.found

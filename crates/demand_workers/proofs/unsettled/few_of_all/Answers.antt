@@ -1,11 +1,26 @@
-use Rattle.std.proofs.Common.{rules, ◌≡◌, ◌++◌, sym, subst, All}
+use Rattle.std.proofs.Common.{rules, ◌≡◌, ◌++◌, Vec, Global, All, slice_index_or, sym, subst}
 use Rattle.std.proofs.lemmas.List.Elements.{All-append}
-use Rattle.demand_workers.specs.Questions.{IsQuestion}
+use Rattle.market_units.specs.declared.units.Tokens.{Tokens}
+use Rattle.demand_workers.specs.Batches.{IsInquiry, AreOthersKept}
+use Rattle.demand_workers.specs.Rounds.{data_of}
+use Rattle.demand_workers.proofs.Surveying.{survey_asks, survey_skips}
 use Rattle.demand_workers.proofs.unsettled.few_of_all.Goals as goal
 
-pub loop-prices-preserved : goal.loop-prices-preserved
-loop-prices-preserved c =
-    let joined : c.append.new.self.items ≡ c.loop-prices.questions.items ++ c.in_ok-more.more.items = search rules in
+pub loop-version-preserved-in_default : goal.loop-version-preserved-in_default
+loop-version-preserved-in_default c = record {
+  many = search rules;
+  inquiries = c.loop-version.invariant.inquiries;
+  surveyed = survey_skips (data_of c.args.crowd.now) c.args.remembered.now.bundles.items c.args.batch.now c.loop-version.version c.loop-version.few.items c.push.new.self.items c.loop-version.inquiries.items c.loop-version.invariant.many (search rules) c.loop-version.invariant.surveyed;
+}
+
+pub loop-version-preserved : goal.loop-version-preserved
+loop-version-preserved c =
+    let joined : c.append.new.self.items ≡ c.loop-version.inquiries.items ++ c.in-Some.more.items = search rules in
+    let asked : All (IsInquiry c.args.crowd.now c.args.batch.now) c.in-Some.more.items = rw c.in-Some.is at c.in_ok-more.ensures.inquiries in
+    let others : (d : Vec Tokens Global) → AreOthersKept (data_of c.args.crowd.now) c.args.remembered.now.bundles.items (slice_index_or c.args.batch.now c.loop-version.version d).items c.loop-version.version c.in-Some.more.items = rw c.in-Some.is at c.in_ok-more.ensures.others in
     record {
-      questions = subst (All (IsQuestion c.args.crowd.now)) (sym joined) (All-append (IsQuestion c.args.crowd.now) c.loop-prices.questions.items c.in_ok-more.more.items c.loop-prices.invariant.questions c.in_ok-more.ensures);
+      many = search rules;
+      inquiries = subst (All (IsInquiry c.args.crowd.now c.args.batch.now)) (sym joined) (All-append (IsInquiry c.args.crowd.now c.args.batch.now) c.loop-version.inquiries.items c.in-Some.more.items c.loop-version.invariant.inquiries asked);
+      surveyed = survey_asks (data_of c.args.crowd.now) c.args.remembered.now.bundles.items c.args.batch.now c.loop-version.version c.loop-version.few.items c.push-in-loop-version.new.self.items c.loop-version.inquiries.items c.in-Some.more.items c.append.new.self.items
+          c.loop-version.invariant.many (search rules) joined c.loop-version.invariant.surveyed others;
     }

@@ -30,7 +30,7 @@ returns-in-Ok-clause-answer g c =
     check_done words (sight g.H.Shelf c.args.shelf.now c.take_published.new.shelf) (string_bytes c.index-words-1.result) (string_bytes c.index-words-2.result) (string_bytes c.index-words-3.result) (string_bytes c.index-words-4.result)
     names said.sessions.0 said.sessions.1 published.market.catalog published.market.roll published.market.settings published.text.items published.streams.items c.requires named (omega (arith, count, long.0))
     (rw c.as_str.ensures.value at said.catalog) (rw c.as_str-2.ensures.value at said.roll) (rw c.as_str-3.ensures.value at said.settings) (rw c.as_str-4.ensures.value at said.text) said.sessions.2 said.end _
-    (rw (c.deref.ensures.value, c.deref-2.ensures.value) at c.in-Ok.ensures.accepted) c.accepted.ensures
+    (rw c.deref.ensures.value at c.in-Ok.ensures.accepted) c.accepted.ensures
 
 pub returns-in-Err-Found-clause-answer : goal.returns-in-Err-Found-clause-answer
 returns-in-Err-Found-clause-answer g c =
@@ -44,7 +44,7 @@ returns-in-Err-Found-clause-answer g c =
     check_found words (sight g.H.Shelf c.args.shelf.now c.take_published.new.shelf) (string_bytes c.index-words-1.result) (string_bytes c.index-words-2.result) (string_bytes c.index-words-3.result) (string_bytes c.index-words-4.result)
     names said.sessions.0 said.sessions.1 published.market.catalog published.market.roll published.market.settings published.text.items published.streams.items c.requires named (omega (arith, count, long.0))
     (rw c.as_str.ensures.value at said.catalog) (rw c.as_str-2.ensures.value at said.roll) (rw c.as_str-3.ensures.value at said.settings) (rw c.as_str-4.ensures.value at said.text) said.sessions.2 said.end c.in-Err-Found.finding _
-    (rw (c.in-Err-Found.field-0-is, c.deref.ensures.value, c.deref-2.ensures.value) at c.in-Err-Found.ensures.refused) (rw (c.in-Err-Found.field-0-is, c.deref.ensures.value, c.deref-2.ensures.value) at c.in-Err-Found.ensures.first) c.finding_line.ensures
+    (rw (c.in-Err-Found.field-0-is, c.deref.ensures.value) at c.in-Err-Found.ensures.refused) (rw (c.in-Err-Found.field-0-is, c.deref.ensures.value) at c.in-Err-Found.ensures.first) c.finding_line.ensures
 
 pub returns-clause-answer : goal.returns-clause-answer
 returns-clause-answer g c = (Check, c.requires, tt, refl)

@@ -4,6 +4,7 @@ use Rattle.std.specs.Vec.{vec_len}
 use Rattle.std.proofs.lemmas.Result.{err_from_is_err_and}
 use Rattle.market_lists.specs.Totals.{total}
 use Rattle.market_words.specs.declared.words.Form.TheVariants.{Demand}
+use Rattle.utility_language.specs.Commands.{IsCommandOf}
 use Rattle.market_host.specs.Sessions.{command_count}
 use Rattle.market_host.specs.Sights.{sight}
 use Rattle.market_host.proofs.DemandFacts.{demand_done, inputs-demand, length-demand, market-demand, opens_demand, prices_fourth, prices_length}
@@ -81,13 +82,13 @@ text_of-requires-clause-sessions g c κs within =
     let read = c.in_ok-streams.ensures.read in
     let long = length-demand c.args.words.now c.args.workers c.requires in
     let names : length (map string_bytes (take (length c.args.words.now - 6) (drop 6 c.args.words.now))) ≡ length c.args.words.now - 6 = length-words c.args.words.now 6 (omega (arith, long.0)) in
-    let count = streams_of_names (g.H.Shelf.holds c.take_prices.new.shelf) (map string_bytes (take (length c.args.words.now - 6) (drop 6 c.args.words.now))) read.0 c.in_ok-streams.streams.items read.1 read.2 in
+    let count = streams_of_names IsCommandOf (g.H.Shelf.holds c.take_prices.new.shelf) (map string_bytes (take (length c.args.words.now - 6) (drop 6 c.args.words.now))) read.0 c.in_ok-streams.streams.items read.1 read.2 in
     rw c.deref-2.ensures.value (omega (arith, count, names, long.0), omega (arith, count, names, long.1))
 
 pub text_of-requires-clause-commands : goal.text_of-requires-clause-commands
 text_of-requires-clause-commands g c κs within =
     let read = c.in_ok-streams.ensures.read in
-    let count : total command_count read.0 ≡ total vec_len c.in_ok-streams.streams.items = count_of_sessions read.0 c.in_ok-streams.streams.items read.2.commands in
+    let count : total command_count read.0 ≡ total vec_len c.in_ok-streams.streams.items = count_of_sessions IsCommandOf read.0 c.in_ok-streams.streams.items read.2.items in
     rw c.deref-2.ensures.value (omega (arith, count, read.2.count))
 
 pub returns-in_err-text-clause-answer : goal.returns-in_err-text-clause-answer

@@ -4,13 +4,15 @@ use Rattle.std.proofs.lemmas.Result.{err_from_is_err_and}
 use Rattle.dropadd_hall.specs.Streams.{request_count}
 use Rattle.market_lists.specs.Totals.{total}
 use Rattle.market_words.specs.declared.words.Form.TheVariants.{Hall}
+use Rattle.dropadd_hall.specs.Requests.{IsRequestOf}
 use Rattle.market_host.specs.Kinds.{Catalog, Published, Roll}
 use Rattle.market_host.specs.Sessions.{command_count}
 use Rattle.market_host.specs.Sights.{sight}
 use Rattle.market_host.proofs.HallFacts.{first-hall, hall_done, hall_found, inputs-hall, length-hall, published_third, second-hall}
 use Rattle.market_host.proofs.InputTroubles.{catalog_first, none_read, roll_second}
-use Rattle.market_host.proofs.RequestsRead.{count_of_streams, streams_of_names}
+use Rattle.market_host.proofs.SessionsRead.{streams_of_names}
 use Rattle.market_host.proofs.Stops.{input_stops, sessions_stop}
+use Rattle.market_host.proofs.StreamFacts.{count_of_sessions}
 use Rattle.market_host.proofs.WordFacts.{length-words}
 use Rattle.market_host.proofs.hall.hall.Goals as goal
 
@@ -67,7 +69,7 @@ returns-in_err-streams-clause-answer g c =
     let first = rw c.as_str.ensures.value at c.in_ok-catalog.ensures.read in
     let second = rw (c.as_str-2.ensures.value, c.in_ok-catalog.ensures.holds) at c.in_ok-roll.ensures.read in
     let third = rw (c.as_str-3.ensures.value, c.in_ok-roll.ensures.holds, c.in_ok-catalog.ensures.holds) at c.in_ok-text.ensures.read in
-    rw (p.1, p.2) (sessions_stop words Hall c.requires held (g.H.Shelf.faults c.args.shelf.now) (sight g.H.Shelf c.take_text.new.shelf c.take_request_streams.new.shelf)
+    rw (p.1, p.2) (sessions_stop words Hall c.requires held (g.H.Shelf.faults c.args.shelf.now) (sight g.H.Shelf c.take_text.new.shelf c.take_sessions.new.shelf)
     (c.in_ok-text.ensures.holds ∙ c.in_ok-roll.ensures.holds ∙ c.in_ok-catalog.ensures.holds)
     (λ other. omega (arith, c.in_ok-catalog.ensures.later other, c.in_ok-roll.ensures.later other, c.in_ok-text.ensures.later other))
     (string_bytes c.index-words-1.result ∷ string_bytes c.index-words-2.result ∷ string_bytes c.index-words-3.result ∷ []) (first.0 ∷ second.0 ∷ third.0 ∷ [])
@@ -85,13 +87,13 @@ published_hall-requires-clause-sessions g c κs within =
     let read = c.in_ok-streams.ensures.read in
     let long = length-hall c.args.words.now c.requires in
     let names : length (map string_bytes (take (length c.args.words.now - 4) (drop 4 c.args.words.now))) ≡ length c.args.words.now - 4 = length-words c.args.words.now 4 (omega (arith, long.0)) in
-    let count = streams_of_names (g.H.Shelf.holds c.take_text.new.shelf) (map string_bytes (take (length c.args.words.now - 4) (drop 4 c.args.words.now))) read.0 c.in_ok-streams.streams.items read.1 read.2 in
+    let count = streams_of_names IsRequestOf (g.H.Shelf.holds c.take_text.new.shelf) (map string_bytes (take (length c.args.words.now - 4) (drop 4 c.args.words.now))) read.0 c.in_ok-streams.streams.items read.1 read.2 in
     rw c.deref-2.ensures.value (omega (arith, count, names, long.0), omega (arith, count, names, long.1))
 
 pub published_hall-requires-clause-requests : goal.published_hall-requires-clause-requests
 published_hall-requires-clause-requests g c κs within =
     let read = c.in_ok-streams.ensures.read in
-    let count : total command_count read.0 ≡ request_count c.in_ok-streams.streams.items = count_of_streams read.0 c.in_ok-streams.streams.items read.2.requests in
+    let count : total command_count read.0 ≡ request_count c.in_ok-streams.streams.items = count_of_sessions IsRequestOf read.0 c.in_ok-streams.streams.items read.2.items in
     rw c.deref-2.ensures.value (omega (arith, count, read.2.count))
 
 pub returns-in-Ok-clause-answer : goal.returns-in-Ok-clause-answer
@@ -105,7 +107,7 @@ returns-in-Ok-clause-answer g c =
     let second = rw (c.as_str-2.ensures.value, c.in_ok-catalog.ensures.holds) at c.in_ok-roll.ensures.read in
     let third = rw (c.as_str-3.ensures.value, c.in_ok-roll.ensures.holds, c.in_ok-catalog.ensures.holds) at c.in_ok-text.ensures.read in
     let read = rw (c.in_ok-text.ensures.holds, c.in_ok-roll.ensures.holds, c.in_ok-catalog.ensures.holds) at c.in_ok-streams.ensures.read in
-    hall_done words (g.H.Shelf.faults c.args.shelf.now) (sight g.H.Shelf c.take_text.new.shelf c.take_request_streams.new.shelf) (g.H.Shelf.holds c.args.shelf.now) (string_bytes c.index-words-1.result)
+    hall_done words (g.H.Shelf.faults c.args.shelf.now) (sight g.H.Shelf c.take_text.new.shelf c.take_sessions.new.shelf) (g.H.Shelf.holds c.args.shelf.now) (string_bytes c.index-words-1.result)
     (string_bytes c.index-words-2.result) (string_bytes c.index-words-3.result) names read.0 read.1 _ _ _ c.in_ok-streams.streams.items c.requires named (omega (arith, count, long.0)) first second third
     (c.in_ok-text.ensures.holds ∙ c.in_ok-roll.ensures.holds ∙ c.in_ok-catalog.ensures.holds) read.2 c.in_ok-streams.ensures.end _ (rw (c.deref.ensures.value, c.deref-2.ensures.value) at c.in-Ok.ensures.told)
 
@@ -120,7 +122,7 @@ returns-in-Err-Found-clause-answer g c =
     let second = rw (c.as_str-2.ensures.value, c.in_ok-catalog.ensures.holds) at c.in_ok-roll.ensures.read in
     let third = rw (c.as_str-3.ensures.value, c.in_ok-roll.ensures.holds, c.in_ok-catalog.ensures.holds) at c.in_ok-text.ensures.read in
     let read = rw (c.in_ok-text.ensures.holds, c.in_ok-roll.ensures.holds, c.in_ok-catalog.ensures.holds) at c.in_ok-streams.ensures.read in
-    hall_found words (g.H.Shelf.faults c.args.shelf.now) (sight g.H.Shelf c.take_text.new.shelf c.take_request_streams.new.shelf) (g.H.Shelf.holds c.args.shelf.now) (string_bytes c.index-words-1.result)
+    hall_found words (g.H.Shelf.faults c.args.shelf.now) (sight g.H.Shelf c.take_text.new.shelf c.take_sessions.new.shelf) (g.H.Shelf.holds c.args.shelf.now) (string_bytes c.index-words-1.result)
     (string_bytes c.index-words-2.result) (string_bytes c.index-words-3.result) names read.0 read.1 _ _ _ c.in_ok-streams.streams.items c.requires named (omega (arith, count, long.0)) first second third
     (c.in_ok-text.ensures.holds ∙ c.in_ok-roll.ensures.holds ∙ c.in_ok-catalog.ensures.holds) read.2 c.in_ok-streams.ensures.end c.in-Err-Found.finding _
     (rw (c.in-Err-Found.field-0-is, c.deref.ensures.value) at c.in-Err-Found.ensures.refused) (rw (c.in-Err-Found.field-0-is, c.deref.ensures.value) at c.in-Err-Found.ensures.first) c.finding_line.ensures

@@ -4,6 +4,7 @@ use Rattle.std.specs.Vec.{vec_len}
 use Rattle.std.proofs.lemmas.Result.{err_from_is_err_and}
 use Rattle.market_lists.specs.Totals.{total}
 use Rattle.market_words.specs.declared.words.Form.TheVariants.{Prefer}
+use Rattle.utility_language.specs.Commands.{IsCommandOf}
 use Rattle.market_host.specs.Kinds.{Catalog, Roll}
 use Rattle.market_host.specs.Sessions.{command_count}
 use Rattle.market_host.specs.Sights.{sight}
@@ -60,13 +61,13 @@ text_of-requires-clause-sessions g c κs within =
     let read = c.in_ok-streams.ensures.read in
     let long = length-prefer c.args.words.now c.requires in
     let names : length (map string_bytes (take (length c.args.words.now - 3) (drop 3 c.args.words.now))) ≡ length c.args.words.now - 3 = length-words c.args.words.now 3 (omega (arith, long.0)) in
-    let count = streams_of_names (g.H.Shelf.holds c.take_roll.new.shelf) (map string_bytes (take (length c.args.words.now - 3) (drop 3 c.args.words.now))) read.0 c.in_ok-streams.streams.items read.1 read.2 in
+    let count = streams_of_names IsCommandOf (g.H.Shelf.holds c.take_roll.new.shelf) (map string_bytes (take (length c.args.words.now - 3) (drop 3 c.args.words.now))) read.0 c.in_ok-streams.streams.items read.1 read.2 in
     rw c.deref.ensures.value (omega (arith, count, names, long.0), omega (arith, count, names, long.1))
 
 pub text_of-requires-clause-commands : goal.text_of-requires-clause-commands
 text_of-requires-clause-commands g c κs within =
     let read = c.in_ok-streams.ensures.read in
-    let count : total command_count read.0 ≡ total vec_len c.in_ok-streams.streams.items = count_of_sessions read.0 c.in_ok-streams.streams.items read.2.commands in
+    let count : total command_count read.0 ≡ total vec_len c.in_ok-streams.streams.items = count_of_sessions IsCommandOf read.0 c.in_ok-streams.streams.items read.2.items in
     rw c.deref.ensures.value (omega (arith, count, read.2.count))
 
 pub returns-in_err-text-clause-answer : goal.returns-in_err-text-clause-answer

@@ -2,6 +2,7 @@ use Rattle.std.proofs.Common.{◌≡◌, [], ◌∷◌, arith, length, map, refl
 use Rattle.std.specs.String.{string_bytes}
 use Rattle.std.proofs.lemmas.Result.{err_from_is_err_and}
 use Rattle.market_words.specs.declared.words.Form.TheVariants.{Quote}
+use Rattle.utility_language.specs.Commands.{IsCommandOf}
 use Rattle.market_host.specs.Kinds.{Catalog}
 use Rattle.market_host.specs.Sessions.{command_count}
 use Rattle.market_host.specs.Sights.{sight}
@@ -40,7 +41,7 @@ returns-in_err-commands-clause-answer g c =
 pub best_text-requires-clause-few : goal.best_text-requires-clause-few
 best_text-requires-clause-few g c =
     let read = c.in_ok-commands.ensures.read in
-    let many : length c.in_ok-commands.commands.items ≡ command_count read.0 = count_of_session read.0 c.in_ok-commands.commands.items read.3.0 in
+    let many : length c.in_ok-commands.commands.items ≡ command_count read.0 = count_of_session IsCommandOf read.0 c.in_ok-commands.commands.items read.3.0 in
     rw c.deref.ensures.value (omega (arith, many, read.3.1))
 
 pub returns-in_err-text-clause-answer : goal.returns-in_err-text-clause-answer

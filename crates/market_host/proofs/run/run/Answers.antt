@@ -5,6 +5,7 @@ use Rattle.std.proofs.lemmas.List.{length-drop, length-take-le}
 use Rattle.std.proofs.lemmas.Result.{err_from_is_err_and}
 use Rattle.market_lists.specs.Totals.{total}
 use Rattle.market_words.specs.declared.words.Form.TheVariants.{Run}
+use Rattle.utility_language.specs.Commands.{IsCommandOf}
 use Rattle.market_host.specs.Sessions.{command_count}
 use Rattle.market_host.specs.Sights.{sight}
 use Rattle.market_host.proofs.MarketFacts.{market_third}
@@ -58,13 +59,13 @@ held_text-requires-clause-sessions g c κs within =
     let read = c.in_ok-streams.ensures.read in
     let long = length-run c.args.words.now c.args.workers c.requires in
     let names : length (map string_bytes (take (length c.args.words.now - 5) (drop 5 c.args.words.now))) ≡ length c.args.words.now - 5 = length-words c.args.words.now 5 (omega (arith, long.0)) in
-    let count = streams_of_names (g.H.Shelf.holds c.take_market.new.shelf) (map string_bytes (take (length c.args.words.now - 5) (drop 5 c.args.words.now))) read.0 c.in_ok-streams.streams.items read.1 read.2 in
+    let count = streams_of_names IsCommandOf (g.H.Shelf.holds c.take_market.new.shelf) (map string_bytes (take (length c.args.words.now - 5) (drop 5 c.args.words.now))) read.0 c.in_ok-streams.streams.items read.1 read.2 in
     rw c.deref.ensures.value (omega (arith, count, names, long.0), omega (arith, count, names, long.1))
 
 pub held_text-requires-clause-commands : goal.held_text-requires-clause-commands
 held_text-requires-clause-commands g c κs within =
     let read = c.in_ok-streams.ensures.read in
-    let count : total command_count read.0 ≡ total vec_len c.in_ok-streams.streams.items = count_of_sessions read.0 c.in_ok-streams.streams.items read.2.commands in
+    let count : total command_count read.0 ≡ total vec_len c.in_ok-streams.streams.items = count_of_sessions IsCommandOf read.0 c.in_ok-streams.streams.items read.2.items in
     rw c.deref.ensures.value (omega (arith, count, read.2.count))
 
 pub take_sessions-requires-clause-count : goal.take_sessions-requires-clause-count

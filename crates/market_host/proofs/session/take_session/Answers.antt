@@ -14,15 +14,15 @@ returns-in_err-bytes-clause-trouble g c =
 
 pub returns-clause-read : goal.returns-clause-read
 returns-clause-read g c =
-    IfOk-weaker c.commands_in.result _ _ (λ commands is. (c.in_ok-bytes.bytes.items, c.in_ok-bytes.ensures.whole, c.in_ok-bytes.ensures.within, rw c.deref.ensures.value at is)) c.commands_in.ensures.commands
+    IfOk-weaker c.items_in.result _ _ (λ items is. (c.in_ok-bytes.bytes.items, c.in_ok-bytes.ensures.whole, c.in_ok-bytes.ensures.within, rw c.deref.ensures.value at is)) c.items_in.ensures.items
 
 pub returns-clause-trouble : goal.returns-clause-trouble
 returns-clause-trouble g c =
-    IfErr-weaker c.commands_in.result _ _
+    IfErr-weaker c.items_in.result _ _
     (λ stop surplus form earlier texts later read streams behind number left.
     trouble_of_session form (sight g.H.Shelf c.args.shelf.now c.read_input.new.shelf) earlier texts later c.args.name.now c.in_ok-bytes.bytes.items c.args.input c.args.room stop read number streams behind left
     c.in_ok-bytes.ensures.end c.in_ok-bytes.ensures.whole c.in_ok-bytes.ensures.within (rw c.deref.ensures.value at surplus))
-    c.commands_in.ensures.surplus
+    c.items_in.ensures.surplus
 
 pub returns-clause-end : goal.returns-clause-end
-returns-clause-end g c = IfOk-weaker c.commands_in.result _ _ (λ _ _. c.in_ok-bytes.ensures.end) c.commands_in.ensures.commands
+returns-clause-end g c = IfOk-weaker c.items_in.result _ _ (λ _ _. c.in_ok-bytes.ensures.end) c.items_in.ensures.items

@@ -13,18 +13,18 @@ use Rattle.published_market.proofs.Telling.{budgets_told, order_told, turns_best
 use Rattle.published_market.proofs.publishing.put_together.Goals as goal
 
 pub prove_turns-requires-clause-best : goal.prove_turns-requires-clause-best
-prove_turns-requires-clause-best c =
+prove_turns-requires-clause-best g c κs within =
     rw (c.deref-5.ensures.value, c.deref-4.ensures.value)
     (turns_best (crowd_of c.args.crowd.now.menus.items c.args.crowd.now.budgets.items c.args.crowd.now.sections) c.args.seats.now c.args.stages.settled.prices.items c.args.settings.now.raise (map sections_of c.args.stages.settled.bundles.items)
     (turns_of c.args.stages.after.turns.items) c.args.stages.after.passes c.requires.stages.made)
 
 pub used_seats-requires : goal.used_seats-requires
-used_seats-requires c =
+used_seats-requires g c =
     rw c.deref-6.ensures.value
     (used_count c.args.stages.after.used.items (map sections_of c.args.stages.after.bundles.items) c.args.crowd.now.sections (length c.args.seats.now) c.requires.stages.used c.requires.seats)
 
 pub returns-clause-outcome : goal.returns-clause-outcome
-returns-clause-outcome c =
+returns-clause-outcome g c =
     let crowd = crowd_of c.args.crowd.now.menus.items c.args.crowd.now.budgets.items c.args.crowd.now.sections in
     let p : Publication = publication_of (record {
       order = c.in_ok-order.order;
@@ -51,7 +51,7 @@ returns-clause-outcome c =
     outcome_told crowd c.args.seats.now c.args.settings.now (stages_of c.args.stages) p c.requires.seats c.requires.stages told
 
 pub returns-clause-in_range : goal.returns-clause-in_range
-returns-clause-in_range c = λ tables students sections.
+returns-clause-in_range g c = λ tables students sections.
     let crowd = crowd_of c.args.crowd.now.menus.items c.args.crowd.now.budgets.items c.args.crowd.now.sections in
     let p : Publication = publication_of (record {
       order = c.in_ok-order.order;

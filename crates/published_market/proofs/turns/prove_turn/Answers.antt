@@ -3,6 +3,7 @@ use Rattle.std.specs.FinSet as set
 use Rattle.bundle_rules.specs.Bundles.{sections_of}
 use Rattle.bundle_rules.specs.Demand.{IsBest, price_in}
 use Rattle.bundle_rules.specs.Menus.{wishes_of}
+use Rattle.bundle_bounds.specs.Offers.{offer_of}
 use Rattle.budget_draw.specs.Budgets.{raised_by}
 use Rattle.demand_api.specs.Crowds.{Student}
 use Rattle.demand_api.proofs.Takers.{priced_at}
@@ -11,8 +12,10 @@ use Rattle.aftermarket_stage.specs.After.{turn_of}
 use Rattle.market_certificate.specs.Publications.{ProvedTurn}
 use Rattle.market_certificate.specs.Views.{turn_of as published_of}
 use Rattle.published_market.specs.Making.{HasForm}
+use Rattle.published_market.specs.Rooms.{IsRoomOf}
 use Rattle.published_market.specs.Turns.{IsPublishedTurn}
 use Rattle.published_parts.specs.Offers.{IsProvedBest, offer_to}
+use Rattle.published_market.proofs.Rooming.{turn_room}
 use Rattle.published_market.proofs.Showing.{asked, turn_inside, turn_student}
 use Rattle.published_market.proofs.turns.prove_turn.Goals as goal
 
@@ -50,6 +53,11 @@ prove_bundle-requires-clause-best c =
     c.requires.crowd.same c.from-student.ensures c.index-menu.ensures c.index.ensures c.requires.best in
     subst (λ budget. IsBest (wishes_of c.index-menu.result.now) (price_in c.args.prices.now) budget (set.contains c.args.turn.now.allowed) (sections_of c.args.turn.now.bundle)) (sym c.raised-budget.ensures)
     (subst (λ (student : Student). IsBest (wishes_of student.menu) (price_in c.args.prices.now) (raised_by c.args.raise student.budget) (set.contains c.args.turn.now.allowed) (sections_of c.args.turn.now.bundle)) who c.requires.best.best)
+
+pub prove_bundle-requires-clause-room : goal.prove_bundle-requires-clause-room
+prove_bundle-requires-clause-room c =
+    subst (λ budget. IsRoomOf (offer_of c.index-menu.result.now c.args.prices.now budget c.args.turn.now.allowed) (sections_of c.args.turn.now.bundle) c.args.room.now) (sym c.raised-budget.ensures)
+    (turn_room c.args.crowd.now c.args.prices.now c.args.raise c.args.turn.now c.from-student.result c.index-menu.result.now c.index.result.now c.args.room.now c.from-student.ensures c.index-menu.ensures c.index.ensures c.requires.room)
 
 pub returns-clause-published : goal.returns-clause-published
 returns-clause-published c =

@@ -5,8 +5,17 @@ use Rattle.market_units.specs.declared.units.Tokens.{Tokens}
 use Rattle.clearing_error.specs.Errors.{error}
 use Rattle.price_neighbours.proofs.Distinctness.{vectors_of}
 use Rattle.tabu_search.specs.Visits.{counts_at, error_at}
-use Rattle.tabu_search.proofs.Candidates.{IsBestOf, are_at, some_at, allowed_at, error_is, best_tabu, best_lower, best_stays, some_found}
+use Rattle.tabu_search.proofs.Candidates.{AreAt, IsBestOf, are_at, some_at, allowed_at, error_is, best_tabu, best_lower, best_stays, some_found}
+use Rattle.tabu_search.proofs.walking.first_candidate.Given.{Over}
 use Rattle.tabu_search.proofs.walking.first_candidate.Goals as goal
+use Rattle.tabu_search.proofs.walking.first_candidate.Goals.{After-deref-in-loop-place-3}
+
+-- what is read at a place
+read : (g : Over) (c : After-deref-in-loop-place-3 g) → AreAt (g.D.Demands.crowd c.args.demands.now) c.args.seats.now c.args.vectors.items c.loop-place.place c.index-in-loop-place-2.result.now.items c.index-in-loop-place.result.now.items
+read g c =
+    let all : map (λ counts. counts.items) c.in_ok-counted.counted.items ≡ map (λ vector. counts_at (g.D.Demands.crowd c.args.demands.now) vector.items) c.args.vectors.items = rw c.deref.ensures.value at c.in_ok-counted.ensures.value in
+    let low : c.loop-place.place < length c.args.vectors.items = search rules in
+    are_at (g.D.Demands.crowd c.args.demands.now) c.args.seats.now c.args.vectors.items c.in_ok-counted.counted.items c.loop-place.place c.index-in-loop-place-2.result.now c.index-in-loop-place.result.now c.requires.known c.requires.seats c.requires.vectors all low c.index-in-loop-place-2.ensures c.index-in-loop-place.ensures
 
 pub loop-place-preserved-then-is_tabu : goal.loop-place-preserved-then-is_tabu
 loop-place-preserved-then-is_tabu g c =
@@ -20,31 +29,19 @@ loop-place-preserved-then-is_tabu g c =
 
 pub error-error-requires-clause-counts : goal.error-error-requires-clause-counts
 error-error-requires-clause-counts g c =
-    let all : map (λ counts. counts.items) c.in_ok-counted.counted.items ≡ map (λ vector. counts_at (g.D.Demands.crowd c.args.demands.now) vector.items) c.args.vectors.items = rw c.deref.ensures.value at c.in_ok-counted.ensures.value in
-    let low : c.loop-place.place < length c.args.vectors.items = search rules in
-    let at = are_at (g.D.Demands.crowd c.args.demands.now) c.args.seats.now c.args.vectors.items c.in_ok-counted.counted.items c.loop-place.place c.index-in-loop-place-2.result.now c.index-in-loop-place.result.now c.requires.known c.requires.seats c.requires.vectors all low c.index-in-loop-place-2.ensures c.index-in-loop-place.ensures in
-    rw c.deref-in-loop-place-2.ensures.value at.small
+    rw c.deref-in-loop-place-2.ensures.value (read g (goal.at.error-error-requires-clause-counts g c).After-deref-in-loop-place-3).small
 
 pub error-error-requires-clause-few : goal.error-error-requires-clause-few
 error-error-requires-clause-few g c =
-    let all : map (λ counts. counts.items) c.in_ok-counted.counted.items ≡ map (λ vector. counts_at (g.D.Demands.crowd c.args.demands.now) vector.items) c.args.vectors.items = rw c.deref.ensures.value at c.in_ok-counted.ensures.value in
-    let low : c.loop-place.place < length c.args.vectors.items = search rules in
-    let at = are_at (g.D.Demands.crowd c.args.demands.now) c.args.seats.now c.args.vectors.items c.in_ok-counted.counted.items c.loop-place.place c.index-in-loop-place-2.result.now c.index-in-loop-place.result.now c.requires.known c.requires.seats c.requires.vectors all low c.index-in-loop-place-2.ensures c.index-in-loop-place.ensures in
-    rw c.deref-in-loop-place-2.ensures.value at.few
+    rw c.deref-in-loop-place-2.ensures.value (read g (goal.at.error-error-requires-clause-few g c).After-deref-in-loop-place-3).few
 
 pub error-error-requires-clause-seats : goal.error-error-requires-clause-seats
 error-error-requires-clause-seats g c =
-    let all : map (λ counts. counts.items) c.in_ok-counted.counted.items ≡ map (λ vector. counts_at (g.D.Demands.crowd c.args.demands.now) vector.items) c.args.vectors.items = rw c.deref.ensures.value at c.in_ok-counted.ensures.value in
-    let low : c.loop-place.place < length c.args.vectors.items = search rules in
-    let at = are_at (g.D.Demands.crowd c.args.demands.now) c.args.seats.now c.args.vectors.items c.in_ok-counted.counted.items c.loop-place.place c.index-in-loop-place-2.result.now c.index-in-loop-place.result.now c.requires.known c.requires.seats c.requires.vectors all low c.index-in-loop-place-2.ensures c.index-in-loop-place.ensures in
-    at.seats_long ∙ ap length (sym c.deref-in-loop-place-2.ensures.value)
+    (read g (goal.at.error-error-requires-clause-seats g c).After-deref-in-loop-place-3).seats_long ∙ ap length (sym c.deref-in-loop-place-2.ensures.value)
 
 pub error-error-requires-clause-prices : goal.error-error-requires-clause-prices
 error-error-requires-clause-prices g c =
-    let all : map (λ counts. counts.items) c.in_ok-counted.counted.items ≡ map (λ vector. counts_at (g.D.Demands.crowd c.args.demands.now) vector.items) c.args.vectors.items = rw c.deref.ensures.value at c.in_ok-counted.ensures.value in
-    let low : c.loop-place.place < length c.args.vectors.items = search rules in
-    let at = are_at (g.D.Demands.crowd c.args.demands.now) c.args.seats.now c.args.vectors.items c.in_ok-counted.counted.items c.loop-place.place c.index-in-loop-place-2.result.now c.index-in-loop-place.result.now c.requires.known c.requires.seats c.requires.vectors all low c.index-in-loop-place-2.ensures c.index-in-loop-place.ensures in
-    ap length c.deref-in-loop-place-3.ensures.value ∙ at.prices_long ∙ ap length (sym c.deref-in-loop-place-2.ensures.value)
+    ap length c.deref-in-loop-place-3.ensures.value ∙ (read g (goal.at.error-error-requires-clause-prices g c).After-deref-in-loop-place-3).prices_long ∙ ap length (sym c.deref-in-loop-place-2.ensures.value)
 
 pub loop-place-preserved-then-not-is_lower : goal.loop-place-preserved-then-not-is_lower
 loop-place-preserved-then-not-is_lower g c =
@@ -52,7 +49,7 @@ loop-place-preserved-then-not-is_lower g c =
     let low : c.loop-place.place < length c.args.vectors.items = search rules in
     let low' : c.loop-place.place < length (vectors_of c.args.vectors.items) = rw (length-map c.args.vectors.items (λ (v : Vec Tokens Global). v.items)) low in
     let seen = are_at (g.D.Demands.crowd c.args.demands.now) c.args.seats.now c.args.vectors.items c.in_ok-counted.counted.items c.loop-place.place c.index-in-loop-place-2.result.now c.index.result.now c.requires.known c.requires.seats c.requires.vectors all low c.index-in-loop-place-2.ensures c.index.ensures in
-    let at = are_at (g.D.Demands.crowd c.args.demands.now) c.args.seats.now c.args.vectors.items c.in_ok-counted.counted.items c.loop-place.place c.index-in-loop-place-2.result.now c.index-in-loop-place.result.now c.requires.known c.requires.seats c.requires.vectors all low c.index-in-loop-place-2.ensures c.index-in-loop-place.ensures in
+    let at = read g (goal.at.loop-place-preserved-then-not-is_lower g c).After-deref-in-loop-place-3 in
     let told : c.error-error.result ≡ error c.index-in-loop-place.result.now.items c.args.seats.now c.index-in-loop-place-2.result.now.items = rw (c.deref-in-loop-place-2.ensures.value, c.deref-in-loop-place-3.ensures.value) at c.error-error.ensures in
     let free = allowed_at (g.D.Demands.crowd c.args.demands.now) c.args.seats.now c.args.window.now.items c.args.vectors.items c.loop-place.place c.index-in-loop-place-2.result.now.items c.index.result.now.items c.is_tabu.result seen (rw c.deref-in-loop-place.ensures.value at c.is_tabu.ensures) ∙ ap not c.if-is_tabu.false in
     let is = error_is (g.D.Demands.crowd c.args.demands.now) c.args.seats.now c.args.vectors.items c.loop-place.place c.error-error.result c.index-in-loop-place-2.result.now.items c.index-in-loop-place.result.now.items at told in
@@ -65,7 +62,7 @@ loop-place-preserved g c =
     let low : c.loop-place.place < length c.args.vectors.items = search rules in
     let low' : c.loop-place.place < length (vectors_of c.args.vectors.items) = rw (length-map c.args.vectors.items (λ (v : Vec Tokens Global). v.items)) low in
     let seen = are_at (g.D.Demands.crowd c.args.demands.now) c.args.seats.now c.args.vectors.items c.in_ok-counted.counted.items c.loop-place.place c.index-in-loop-place-2.result.now c.index.result.now c.requires.known c.requires.seats c.requires.vectors all low c.index-in-loop-place-2.ensures c.index.ensures in
-    let at = are_at (g.D.Demands.crowd c.args.demands.now) c.args.seats.now c.args.vectors.items c.in_ok-counted.counted.items c.loop-place.place c.index-in-loop-place-2.result.now c.index-in-loop-place.result.now c.requires.known c.requires.seats c.requires.vectors all low c.index-in-loop-place-2.ensures c.index-in-loop-place.ensures in
+    let at = read g (goal.at.loop-place-preserved g c).After-deref-in-loop-place-3 in
     let told : c.error-error.result ≡ error c.index-in-loop-place.result.now.items c.args.seats.now c.index-in-loop-place-2.result.now.items = rw (c.deref-in-loop-place-2.ensures.value, c.deref-in-loop-place-3.ensures.value) at c.error-error.ensures in
     let free = allowed_at (g.D.Demands.crowd c.args.demands.now) c.args.seats.now c.args.window.now.items c.args.vectors.items c.loop-place.place c.index-in-loop-place-2.result.now.items c.index.result.now.items c.is_tabu.result seen (rw c.deref-in-loop-place.ensures.value at c.is_tabu.ensures) ∙ ap not c.if-is_tabu.false in
     let is = error_is (g.D.Demands.crowd c.args.demands.now) c.args.seats.now c.args.vectors.items c.loop-place.place c.error-error.result c.index-in-loop-place-2.result.now.items c.index-in-loop-place.result.now.items at told in

@@ -20,57 +20,19 @@ use Rattle.bundle_bounds.proofs.StemTaken.{before_on_menu, next_on_menu, chosen_
 use Rattle.bundle_bounds.proofs.stems.Stem.take.Goals as goal
 
 pub adjustments_with-requires-clause-on_menu : goal.adjustments_with-requires-clause-on_menu
-adjustments_with-requires-clause-on_menu c =
-    let offer = offer_of c.args.menu.now c.args.prices.now c.args.budget.0 c.args.allowed.now in
-    let champion = sections_of c.args.champion.now in
-    let chosen = sections_of c.args.node.now.chosen in
-    let k = c.args.node.now.place in
-    let stem = c.args.self.now in
-    let is = c.requires.stem in
-    before_on_menu offer c.len.ensures.menu k c.requires.left champion chosen c.args.self.now.champion c.args.self.now.most c.args.self.now.chosen c.args.self.now.count c.args.self.now.utility c.args.self.now.rests is.has_chosen c.requires.node
+adjustments_with-requires-clause-on_menu c = before_on_menu _ c.len.ensures.menu c.args.node.now.place c.requires.left _ _ _ _ _ _ _ _ c.requires.stem.has_chosen c.requires.node
 
 pub bounds-self-self : goal.bounds-self-self
-bounds-self-self c =
-    let offer = offer_of c.args.menu.now c.args.prices.now c.args.budget.0 c.args.allowed.now in
-    let champion = sections_of c.args.champion.now in
-    let chosen = sections_of c.args.node.now.chosen in
-    let k = c.args.node.now.place in
-    let stem = c.args.self.now in
-    let is = c.requires.stem in
-    let some : c.args.self.now.start < 60 = kept_some offer champion k chosen stem is c.requires.left c.requires.open in
-    some
+bounds-self-self c = kept_some _ _ _ _ _ c.requires.stem c.requires.left c.requires.open
 
 pub slice_bounds-later-count : goal.slice_bounds-later-count
-slice_bounds-later-count c =
-    let offer = offer_of c.args.menu.now c.args.prices.now c.args.budget.0 c.args.allowed.now in
-    let champion = sections_of c.args.champion.now in
-    let chosen = sections_of c.args.node.now.chosen in
-    let k = c.args.node.now.place in
-    let stem = c.args.self.now in
-    let is = c.requires.stem in
-    let some : c.args.self.now.start < 60 = kept_some offer champion k chosen stem is c.requires.left c.requires.open in
-    omega arith
+slice_bounds-later-count c = let some : c.args.self.now.start < 60 = kept_some _ _ _ _ _ c.requires.stem c.requires.left c.requires.open in omega arith
 
 pub slice_bounds-later-start : goal.slice_bounds-later-start
-slice_bounds-later-start c =
-    let offer = offer_of c.args.menu.now c.args.prices.now c.args.budget.0 c.args.allowed.now in
-    let champion = sections_of c.args.champion.now in
-    let chosen = sections_of c.args.node.now.chosen in
-    let k = c.args.node.now.place in
-    let stem = c.args.self.now in
-    let is = c.requires.stem in
-    let some : c.args.self.now.start < 60 = kept_some offer champion k chosen stem is c.requires.left c.requires.open in
-    omega arith
+slice_bounds-later-start c = let some : c.args.self.now.start < 60 = kept_some _ _ _ _ _ c.requires.stem c.requires.left c.requires.open in omega arith
 
 pub sift-start-requires-clause-on_menu : goal.sift-start-requires-clause-on_menu
-sift-start-requires-clause-on_menu c =
-    let offer = offer_of c.args.menu.now c.args.prices.now c.args.budget.0 c.args.allowed.now in
-    let champion = sections_of c.args.champion.now in
-    let chosen = sections_of c.args.node.now.chosen in
-    let k = c.args.node.now.place in
-    let stem = c.args.self.now in
-    let is = c.requires.stem in
-    next_on_menu offer c.len.ensures.menu k c.requires.left champion chosen c.args.self.now.champion c.args.self.now.most c.args.self.now.chosen c.args.self.now.count c.args.self.now.utility c.args.self.now.rests is.has_chosen c.requires.node c.requires.open
+sift-start-requires-clause-on_menu c = next_on_menu _ c.len.ensures.menu c.args.node.now.place c.requires.left _ _ _ _ _ _ _ _ c.requires.stem.has_chosen c.requires.node c.requires.open
 
 pub sift-start-requires-clause-modest : goal.sift-start-requires-clause-modest
 sift-start-requires-clause-modest c =

@@ -9,7 +9,5 @@ use Rattle.demand_workers.proofs.pooled_demands.PooledDemandsAnyGateDemands.coun
 -- the versions so far are counted
 abbrev pub invariant-loop-version : goal.invariant-loop-version
 invariant-loop-version g l = record {
-  crowd : l.self.crowd ≡ l.fn.self.crowd;
-  asked : l.self.asked ≡ l.initial.self.asked;
   done : map (λ found. found.items) l.found.items ≡ map (λ (prices : Vec Tokens Global). counts (data_of (arc_value l.fn.self.crowd)) (price_in prices.items)) (take l.version l.batch);
 }

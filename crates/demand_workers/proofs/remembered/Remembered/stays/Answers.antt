@@ -1,0 +1,27 @@
+use Rattle.std.proofs.Common.{◌≡◌, ◌∙◌, List, ap, sym, subst}
+use Rattle.market_units.specs.declared.units.Tokens.{Tokens}
+use Rattle.market_lists.specs.Totals.{total}
+use Rattle.bundle_rules.specs.declared.menu.Rated.{Rated}
+use Rattle.bundle_rules.specs.Bundles.{sections_of}
+use Rattle.bundle_rules.specs.Demand.{price_in}
+use Rattle.demand_workers.specs.Remembered.{NoneIsCheaper}
+use Rattle.demand_workers.proofs.Noting.{item_there}
+use Rattle.demand_workers.proofs.Recalling.{kept_demand, taken_priced}
+use Rattle.demand_workers.proofs.remembered.Remembered.stays.Goals as goal
+
+pub cost_of-requires-clause-priced : goal.cost_of-requires-clause-priced
+cost_of-requires-clause-priced c =
+    taken_priced c.args.crowd.now.menus.items c.args.crowd.now.budgets.items c.args.crowd.now.sections c.args.prices.now (price_in c.args.self.now.prices.items) c.args.place c.sections.result.now (sections_of c.index.result.now) c.requires.crowd c.requires.prices
+    c.sections.ensures.value (ap sections_of c.index.ensures ∙ c.requires.remembered.taken c.args.place c.index.result.now c.requires.there)
+
+pub returns : goal.returns
+returns c holds d =
+    let seen : NoneIsCheaper c.places.result.now c.deref.result.now c.args.prices.now = c.spares.ensures holds in
+    let none : NoneIsCheaper c.index-3.result.now.places c.args.self.now.prices.items c.args.prices.now =
+    subst (λ (ps : List Tokens). NoneIsCheaper c.index-3.result.now.places ps c.args.prices.now) c.deref.ensures.value (subst (λ (rs : List Rated). NoneIsCheaper rs c.deref.result.now c.args.prices.now) c.places.ensures.value seen) in
+    let cost : c.cost_of.result ≡ total (price_in c.args.prices.now) (sections_of c.index.result.now) = c.cost_of.ensures.value ∙ ap (total (price_in c.args.prices.now)) c.sections.ensures.value in
+    let paid = c.if-cost_of-index.false in
+    ap sections_of (item_there c.args.self.now.bundles.items c.args.place d c.index.result.now c.requires.there ∙ sym c.index.ensures)
+    ∙ kept_demand c.args.crowd.now.menus.items c.args.crowd.now.budgets.items c.args.crowd.now.sections (price_in c.args.self.now.prices.items) (price_in c.args.prices.now) c.args.place c.index-3.result.now c.index-2.result.now (sections_of c.index.result.now)
+    c.requires.crowd.same c.requires.student c.index-3.ensures c.index-2.ensures none (rw (← cost) paid)
+    (ap sections_of c.index.ensures ∙ c.requires.remembered.taken c.args.place c.index.result.now c.requires.there)

@@ -1,0 +1,53 @@
+// The whole work of sessions at one object.
+ghost use Rattle.std.specs.Prelude.{◌≡◌, ◌≤◌, true, length, map, IfOk};
+ghost use Rattle.std.specs.Vec.{vec_len};
+ghost use Rattle.market_lists.specs.Totals.{total};
+ghost use Rattle.chronicle.specs.History.{IsLegal, state_after};
+ghost use Rattle.stream_posting.specs.Streams.{MergesCalls, lists_of};
+
+use crate::posting::post_all;
+use chronicle::{Chronicle, Journal, Object};
+use market_edge::Gate;
+use market_units::{MAX_SESSIONS, NoMemory};
+use std::alloc::Global;
+use std::sync::Wait;
+use std::thread::Threads;
+
+/// Begins a history of calls on the object, and ends it when all sessions have posted. Session n makes the requests of the n-th stream in
+/// its order, from a thread of its own where one can be started; sessions are numbered from 1, and seat n is session n + 1. Each passes
+/// the gate before its first request and after each reply. All memory is taken before a session starts, and `NoMemory` is the only error.
+pub fn post_streams<R: Threads + Wait + Sync, O: Object + Send, G: Gate + Sync>(
+    rt: &R,
+    alloc: Global,
+    object: O,
+    streams: &[Vec<O::Request>],
+    gate: &G,
+) -> Result<(O, Journal<O>), NoMemory>
+where
+    O::Request: Send + Sync,
+    O::Reply: Send,
+    requires sessions { (1 ≤ length streams.now) × (length streams.now ≤ MAX_SESSIONS) }
+    requires room { total vec_len streams.now ≤ O.room object }
+    requires sound { (request : O.Request) → O.sound (O.base object) request ≡ true }
+    ensures base { IfOk result (λ closed. O.base closed.0 ≡ O.base object) }
+    ensures legal { IfOk result (λ closed. IsLegal O.sound O.after O.reply (O.base object) (O.state object) closed.1) }
+    ensures merges { IfOk result (λ closed. MergesCalls (lists_of streams.now) closed.1) }
+    ensures state { IfOk result (λ closed. O.state closed.0 ≡ state_after O.after (O.base object) (O.state object) closed.1) }
+{
+    let allotments = lengths_of(alloc, streams)?;
+    let (chronicle, mut seats) = Chronicle::start(alloc, object, allotments)?;
+    post_all(rt, &chronicle, seats.as_mut_slice(), streams, gate);
+    let (object, journal) = chronicle.close(seats);
+    Ok((object, journal))
+}
+
+// The requests of each stream.
+fn lengths_of<T>(alloc: Global, streams: &[Vec<T>]) -> Result<Vec<u64>, NoMemory>
+    ensures { IfOk result (λ lengths. lengths.items ≡ map vec_len streams.now) }
+{
+    let mut lengths = Vec::with_capacity(alloc, streams.len())?;
+    for stream in streams {
+        lengths.push(stream.len() as u64)?;
+    }
+    Ok(lengths)
+}
