@@ -138,7 +138,8 @@ fn is_choice(
     all_allowed(allowed, bundle.sections())
 }
 
-fn price_of(prices: &[Tokens], sections: &[SectionNo]) -> u32
+/// What these sections cost together, in tokens. There is a price for each, at most 1,000,001, and there are at most 8 of them.
+pub fn price_of(prices: &[Tokens], sections: &[SectionNo]) -> u32
     requires priced { All (λ section. IsPriced prices.now section.0) sections.now }
     requires few { length sections.now ≤ 8 }
     ensures value { result ≡ total (price_in prices.now) (ordinals sections.now) }
@@ -150,7 +151,8 @@ fn price_of(prices: &[Tokens], sections: &[SectionNo]) -> u32
     }
 }
 
-fn all_allowed(allowed: &SectionSet, sections: &[SectionNo]) -> bool
+/// Whether each of these sections is an allowed one. Their ordinals are below 400.
+pub fn all_allowed(allowed: &SectionSet, sections: &[SectionNo]) -> bool
     requires { All (λ section. section.0 < 400) sections.now }
     ensures { IsTrue result ↔ All (λ section. IsTrue (set.contains allowed.now section.0)) sections.now }
 {

@@ -12,7 +12,7 @@ mod preferences;
 
 pub use ahead::is_ahead;
 pub use bundle::Bundle;
-pub use demand::{best_plain, has_prices};
+pub use demand::{all_allowed, best_plain, has_prices, price_of};
 pub use menu::{Menu, Rated, place_among};
 pub use place_list::Places;
 pub use preferences::{feasible, prefers, utility};

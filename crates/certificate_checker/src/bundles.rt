@@ -15,7 +15,7 @@ ghost use Rattle.certificate_checker.specs.Views.{terms_of};
 
 use crate::Finding;
 use crate::terms::Terms;
-use bundle_rules::{Bundle, feasible};
+use bundle_rules::{Bundle, all_allowed, feasible, price_of};
 use market_certificate::Publication;
 use market_units::{SectionNo, SectionSet, StudentNo, Tokens};
 use proof_tree::check_tree;
@@ -75,30 +75,10 @@ pub(crate) fn is_affordable(prices: &[Tokens], budget: Tokens, bundle: &Bundle) 
     price_of(prices, bundle.sections()) <= budget.0
 }
 
-// The sum of the prices of these sections.
-fn price_of(prices: &[Tokens], sections: &[SectionNo]) -> u32
-    requires priced { All (λ section. IsPriced prices.now section.0) sections.now }
-    requires few { length sections.now ≤ 8 }
-    ensures value { result ≡ total (price_in prices.now) (ordinals sections.now) }
-    ensures high { result ≤ 1000001 * length sections.now }
-{
-    match sections {
-        [] => 0,
-        [section, more @ ..] => prices[usize::from(section.0)].0 + price_of(prices, more),
-    }
-}
-
 // Whether each section of the bundle is among the allowed ones.
 pub(crate) fn is_offered(allowed: &SectionSet, bundle: &Bundle) -> bool
     requires { All (λ section. section < 400) (sections_of bundle.now) }
     ensures { IsTrue result ↔ ((s : ℕ) → has (sections_of bundle.now) s ≡ true → set.contains allowed.now s ≡ true) }
 {
     all_allowed(allowed, bundle.sections())
-}
-
-fn all_allowed(allowed: &SectionSet, sections: &[SectionNo]) -> bool
-    requires { All (λ section. section.0 < 400) sections.now }
-    ensures { IsTrue result ↔ All (λ section. IsTrue (set.contains allowed.now section.0)) sections.now }
-{
-    sections.iter().all(|section| allowed.has(*section))
 }

@@ -10,9 +10,9 @@ ghost use Rattle.demand_workers.specs.Remembered.{AreRemembered};
 ghost use Rattle.demand_workers.specs.Rounds.{data_of};
 
 use crate::cheaper::Cheaper;
-use crate::remembered::{Remembered, cost_of};
+use crate::remembered::Remembered;
 use crate::taking::{asked, asked_again};
-use bundle_rules::Bundle;
+use bundle_rules::{Bundle, price_of};
 use demand_api::Crowd;
 use demand_oracle::{Workspace, demand_beside};
 use market_units::{SectionSet, StudentNo, Tokens};
@@ -43,7 +43,7 @@ pub(crate) fn asked_beside(
         return asked_again(workspace, remembered, crowd, prices, allowed, student);
     };
     let budget = crowd.budgets[place];
-    if cost_of(prices, first.sections()) > budget.0 {
+    if price_of(prices, first.sections()) > budget.0 {
         return asked_again(workspace, remembered, crowd, prices, allowed, student);
     }
     demand_beside(

@@ -18,8 +18,8 @@ ghost use Rattle.demand_workers.specs.Walks.{IsForeseen};
 
 use crate::ahead::{Foreseen, answers_at};
 use crate::questions::{Question, answered_or_asked};
-use crate::remembered::{Remembered, cost_of};
-use bundle_rules::Bundle;
+use crate::remembered::Remembered;
+use bundle_rules::{Bundle, price_of};
 use demand_api::Crowd;
 use demand_oracle::Workspace;
 use market_units::{MAX_PRICE, NoMemory, SectionNo, SectionSet, StudentNo, Tokens};
@@ -181,7 +181,7 @@ pub(crate) fn holder_of(
     ensures capped { leaves result ≤ top (data_of crowd.now) }
     ensures still { takes (data_of crowd.now) (price_in prices.now) section.0 (leaves result - 1) student.0 ≡ true }
 {
-    let cost = cost_of(prices, bundle.sections());
+    let cost = price_of(prices, bundle.sections());
     let left = crowd.budgets[usize::from(student.0)].0 - cost;
     let last = prices[usize::from(section.0)].0 + left;
     (MAX_PRICE - (last + 1), student.0)

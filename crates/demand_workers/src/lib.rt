@@ -19,7 +19,7 @@ mod unsettled;
 mod worker;
 
 pub use bench::Bench;
-pub use pooled_demands::{AnyGate, PooledDemands};
+pub use pooled_demands::PooledDemands;
 
 #[cfg(test)]
 mod tests;

@@ -23,15 +23,12 @@ use crate::taking::{count_all, count_takers, take_all, take_listed};
 use crate::unsettled::{Survey, ask_few};
 use bundle_rules::Bundle;
 use demand_api::{Crowd, Demands};
-use market_edge::Gate;
+use market_edge::{AnyGate, Gate};
 use market_units::{NoMemory, SectionNo, StudentNo, Tokens};
 use price_board::Ask;
 use std::alloc::Global;
 use std::sync::{Arc, Wait};
 use std::thread::Threads;
-
-/// A gate of any kind, which all workers pass.
-pub type AnyGate<'g> = &'g (dyn Gate + Sync);
 
 /// A crowd that is asked by the workers of a bench, each with a workspace of its own. They draw the tasks of a call from one board, each
 /// in a thread of its own where one can be started, and pass the gate before their first draw and after each post. Where what is

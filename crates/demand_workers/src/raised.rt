@@ -11,9 +11,9 @@ ghost use Rattle.demand_workers.specs.Remembered.{AreRemembered};
 ghost use Rattle.demand_workers.specs.Rounds.{data_of};
 
 use crate::leaving::{Note, Walk};
-use crate::remembered::{Remembered, cost_of};
+use crate::remembered::Remembered;
 use crate::taking::taken;
-use bundle_rules::Bundle;
+use bundle_rules::{Bundle, price_of};
 use demand_api::Crowd;
 use demand_oracle::Workspace;
 use market_units::{NoMemory, SectionNo, SectionSet, StudentNo, Tokens};
@@ -77,7 +77,7 @@ fn noted(
         if note.student != student {
             continue;
         }
-        if cost_of(prices, note.bundle.sections()) <= crowd.budgets[usize::from(student.0)].0 {
+        if price_of(prices, note.bundle.sections()) <= crowd.budgets[usize::from(student.0)].0 {
             return Some(note.bundle);
         }
     }

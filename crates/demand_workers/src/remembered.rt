@@ -11,7 +11,7 @@ ghost use Rattle.demand_workers.specs.Remembered.{AreRemembered, AreWithin, IsKe
 ghost use Rattle.demand_workers.specs.Rounds.{data_of};
 
 use crate::cheaper::Cheaper;
-use bundle_rules::Bundle;
+use bundle_rules::{Bundle, price_of};
 use demand_api::Crowd;
 use market_units::{SectionNo, StudentNo, Tokens};
 use std::alloc::Global;
@@ -87,7 +87,7 @@ impl Remembered {
         ensures { IsTrue result → IsKept (data_of crowd.now) prices.now self.now.bundles.items place }
     {
         let bundle = self.bundles[place];
-        if cost_of(prices, bundle.sections()) > crowd.budgets[place].0 {
+        if price_of(prices, bundle.sections()) > crowd.budgets[place].0 {
             return false;
         }
         cheaper.spares(crowd.menus[place].places(), &self.prices, prices)
@@ -99,17 +99,4 @@ pub(crate) fn are_same(one: &[Tokens], other: &[Tokens]) -> bool
     ensures { IsTrue result → one.now ≡ other.now }
 {
     one == other
-}
-
-// What these sections cost together.
-pub(crate) fn cost_of(prices: &[Tokens], sections: &[SectionNo]) -> u32
-    requires priced { All (λ section. IsPriced prices.now section.0) sections.now }
-    requires few { length sections.now ≤ 8 }
-    ensures value { result ≡ total (price_in prices.now) (ordinals sections.now) }
-    ensures high { result ≤ 1000001 * length sections.now }
-{
-    match sections {
-        [] => 0,
-        [section, more @ ..] => prices[usize::from(section.0)].0 + cost_of(prices, more),
-    }
 }

@@ -6,7 +6,8 @@ use Rattle.std.proofs.lemmas.List.Elements.{All-cons, All-nil}
 use Rattle.market_certificate.specs.declared.amounts.Amount.{Amount}
 use Rattle.market_certificate.specs.declared.amounts.Amount.TheVariants as kinds
 use Rattle.market_certificate.specs.Tables.{Tables}
-use Rattle.market_certificate.specs.Publications.{Proved, IsBundleOf, IsProved, IsSession, is_tree_byte}
+use Rattle.market_certificate.specs.Publications.{Proved, IsBundleOf, IsProved, IsSession}
+use Rattle.proof_tree.specs.Alphabets.{is_tree_byte}
 use Rattle.market_certificate.specs.Texts.{amount_line, bundle_line, end_line, error_line, final_line, head_line, most_of, order_line, used_line}
 use Rattle.market_certificate.specs.Due.{Form, HeadForm, OrderForm, AmountForm, ErrorForm, BundleForm, FinalForm, UsedForm, EndForm, Due, One, Turns, HasForm, StartsTurn, AreDue}
 

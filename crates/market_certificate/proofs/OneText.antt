@@ -11,7 +11,8 @@ use Rattle.market_certificate.specs.declared.amounts.Amount.{Amount}
 use Rattle.market_certificate.specs.declared.amounts.Amount.TheVariants as kinds
 use Rattle.market_certificate.specs.Lines.{Lacks, joined}
 use Rattle.market_certificate.specs.Tables.{Tables, AreNames, AreTables, name_at}
-use Rattle.market_certificate.specs.Publications.{Proved, ProvedTurn, Publication, AreFor, IsBundleOf, IsProved, IsPublication, IsSession, HasTreeBytes, IsTurn, IsUsed, is_tree_byte}
+use Rattle.market_certificate.specs.Publications.{Proved, ProvedTurn, Publication, AreFor, IsBundleOf, IsProved, IsPublication, IsSession, IsTurn, IsUsed}
+use Rattle.proof_tree.specs.Alphabets.{AreTreeBytes, is_tree_byte}
 use Rattle.market_certificate.specs.Texts.{amount_line, bundle_line, bundle_text, each_line, end_line, error_line, final_line, head_line, lines_of, most_of, order_line, proved_text, turn_line, used_line, word_of}
 use Rattle.market_certificate.specs.Due.{AreDue, EndForm, FinalForm, One, StartsTurn, Then, UsedForm, each_due}
 use Rattle.market_certificate.specs.Laws.{OnePublicationAText}
@@ -31,7 +32,7 @@ digits n small = digits_lack 10 n (omega arith) small
 no_feed : (name : List ℕ) → IsName name → Lacks 10 name
 no_feed name is = name_lacks 10 name refl is
 
-tree_lacks : (tree : List ℕ) → HasTreeBytes tree → Lacks 10 tree
+tree_lacks : (tree : List ℕ) → AreTreeBytes tree → Lacks 10 tree
 tree_lacks tree is k d inside =
     ne_eqb (get_or tree k d) 10 (λ e. let byte : IsTrue (is_tree_byte 10) = subst (λ (b : ℕ). IsTrue (is_tree_byte b)) e (is.each k d inside) in absurd (cc byte))
 

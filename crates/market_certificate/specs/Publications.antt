@@ -1,7 +1,7 @@
 -- Publications, and their ranges.
-use Rattle.std.specs.Prelude.{ℕ, ◌≡◌, ◌==◌, ◌<◌, ◌≤◌, ◌^◌, Bool, ◌||◌, IsTrue, List, All, length}
-use Rattle.std.specs.Char.{is_ascii_digit}
+use Rattle.std.specs.Prelude.{ℕ, ◌≡◌, ◌<◌, ◌≤◌, ◌^◌, List, All, length}
 use Rattle.bundle_rules.specs.Ordinals.{IsBundle}
+use Rattle.proof_tree.specs.Alphabets.{AreTreeBytes}
 use Rattle.market_certificate.specs.Tables.{Tables}
 
 -- a bundle with its tree
@@ -40,19 +40,10 @@ pub record IsBundleOf (sections : List (List ℕ)) (bundle : List ℕ) : Type 0 
   pub is_bundle : IsBundle bundle
   pub of_catalog : All (λ section. section < length sections) bundle
 
--- `*`, `n`, `b`, `c`, `m`, `+`, `-`, or a digit
-abbrev pub is_tree_byte : ℕ → Bool
-is_tree_byte byte = is_ascii_digit byte || byte == 42 || byte == 110 || byte == 98 || byte == 99 || byte == 109 || byte == 43 || byte == 45
-
--- one such byte or more: the form of a tree, whatever it proves
-pub record HasTreeBytes (tree : List ℕ) : Type 0 where
-  pub some : 0 < length tree
-  pub each : All (λ byte. IsTrue (is_tree_byte byte)) tree
-
--- a bundle of the catalogue, and a tree of such bytes
+-- a bundle of the catalogue, and bytes of a tree, whatever it proves
 pub record IsProved (sections : List (List ℕ)) (proved : Proved) : Type 0 where
   pub bundle : IsBundleOf sections proved.bundle
-  pub tree : HasTreeBytes proved.tree
+  pub tree : AreTreeBytes proved.tree
 
 -- a turn of a pass from 1, of a student of the roll, with such a bundle and tree
 pub record IsTurn (students sections : List (List ℕ)) (turn : ProvedTurn) : Type 0 where
@@ -60,7 +51,7 @@ pub record IsTurn (students sections : List (List ℕ)) (turn : ProvedTurn) : Ty
   pub most : turn.pass < 2 ^ 64
   pub student : turn.student < length students
   pub bundle : IsBundleOf sections turn.bundle
-  pub tree : HasTreeBytes turn.tree
+  pub tree : AreTreeBytes turn.tree
 
 -- seats that are used, and seats
 pub record IsUsed (seats : ℕ × ℕ) : Type 0 where

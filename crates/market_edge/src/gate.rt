@@ -26,3 +26,18 @@ pub struct OpenGate;
 impl Gate for OpenGate {
     fn pass(&self, _stop: Stop) {}
 }
+
+/// A gate of any type, which threads may share.
+pub type AnyGate<'g> = &'g (dyn Gate + Sync);
+
+/// Passes a gate of any type, for a call that takes a gate by its type. Its one form is `Passed<AnyGate>`.
+#[derive(Drop)]
+pub struct Passed<G> {
+    pub gate: G,
+}
+
+impl Gate for Passed<AnyGate<'_>> {
+    fn pass(&self, stop: Stop) {
+        self.gate.pass(stop);
+    }
+}

@@ -15,7 +15,7 @@ mod sure_sink;
 mod whole_text;
 
 pub use file_shelf::FileShelf;
-pub use gate::{Gate, OpenGate, Stop};
+pub use gate::{AnyGate, Gate, OpenGate, Passed, Stop};
 pub use memory_shelf::MemoryShelf;
 pub use memory_sink::MemorySink;
 pub use shelf::{Failed, Shelf};

@@ -8,11 +8,10 @@ ghost use Rattle.market_words.specs.Forms.{HasForm};
 
 use crate::Status;
 use crate::ended::{Ended, Output};
-use crate::gate::Passed;
 use crate::published::{Published, take_published};
 use crate::trouble::Trouble;
 use certificate_checker::{CheckEnd, finding_line};
-use market_edge::{Gate, Shelf};
+use market_edge::{Gate, Passed, Shelf};
 use market_words::Form;
 use published_envy::published_audit;
 use std::alloc::Global;

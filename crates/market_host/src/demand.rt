@@ -19,7 +19,6 @@ ghost use Rattle.session_hall.specs.Streams.{command_count, command_lists};
 
 use crate::Status;
 use crate::ended::{Ended, Output};
-use crate::gate::Passed;
 use crate::market::{Market, take_market};
 use crate::prices::take_prices;
 use crate::sessions::take_sessions;
@@ -28,7 +27,7 @@ use demand_api::Crowd;
 use demand_text::{Taken, demand_text};
 use demand_workers::{Bench, PooledDemands};
 use market_crowd::make_crowd;
-use market_edge::{Gate, Shelf};
+use market_edge::{Gate, Passed, Shelf};
 use market_units::{NoMemory, Tokens};
 use market_words::Form;
 use session_hall::hold;

@@ -9,7 +9,6 @@ mod check;
 mod demand;
 mod ended;
 mod explain;
-mod gate;
 mod hall;
 mod host;
 mod inputs;

@@ -10,11 +10,10 @@ ghost use Rattle.preference_desk.specs.Journals.{sessions_of};
 ghost use Rattle.published_parts.specs.Markets.{market_of};
 ghost use Rattle.session_hall.specs.Streams.{command_count, command_lists};
 
-use crate::gate::Passed;
 use crate::texts::{made_summary, published_text};
 use course_catalog::Catalog;
 use demand_text::put_order;
-use market_edge::Gate;
+use market_edge::{Gate, Passed};
 use market_settings::Settings;
 use market_units::{MAX_COMMANDS, MAX_SESSIONS, MAX_WORKERS, NoMemory};
 use preference_desk::Desk;

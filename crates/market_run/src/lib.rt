@@ -2,7 +2,6 @@
 //! summary.
 #![tactic(auto)]
 
-mod gate;
 mod held;
 mod running;
 mod texts;

@@ -1,4 +1,5 @@
 pub mod EqualNames
+pub mod NameLists
 mod Padding
 mod SectionCalls
 mod Spelling

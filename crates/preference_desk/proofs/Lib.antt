@@ -1,5 +1,4 @@
 pub mod BelowLemmas
-pub mod CopyLemmas
 pub mod JournalLemmas
 pub mod Keeping
 pub mod NameLemmas

@@ -7,6 +7,7 @@ use Rattle.std.specs.Cmp.Lexicographic.{nat_list_eq_equiv}
 use Rattle.std.proofs.lemmas.List.Sums.{passes_at_first}
 use Rattle.market_units.specs.declared.names.Name.{Name}
 use Rattle.market_units.specs.Name.{name_bytes}
+use Rattle.market_units.proofs.NameLists.{any-map}
 use Rattle.preference_desk.specs.DeskNames.{has_name, ordinal_of}
 
 pub found_inside : {A : Type 0} (p : A → Bool) (xs : List A) → list_any p xs ≡ true → position_or_len p xs < length xs
@@ -28,11 +29,6 @@ same_ordinal names first second has has' same =
 pub other_ordinals : (names : List (List ℕ)) (first second : Name) (one other : ℕ) → has_name names first ≡ true → has_name names second ≡ true → one ≡ ordinal_of names first → other ≡ ordinal_of names second
     → bytes_eq (name_bytes first) (name_bytes second) ≡ false → one ≡ other → ⊥
 other_ordinals names first second one other has has' e f apart same = true≢false (sym (same_ordinal names first second has has' (sym e ∙ same ∙ f)) ∙ apart)
-
--- a test of what each element is seen as
-pub any-map : {A B : Type 0} (p : B → Bool) (f : A → B) (xs : List A) → list_any p (map f xs) ≡ list_any (λ x. p (f x)) xs
-any-map p f [] = refl
-any-map p f (x ∷ xs) = ap (λ b. p (f x) || b) (any-map p f xs)
 
 pub place-map : {A B : Type 0} (p : B → Bool) (f : A → B) (xs : List A) → position_or_len p (map f xs) ≡ position_or_len (λ x. p (f x)) xs
 place-map p f [] = refl

@@ -14,7 +14,8 @@ use Rattle.aftermarket_stage.specs.After.{turns_of}
 use Rattle.aftermarket_stage.specs.Turns.{TurnData}
 use Rattle.market_certificate.specs.declared.publication.Proved as proved
 use Rattle.market_certificate.specs.declared.publication.ProvedTurn as turn
-use Rattle.market_certificate.specs.Publications.{HasTreeBytes, Proved, ProvedTurn}
+use Rattle.market_certificate.specs.Publications.{Proved, ProvedTurn}
+use Rattle.proof_tree.specs.Alphabets.{AreTreeBytes}
 use Rattle.market_certificate.specs.Views.{proved_of, turn_of as published_of}
 use Rattle.published_parts.specs.Offers.{IsProvedDemand}
 use Rattle.published_market.specs.Turns.{IsPublishedTurn, offer_at}
@@ -22,7 +23,7 @@ use Rattle.published_market.specs.Turns.{IsPublishedTurn, offer_at}
 -- at most 8 sections, ascending, and a tree of one byte or more, each of its alphabet
 pub record HasForm (bundle tree : List ℕ) : Type 0 where
   pub is_bundle : IsBundle bundle
-  pub bytes : HasTreeBytes tree
+  pub bytes : AreTreeBytes tree
 
 -- the same of a turn, and a pass of 64 bits
 pub record HasTurnForm (turn : ProvedTurn) : Type 0 where

@@ -4,7 +4,8 @@ ghost use Rattle.std.specs.List.{join_with_byte};
 ghost use Rattle.std.specs.Fmt.{decimal};
 ghost use Rattle.bundle_rules.specs.Bundles.{sections_of};
 ghost use Rattle.bundle_rules.specs.Ordinals.{IsBundle};
-ghost use Rattle.market_certificate.specs.Publications.{IsBundleOf, IsSession, HasTreeBytes, is_tree_byte};
+ghost use Rattle.proof_tree.specs.Alphabets.{AreTreeBytes, is_tree_byte};
+ghost use Rattle.market_certificate.specs.Publications.{IsBundleOf, IsSession};
 ghost use Rattle.market_certificate.specs.Texts.{bundle_text};
 ghost use Rattle.market_certificate.specs.Tables.{name_at};
 ghost use Rattle.market_certificate.specs.Views.{seen};
@@ -65,7 +66,7 @@ fn one_more(bundle: Bundle, section: SectionNo) -> Option<Bundle>
 
 // Whether the bytes are a tree's.
 pub(crate) fn is_tree(bytes: &[u8]) -> bool
-    ensures { IsTrue result ↔ HasTreeBytes bytes.now }
+    ensures { IsTrue result ↔ AreTreeBytes bytes.now }
 {
     !bytes.is_empty() && bytes.iter().all(|byte| is_tree_byte(*byte))
 }

@@ -11,8 +11,8 @@ use Rattle.demand_workers.proofs.LeadingOthers.{leads_demand, dearer_but}
 use Rattle.demand_workers.proofs.Recalling.{places_low, taken_priced}
 use Rattle.demand_workers.proofs.beside.asked_beside.Goals as goal
 
-pub cost_of-requires-clause-priced : goal.cost_of-requires-clause-priced
-cost_of-requires-clause-priced c =
+pub price_of-requires-clause-priced : goal.price_of-requires-clause-priced
+price_of-requires-clause-priced c =
     taken_priced c.args.crowd.now.menus.items c.args.crowd.now.budgets.items c.args.crowd.now.sections c.args.prices.now (price_in c.args.remembered.now.prices.items) c.from-place.result c.sections.result.now (sections_of c.index.result.now) c.requires.crowd c.requires.prices
     c.sections.ensures.value (ap sections_of c.index.ensures ∙ c.requires.remembered.taken c.from-place.result c.index.result.now (omega arith))
 
@@ -33,8 +33,8 @@ demand_beside-requires-clause-first c =
     let within : AreWithin c.between.result.first c.between.result.past before c.args.prices.now = subst (λ ps. AreWithin c.between.result.first c.between.result.past ps c.args.prices.now) c.deref.ensures.value c.between.ensures in
     let sized : length before ≡ sections = c.requires.remembered.sized (omega arith) in
     let below = places_low menus budgets sections sections c.from-place.result menu c.requires.crowd refl low c.index-2.ensures in
-    let cost : c.cost_of.result ≡ total (price_in c.args.prices.now) (sections_of c.index.result.now) = c.cost_of.ensures.value ∙ ap (total (price_in c.args.prices.now)) c.sections.ensures.value in
-    let paid = c.if-cost_of-budget.false in
+    let cost : c.price_of.result ≡ total (price_in c.args.prices.now) (sections_of c.index.result.now) = c.price_of.ensures.value ∙ ap (total (price_in c.args.prices.now)) c.sections.ensures.value in
+    let paid = c.if-price_of-budget.false in
     leads_demand menus budgets sections (price_in before) (price_in c.args.prices.now) c.from-place.result menu c.index-budget.result.now (set.contains c.args.allowed.now) c.in-Some.section.0 (sections_of c.index.result.now)
     c.requires.crowd.same low c.index-2.ensures c.index-budget.ensures c.requires.allowed
     (dearer_but menu sections c.between.result.first c.between.result.past c.in-Some.section.0 before c.args.prices.now below sized c.requires.prices.same within c.in-Some.ensures.0 c.in-Some.ensures.1)

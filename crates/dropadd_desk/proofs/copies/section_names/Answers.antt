@@ -1,7 +1,7 @@
 use Rattle.std.proofs.Common.{◌<◌, [], map, length, arith, ◌∙◌, sym}
 use Rattle.std.proofs.lemmas.List.{take_all, length-map, get_or-map}
 use Rattle.course_catalog.specs.Sections.{Section, no_section}
-use Rattle.dropadd_desk.proofs.CopyLemmas.{one_name_more}
+use Rattle.market_units.proofs.NameLists.{one_name_more}
 use Rattle.dropadd_desk.proofs.copies.section_names.Goals as goal
 
 pub loop-section-preserved : goal.loop-section-preserved

@@ -1,7 +1,7 @@
 use Rattle.std.proofs.Common.{◌<◌, [], length, arith, ◌∙◌}
 use Rattle.std.proofs.lemmas.List.{take_all, length-map}
 use Rattle.student_roll.specs.Students.{Student, names_of}
-use Rattle.dropadd_desk.proofs.CopyLemmas.{one_name_more, read_option}
+use Rattle.market_units.proofs.NameLists.{one_name_more, read_option}
 use Rattle.dropadd_desk.proofs.copies.student_names.Goals as goal
 
 pub loop-student-preserved : goal.loop-student-preserved

@@ -1,7 +1,7 @@
 use Rattle.std.proofs.Common.{◌<◌, map, length, arith, sym, ◌∙◌}
 use Rattle.std.proofs.lemmas.List.{take_all}
 use Rattle.course_catalog.specs.Sections.{Section, no_section}
-use Rattle.preference_desk.proofs.CopyLemmas.{one_name_more}
+use Rattle.market_units.proofs.NameLists.{one_name_more}
 use Rattle.preference_desk.proofs.RowLemmas.{length-entries}
 use Rattle.preference_desk.proofs.RatingLemmas.{get_or-entries}
 use Rattle.preference_desk.proofs.copies.sections_of.Goals as goal

@@ -1,7 +1,7 @@
 use Rattle.std.proofs.Common.{◌<◌, [], map, length, arith, ◌∙◌}
 use Rattle.std.proofs.lemmas.List.{take_all}
 use Rattle.student_roll.specs.Students.{Student}
-use Rattle.preference_desk.proofs.CopyLemmas.{one_name_more, read_option}
+use Rattle.market_units.proofs.NameLists.{one_name_more, read_option}
 use Rattle.preference_desk.proofs.RowLemmas.{length-entries}
 use Rattle.preference_desk.proofs.copies.students_of.Goals as goal
 

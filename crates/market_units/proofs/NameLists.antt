@@ -1,29 +1,31 @@
--- Names that are copied one by one.
+-- Names that are copied one by one, and what stands at a place of a list.
 use Rattle.std.proofs.Common.{ℕ, zero, suc, ◌≡◌, ◌+◌, ◌<◌, Bool, false, cond, ◌||◌, List, [], ◌∷◌, ◌++◌, map, length, take, get_or, refl, ap, sym, ◌∙◌, arith}
 use Rattle.std.specs.Prelude.{Some, option_map, slice_get}
 use Rattle.std.specs.List.{AllByRecursion, IsDistinct, list_any}
 use Rattle.std.specs.Str.{bytes_eq}
 use Rattle.std.specs.Cmp.Lexicographic.{nat_list_eq_equiv}
+use Rattle.std.proofs.lemmas.Bool.{or_from}
 use Rattle.std.proofs.lemmas.List.{take_more, map-append}
 use Rattle.market_units.specs.declared.names.Name.{Name}
 use Rattle.market_units.specs.Name.{name_bytes}
-use Rattle.preference_desk.proofs.NameLemmas.{any-map}
 
 holds_at : {A : Type 0} (P : A → Type 0) (xs : List A) (n : ℕ) (d : A) → AllByRecursion P xs → n < length xs → P (get_or xs n d)
 holds_at P [] n d each inside = absurd (omega arith)
 holds_at P (x ∷ xs) zero d each inside = each.0
 holds_at P (x ∷ xs) (suc n) d each inside = holds_at P xs n d each.1 (omega arith)
 
-both_false : (a b : Bool) → a ≡ false → b ≡ false → (a || b) ≡ false
-both_false a b e f = rw (e, f) refl
+-- a test of what each item is seen as
+pub any-map : {A B : Type 0} (p : B → Bool) (f : A → B) (xs : List A) → list_any p (map f xs) ≡ list_any (λ x. p (f x)) xs
+any-map p f [] = refl
+any-map p f (x ∷ xs) = ap (λ b. p (f x) || b) (any-map p f xs)
 
 -- a name of a list without repeats is none of the names before it
-pub not_before : (names : List (List ℕ)) (n : ℕ) (d : List ℕ) → IsDistinct bytes_eq names → n < length names → list_any (bytes_eq (get_or names n d)) (take n names) ≡ false
+not_before : (names : List (List ℕ)) (n : ℕ) (d : List ℕ) → IsDistinct bytes_eq names → n < length names → list_any (bytes_eq (get_or names n d)) (take n names) ≡ false
 unfolding IsDistinct
 not_before [] n d distinct inside = absurd (omega arith)
 not_before (name ∷ names) zero d distinct inside = refl
 not_before (name ∷ names) (suc n) d distinct inside =
-    both_false _ _ (nat_list_eq_equiv.symm (get_or names n d) name ∙ holds_at (λ other. bytes_eq name other ≡ false) names n d distinct.0 (omega arith)) (not_before names n d distinct.1 (omega arith))
+    or_from _ _ (nat_list_eq_equiv.symm (get_or names n d) name ∙ holds_at (λ other. bytes_eq name other ≡ false) names n d distinct.0 (omega arith)) (not_before names n d distinct.1 (omega arith))
 
 -- one name more
 pub one_name_more : (names : List (List ℕ)) (keys new : List Name) (n : ℕ) (name : Name) → IsDistinct bytes_eq names → n < length names → map name_bytes keys ≡ take n names → name_bytes name ≡ get_or names n []
