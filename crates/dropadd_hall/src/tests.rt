@@ -11,19 +11,15 @@ use bundle_rules::Bundle;
 use chronicle::Step;
 use course_catalog::{Catalog, read_catalog};
 use dropadd_desk::{HallCommand, HallDesk, HallReply};
-use gates::MeetingGate;
-use market_edge::{Gate, OpenGate};
+use market_edge::{Gate, MeetingGate, OpenGate};
 use market_units::SectionNo;
 use std::alloc::Global;
 use std::process::Abort;
 use std::sync::Wait;
-use std::sync::atomic::{AtomicU64, Ordering};
 use std::test::Fail;
 use std::thread::Threads;
 use student_roll::{Roll, read_roll};
 use utility_language::StreamEnd;
-
-mod gates;
 
 const CATALOG: &[u8] = b"section,course,seats,credits,meetings
 A,AA,1,2,M0900-1000
@@ -249,10 +245,6 @@ fn is_posted(steps: &[Step<HallDesk>], seat: u16, lines: &[(&[u8], HallReply)]) 
     at == lines.len()
 }
 
-fn count_of(counter: &AtomicU64) -> u64 {
-    counter.load(Ordering::SeqCst)
-}
-
 #[test]
 fn each_reply_is_told(rt: HostRuntime) -> Result<(), Fail> {
     let requests = stream_of_text(&rt, rt.alloc(), REQUESTS);
@@ -290,11 +282,12 @@ fn two_sessions_request_at_once(rt: HostRuntime) -> Result<(), Fail> {
     assert!(rt; is_posted(steps, 0, &FIRST));
     assert!(rt; is_posted(steps, 1, &SECOND));
     assert!(rt; told.text.ends_with(HELD));
-    assert_eq!(rt; count_of(&gate.missed), 0);
-    assert_eq!(rt; count_of(&gate.first_starts), 1);
-    assert_eq!(rt; count_of(&gate.second_starts), 1);
-    assert_eq!(rt; count_of(&gate.first_calls), 4);
-    assert_eq!(rt; count_of(&gate.second_calls), 3);
-    assert_eq!(rt; count_of(&gate.others), 0);
+    assert_eq!(rt; gate.missed(), 0);
+    assert_eq!(rt; gate.first.counts(), (1, 4));
+    assert_eq!(rt; gate.second.counts(), (1, 3));
+    assert_eq!(rt; gate.third.counts(), (0, 0));
+    assert_eq!(rt; gate.first_worker.counts(), (0, 0));
+    assert_eq!(rt; gate.second_worker.counts(), (0, 0));
+    assert_eq!(rt; gate.others(), 0);
     Ok(())
 }

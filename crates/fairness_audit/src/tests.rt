@@ -9,18 +9,14 @@ use super::*;
 use bundle_rules::{Bundle, Menu, Rated};
 use course_catalog::read_catalog;
 use demand_api::Crowd;
-use gates::MeetingGate;
-use market_edge::{Gate, OpenGate};
+use market_edge::{Gate, MeetingGate, OpenGate};
 use market_units::{SectionNo, StudentNo, Tokens};
 use std::alloc::Global;
 use std::process::Abort;
-use std::sync::atomic::Ordering;
 use std::sync::{Arc, Wait};
 use std::test::Fail;
 use std::thread::Threads;
 use student_roll::read_roll;
-
-mod gates;
 
 // A section that is rated, with its course; each has one credit.
 fn rated(section: u16, course: u16, rating: u8) -> Rated {
@@ -375,8 +371,13 @@ fn two_workers_meet(rt: HostRuntime) -> Result<(), Fail> {
         assert_eq!(rt; rows[student].beyond, 0);
         assert!(rt; rows[student].first.is_none() || rows[student].first == Some(seen));
     }
-    assert_eq!(rt; gate.missed.load(Ordering::SeqCst), 0);
-    assert_eq!(rt; gate.starts.load(Ordering::SeqCst), 2);
-    assert_eq!(rt; gate.others.load(Ordering::SeqCst), 0);
+    assert_eq!(rt; gate.missed(), 0);
+    let (first_starts, _) = gate.first_worker.counts();
+    let (second_starts, _) = gate.second_worker.counts();
+    assert_eq!(rt; first_starts.saturating_add(second_starts), 2);
+    assert_eq!(rt; gate.first.counts(), (0, 0));
+    assert_eq!(rt; gate.second.counts(), (0, 0));
+    assert_eq!(rt; gate.third.counts(), (0, 0));
+    assert_eq!(rt; gate.others(), 0);
     Ok(())
 }

@@ -4,6 +4,7 @@
 
 mod file_shelf;
 mod gate;
+mod meeting_gate;
 mod memory_files;
 mod memory_shelf;
 mod memory_sink;
@@ -16,6 +17,7 @@ mod whole_text;
 
 pub use file_shelf::FileShelf;
 pub use gate::{AnyGate, Gate, OpenGate, Passed, Stop};
+pub use meeting_gate::{MeetingGate, Passes};
 pub use memory_shelf::MemoryShelf;
 pub use memory_sink::MemorySink;
 pub use shelf::{Failed, Shelf};

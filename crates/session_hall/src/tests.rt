@@ -2,8 +2,8 @@ ghost use Rattle.std.specs.Prelude.{◌≤◌, length, IfOk};
 
 use super::*;
 use course_catalog::read_catalog;
-use gates::{HoldingGate, MeetingGate};
-use market_edge::Gate;
+use gates::HoldingGate;
+use market_edge::{Gate, MeetingGate};
 use market_units::{SectionNo, StudentNo};
 use preference_desk::{Entry, Reply};
 use std::alloc::Global;
@@ -108,12 +108,13 @@ fn two_sessions_post_at_once(rt: HostRuntime) -> Result<(), Fail> {
         ratings_of(&rt, &closed, 1),
         [(SectionNo(1), 20u8)].as_slice()
     );
-    assert_eq!(rt; count_of(&gate.missed), 0);
-    assert_eq!(rt; count_of(&gate.first_starts), 1);
-    assert_eq!(rt; count_of(&gate.second_starts), 1);
-    assert_eq!(rt; count_of(&gate.first_calls), 4);
-    assert_eq!(rt; count_of(&gate.second_calls), 3);
-    assert_eq!(rt; count_of(&gate.others), 0);
+    assert_eq!(rt; gate.missed(), 0);
+    assert_eq!(rt; gate.first.counts(), (1, 4));
+    assert_eq!(rt; gate.second.counts(), (1, 3));
+    assert_eq!(rt; gate.third.counts(), (0, 0));
+    assert_eq!(rt; gate.first_worker.counts(), (0, 0));
+    assert_eq!(rt; gate.second_worker.counts(), (0, 0));
+    assert_eq!(rt; gate.others(), 0);
     Ok(())
 }
 

@@ -5,95 +5,8 @@ use super::hall::FIVE_SECTIONS;
 use super::settings::ACCEPT_9;
 use super::term::{FOUR, OF_FOUR, RATED, SEAT};
 use super::*;
-use market_edge::Stop;
+use market_edge::{MeetingGate, Passes, Stop};
 use std::sync::atomic::{AtomicU64, Ordering};
-
-// How often a session or a worker looks for the other one before it passes on alone.
-const TURNS: u32 = 1_000_000_000;
-
-// The stops of one session or worker.
-#[derive(Drop)]
-struct Passes {
-    starts: AtomicU64,
-    calls: AtomicU64,
-}
-
-impl Passes {
-    fn none() -> Self {
-        Passes {
-            starts: AtomicU64::new(0),
-            calls: AtomicU64::new(0),
-        }
-    }
-
-    fn counts(&self) -> (u64, u64) {
-        (count_of(&self.starts), count_of(&self.calls))
-    }
-}
-
-fn count_of(counter: &AtomicU64) -> u64 {
-    counter.load(Ordering::SeqCst)
-}
-
-fn count_one(counter: &AtomicU64) {
-    counter.fetch_add(1, Ordering::SeqCst);
-}
-
-// Counts the stops of three sessions and two workers. The calls of the first two sessions meet, and those of the workers: after each reply
-// they wait until the other has had one.
-#[derive(Drop)]
-struct MeetingGate {
-    first: Passes,
-    second: Passes,
-    third: Passes,
-    first_worker: Passes,
-    second_worker: Passes,
-    others: AtomicU64,
-    // How often a session or a worker passed on alone.
-    missed: AtomicU64,
-}
-
-impl MeetingGate {
-    fn new() -> Self {
-        MeetingGate {
-            first: Passes::none(),
-            second: Passes::none(),
-            third: Passes::none(),
-            first_worker: Passes::none(),
-            second_worker: Passes::none(),
-            others: AtomicU64::new(0),
-            missed: AtomicU64::new(0),
-        }
-    }
-
-    fn meet(&self, mine: &Passes, other: &Passes) {
-        count_one(&mine.calls);
-        for _ in 0..TURNS {
-            if count_of(&other.calls) > 0 {
-                return;
-            }
-        }
-        count_one(&self.missed);
-    }
-}
-
-impl Gate for MeetingGate {
-    fn pass(&self, stop: Stop) {
-        match stop {
-            Stop::SessionStart(1) => count_one(&self.first.starts),
-            Stop::SessionStart(2) => count_one(&self.second.starts),
-            Stop::SessionStart(3) => count_one(&self.third.starts),
-            Stop::SessionCall(1) => self.meet(&self.first, &self.second),
-            Stop::SessionCall(2) => self.meet(&self.second, &self.first),
-            Stop::SessionCall(3) => count_one(&self.third.calls),
-            Stop::WorkerStart(1) => count_one(&self.first_worker.starts),
-            Stop::WorkerStart(2) => count_one(&self.second_worker.starts),
-            Stop::WorkerCall(1) => self.meet(&self.first_worker, &self.second_worker),
-            Stop::WorkerCall(2) => self.meet(&self.second_worker, &self.first_worker),
-            _ => count_one(&self.others),
-        }
-    }
-}
 
 const FIRST: &str = "rate ann A 10\nrate zoe A 1\nrate ann A 30\nrate ann Q 1\n";
 
@@ -134,19 +47,19 @@ fn has_entries(text: &str, start: &str, entries: &[&str]) -> bool {
 
 // Two sessions met, of four and of three calls, and a third has made no call.
 fn assert_sessions_met<R: Abort>(rt: &R, gate: &MeetingGate) {
-    assert_eq!(rt; count_of(&gate.missed), 0);
+    assert_eq!(rt; gate.missed(), 0);
     assert_eq!(rt; gate.first.counts(), (1, 4));
     assert_eq!(rt; gate.second.counts(), (1, 3));
     assert_eq!(rt; gate.third.counts(), (1, 0));
-    assert_eq!(rt; count_of(&gate.others), 0);
+    assert_eq!(rt; gate.others(), 0);
 }
 
 // Two sessions of two calls met, and two workers of at least a call for each of four students.
 fn assert_workers_met<R: Abort>(rt: &R, gate: &MeetingGate) {
-    assert_eq!(rt; count_of(&gate.missed), 0);
+    assert_eq!(rt; gate.missed(), 0);
     assert_eq!(rt; gate.first.counts(), (1, 2));
     assert_eq!(rt; gate.second.counts(), (1, 2));
-    assert_eq!(rt; count_of(&gate.others), 0);
+    assert_eq!(rt; gate.others(), 0);
     let (_, of_first) = gate.first_worker.counts();
     let (_, of_second) = gate.second_worker.counts();
     assert!(rt; of_first > 0 && of_second > 0);
@@ -284,13 +197,15 @@ struct CountingGate {
 impl Gate for CountingGate {
     fn pass(&self, stop: Stop) {
         match stop {
-            Stop::SessionStart(1) => count_one(&self.first.starts),
-            Stop::SessionStart(2) => count_one(&self.second.starts),
-            Stop::SessionCall(1) => count_one(&self.first.calls),
-            Stop::SessionCall(2) => count_one(&self.second.calls),
-            Stop::WorkerStart(_) => count_one(&self.workers.starts),
-            Stop::WorkerCall(_) => count_one(&self.workers.calls),
-            _ => count_one(&self.others),
+            Stop::SessionStart(1) => self.first.count_start(),
+            Stop::SessionStart(2) => self.second.count_start(),
+            Stop::SessionCall(1) => self.first.count_call(),
+            Stop::SessionCall(2) => self.second.count_call(),
+            Stop::WorkerStart(_) => self.workers.count_start(),
+            Stop::WorkerCall(_) => self.workers.count_call(),
+            _ => {
+                self.others.fetch_add(1, Ordering::SeqCst);
+            }
         }
     }
 }
@@ -311,7 +226,7 @@ fn a_made_market_passes_the_gate(rt: HostRuntime) -> Result<(), Fail> {
     assert_eq!(rt; gate.second.counts(), (1, 3));
     let (_, calls) = gate.workers.counts();
     assert!(rt; calls >= 2);
-    assert_eq!(rt; count_of(&gate.others), 0);
+    assert_eq!(rt; gate.others.load(Ordering::SeqCst), 0);
     Ok(())
 }
 
@@ -331,13 +246,13 @@ fn two_workers_of_an_audit_post_at_once(rt: HostRuntime) -> Result<(), Fail> {
     let (status, text) = run_by(&rt, rt.alloc(), line, &files, (0, 0), 1000, &gate)?;
     assert_eq!(rt; status, Status::Done);
     assert_eq!(rt; text.as_str(), ENVY_OF_FOUR);
-    assert_eq!(rt; count_of(&gate.missed), 0);
+    assert_eq!(rt; gate.missed(), 0);
     let (first_starts, of_first) = gate.first_worker.counts();
     let (second_starts, of_second) = gate.second_worker.counts();
     assert_eq!(rt; (first_starts, second_starts), (2, 2));
     assert!(rt; of_first > 0 && of_second > 0);
     assert_eq!(rt; of_first.saturating_add(of_second), 8);
     assert_eq!(rt; gate.first.counts(), (0, 0));
-    assert_eq!(rt; count_of(&gate.others), 0);
+    assert_eq!(rt; gate.others(), 0);
     Ok(())
 }
