@@ -171,53 +171,18 @@ impl Walk {
     {
         prove!(menu.len() <= 60);
         let at = self.count;
+        let stems = &mut self.stems;
         match sign {
             Sign::Champion | Sign::Shut | Sign::Closed(_) => {}
             Sign::Forced => {
-                take_at(
-                    &mut self.stems,
-                    at,
-                    menu,
-                    prices,
-                    budget,
-                    allowed,
-                    champion,
-                    node,
-                );
-                put_back(&mut self.stems, at);
+                take_at(stems, at, menu, prices, budget, allowed, champion, node);
+                put_back(stems, at);
             }
             Sign::Open => {
-                take_at(
-                    &mut self.stems,
-                    at,
-                    menu,
-                    prices,
-                    budget,
-                    allowed,
-                    champion,
-                    node,
-                );
-                pass_at(
-                    &mut self.stems,
-                    at,
-                    menu,
-                    prices,
-                    budget,
-                    allowed,
-                    champion,
-                    node,
-                );
+                take_at(stems, at, menu, prices, budget, allowed, champion, node);
+                pass_at(stems, at, menu, prices, budget, allowed, champion, node);
             }
-            Sign::Passed => pass_at(
-                &mut self.stems,
-                at,
-                menu,
-                prices,
-                budget,
-                allowed,
-                champion,
-                node,
-            ),
+            Sign::Passed => pass_at(stems, at, menu, prices, budget, allowed, champion, node),
         }
     }
 

@@ -224,25 +224,10 @@ fn put_together<R: Threads + Sync>(
     } = stages;
     let order = order_of(alloc, journal)?;
     let budgets = crowd.budgets.to_vec(alloc)?;
-    let bundles = prove_bundles(
-        rt,
-        alloc,
-        workers,
-        room,
-        crowd,
-        &settled.prices,
-        &settled.bundles,
-    )?;
-    let turns = prove_turns(
-        rt,
-        alloc,
-        workers,
-        room,
-        crowd,
-        &settled.prices,
-        settings.raise,
-        &after.turns,
-    )?;
+    let prices = &settled.prices;
+    let bundles = prove_bundles(rt, alloc, workers, room, crowd, prices, &settled.bundles)?;
+    let raise = settings.raise;
+    let turns = prove_turns(rt, alloc, workers, room, crowd, prices, raise, &after.turns)?;
     let used = used_seats(alloc, &after.used, seats)?;
     Ok(Published {
         publication: Publication {
