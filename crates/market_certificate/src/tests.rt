@@ -5,18 +5,13 @@ use std::alloc::Global;
 use std::process::Abort;
 use std::test::Fail;
 use student_roll::read_roll;
-
-// A catalogue, a roll, and a published text of them.
-#[derive(Clone, Copy)]
-struct Case {
-    catalog: &'static [u8],
-    roll: &'static [u8],
-    text: &'static [u8],
-}
+use worked_terms::{
+    CARRIED_TERM, EQUAL_ROLL, FOUR_TERM, NO_SECTIONS_TERM, NOBODY_TERM, ORDINARY_TERM, WorkedTerm,
+};
 
 // Aftermarket swaps in later passes.
-const AFTERMARKET_SWAPS_IN_LATER_PASSES: Case = Case {
-    catalog: b"section,course,seats,credits,meetings
+const AFTERMARKET_SWAPS_IN_LATER_PASSES: WorkedTerm = WorkedTerm {
+    catalogue: b"section,course,seats,credits,meetings
 A,AA,1,1,
 B,BB,1,1,
 C,CC,1,1,
@@ -26,7 +21,7 @@ u,100,10,1
 v,100,10,1
 w,99,10,1
 ",
-    text: b"course-match 1
+    text: "course-match 1
 order 1 1 1 1 1 1 1
 budget u 100
 budget v 100
@@ -57,182 +52,26 @@ end
 ",
 };
 
-// Carried tokens raise the budget.
-const CARRIED_TOKENS_RAISE_THE_BUDGET: Case = Case {
-    catalog: b"section,course,seats,credits,meetings
-X,XX,1,1,
-",
-    roll: b"student,budget,credits,courses,carry
-u,100,10,1,0
-v,100,10,1,5
-",
-    text: b"course-match 2
-order 1 1
-budget u 100
-budget v 105
-start X 0
-error 1
-price X 101
-bundle u [] -*
-bundle v [X] +*n
-turn 1 v [X] +*n
-turn 1 u [] -*
-final u []
-final v [X]
-used X 1 1
-end
-",
-};
-
-// Empty roll.
-const EMPTY_ROLL: Case = Case {
-    catalog: b"section,course,seats,credits,meetings
-A,AA,2,1,
-",
-    roll: b"student,budget,credits,courses
-",
-    text: b"course-match 1
-order
-start A 0
-error 0
-price A 0
-used A 0 2
-end
-",
-};
-
-// Four students one seat one worker.
-const FOUR_STUDENTS_ONE_SEAT_ONE_WORKER: Case = Case {
-    catalog: b"section,course,seats,credits,meetings
-X,XX,1,1,
-",
-    roll: b"student,budget,credits,courses
-s1,100,10,1
-s2,101,10,1
-s3,102,10,1
-s4,103,10,1
-",
-    text: b"course-match 1
-order 1 1 1 1
-budget s1 100
-budget s2 101
-budget s3 102
-budget s4 103
-start X 0
-error 9
-price X 103
-bundle s1 [] -*
-bundle s2 [] -*
-bundle s3 [] -*
-bundle s4 [X] +*n
-turn 1 s4 [X] +*n
-turn 1 s3 [] -*
-turn 1 s2 [] -*
-turn 1 s1 [] -*
-final s1 []
-final s2 []
-final s3 []
-final s4 [X]
-used X 1 1
-end
-",
-};
-
-// No sections.
-const NO_SECTIONS: Case = Case {
-    catalog: b"section,course,seats,credits,meetings
-",
-    roll: b"student,budget,credits,courses
-ann,100,10,2
-bob,101,10,2
-cat,102,10,2
-",
-    text: b"course-match 1
-order 1 1 1 1 1 1 1 1
-budget ann 104
-budget bob 103
-budget cat 102
-error 0
-bundle ann [] *
-bundle bob [] *
-bundle cat [] *
-turn 1 ann [] *
-turn 1 bob [] *
-turn 1 cat [] *
-final ann []
-final bob []
-final cat []
-end
-",
-};
-
 // Nothing but headers.
-const NOTHING_BUT_HEADERS: Case = Case {
-    catalog: b"section,course,seats,credits,meetings
+const NOTHING_BUT_HEADERS: WorkedTerm = WorkedTerm {
+    catalogue: b"section,course,seats,credits,meetings
 ",
     roll: b"student,budget,credits,courses
 ",
-    text: b"course-match 1
+    text: "course-match 1
 order
 error 0
-end
-",
-};
-
-// Ordinary term.
-const ORDINARY_TERM: Case = Case {
-    catalog: b"section,course,seats,credits,meetings
-A,ACCT,1,1,M0900-1020;W0900-1020
-B,BIOL,2,1,M1020-1140
-C,CHEM,2,1,T0900-1020
-D,ACCT,1,1,M1000-1100
-",
-    roll: b"student,budget,credits,courses
-ann,100,10,2
-bob,101,10,2
-cat,102,10,2
-",
-    text: b"course-match 1
-order 1 1 1 1 1 1 1 1
-budget ann 104
-budget bob 103
-budget cat 102
-start A 0
-start B 0
-start C 0
-start D 0
-error 1
-price A 104
-price B 0
-price C 0
-price D 0
-bundle ann [A,B] ++*nn
-bundle bob [C] -+*n
-bundle cat [D] -+*n
-turn 1 ann [A,B] ++*nn
-turn 1 bob [C] -+*n
-turn 1 cat [D] -+*n
-final ann [A,B]
-final bob [C]
-final cat [D]
-used A 1 1
-used B 1 2
-used C 1 2
-used D 1 1
 end
 ",
 };
 
 // Part terms make version two.
-const PART_TERMS_MAKE_VERSION_TWO: Case = Case {
-    catalog: b"section,course,seats,credits,meetings,parts
+const PART_TERMS_MAKE_VERSION_TWO: WorkedTerm = WorkedTerm {
+    catalogue: b"section,course,seats,credits,meetings,parts
 X,XX,1,1,,12
 ",
-    roll: b"student,budget,credits,courses
-u,100,10,1
-v,100,10,1
-",
-    text: b"course-match 2
+    roll: EQUAL_ROLL,
+    text: "course-match 2
 order 1 1
 budget u 100
 budget v 100
@@ -253,8 +92,8 @@ end
 };
 
 // Ties of excess raise the lowest ordinal.
-const TIES_OF_EXCESS_RAISE_THE_LOWEST_ORDINAL: Case = Case {
-    catalog: b"section,course,seats,credits,meetings
+const TIES_OF_EXCESS_RAISE_THE_LOWEST_ORDINAL: WorkedTerm = WorkedTerm {
+    catalogue: b"section,course,seats,credits,meetings
 A,AA,1,1,
 B,BB,1,1,
 ",
@@ -263,7 +102,7 @@ u,100,10,2
 v,101,10,2
 w,102,10,2
 ",
-    text: b"course-match 1
+    text: "course-match 1
 order 1 1 1 1 1 1
 budget u 100
 budget v 101
@@ -367,22 +206,24 @@ const SECOND_CHANGES: [Change; 17] = [
 ];
 
 // The text is read, and written again as it was.
-fn try_case(rt: &impl Abort, alloc: Global, case: &Case) -> Result<(), Fail> {
-    assert!(rt; case.catalog.len() < 10_000);
+fn try_case(rt: &impl Abort, alloc: Global, case: &WorkedTerm) -> Result<(), Fail> {
+    let text = case.text.as_bytes();
+    assert!(rt; case.catalogue.len() < 10_000);
     assert!(rt; case.roll.len() < 10_000);
-    assert!(rt; case.text.len() < 10_000);
-    let catalog = read_catalog(alloc, case.catalog)?;
+    assert!(rt; text.len() < 10_000);
+    let catalog = read_catalog(alloc, case.catalogue)?;
     let roll = read_roll(alloc, case.roll)?;
-    let publication = read_publication(alloc, &catalog, &roll, case.text)?;
+    let publication = read_publication(alloc, &catalog, &roll, text)?;
     let written = put_publication(alloc, &catalog, &roll, &publication)?;
-    assert_eq!(rt; written.as_slice(), case.text);
+    assert_eq!(rt; written.as_slice(), text);
     Ok(())
 }
 
 // The changed text has this defect.
 fn try_change(rt: &impl Abort, alloc: Global, change: &Change) -> Result<(), Fail> {
     let (from, old, new, line, kind) = *change;
-    let base = ORDINARY_TERM.text;
+    let term = ORDINARY_TERM;
+    let base = term.text.as_bytes();
     assert!(rt; from < 10_000);
     assert!(rt; old < 10_000);
     let behind = from + old;
@@ -392,8 +233,10 @@ fn try_change(rt: &impl Abort, alloc: Global, change: &Change) -> Result<(), Fai
     text.extend_from_slice(new)?;
     text.extend_from_slice(&base[behind..])?;
     assert!(rt; text.len() < 10_000);
-    let catalog = read_catalog(alloc, ORDINARY_TERM.catalog)?;
-    let roll = read_roll(alloc, ORDINARY_TERM.roll)?;
+    assert!(rt; term.catalogue.len() < 10_000);
+    assert!(rt; term.roll.len() < 10_000);
+    let catalog = read_catalog(alloc, term.catalogue)?;
+    let roll = read_roll(alloc, term.roll)?;
     match read_publication(alloc, &catalog, &roll, &text) {
         Ok(_) => assert!(rt; false),
         Err(refusal) => assert_eq!(rt; refusal, TextRefusal::Defect { line, kind }),
@@ -405,10 +248,10 @@ fn try_change(rt: &impl Abort, alloc: Global, change: &Change) -> Result<(), Fai
 fn a_published_text_is_read_and_written_again(rt: HostRuntime) -> Result<(), Fail> {
     let cases = [
         AFTERMARKET_SWAPS_IN_LATER_PASSES,
-        CARRIED_TOKENS_RAISE_THE_BUDGET,
-        EMPTY_ROLL,
-        FOUR_STUDENTS_ONE_SEAT_ONE_WORKER,
-        NO_SECTIONS,
+        CARRIED_TERM,
+        NOBODY_TERM,
+        FOUR_TERM,
+        NO_SECTIONS_TERM,
         NOTHING_BUT_HEADERS,
         ORDINARY_TERM,
     ];
@@ -440,9 +283,14 @@ fn the_first_defect_is_told(rt: HostRuntime) -> Result<(), Fail> {
 #[test]
 fn a_text_says_what_its_lines_say(rt: HostRuntime) -> Result<(), Fail> {
     let alloc = rt.alloc();
-    let catalog = read_catalog(alloc, ORDINARY_TERM.catalog)?;
-    let roll = read_roll(alloc, ORDINARY_TERM.roll)?;
-    let publication = read_publication(alloc, &catalog, &roll, ORDINARY_TERM.text)?;
+    let term = ORDINARY_TERM;
+    let text = term.text.as_bytes();
+    assert!(rt; term.catalogue.len() < 10_000);
+    assert!(rt; term.roll.len() < 10_000);
+    assert!(rt; text.len() < 10_000);
+    let catalog = read_catalog(alloc, term.catalogue)?;
+    let roll = read_roll(alloc, term.roll)?;
+    let publication = read_publication(alloc, &catalog, &roll, text)?;
     assert_eq!(rt; publication.order.as_slice(), [1; 8].as_slice());
     assert!(rt;
         publication.budgets.as_slice() == [Tokens(104), Tokens(103), Tokens(102)].as_slice()

@@ -24,7 +24,6 @@ mod make;
 mod prefer;
 mod quote;
 mod runs;
-mod settings;
 mod term;
 
 const HEADER: &[u8] = b"section,course,seats,credits,meetings\n";

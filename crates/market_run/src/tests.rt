@@ -18,11 +18,7 @@ use std::test::Fail;
 use std::thread::Threads;
 use student_roll::{Roll, read_roll};
 use utility_language::{Command, read_stream};
-
-const ONE_SEAT: &[u8] = b"section,course,seats,credits,meetings\nX,XX,1,1,\n";
-
-const FOUR_STUDENTS: &[u8] =
-    b"student,budget,credits,courses\ns1,100,10,1\ns2,101,10,1\ns3,102,10,1\ns4,103,10,1\n";
+use worked_terms::{ACCEPT_8, ACCEPT_9, FOUR_TERM};
 
 // Whether each entry is of a session from 1 to 64.
 fn are_sessions(journal: &[Entry]) -> bool
@@ -82,8 +78,10 @@ fn four_by<R: Abort + Threads + Wait + Sync>(
 ) -> Result<Vec<u8>, u64>
     requires { (1 ≤ workers) × (workers ≤ 16) }
 {
-    let catalog = read_catalog(alloc, ONE_SEAT).expect(rt, "a catalogue");
-    let roll = read_roll(alloc, FOUR_STUDENTS).expect(rt, "a roll");
+    let term = FOUR_TERM;
+    assert!(rt; term.catalogue.len() < 1000 && term.roll.len() < 1000);
+    let catalog = read_catalog(alloc, term.catalogue).expect(rt, "a catalogue");
+    let roll = read_roll(alloc, term.roll).expect(rt, "a roll");
     let settings = read_settings(alloc, settings).expect(rt, "settings");
     let first = read_stream(alloc, b"rate s1 X 50\nrate s2 X 50\n", 100).expect(rt, "commands");
     let second = read_stream(alloc, b"rate s3 X 50\nrate s4 X 50\n", 100).expect(rt, "commands");
@@ -130,22 +128,18 @@ fn two_by<R: Abort + Threads + Wait + Sync>(rt: &R, alloc: Global, workers: u16)
 
 #[test]
 fn four_students_of_one_seat_in_two_sessions(rt: HostRuntime) -> Result<(), Fail> {
-    let settings =
-        br#"{"seed":0,"spread":0,"accept":9,"turns":0,"tabu":5,"patience":3,"steps":[1],"raise":10}"#;
     let wanted =
         b"course-match 1\norder 2 2 1 1\nbudget s1 100\nbudget s2 101\nbudget s3 102\nbudget s4 103\nstart X 0\nerror 9\nprice X 103\nbundle s1 [] -*\nbundle s2 [] -*\nbundle s3 [] -*\nbundle s4 [X] +*n\nturn 1 s4 [X] +*n\nturn 1 s3 [] -*\nturn 1 s2 [] -*\nturn 1 s1 [] -*\nfinal s1 []\nfinal s2 []\nfinal s3 []\nfinal s4 [X]\nused X 1 1\nend\n";
-    let by_one = four_by(&rt, rt.alloc(), 1, settings).expect(&rt, "prices");
+    let by_one = four_by(&rt, rt.alloc(), 1, ACCEPT_9).expect(&rt, "prices");
     assert_eq!(rt; by_one.as_slice(), wanted.as_slice());
-    let by_three = four_by(&rt, rt.alloc(), 3, settings).expect(&rt, "prices");
+    let by_three = four_by(&rt, rt.alloc(), 3, ACCEPT_9).expect(&rt, "prices");
     assert_eq!(rt; by_three.as_slice(), wanted.as_slice());
     Ok(())
 }
 
 #[test]
 fn an_error_that_is_not_accepted(rt: HostRuntime) -> Result<(), Fail> {
-    let settings =
-        br#"{"seed":0,"spread":0,"accept":8,"turns":0,"tabu":5,"patience":3,"steps":[1],"raise":10}"#;
-    let text = four_by(&rt, rt.alloc(), 2, settings);
+    let text = four_by(&rt, rt.alloc(), 2, ACCEPT_8);
     assert!(rt; matches!(&text, Err(9)));
     Ok(())
 }

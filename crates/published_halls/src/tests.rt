@@ -15,37 +15,26 @@ use std::sync::Wait;
 use std::test::Fail;
 use std::thread::Threads;
 use student_roll::read_roll;
+use worked_terms::EQUAL_TERM;
 
-const CATALOG: &[u8] = b"section,course,seats,credits,meetings\nX,XX,1,1,\n";
-
-const ROLL: &[u8] = b"student,budget,credits,courses\nu,100,10,1\nv,100,10,1\n";
-
-const FRONT: &[u8] = b"course-match 1
-order 1 1
-budget u 100
-budget v 100
-start X 0
-error 1
-price X 101
-bundle u [] -*
-bundle v [] -*
-turn 1 u [X] +*n
-turn 1 v [] -*
-turn 2 u [X] +*n
-turn 2 v [] -*
-";
+// How the term's text ends.
+const END: &[u8] = b"final u [X]\nfinal v []\nused X 1 1\nend\n";
 
 const REQUESTS: &[u8] = b"add v X\ndrop u X\nadd u X\ndrop v X\n";
 
-// What is told of the requests where the text ends so.
+// What is told of the requests where the text of two students and the one seat ends so.
 fn told<R: Abort + Threads + Wait + Sync>(
     rt: &R,
     alloc: Global,
     end: &[u8],
 ) -> Result<Vec<u8>, CheckEnd> {
-    let catalog = read_catalog(alloc, CATALOG).expect(rt, "a catalogue");
-    let roll = read_roll(alloc, ROLL).expect(rt, "a roll");
-    let mut text = FRONT.to_vec(alloc).expect(rt, "memory");
+    let term = EQUAL_TERM;
+    assert!(rt; term.catalogue.len() < 1000 && term.roll.len() < 1000);
+    let catalog = read_catalog(alloc, term.catalogue).expect(rt, "a catalogue");
+    let roll = read_roll(alloc, term.roll).expect(rt, "a roll");
+    let whole = term.text.as_bytes();
+    let front = whole.strip_suffix(END).expect(rt, "an end");
+    let mut text = front.to_vec(alloc).expect(rt, "memory");
     text.extend_from_slice(end).expect(rt, "memory");
     let requests = read_requests(alloc, REQUESTS, 100).expect(rt, "requests");
     assert!(rt; text.len() < 10_000);
@@ -63,7 +52,6 @@ fn found<R: Abort + Threads + Wait + Sync>(rt: &R, alloc: Global, end: &[u8]) ->
 
 #[test]
 fn a_dropped_seat_goes_to_the_first_who_waits(rt: HostRuntime) -> Result<(), Fail> {
-    let end = b"final u [X]\nfinal v []\nused X 1 1\nend\n";
     let text: &[u8] = b"entry 1 add v X: queued 0
 entry 1 drop u X: dropped 0 to v
 entry 1 add u X: queued 0
@@ -72,7 +60,7 @@ final u [X]
 final v []
 used X 1 1
 ";
-    let told = told(&rt, rt.alloc(), end).expect(&rt, "a hall");
+    let told = told(&rt, rt.alloc(), END).expect(&rt, "a hall");
     assert!(rt; told.as_slice() == text);
     Ok(())
 }

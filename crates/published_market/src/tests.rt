@@ -19,26 +19,18 @@ use std::test::Fail;
 use std::thread::Threads;
 use student_roll::{Roll, read_roll};
 use utility_language::{Command, read_stream};
-
-const ONE_SECTION: &[u8] = b"section,course,seats,credits,meetings\nA,AA,2,1,\n";
-
-const NOBODY: &[u8] = b"student,budget,credits,courses\n";
+use worked_terms::{
+    ACCEPT_0, ACCEPT_8, EQUAL_MARKET, EQUAL_SESSION, FOUR_MARKET, FOUR_ROLL, FOUR_SESSION,
+    NOBODY_CATALOGUE, NOBODY_MARKET, NOBODY_ROLL, ONE_SEAT_CATALOGUE, ORDINARY_MARKET,
+    WorkedMarket,
+};
 
 const ANN: &[u8] = b"student,budget,credits,courses\nann,100,10,2\n";
-
-const ONE_SEAT: &[u8] = b"section,course,seats,credits,meetings\nX,XX,1,1,\n";
-
-const FOUR_STUDENTS: &[u8] =
-    b"student,budget,credits,courses\ns1,100,10,1\ns2,101,10,1\ns3,102,10,1\ns4,103,10,1\n";
-
-const FOUR_WISHES: &[u8] = b"rate s1 X 50\nrate s2 X 50\nrate s3 X 50\nrate s4 X 50\n";
 
 const FOUR_SECTIONS: &[u8] =
     b"section,course,seats,credits,meetings\nA,AA,9,1,\nB,BB,30,1,\nC,CC,1,1,\nD,DD,2,1,\n";
 
 const FORTY_NAMES: &[u8] = b"abcdefghijklmnopqrstuvwxyzABCDEFGHIJKLMN";
-
-const TWO_WISHES: &[u8] = b"rate u X 50\nrate v X 50\n";
 
 // Whether each entry is of a session from 1 to 64.
 fn are_sessions(journal: &[Entry]) -> bool
@@ -134,6 +126,20 @@ fn held_by<R: Abort + Threads + Wait + Sync>(
     text_of(rt, alloc, workers, room, &catalog, &roll, &settings, &desk)
 }
 
+// The market publishes its text.
+fn try_market<R: Abort + Threads + Wait + Sync>(rt: &R, alloc: Global, market: &WorkedMarket) {
+    let text = held(
+        rt,
+        alloc,
+        market.term.catalogue,
+        market.term.roll,
+        market.settings,
+        market.session,
+    )
+    .expect(rt, "prices");
+    assert_eq!(rt; text.as_slice(), market.term.text.as_bytes());
+}
+
 // The text with a line for each of the forty students: what stands before its name, the name, and what stands behind.
 fn with_lines<R: Abort>(
     rt: &R,
@@ -160,7 +166,7 @@ fn forty_by<R: Abort + Threads + Wait + Sync>(
 ) -> Vec<u8> {
     let settings =
         br#"{"seed":5,"spread":9,"accept":1000000,"turns":0,"tabu":5,"patience":3,"steps":[1],"raise":10}"#;
-    let roll = with_lines(rt, alloc, NOBODY, b"", b",100,10,2\n");
+    let roll = with_lines(rt, alloc, NOBODY_ROLL, b"", b",100,10,2\n");
     let once = with_lines(rt, alloc, b"", b"rate ", b" A 50\n");
     let twice = with_lines(rt, alloc, &once, b"rate ", b" B 40\n");
     let text = held_by(
@@ -178,19 +184,13 @@ fn forty_by<R: Abort + Threads + Wait + Sync>(
 
 #[test]
 fn nobody_is_enrolled(rt: HostRuntime) -> Result<(), Fail> {
-    let settings =
-        br#"{"seed":0,"spread":0,"accept":0,"turns":0,"tabu":5,"patience":3,"steps":[1],"raise":10}"#;
-    let text = held(&rt, rt.alloc(), ONE_SECTION, NOBODY, settings, b"").expect(&rt, "prices");
-    let wanted = b"course-match 1\norder\nstart A 0\nerror 0\nprice A 0\nused A 0 2\nend\n";
-    assert_eq!(rt; text.as_slice(), wanted.as_slice());
+    try_market(&rt, rt.alloc(), &NOBODY_MARKET);
     Ok(())
 }
 
 #[test]
 fn a_student_wants_nothing(rt: HostRuntime) -> Result<(), Fail> {
-    let settings =
-        br#"{"seed":0,"spread":0,"accept":0,"turns":0,"tabu":5,"patience":3,"steps":[1],"raise":10}"#;
-    let text = held(&rt, rt.alloc(), ONE_SECTION, ANN, settings, b"").expect(&rt, "prices");
+    let text = held(&rt, rt.alloc(), NOBODY_CATALOGUE, ANN, ACCEPT_0, b"").expect(&rt, "prices");
     let wanted =
         b"course-match 1\norder\nbudget ann 100\nstart A 0\nerror 0\nprice A 0\nbundle ann [] *\nturn 1 ann [] *\nfinal ann []\nused A 0 2\nend\n";
     assert_eq!(rt; text.as_slice(), wanted.as_slice());
@@ -199,50 +199,25 @@ fn a_student_wants_nothing(rt: HostRuntime) -> Result<(), Fail> {
 
 #[test]
 fn an_ordinary_term(rt: HostRuntime) -> Result<(), Fail> {
-    let catalog =
-        b"section,course,seats,credits,meetings\nA,ACCT,1,1,M0900-1020;W0900-1020\nB,BIOL,2,1,M1020-1140\nC,CHEM,2,1,T0900-1020\nD,ACCT,1,1,M1000-1100\n";
-    let roll = b"student,budget,credits,courses\nann,100,10,2\nbob,101,10,2\ncat,102,10,2\n";
-    let settings =
-        br#"{"seed":0,"spread":2,"accept":1,"turns":5,"tabu":5,"patience":3,"steps":[1],"raise":10}"#;
-    let session =
-        b"rate ann A 60\nrate ann B 30\nrate bob A 50\nrate bob C 40\npair bob A C 10\nrate cat A 20\nrate cat D 45\nclose\n";
-    let text = held(&rt, rt.alloc(), catalog, roll, settings, session).expect(&rt, "prices");
-    let wanted =
-        b"course-match 1\norder 1 1 1 1 1 1 1 1\nbudget ann 104\nbudget bob 103\nbudget cat 102\nstart A 0\nstart B 0\nstart C 0\nstart D 0\nerror 1\nprice A 104\nprice B 0\nprice C 0\nprice D 0\nbundle ann [A,B] ++*nn\nbundle bob [C] -+*n\nbundle cat [D] -+*n\nturn 1 ann [A,B] ++*nn\nturn 1 bob [C] -+*n\nturn 1 cat [D] -+*n\nfinal ann [A,B]\nfinal bob [C]\nfinal cat [D]\nused A 1 1\nused B 1 2\nused C 1 2\nused D 1 1\nend\n";
-    assert_eq!(rt; text.as_slice(), wanted.as_slice());
+    try_market(&rt, rt.alloc(), &ORDINARY_MARKET);
     Ok(())
 }
 
 #[test]
 fn four_students_of_one_seat(rt: HostRuntime) -> Result<(), Fail> {
-    let settings =
-        br#"{"seed":0,"spread":0,"accept":9,"turns":0,"tabu":5,"patience":3,"steps":[1],"raise":10}"#;
-    let text = held(
-        &rt,
-        rt.alloc(),
-        ONE_SEAT,
-        FOUR_STUDENTS,
-        settings,
-        FOUR_WISHES,
-    )
-    .expect(&rt, "prices");
-    let wanted =
-        b"course-match 1\norder 1 1 1 1\nbudget s1 100\nbudget s2 101\nbudget s3 102\nbudget s4 103\nstart X 0\nerror 9\nprice X 103\nbundle s1 [] -*\nbundle s2 [] -*\nbundle s3 [] -*\nbundle s4 [X] +*n\nturn 1 s4 [X] +*n\nturn 1 s3 [] -*\nturn 1 s2 [] -*\nturn 1 s1 [] -*\nfinal s1 []\nfinal s2 []\nfinal s3 []\nfinal s4 [X]\nused X 1 1\nend\n";
-    assert_eq!(rt; text.as_slice(), wanted.as_slice());
+    try_market(&rt, rt.alloc(), &FOUR_MARKET);
     Ok(())
 }
 
 #[test]
 fn an_error_that_is_not_accepted(rt: HostRuntime) -> Result<(), Fail> {
-    let settings =
-        br#"{"seed":0,"spread":0,"accept":8,"turns":0,"tabu":5,"patience":3,"steps":[1],"raise":10}"#;
     let text = held(
         &rt,
         rt.alloc(),
-        ONE_SEAT,
-        FOUR_STUDENTS,
-        settings,
-        FOUR_WISHES,
+        ONE_SEAT_CATALOGUE,
+        FOUR_ROLL,
+        ACCEPT_8,
+        FOUR_SESSION,
     );
     assert!(rt; matches!(&text, Err(9)));
     Ok(())
@@ -250,13 +225,7 @@ fn an_error_that_is_not_accepted(rt: HostRuntime) -> Result<(), Fail> {
 
 #[test]
 fn two_students_of_one_seat(rt: HostRuntime) -> Result<(), Fail> {
-    let roll = b"student,budget,credits,courses\nu,100,10,1\nv,100,10,1\n";
-    let settings =
-        br#"{"seed":0,"spread":0,"accept":1,"turns":0,"tabu":5,"patience":3,"steps":[1],"raise":10}"#;
-    let text = held(&rt, rt.alloc(), ONE_SEAT, roll, settings, TWO_WISHES).expect(&rt, "prices");
-    let wanted =
-        b"course-match 1\norder 1 1\nbudget u 100\nbudget v 100\nstart X 0\nerror 1\nprice X 101\nbundle u [] -*\nbundle v [] -*\nturn 1 u [X] +*n\nturn 1 v [] -*\nturn 2 u [X] +*n\nturn 2 v [] -*\nfinal u [X]\nfinal v []\nused X 1 1\nend\n";
-    assert_eq!(rt; text.as_slice(), wanted.as_slice());
+    try_market(&rt, rt.alloc(), &EQUAL_MARKET);
     Ok(())
 }
 
@@ -265,7 +234,15 @@ fn the_search_moves(rt: HostRuntime) -> Result<(), Fail> {
     let roll = b"student,budget,credits,courses\nu,100,10,1\nv,105,10,1\n";
     let settings =
         br#"{"seed":0,"spread":0,"accept":0,"turns":3,"tabu":5,"patience":3,"steps":[1],"raise":10}"#;
-    let text = held(&rt, rt.alloc(), ONE_SEAT, roll, settings, TWO_WISHES).expect(&rt, "prices");
+    let text = held(
+        &rt,
+        rt.alloc(),
+        ONE_SEAT_CATALOGUE,
+        roll,
+        settings,
+        EQUAL_SESSION,
+    )
+    .expect(&rt, "prices");
     let wanted =
         b"course-match 1\norder 1 1\nbudget u 100\nbudget v 105\nstart X 101\nerror 0\nprice X 101\nbundle u [] -*\nbundle v [X] +*n\nturn 1 v [X] +*n\nturn 1 u [] -*\nfinal u []\nfinal v [X]\nused X 1 1\nend\n";
     assert_eq!(rt; text.as_slice(), wanted.as_slice());

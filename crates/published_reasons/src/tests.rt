@@ -12,49 +12,7 @@ use std::process::Abort;
 use std::test::Fail;
 use student_roll::read_roll;
 use utility_language::read_stream;
-
-const CATALOG: &[u8] = b"section,course,seats,credits,meetings
-A,AA,1,3,
-B,BB,1,2,
-C,CC,1,5,
-";
-
-const ROLL: &[u8] = b"student,budget,credits,courses
-ann,0,4,2
-bob,0,4,0
-";
-
-const SETTINGS: &[u8] =
-    b"{\"seed\":0,\"spread\":0,\"accept\":0,\"turns\":0,\"tabu\":5,\"patience\":3,\"steps\":[1],\"raise\":10}";
-
-const SESSION: &[u8] = b"rate ann A 50
-rate ann B 40
-rate ann C 99
-rate bob B 9
-";
-
-const TEXT: &[u8] = b"course-match 1
-order 1 1 1 1
-budget ann 0
-budget bob 0
-start A 0
-start B 0
-start C 0
-error 0
-price A 0
-price B 0
-price C 0
-bundle ann [A] +--*n
-bundle bob [] -*
-turn 1 ann [A] +--*n
-turn 1 bob [] -*
-final ann [A]
-final bob []
-used A 1 1
-used B 0 1
-used C 0 1
-end
-";
+use worked_terms::TIGHT_MARKET;
 
 // What is told of the student and the section by this text.
 fn told<R: Abort>(
@@ -64,10 +22,12 @@ fn told<R: Abort>(
     student: u16,
     section: u16,
 ) -> Result<Vec<u8>, CheckEnd> {
-    let catalog = read_catalog(alloc, CATALOG).expect(rt, "a catalogue");
-    let roll = read_roll(alloc, ROLL).expect(rt, "a roll");
-    let settings = read_settings(alloc, SETTINGS).expect(rt, "settings");
-    let stream = read_stream(alloc, SESSION, 100).expect(rt, "commands");
+    let market = TIGHT_MARKET;
+    assert!(rt; market.term.catalogue.len() < 1000 && market.term.roll.len() < 1000);
+    let catalog = read_catalog(alloc, market.term.catalogue).expect(rt, "a catalogue");
+    let roll = read_roll(alloc, market.term.roll).expect(rt, "a roll");
+    let settings = read_settings(alloc, market.settings).expect(rt, "settings");
+    let stream = read_stream(alloc, market.session, 100).expect(rt, "commands");
     let mut streams = Vec::new(alloc);
     streams.push(stream).expect(rt, "memory");
     let text = text.to_vec(alloc).expect(rt, "memory");
@@ -100,8 +60,9 @@ fn reasons_of_a_published_text(rt: HostRuntime) -> Result<(), Fail> {
         (0, 2, b"ann C alone credits\n"),
         (1, 1, b"bob B alone courses\n"),
     ];
+    let published = TIGHT_MARKET.term.text.as_bytes();
     for (student, section, text) in cases {
-        let told = told(&rt, alloc, TEXT, student, section).expect(&rt, "an accepted text");
+        let told = told(&rt, alloc, published, student, section).expect(&rt, "an accepted text");
         assert!(rt; told.as_slice() == text);
     }
     Ok(())
@@ -114,7 +75,7 @@ fn no_reason_of_a_text_that_is_not_accepted(rt: HostRuntime) -> Result<(), Fail>
         line: 6,
         kind: LineFault::Form,
     };
-    let mut forged = TEXT.to_vec(alloc)?;
+    let mut forged = TIGHT_MARKET.term.text.as_bytes().to_vec(alloc)?;
     assert!(rt; forged.len() > 78);
     forged[65] = b'x';
     match told(&rt, alloc, &forged, 0, 0) {

@@ -1,11 +1,11 @@
 // `audit` over texts in memory.
 use super::changes::{Change, text_with};
-use super::settings::{ACCEPT_0, ACCEPT_1, ACCEPT_99};
-use super::term::{
-    BOTH_RATE_X, FILLED_MARKET, Market, OF_CARRIED, ONE_SEAT, ORDINARY_MARKET, SEAT, Term,
-    answer_with,
-};
+use super::term::answer_with;
 use super::*;
+use worked_terms::{
+    ACCEPT_99, BEYOND_ONE_MARKET, EQUAL_MARKET, FOUR_MARKET, LOWER_BASE_MARKET, NOBODY_MARKET,
+    ORDINARY_MARKET, WorkedMarket, WorkedTerm,
+};
 
 // Each number of workers gives the same bytes.
 const LINES: [&str; 3] = [
@@ -47,35 +47,47 @@ final total 0 1 0
 ";
 
 // What the case shows, the market, the lines of its text that are changed, the number of the status, and what is written.
-type Case = (&'static str, Market, &'static [Change], u8, &'static str);
+type Case = (
+    &'static str,
+    WorkedMarket,
+    &'static [Change],
+    u8,
+    &'static str,
+);
 
 const CASES: [Case; 8] = [
     ("an ordinary term", ORDINARY_MARKET, &[], 0, ENVY_OF_TERM),
-    ("four students of one seat", ONE_SEAT, &[], 0, ENVY_OF_FOUR),
+    (
+        "four students of one seat",
+        FOUR_MARKET,
+        &[],
+        0,
+        ENVY_OF_FOUR,
+    ),
     (
         "equal budgets envy after the aftermarket",
-        FILLED_MARKET,
+        EQUAL_MARKET,
         &[],
         0,
         "settled u 0 0 0\nsettled v 0 0 0\nsettled total 0 0 0\nfinal u 0 0 0\nfinal v 1 0 0\nsees u [X] but for X\nfinal total 1 0 0\n",
     ),
     (
         "a forged text",
-        FILLED_MARKET,
+        EQUAL_MARKET,
         &[(16, "used X 0 1")],
         8,
         "finding: used X\n",
     ),
     (
         "carried tokens count for higher and lower",
-        CARRIED,
+        LOWER_BASE_MARKET,
         &[],
         0,
         "settled u 0 1 0\nsees v [X] but for X\nsettled v 0 0 0\nsettled total 0 1 0\nfinal u 0 1 0\nsees v [X] but for X\nfinal v 0 0 0\nfinal total 0 1 0\n",
     ),
     (
         "envy beyond one section",
-        THREE_SECTIONS,
+        BEYOND_ONE_MARKET,
         &[],
         0,
         "settled u 0 0 0\nsettled v 0 1 1\nsees u [A,B] beyond one\nsettled total 0 1 1\nfinal u 0 0 0\nfinal v 0 1 1\nsees u [A,B] beyond one\nfinal total 0 1 1\n",
@@ -89,52 +101,21 @@ const CASES: [Case; 8] = [
     ),
     (
         "an empty roll",
-        NOBODY,
+        NOBODY_MARKET,
         &[],
         0,
         "settled total 0 0 0\nfinal total 0 0 0\n",
     ),
 ];
 
-// The student whose budget is the greater is not the one whose base is.
-const CARRIED: Market = Market {
-    term: Term {
-        catalogue: SEAT,
-        roll: b"student,budget,credits,courses,carry\nu,100,10,1,0\nv,90,10,1,15\n",
-        text: OF_CARRIED,
-    },
-    settings: ACCEPT_1,
-    session: BOTH_RATE_X,
-};
-
-const THREE_SECTIONS: Market = Market {
-    term: Term {
-        catalogue: THREE,
-        roll: b"student,budget,credits,courses\nu,300,10,3\nv,100,10,3\n",
-        text: "course-match 1\norder 1 1 1 1 1\nbudget u 300\nbudget v 100\nstart A 0\nstart B 0\nstart C 0\nerror 2\nprice A 101\nprice B 101\nprice C 0\nbundle u [A,B,C] +++*nnn\nbundle v [] --*\nturn 1 u [A,B,C] +++*nnn\nturn 1 v [] --*\nfinal u [A,B,C]\nfinal v []\nused A 1 1\nused B 1 1\nused C 1 1\nend\n",
-    },
-    settings: ACCEPT_99,
-    session: b"rate u A 50\nrate u B 50\nrate v A 50\nrate v B 50\nrate u C 10\n",
-};
-
-const TWO_SECTIONS: Market = Market {
-    term: Term {
+const TWO_SECTIONS: WorkedMarket = WorkedMarket {
+    term: WorkedTerm {
         catalogue: TWO,
         roll: b"student,budget,credits,courses\nu,300,10,2\nv,100,10,2\n",
         text: "course-match 1\norder 1 1 1\nbudget u 300\nbudget v 100\nstart A 0\nstart B 0\nerror 1\nprice A 0\nprice B 101\nbundle u [A,B] ++*nn\nbundle v [] -*\nturn 1 u [A,B] ++*nn\nturn 1 v [] -*\nfinal u [A,B]\nfinal v []\nused A 1 1\nused B 1 1\nend\n",
     },
     settings: ACCEPT_99,
     session: b"rate u A 50\nrate u B 50\nrate v B 50\n",
-};
-
-const NOBODY: Market = Market {
-    term: Term {
-        catalogue: b"section,course,seats,credits,meetings\nA,AA,2,1,\n",
-        roll: STUDENTS,
-        text: "course-match 1\norder\nstart A 0\nerror 0\nprice A 0\nused A 0 2\nend\n",
-    },
-    settings: ACCEPT_0,
-    session: b"",
 };
 
 // Each case has its answer, with each number of workers.

@@ -1,7 +1,8 @@
 // `check` over texts in memory: forged texts, each with its finding, and texts with one byte changed.
 use super::changes::{Change, marked, text_with};
-use super::term::{FILLED_MARKET, Market, ONE_SEAT, ORDINARY_MARKET, PUBLISHED, answer_with};
+use super::term::answer_with;
 use super::*;
+use worked_terms::{EQUAL_MARKET, FOUR_MARKET, ORDINARY_MARKET, ORDINARY_TEXT, WorkedMarket};
 
 const LINE: &str = "check CAT STU SET TEXT S1";
 
@@ -128,7 +129,7 @@ const FORGED_AFTERMARKET: [Forged; 3] = [
 fn try_each<R: Threads + Wait + Sync + Abort>(
     rt: &R,
     alloc: Global,
-    market: &Market,
+    market: &WorkedMarket,
     forged: &[Forged],
 ) -> Result<(), Fail> {
     for (changes, line) in forged {
@@ -145,8 +146,8 @@ fn try_each<R: Threads + Wait + Sync + Abort>(
 fn forged_texts(rt: HostRuntime) -> Result<(), Fail> {
     let alloc = rt.alloc();
     try_each(&rt, alloc, &ORDINARY_MARKET, &FORGED_TERM)?;
-    try_each(&rt, alloc, &ONE_SEAT, &FORGED_SEAT)?;
-    try_each(&rt, alloc, &FILLED_MARKET, &FORGED_AFTERMARKET)
+    try_each(&rt, alloc, &FOUR_MARKET, &FORGED_SEAT)?;
+    try_each(&rt, alloc, &EQUAL_MARKET, &FORGED_AFTERMARKET)
 }
 
 // What stands in the place of a byte.
@@ -160,7 +161,7 @@ fn try_byte<R: Threads + Wait + Sync + Abort>(
     is_only_read: bool,
 ) -> Result<(), Fail> {
     for other in OTHERS {
-        let mut text = PUBLISHED.as_bytes().to_vec(alloc)?;
+        let mut text = ORDINARY_TEXT.as_bytes().to_vec(alloc)?;
         assert!(rt; place < text.len());
         let is_other = text[place] != other;
         text[place] = other;
@@ -184,12 +185,12 @@ fn is_only_read(line: &[u8]) -> bool {
 fn texts_with_one_byte_changed(rt: HostRuntime) -> Result<(), Fail> {
     let alloc = rt.alloc();
     let mut place: usize = 0;
-    for line in PUBLISHED.as_bytes().split(|byte| *byte == b'\n') {
+    for line in ORDINARY_TEXT.as_bytes().split(|byte| *byte == b'\n') {
         for _ in line {
             try_byte(&rt, alloc, place, is_only_read(line))?;
             place = place.wrapping_add(1);
         }
-        if place < PUBLISHED.len() {
+        if place < ORDINARY_TEXT.len() {
             try_byte(&rt, alloc, place, false)?;
         }
         place = place.wrapping_add(1);
@@ -216,7 +217,7 @@ fn texts_at_their_limit(rt: HostRuntime) -> Result<(), Fail> {
 #[test]
 fn a_byte_order_mark_is_a_fault_of_line_1(rt: HostRuntime) -> Result<(), Fail> {
     let alloc = rt.alloc();
-    let text = marked(alloc, PUBLISHED.as_bytes())?;
+    let text = marked(alloc, ORDINARY_TEXT.as_bytes())?;
     let (status, written) = answer_with(&rt, alloc, LINE, &ORDINARY_MARKET, &text)?;
     assert_eq!(rt; status.number(), 8);
     assert_eq!(rt; written.as_str(), "finding: line 1 form\n");

@@ -1,7 +1,9 @@
 // The ordinary term with one input cut behind each of its bytes. The answers were computed apart from this program.
 use super::changes::{Change, text_with};
-use super::term::{CATALOGUE, PUBLISHED, ROLL, SESSION, SETTINGS};
 use super::*;
+use worked_terms::{
+    ORDINARY_CATALOGUE, ORDINARY_ROLL, ORDINARY_SESSION, ORDINARY_SETTINGS, ORDINARY_TEXT,
+};
 
 // What is written: that an input is refused, or what is published of the whole term, but for these lines.
 #[derive(Clone, Copy)]
@@ -203,11 +205,11 @@ fn answer_to_front<R: Threads + Wait + Sync + Abort>(
     };
     let files: [File; 6] = [
         ("CUT", front),
-        ("CAT", CATALOGUE),
-        ("STU", ROLL),
-        ("SET", SETTINGS),
-        ("S1", SESSION),
-        ("TEXT", PUBLISHED.as_bytes()),
+        ("CAT", ORDINARY_CATALOGUE),
+        ("STU", ORDINARY_ROLL),
+        ("SET", ORDINARY_SETTINGS),
+        ("S1", ORDINARY_SESSION),
+        ("TEXT", ORDINARY_TEXT.as_bytes()),
     ];
     run(rt, alloc, line, &files)
 }
@@ -216,7 +218,7 @@ fn answer_to_front<R: Threads + Wait + Sync + Abort>(
 fn answer_of(alloc: Global, written: Written) -> Result<(u8, Vec<u8>), Fail> {
     match written {
         Written::Refusal(line) => Ok((3, line.as_bytes().to_vec(alloc)?)),
-        Written::Text(changes) => Ok((0, text_with(alloc, PUBLISHED.as_bytes(), changes)?)),
+        Written::Text(changes) => Ok((0, text_with(alloc, ORDINARY_TEXT.as_bytes(), changes)?)),
     }
 }
 
@@ -241,7 +243,13 @@ fn try_cut<R: Threads + Wait + Sync + Abort>(
 #[test]
 fn cut_catalogues(rt: HostRuntime) -> Result<(), Fail> {
     for cut in &CATALOGUE_CUTS {
-        try_cut(&rt, rt.alloc(), "run 2 CUT STU SET S1", CATALOGUE, cut)?;
+        try_cut(
+            &rt,
+            rt.alloc(),
+            "run 2 CUT STU SET S1",
+            ORDINARY_CATALOGUE,
+            cut,
+        )?;
     }
     Ok(())
 }
@@ -249,7 +257,7 @@ fn cut_catalogues(rt: HostRuntime) -> Result<(), Fail> {
 #[test]
 fn cut_rolls(rt: HostRuntime) -> Result<(), Fail> {
     for cut in &ROLL_CUTS {
-        try_cut(&rt, rt.alloc(), "run 2 CAT CUT SET S1", ROLL, cut)?;
+        try_cut(&rt, rt.alloc(), "run 2 CAT CUT SET S1", ORDINARY_ROLL, cut)?;
     }
     Ok(())
 }
@@ -257,7 +265,13 @@ fn cut_rolls(rt: HostRuntime) -> Result<(), Fail> {
 #[test]
 fn cut_settings(rt: HostRuntime) -> Result<(), Fail> {
     for cut in &SETTINGS_CUTS {
-        try_cut(&rt, rt.alloc(), "run 2 CAT STU CUT S1", SETTINGS, cut)?;
+        try_cut(
+            &rt,
+            rt.alloc(),
+            "run 2 CAT STU CUT S1",
+            ORDINARY_SETTINGS,
+            cut,
+        )?;
     }
     Ok(())
 }
@@ -265,7 +279,7 @@ fn cut_settings(rt: HostRuntime) -> Result<(), Fail> {
 // The line that a text ends in is missing.
 #[test]
 fn cut_published_texts(rt: HostRuntime) -> Result<(), Fail> {
-    let whole = PUBLISHED.as_bytes();
+    let whole = ORDINARY_TEXT.as_bytes();
     let mut line: u32 = 1;
     for (kept, byte) in whole.iter().enumerate() {
         let (status, written) = answer_to_front(

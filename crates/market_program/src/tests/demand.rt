@@ -1,7 +1,9 @@
 // `demand` over texts in memory.
-use super::settings::ACCEPT_9;
-use super::term::{CATALOGUE, FOUR, RATED, ROLL, SEAT, SESSION, SETTINGS};
 use super::*;
+use worked_terms::{
+    ACCEPT_9, FOUR_ROLL, FOUR_SESSION, ONE_SEAT_CATALOGUE, ORDINARY_CATALOGUE, ORDINARY_ROLL,
+    ORDINARY_SESSION, ORDINARY_SETTINGS,
+};
 
 // Each number of workers gives the same bytes.
 const LINES: [&str; 3] = [
@@ -29,7 +31,7 @@ type Case = (
 const OF_ONE_SEAT: [Case; 6] = [
     (
         "four students of one seat",
-        FOUR,
+        FOUR_ROLL,
         ACCEPT_9,
         b"section,price\nX,102\n",
         0,
@@ -37,7 +39,7 @@ const OF_ONE_SEAT: [Case; 6] = [
     ),
     (
         "a price that is the budget is affordable",
-        FOUR,
+        FOUR_ROLL,
         ACCEPT_9,
         b"section,price\nX,103\n",
         0,
@@ -45,7 +47,7 @@ const OF_ONE_SEAT: [Case; 6] = [
     ),
     (
         "the greatest price",
-        FOUR,
+        FOUR_ROLL,
         ACCEPT_9,
         b"section,price\nX,1000001\n",
         0,
@@ -53,7 +55,7 @@ const OF_ONE_SEAT: [Case; 6] = [
     ),
     (
         "a section without a price has price 0",
-        FOUR,
+        FOUR_ROLL,
         ACCEPT_9,
         b"section,price\n",
         0,
@@ -69,7 +71,7 @@ const OF_ONE_SEAT: [Case; 6] = [
     ),
     (
         "settings with a byte order mark",
-        FOUR,
+        FOUR_ROLL,
         MARKED,
         b"section,price\nX,102\n",
         0,
@@ -80,7 +82,7 @@ const OF_ONE_SEAT: [Case; 6] = [
 const REFUSED_PRICES: [Case; 5] = [
     (
         "an empty price file",
-        FOUR,
+        FOUR_ROLL,
         ACCEPT_9,
         b"",
         3,
@@ -88,7 +90,7 @@ const REFUSED_PRICES: [Case; 5] = [
     ),
     (
         "a price above its limit",
-        FOUR,
+        FOUR_ROLL,
         ACCEPT_9,
         b"section,price\nX,1000002\n",
         3,
@@ -96,7 +98,7 @@ const REFUSED_PRICES: [Case; 5] = [
     ),
     (
         "a price that is given twice",
-        FOUR,
+        FOUR_ROLL,
         ACCEPT_9,
         b"section,price\nX,1\nX,1\n",
         3,
@@ -104,7 +106,7 @@ const REFUSED_PRICES: [Case; 5] = [
     ),
     (
         "a price of no section",
-        FOUR,
+        FOUR_ROLL,
         ACCEPT_9,
         b"section,price\nX,1\nY,2\n",
         3,
@@ -112,7 +114,7 @@ const REFUSED_PRICES: [Case; 5] = [
     ),
     (
         "a price with three fields",
-        FOUR,
+        FOUR_ROLL,
         ACCEPT_9,
         b"section,price\nX,1,2\n",
         3,
@@ -123,7 +125,7 @@ const REFUSED_PRICES: [Case; 5] = [
 const REFUSED_SETTINGS: [Case; 7] = [
     (
         "settings come before prices",
-        FOUR,
+        FOUR_ROLL,
         br#"{"seed":0,"spread":2,"accept":1,"turns":10001,"tabu":5,"patience":3,"steps":[1],"raise":10}"#,
         b"",
         3,
@@ -131,7 +133,7 @@ const REFUSED_SETTINGS: [Case; 7] = [
     ),
     (
         "no settings",
-        FOUR,
+        FOUR_ROLL,
         b"",
         b"",
         3,
@@ -139,7 +141,7 @@ const REFUSED_SETTINGS: [Case; 7] = [
     ),
     (
         "two byte order marks",
-        FOUR,
+        FOUR_ROLL,
         b"\xef\xbb\xbf\xef\xbb\xbf{\"seed\":0,\"spread\":2,\"accept\":1,\"turns\":5,\"tabu\":5,\"patience\":3,\"steps\":[1],\"raise\":10}",
         b"",
         3,
@@ -147,7 +149,7 @@ const REFUSED_SETTINGS: [Case; 7] = [
     ),
     (
         "settings that are no object",
-        FOUR,
+        FOUR_ROLL,
         b"[]",
         b"",
         3,
@@ -155,7 +157,7 @@ const REFUSED_SETTINGS: [Case; 7] = [
     ),
     (
         "a missing key comes before an unknown one",
-        FOUR,
+        FOUR_ROLL,
         br#"{"seed":0,"spread":2,"accept":1,"turns":5,"tabu":5,"patience":3,"steps":[1],"Raise":10}"#,
         b"",
         3,
@@ -163,7 +165,7 @@ const REFUSED_SETTINGS: [Case; 7] = [
     ),
     (
         "an unknown key comes before a range",
-        FOUR,
+        FOUR_ROLL,
         br#"{"seed":0,"spread":50,"accept":1,"turns":5,"tabu":5,"patience":3,"steps":[1],"raise":10,"note":"x"}"#,
         b"",
         3,
@@ -171,7 +173,7 @@ const REFUSED_SETTINGS: [Case; 7] = [
     ),
     (
         "the first key out of range",
-        FOUR,
+        FOUR_ROLL,
         br#"{"seed":0,"spread":2,"accept":1000000000001,"turns":5,"tabu":5,"patience":3,"steps":[1],"raise":51}"#,
         b"",
         3,
@@ -182,16 +184,16 @@ const REFUSED_SETTINGS: [Case; 7] = [
 const OF_A_TERM: [Case; 2] = [
     (
         "an ordinary term at its last prices",
-        ROLL,
-        SETTINGS,
+        ORDINARY_ROLL,
+        ORDINARY_SETTINGS,
         b"section,price\nA,104\n",
         0,
         "order 1 1 1 1 1 1 1 1\nbundle ann [A,B]\nbundle bob [C]\nbundle cat [D]\ncount A 1\ncount B 1\ncount C 1\ncount D 1\nerror 0\n",
     ),
     (
         "free seats at price 0 are no error",
-        ROLL,
-        SETTINGS,
+        ORDINARY_ROLL,
+        ORDINARY_SETTINGS,
         b"section,price\nA,104\nB,1\nC,1\nD,1\n",
         0,
         "order 1 1 1 1 1 1 1 1\nbundle ann [A]\nbundle bob [C]\nbundle cat [D]\ncount A 1\ncount B 0\ncount C 1\ncount D 1\nerror 5\n",
@@ -225,18 +227,42 @@ fn try_each<R: Threads + Wait + Sync + Abort>(
 
 #[test]
 fn demands_of_one_seat(rt: HostRuntime) -> Result<(), Fail> {
-    try_each(&rt, rt.alloc(), SEAT, RATED, &OF_ONE_SEAT)
+    try_each(
+        &rt,
+        rt.alloc(),
+        ONE_SEAT_CATALOGUE,
+        FOUR_SESSION,
+        &OF_ONE_SEAT,
+    )
 }
 
 #[test]
 fn demands_of_an_ordinary_term(rt: HostRuntime) -> Result<(), Fail> {
-    try_each(&rt, rt.alloc(), CATALOGUE, SESSION, &OF_A_TERM)
+    try_each(
+        &rt,
+        rt.alloc(),
+        ORDINARY_CATALOGUE,
+        ORDINARY_SESSION,
+        &OF_A_TERM,
+    )
 }
 
 #[test]
 fn refused_settings_and_prices(rt: HostRuntime) -> Result<(), Fail> {
-    try_each(&rt, rt.alloc(), SEAT, RATED, &REFUSED_PRICES)?;
-    try_each(&rt, rt.alloc(), SEAT, RATED, &REFUSED_SETTINGS)
+    try_each(
+        &rt,
+        rt.alloc(),
+        ONE_SEAT_CATALOGUE,
+        FOUR_SESSION,
+        &REFUSED_PRICES,
+    )?;
+    try_each(
+        &rt,
+        rt.alloc(),
+        ONE_SEAT_CATALOGUE,
+        FOUR_SESSION,
+        &REFUSED_SETTINGS,
+    )
 }
 
 // The orders of two sessions with two commands each.
@@ -267,8 +293,8 @@ pub(super) fn is_lawful(text: &str) -> bool {
 fn demands_of_two_sessions(rt: HostRuntime) -> Result<(), Fail> {
     let alloc = rt.alloc();
     let files = [
-        ("CAT", SEAT),
-        ("STU", FOUR),
+        ("CAT", ONE_SEAT_CATALOGUE),
+        ("STU", FOUR_ROLL),
         ("SET", ACCEPT_9),
         ("PRICES", b"section,price\nX,102\n".as_slice()),
         ("S1", FIRST),

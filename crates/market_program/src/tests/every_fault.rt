@@ -1,8 +1,10 @@
 // Each call of the shelf in turn fails, and each place of the text at which the sink has no more room.
 use super::audit::ENVY_OF_TERM;
-use super::settings::ACCEPT_9;
-use super::term::{CATALOGUE, FILLED_SEAT, FOUR, PUBLISHED, ROLL, SEAT, SESSION, SETTINGS};
 use super::*;
+use worked_terms::{
+    ACCEPT_9, EQUAL_TERM, FOUR_ROLL, ONE_SEAT_CATALOGUE, ORDINARY_CATALOGUE, ORDINARY_ROLL,
+    ORDINARY_SESSION, ORDINARY_SETTINGS, ORDINARY_TEXT,
+};
 
 // An input of a few bytes takes so many calls of the shelf: its begin, its reading, its end.
 const CALLS: u64 = 3;
@@ -96,11 +98,11 @@ fn try_rooms<R: Threads + Wait + Sync + Abort>(
 // What a term says, with its published text.
 fn whole_term() -> [File<'static>; 5] {
     [
-        ("CAT", CATALOGUE),
-        ("STU", ROLL),
-        ("SET", SETTINGS),
-        ("S1", SESSION),
-        ("TEXT", PUBLISHED.as_bytes()),
+        ("CAT", ORDINARY_CATALOGUE),
+        ("STU", ORDINARY_ROLL),
+        ("SET", ORDINARY_SETTINGS),
+        ("S1", ORDINARY_SESSION),
+        ("TEXT", ORDINARY_TEXT.as_bytes()),
     ]
 }
 
@@ -110,7 +112,7 @@ fn faults_of_a_whole_term(rt: HostRuntime) -> Result<(), Fail> {
     let files = whole_term();
     try_faults(&rt, alloc, "run 2 CAT STU SET S1", &files, 4)?;
     try_faults(&rt, alloc, "check CAT STU SET TEXT S1", &files, 5)?;
-    try_rooms(&rt, alloc, "run 2 CAT STU SET S1", &files, PUBLISHED)?;
+    try_rooms(&rt, alloc, "run 2 CAT STU SET S1", &files, ORDINARY_TEXT)?;
     try_rooms(
         &rt,
         alloc,
@@ -142,8 +144,8 @@ fn faults_of_an_audit(rt: HostRuntime) -> Result<(), Fail> {
 fn faults_of_the_other_forms(rt: HostRuntime) -> Result<(), Fail> {
     let alloc = rt.alloc();
     let files: [File; 5] = [
-        ("CAT", SEAT),
-        ("STU", FOUR),
+        ("CAT", ONE_SEAT_CATALOGUE),
+        ("STU", FOUR_ROLL),
         ("SET", ACCEPT_9),
         ("PRICES", b"section,price\nX,102\n"),
         ("S1", b"rate s1 X 50\n"),
@@ -172,9 +174,9 @@ fn faults_of_the_other_forms(rt: HostRuntime) -> Result<(), Fail> {
 fn faults_of_a_hall(rt: HostRuntime) -> Result<(), Fail> {
     let alloc = rt.alloc();
     let files = [
-        ("CAT", FILLED_SEAT.catalogue),
-        ("STU", FILLED_SEAT.roll),
-        ("TEXT", FILLED_SEAT.text.as_bytes()),
+        ("CAT", EQUAL_TERM.catalogue),
+        ("STU", EQUAL_TERM.roll),
+        ("TEXT", EQUAL_TERM.text.as_bytes()),
         ("R1", b"drop u X\n".as_slice()),
         ("R2", b"\n".as_slice()),
     ];

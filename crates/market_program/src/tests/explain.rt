@@ -1,10 +1,11 @@
 // `explain` over texts in memory.
 use super::changes::{Change, marked, text_with};
-use super::settings::{ACCEPT_0, ACCEPT_9};
-use super::term::{
-    CATALOGUE, Market, ORDINARY_MARKET, PUBLISHED, ROLL, SESSION, SETTINGS, Term, answer_with,
-};
+use super::term::answer_with;
 use super::*;
+use worked_terms::{
+    ACCEPT_0, ACCEPT_9, ORDINARY_CATALOGUE, ORDINARY_MARKET, ORDINARY_ROLL, ORDINARY_SESSION,
+    ORDINARY_SETTINGS, ORDINARY_TEXT, TIGHT_MARKET, WorkedMarket, WorkedTerm,
+};
 
 // What the case shows, the student and the section, the number of the status, and the text.
 type Case = (&'static str, &'static str, u8, &'static str);
@@ -28,49 +29,6 @@ const OF_WIDER_CATALOGUE: &[Change] = &[
     (24, "used A 2 3"),
 ];
 
-// Credits and courses that do not suffice.
-const TIGHT: Market = Market {
-    term: Term {
-        catalogue: b"section,course,seats,credits,meetings
-A,AA,1,3,
-B,BB,1,2,
-C,CC,1,5,
-",
-        roll: b"student,budget,credits,courses
-ann,0,4,2
-bob,0,4,0
-",
-        text: "course-match 1
-order 1 1 1 1
-budget ann 0
-budget bob 0
-start A 0
-start B 0
-start C 0
-error 0
-price A 0
-price B 0
-price C 0
-bundle ann [A] +--*n
-bundle bob [] -*
-turn 1 ann [A] +--*n
-turn 1 bob [] -*
-final ann [A]
-final bob []
-used A 1 1
-used B 0 1
-used C 0 1
-end
-",
-    },
-    settings: ACCEPT_0,
-    session: b"rate ann A 50
-rate ann B 40
-rate ann C 99
-rate bob B 9
-",
-};
-
 const OF_TIGHT: [Case; 3] = [
     ("alone courses", "bob B", 0, "bob B alone courses\n"),
     ("alone credits", "ann C", 0, "ann C alone credits\n"),
@@ -83,8 +41,8 @@ const OF_TIGHT: [Case; 3] = [
 ];
 
 // Prices for which one of three students can pay.
-const DEAR: Market = Market {
-    term: Term {
+const DEAR: WorkedMarket = WorkedMarket {
+    term: WorkedTerm {
         catalogue: TWO,
         roll: b"student,budget,credits,courses
 u,100,10,2
@@ -136,8 +94,8 @@ const OF_DEAR: [Case; 1] = [(
 )];
 
 // One student who takes one of two sections.
-const ONE_COURSE: Market = Market {
-    term: Term {
+const ONE_COURSE: WorkedMarket = WorkedMarket {
+    term: WorkedTerm {
         catalogue: TWO,
         roll: b"student,budget,credits,courses\nann,0,10,1\n",
         text: "course-match 1
@@ -178,8 +136,8 @@ const OF_ONE_COURSE: [Case; 4] = [
 ];
 
 // Two sections that are worth less together.
-const APART: Market = Market {
-    term: Term {
+const APART: WorkedMarket = WorkedMarket {
+    term: WorkedTerm {
         catalogue: TWO,
         roll: b"student,budget,credits,courses\nann,0,10,2\n",
         text: "course-match 1
@@ -213,7 +171,7 @@ const OF_APART: [Case; 1] = [(
 fn explained<R: Threads + Wait + Sync + Abort>(
     rt: &R,
     alloc: Global,
-    market: &Market,
+    market: &WorkedMarket,
     text: &[u8],
     names: &str,
 ) -> Result<(Status, String), Fail> {
@@ -225,7 +183,7 @@ fn explained<R: Threads + Wait + Sync + Abort>(
 fn try_each<R: Threads + Wait + Sync + Abort>(
     rt: &R,
     alloc: Global,
-    market: &Market,
+    market: &WorkedMarket,
     cases: &[Case],
 ) -> Result<(), Fail> {
     for (what, names, number, text) in cases {
@@ -241,7 +199,7 @@ fn try_each<R: Threads + Wait + Sync + Abort>(
 fn reasons_are_told(rt: HostRuntime) -> Result<(), Fail> {
     let alloc = rt.alloc();
     try_each(&rt, alloc, &ORDINARY_MARKET, &OF_TERM)?;
-    try_each(&rt, alloc, &TIGHT, &OF_TIGHT)?;
+    try_each(&rt, alloc, &TIGHT_MARKET, &OF_TIGHT)?;
     try_each(&rt, alloc, &DEAR, &OF_DEAR)?;
     try_each(&rt, alloc, &ONE_COURSE, &OF_ONE_COURSE)?;
     try_each(&rt, alloc, &APART, &OF_APART)
@@ -251,14 +209,14 @@ fn reasons_are_told(rt: HostRuntime) -> Result<(), Fail> {
 #[test]
 fn a_clash_is_told(rt: HostRuntime) -> Result<(), Fail> {
     let alloc = rt.alloc();
-    let catalogue = text_with(alloc, CATALOGUE, WIDER_CATALOGUE)?;
-    let text = text_with(alloc, PUBLISHED.as_bytes(), OF_WIDER_CATALOGUE)?;
+    let catalogue = text_with(alloc, ORDINARY_CATALOGUE, WIDER_CATALOGUE)?;
+    let text = text_with(alloc, ORDINARY_TEXT.as_bytes(), OF_WIDER_CATALOGUE)?;
     let files = [
         ("CAT", catalogue.as_slice()),
-        ("STU", ROLL),
-        ("SET", SETTINGS),
+        ("STU", ORDINARY_ROLL),
+        ("SET", ORDINARY_SETTINGS),
         ("TEXT", text.as_slice()),
-        ("S1", SESSION),
+        ("S1", ORDINARY_SESSION),
     ];
     let line = "explain CAT STU SET TEXT cat A S1";
     let (status, written) = run(&rt, alloc, line, &files)?;

@@ -2,11 +2,10 @@
 use super::audit::ENVY_OF_FOUR;
 use super::demand::{FIRST as OF_FIRST, ORDERS, SECOND as OF_SECOND, is_lawful};
 use super::hall::FIVE_SECTIONS;
-use super::settings::ACCEPT_9;
-use super::term::{FOUR, OF_FOUR, RATED, SEAT};
 use super::*;
 use market_edge::{MeetingGate, Passes, Stop};
 use std::sync::atomic::{AtomicU64, Ordering};
+use worked_terms::{ACCEPT_9, FOUR_ROLL, FOUR_SESSION, FOUR_TEXT, ONE_SEAT_CATALOGUE};
 
 const FIRST: &str = "rate ann A 10\nrate zoe A 1\nrate ann A 30\nrate ann Q 1\n";
 
@@ -95,8 +94,8 @@ fn two_sessions_post_at_once(rt: HostRuntime) -> Result<(), Fail> {
 fn two_workers_post_at_once(rt: HostRuntime) -> Result<(), Fail> {
     let gate = MeetingGate::new();
     let files = [
-        ("CAT", SEAT),
-        ("STU", FOUR),
+        ("CAT", ONE_SEAT_CATALOGUE),
+        ("STU", FOUR_ROLL),
         ("SET", ACCEPT_9),
         ("PRICES", b"section,price\nX,102\n".as_slice()),
         ("S1", OF_FIRST),
@@ -158,7 +157,7 @@ fn is_published(text: &str) -> bool {
     let Some(rest) = text.strip_prefix("course-match 1\n") else {
         return false;
     };
-    let Some(behind) = OF_FOUR.strip_prefix("course-match 1\norder 1 1 1 1\n") else {
+    let Some(behind) = FOUR_TEXT.strip_prefix("course-match 1\norder 1 1 1 1\n") else {
         return false;
     };
     ORDERS
@@ -171,8 +170,8 @@ fn is_published(text: &str) -> bool {
 fn sessions_and_workers_of_a_run_post_at_once(rt: HostRuntime) -> Result<(), Fail> {
     let gate = MeetingGate::new();
     let files = [
-        ("CAT", SEAT),
-        ("STU", FOUR),
+        ("CAT", ONE_SEAT_CATALOGUE),
+        ("STU", FOUR_ROLL),
         ("SET", ACCEPT_9),
         ("S1", OF_FIRST),
         ("S2", OF_SECOND),
@@ -236,11 +235,11 @@ fn a_made_market_passes_the_gate(rt: HostRuntime) -> Result<(), Fail> {
 fn two_workers_of_an_audit_post_at_once(rt: HostRuntime) -> Result<(), Fail> {
     let gate = MeetingGate::new();
     let files = [
-        ("CAT", SEAT),
-        ("STU", FOUR),
+        ("CAT", ONE_SEAT_CATALOGUE),
+        ("STU", FOUR_ROLL),
         ("SET", ACCEPT_9),
-        ("TEXT", OF_FOUR.as_bytes()),
-        ("S1", RATED),
+        ("TEXT", FOUR_TEXT.as_bytes()),
+        ("S1", FOUR_SESSION),
     ];
     let line = "audit 2 CAT STU SET TEXT S1";
     let (status, text) = run_by(&rt, rt.alloc(), line, &files, (0, 0), 1000, &gate)?;

@@ -1,14 +1,14 @@
 // `hall` over texts in memory: published texts with which halls open, requests, and what is told.
 use super::changes::{Change, marked, text_with};
-use super::term::{FILLED_SEAT, OF_FILLED_SEAT, ORDINARY_TERM, TWO_EQUAL, Term};
 use super::*;
+use worked_terms::{EQUAL_ROLL, EQUAL_TERM, EQUAL_TEXT, ORDINARY_TERM, WorkedTerm};
 
 const LINE: &str = "hall CAT STU TEXT R1";
 
 // What the case shows, the term, the lines of its text that are changed, the requests, the number of the status, and what is written.
 type Case = (
     &'static str,
-    Term,
+    WorkedTerm,
     &'static [Change],
     &'static [u8],
     u8,
@@ -16,7 +16,7 @@ type Case = (
 );
 
 // Three students and five sections, of which two clash.
-pub(super) const FIVE_SECTIONS: Term = Term {
+pub(super) const FIVE_SECTIONS: WorkedTerm = WorkedTerm {
     catalogue: b"section,course,seats,credits,meetings\nA,AA,1,2,M0900-1000\nB,BB,2,2,M0930-1030\nC,CC,9,4,\nD,DD,9,1,\nE,EE,9,1,\n",
     roll: b"student,budget,credits,courses\nu,0,5,2\nv,0,5,2\nw,0,5,2\n",
     text: "course-match 1
@@ -54,7 +54,7 @@ end
 };
 
 // Five students, of whom four can wait for one seat.
-const FIVE_STUDENTS: Term = Term {
+const FIVE_STUDENTS: WorkedTerm = WorkedTerm {
     catalogue: b"section,course,seats,credits,meetings\nA,AA,1,1,M0900-1000\nB,BB,9,1,M0900-1000\nC,CC,9,1,\n",
     roll: b"student,budget,credits,courses\nu,0,9,2\nv,0,9,2\nw,0,9,2\nx,0,9,2\ny,0,9,2\n",
     text: "course-match 1
@@ -94,10 +94,10 @@ end
 };
 
 // The seat that is filled, beside a section that nobody takes: its text has three lines more.
-const TWO_SECTIONS: Term = Term {
+const TWO_SECTIONS: WorkedTerm = WorkedTerm {
     catalogue: b"section,course,seats,credits,meetings\nX,XX,1,1,\nY,YY,2,1,\n",
-    roll: TWO_EQUAL,
-    text: OF_FILLED_SEAT,
+    roll: EQUAL_ROLL,
+    text: EQUAL_TEXT,
 };
 
 const OTHER_SECTION: &[Change] = &[
@@ -109,7 +109,7 @@ const OTHER_SECTION: &[Change] = &[
 const HALLS: [Case; 9] = [
     (
         "dropped seat goes to the first waiting",
-        FILLED_SEAT,
+        EQUAL_TERM,
         &[],
         b"add v X\ndrop u X\nadd u X\ndrop v X\n",
         0,
@@ -125,7 +125,7 @@ const HALLS: [Case; 9] = [
     ),
     (
         "no requests",
-        FILLED_SEAT,
+        EQUAL_TERM,
         &[],
         b"",
         0,
@@ -141,7 +141,7 @@ const HALLS: [Case; 9] = [
     ),
     (
         "requests with byte order mark and comments",
-        FILLED_SEAT,
+        EQUAL_TERM,
         &[],
         b"\xef\xbb\xbf# drop and add\r\ndrop u X\r\n\r\n  add\tv  X  \r\nadd u X close",
         0,
@@ -149,7 +149,7 @@ const HALLS: [Case; 9] = [
     ),
     (
         "seats are those of the catalogue",
-        FILLED_SEAT,
+        EQUAL_TERM,
         &[(16, "used X 0 7")],
         b"add v X\n",
         0,
@@ -201,7 +201,7 @@ const NO_HALLS: [Case; 4] = [
     ),
     (
         "forged final bundles beyond the seats",
-        FILLED_SEAT,
+        EQUAL_TERM,
         &[(15, "final v [X]")],
         b"",
         8,
@@ -209,7 +209,7 @@ const NO_HALLS: [Case; 4] = [
     ),
     (
         "text that is no publication",
-        FILLED_SEAT,
+        EQUAL_TERM,
         &[(18, "")],
         b"",
         8,
@@ -229,7 +229,7 @@ fn answer_to<R: Threads + Wait + Sync + Abort>(
     rt: &R,
     alloc: Global,
     line: &str,
-    term: &Term,
+    term: &WorkedTerm,
     text: &[u8],
     requests: &[u8],
 ) -> Result<(Status, String), Fail> {
@@ -308,10 +308,10 @@ fn texts_at_their_limit(rt: HostRuntime) -> Result<(), Fail> {
     let alloc = rt.alloc();
     let bytes = vec![in alloc; b'x'; 67_108_865]?;
     let long = bytes.as_slice();
-    let (status, written) = answer_to(&rt, alloc, LINE, &FILLED_SEAT, long, b"")?;
+    let (status, written) = answer_to(&rt, alloc, LINE, &EQUAL_TERM, long, b"")?;
     assert_eq!(rt; status, Status::TooLong { input: 3 });
     assert_eq!(rt; written.as_str(), "input 3 is too long\n");
-    let (status, written) = answer_to(&rt, alloc, LINE, &FILLED_SEAT, &long[1..], b"")?;
+    let (status, written) = answer_to(&rt, alloc, LINE, &EQUAL_TERM, &long[1..], b"")?;
     assert_eq!(rt; status.number(), 8);
     assert_eq!(rt; written.as_str(), "finding: line 1 missing\n");
     Ok(())
@@ -321,8 +321,8 @@ fn texts_at_their_limit(rt: HostRuntime) -> Result<(), Fail> {
 #[test]
 fn a_byte_order_mark_is_a_fault_of_line_1(rt: HostRuntime) -> Result<(), Fail> {
     let alloc = rt.alloc();
-    let text = marked(alloc, FILLED_SEAT.text.as_bytes())?;
-    let (status, written) = answer_to(&rt, alloc, LINE, &FILLED_SEAT, &text, b"")?;
+    let text = marked(alloc, EQUAL_TERM.text.as_bytes())?;
+    let (status, written) = answer_to(&rt, alloc, LINE, &EQUAL_TERM, &text, b"")?;
     assert_eq!(rt; status.number(), 8);
     assert_eq!(rt; written.as_str(), "finding: line 1 form\n");
     Ok(())
@@ -336,14 +336,14 @@ fn two_hundred_thousand_requests_of_two_streams(rt: HostRuntime) -> Result<(), F
     for _ in 0..100_001u32 {
         requests.extend_from_slice(b"x\n")?;
     }
-    let text = FILLED_SEAT.text.as_bytes();
+    let text = EQUAL_TERM.text.as_bytes();
     let line = "hall CAT STU TEXT R1 R1 NONE";
-    let (_, written) = answer_to(&rt, alloc, line, &FILLED_SEAT, text, &requests)?;
+    let (_, written) = answer_to(&rt, alloc, line, &EQUAL_TERM, text, &requests)?;
     assert_eq!(rt; written.as_str(), "input 5 is too long\n");
     let Some(fewer) = requests.get(2..) else {
         return Err(Fail::new("requests"));
     };
-    let (_, written) = answer_to(&rt, alloc, line, &FILLED_SEAT, text, fewer)?;
+    let (_, written) = answer_to(&rt, alloc, line, &EQUAL_TERM, text, fewer)?;
     assert_eq!(rt; written.as_str(), "input 6 can not be read\n");
     Ok(())
 }

@@ -1,11 +1,11 @@
 // `run` over texts in memory.
 use super::demand::{FIRST, ORDERS, SECOND};
-use super::settings::{ACCEPT_1, ACCEPT_8, ACCEPT_9};
-use super::term::{
-    BOTH_RATE_X, CATALOGUE, FOUR, OF_CARRIED, OF_FOUR, PUBLISHED, RATED, ROLL, SEAT, SESSION,
-    SETTINGS,
-};
 use super::*;
+use worked_terms::{
+    ACCEPT_1, ACCEPT_8, ACCEPT_9, CARRIED_ROLL, CARRIED_TEXT, EQUAL_SESSION, FOUR_ROLL,
+    FOUR_SESSION, FOUR_TEXT, NO_SECTIONS_CATALOGUE, NO_SECTIONS_TEXT, ONE_SEAT_CATALOGUE,
+    ORDINARY_CATALOGUE, ORDINARY_ROLL, ORDINARY_SESSION, ORDINARY_SETTINGS, ORDINARY_TEXT,
+};
 
 // Each number of workers gives the same bytes.
 const LINES: [&str; 3] = [
@@ -13,8 +13,6 @@ const LINES: [&str; 3] = [
     "run 2 CAT STU SET S1",
     "run 16 CAT STU SET S1",
 ];
-
-const CARRIED: &[u8] = b"student,budget,credits,courses,carry\nu,100,10,1,0\nv,100,10,1,5\n";
 
 // What the case shows, the catalogue, the roll, the settings, the session, the number of the status, and the text.
 type Case = (
@@ -30,55 +28,55 @@ type Case = (
 const CASES: [Case; 6] = [
     (
         "an ordinary term",
-        CATALOGUE,
-        ROLL,
-        SETTINGS,
-        SESSION,
+        ORDINARY_CATALOGUE,
+        ORDINARY_ROLL,
+        ORDINARY_SETTINGS,
+        ORDINARY_SESSION,
         0,
-        PUBLISHED,
+        ORDINARY_TEXT,
     ),
     (
         "four students of one seat",
-        SEAT,
-        FOUR,
+        ONE_SEAT_CATALOGUE,
+        FOUR_ROLL,
         ACCEPT_9,
-        RATED,
+        FOUR_SESSION,
         0,
-        OF_FOUR,
+        FOUR_TEXT,
     ),
     (
         "the least error is not accepted",
-        SEAT,
-        FOUR,
+        ONE_SEAT_CATALOGUE,
+        FOUR_ROLL,
         ACCEPT_8,
-        RATED,
+        FOUR_SESSION,
         5,
         "order 1 1 1 1\nno prices: least error 9\n",
     ),
     (
         "carried tokens raise the budget",
-        SEAT,
-        CARRIED,
+        ONE_SEAT_CATALOGUE,
+        CARRIED_ROLL,
         ACCEPT_1,
-        BOTH_RATE_X,
+        EQUAL_SESSION,
         0,
-        OF_CARRIED,
+        CARRIED_TEXT,
     ),
     (
         "no sections",
-        b"section,course,seats,credits,meetings\n",
-        ROLL,
-        SETTINGS,
-        SESSION,
+        NO_SECTIONS_CATALOGUE,
+        ORDINARY_ROLL,
+        ORDINARY_SETTINGS,
+        ORDINARY_SESSION,
         0,
-        "course-match 1\norder 1 1 1 1 1 1 1 1\nbudget ann 104\nbudget bob 103\nbudget cat 102\nerror 0\nbundle ann [] *\nbundle bob [] *\nbundle cat [] *\nturn 1 ann [] *\nturn 1 bob [] *\nturn 1 cat [] *\nfinal ann []\nfinal bob []\nfinal cat []\nend\n",
+        NO_SECTIONS_TEXT,
     ),
     (
         "settings that are no object",
-        SEAT,
-        FOUR,
+        ONE_SEAT_CATALOGUE,
+        FOUR_ROLL,
         b"[]",
-        RATED,
+        FOUR_SESSION,
         3,
         "input 3 row 0: not an object\n",
     ),
@@ -109,8 +107,8 @@ fn markets_are_run(rt: HostRuntime) -> Result<(), Fail> {
 fn two_sessions_without_prices(rt: HostRuntime) -> Result<(), Fail> {
     let alloc = rt.alloc();
     let files = [
-        ("CAT", SEAT),
-        ("STU", FOUR),
+        ("CAT", ONE_SEAT_CATALOGUE),
+        ("STU", FOUR_ROLL),
         ("SET", ACCEPT_8),
         ("S1", FIRST),
         ("S2", SECOND),
@@ -129,10 +127,10 @@ fn two_sessions_without_prices(rt: HostRuntime) -> Result<(), Fail> {
 fn failures_of_run(rt: HostRuntime) -> Result<(), Fail> {
     let alloc = rt.alloc();
     let files = [
-        ("CAT", SEAT),
-        ("STU", FOUR),
+        ("CAT", ONE_SEAT_CATALOGUE),
+        ("STU", FOUR_ROLL),
         ("SET", ACCEPT_8),
-        ("S1", RATED),
+        ("S1", FOUR_SESSION),
     ];
     let line = "run 2 CAT STU SET S1";
     let texts = [
