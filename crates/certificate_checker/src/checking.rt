@@ -34,7 +34,8 @@ use utility_language::Command;
 /// Whether the text is accepted for this market and these streams, one for each session: `Ok` exactly where it is the text
 /// of a publication of which the certificate holds, and else the first finding. Nothing is trusted of whoever wrote the
 /// text, and its prices are not judged. Whom a finding names is on the roll, or in the catalogue. The text has fewer than
-/// 4,294,967,295 bytes. `NoMemory` comes where memory is wanted, and has no other cause.
+/// 4,294,967,295 bytes. `NoMemory` comes where memory is wanted, and has no other cause. The text is copied; `check_owned` takes
+/// it and lets it go as soon as it is read.
 pub fn check(
     alloc: Global,
     catalog: &Catalog,
@@ -76,7 +77,8 @@ pub fn check_owned(
     Ok(())
 }
 
-/// The same as `check`, with what an accepted text says, and the students by whom it was checked.
+/// The same as `check_owned`, with what an accepted text says, and the students by whom it was checked. It takes the text, and lets
+/// it go as soon as it is read.
 pub fn accept(
     alloc: Global,
     catalog: &Catalog,

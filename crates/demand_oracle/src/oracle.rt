@@ -65,7 +65,8 @@ impl Workspace {
         })
     }
 
-    /// How many nodes the last demand opened: those of which it looked up what can be reached.
+    /// How many nodes the last demand opened: those of which it looked up what can be reached, and in a search for bundles with
+    /// a section those too that can not have it any more.
     pub fn opened(&self) -> u64
         ensures { result ≡ self.now }
     {
@@ -210,8 +211,8 @@ fn place_alone(
 
 // The best bundle, of those with the section of a place where one is given, which may be taken alone: the root is looked
 // at first, and while branches are left, the next one. Where a first bundle is told, the search may begin with it, and
-// where both are, it may end with it: with what is as good as all bundles with the section. Each of the demands has its own copy of the machine code of this and of what it calls, so that the plain one asks nothing
-// about a given place.
+// where both are, it may end with it: with what is as good as all bundles with the section. Each of the demands has its
+// own copy of the machine code of this and of what it calls, so that the plain one asks nothing about a given place.
 #[inline(always)]
 fn search(
     frames: &mut Frames,

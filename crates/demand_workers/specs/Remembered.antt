@@ -11,7 +11,7 @@ use Rattle.demand_api.specs.Crowds.{CrowdData, demand_of}
 abbrev pub AreTaken : CrowdData → List Tokens → List Bundle → Type 0
 AreTaken crowd prices bundles = (student : ℕ) (d : Bundle) → student < length bundles → sections_of (slice_index_or bundles student d) ≡ demand_of crowd (price_in prices) student
 
--- bundles of the first students, of all or of none, that they take at these prices, and if there is one, a price for each section
+-- bundles of the first students that they take at these prices, and if there is one, a price for each section
 pub record AreRemembered (crowd : CrowdData) (prices : List Tokens) (bundles : List Bundle) : Type 0 where
   pub sized : 0 < length bundles → length prices ≡ crowd.sections
   pub taken : AreTaken crowd prices bundles

@@ -9,23 +9,31 @@ use std::sync::Mutex;
 /// A workspace for each of 1 to 16 workers.
 #[derive(Drop)]
 pub struct Bench {
+    /// How many workers there are.
+    pub workers: u16,
     pub(crate) alloc: Global,
     workspaces: Vec<Mutex<Workspace>>,
-    ghost some: { 1 ≤ length workspaces.items },
-    ghost few: { length workspaces.items ≤ 16 },
+    ghost each: { length workspaces.items ≡ workers },
+    ghost some: { 1 ≤ workers },
+    ghost few: { workers ≤ 16 },
 }
 
 impl Bench {
     /// Reserves a workspace for each of 1 to 16 workers. The only error is that memory was wanted and not given.
     pub fn reserve(alloc: Global, workers: u16) -> Result<Bench, NoMemory>
         requires { (1 ≤ workers) × (workers ≤ MAX_WORKERS) }
+        ensures { IfOk result (λ bench. bench.workers ≡ workers) }
     {
         let mut workspaces = Vec::with_capacity(alloc, usize::from(workers))?;
         for _ in 0..workers {
             let workspace = Workspace::reserve(alloc)?;
             workspaces.push(Mutex::new(workspace))?;
         }
-        Ok(Bench { alloc, workspaces })
+        Ok(Bench {
+            workers,
+            alloc,
+            workspaces,
+        })
     }
 
     // The workspaces.

@@ -1,11 +1,10 @@
 -- What the sessions ask for: a list of requests each.
-use Rattle.std.specs.Prelude.{ℕ, List, Vec, map}
+use Rattle.std.specs.Prelude.{ℕ, List, Vec}
 use Rattle.std.proofs.Common.{Global}
 use Rattle.std.specs.Vec.{vec_len}
 use Rattle.market_lists.specs.Totals.{total}
 use Rattle.dropadd_desk.specs.declared.command.HallCommand.{HallCommand}
-use Rattle.dropadd_desk.specs.Lines.{HallStep}
-use Rattle.stream_posting.specs.Streams.{MergesCalls}
+use Rattle.stream_posting.specs.Streams.{lists_of}
 
 -- how many requests there are in all streams together
 abbrev pub request_count : List (Vec HallCommand Global) → ℕ
@@ -13,8 +12,4 @@ request_count streams = total vec_len streams
 
 -- the requests of each stream
 abbrev pub request_lists : List (Vec HallCommand Global) → List (List HallCommand)
-request_lists streams = map (λ (stream : Vec HallCommand Global). stream.items) streams
-
--- every step is of a given session, numbered from 0 here, and the requests of each are its whole stream
-abbrev pub MergesRequests : List (List HallCommand) → List HallStep → Type 0
-MergesRequests streams history = MergesCalls streams history
+request_lists streams = lists_of streams

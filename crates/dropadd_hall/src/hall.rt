@@ -4,7 +4,8 @@ ghost use Rattle.chronicle.specs.History.{IsLegal, state_after as state_after_st
 ghost use Rattle.dropadd_desk.specs.HallView.{market_of, room_of, state_of};
 ghost use Rattle.dropadd_desk.specs.Replies.{NamesInRange};
 ghost use Rattle.dropadd_desk.specs.Shared.{is_sound, reply_to, state_after};
-ghost use Rattle.dropadd_hall.specs.Streams.{MergesRequests, request_count, request_lists};
+ghost use Rattle.stream_posting.specs.Streams.{MergesCalls};
+ghost use Rattle.dropadd_hall.specs.Streams.{request_count, request_lists};
 
 use chronicle::Journal;
 use dropadd_desk::{HallCommand, HallDesk};
@@ -37,7 +38,7 @@ pub fn open_hall<R: Threads + Wait + Sync, G: Gate + Sync>(
     requires room { request_count streams.now ≤ room_of desk }
     ensures market { IfOk result (λ closed. market_of closed.desk ≡ market_of desk) }
     ensures legal { IfOk result (λ closed. IsLegal is_sound state_after reply_to (market_of desk) (state_of desk) closed.journal) }
-    ensures merges { IfOk result (λ closed. MergesRequests (request_lists streams.now) closed.journal) }
+    ensures merges { IfOk result (λ closed. MergesCalls (request_lists streams.now) closed.journal) }
     ensures named { IfOk result (λ closed. All (λ step. NamesInRange (market_of desk) step.reply) closed.journal) }
     ensures state { IfOk result (λ closed. state_of closed.desk ≡ state_after_steps state_after (market_of desk) (state_of desk) closed.journal) }
 {

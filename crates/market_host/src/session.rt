@@ -16,7 +16,8 @@ use market_units::MAX_INPUT_BYTES;
 use std::alloc::Global;
 use utility_language::StreamEnd;
 
-/// What the session says that is of this name and number, where there is room for so many, or why there are none. Of the session itself nothing is kept.
+/// What the session of this name says, which is the input of this number, where there is room for it, or why it can not be had.
+/// The session's text is not kept.
 pub fn take_session<H: Shelf, S: StreamItem>(
     alloc: Global,
     shelf: &mut H,

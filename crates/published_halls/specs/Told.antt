@@ -6,7 +6,7 @@ use Rattle.dropadd_desk.specs.declared.shared.HallState.{HallState}
 use Rattle.dropadd_desk.specs.Lines.{HallStep}
 use Rattle.dropadd_desk.specs.Market.{Market}
 use Rattle.dropadd_desk.specs.Shared.{is_sound, reply_to, state_after}
-use Rattle.dropadd_hall.specs.Streams.{MergesRequests}
+use Rattle.stream_posting.specs.Streams.{MergesCalls}
 use Rattle.dropadd_hall.specs.Texts.{hall_text}
 use Rattle.market_certificate.specs.Publications.{Publication}
 use Rattle.published_halls.specs.Openings.{Opens, opened}
@@ -15,7 +15,7 @@ use Rattle.published_halls.specs.Openings.{Opens, opened}
 -- request is replied to as the step of drop and add says, and each session makes its requests in their order, and all of them.
 pub record IsToldOf (market : Market) (state : HallState) (streams : List (List HallCommand)) (history : List HallStep) (told : List ℕ) : Type 0 where
   pub legal : IsLegal is_sound state_after reply_to market state history
-  pub merges : MergesRequests streams history
+  pub merges : MergesCalls streams history
   pub written : told ≡ hall_text market history (state_after_steps state_after market state history)
 
 -- the text tells of a hall that opens with the final bundles of the published text

@@ -17,7 +17,7 @@ use std::alloc::Global;
 // eighth of all bytes.
 pub(crate) const ROOM: usize = 16_384;
 
-// The rooms that are filled before their trees are copied out: 4 MB. With more of them the workers would be no better parted.
+// The rooms that are filled before their trees are copied out: 4 MB. With twice as many the workers are hardly better parted.
 const GROUP: usize = 256;
 
 // For so many trees each one more worker is started: a start and its end take about as long as several trees.

@@ -41,7 +41,7 @@ where
     Ok((object, journal))
 }
 
-// The requests of each stream.
+// How many requests each stream has.
 fn lengths_of<T>(alloc: Global, streams: &[Vec<T>]) -> Result<Vec<u64>, NoMemory>
     ensures { IfOk result (λ lengths. lengths.items ≡ map vec_len streams.now) }
 {
