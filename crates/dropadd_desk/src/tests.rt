@@ -1,30 +1,18 @@
 // Requests and their replies.
-ghost use Rattle.std.specs.Prelude.{◌≡◌, ◌<◌, ◌≤◌, ℕ, true, IsTrue, All, length, map};
-ghost use Rattle.bundle_rules.specs.Bundles.{sections_of};
-ghost use Rattle.bundle_rules.specs.Sets.{has};
-ghost use Rattle.held_seats.specs.Floors.{AreBelow};
 
 use super::*;
 use bundle_rules::Bundle;
 use course_catalog::read_catalog;
+use held_seats::are_below;
 use market_units::{SectionNo, StudentNo, read_name};
 use std::alloc::Global;
 use std::process::Abort;
 use std::test::Fail;
 use student_roll::read_roll;
+use worked_terms::{FIVE_SECTIONS_TERM, FIVE_STUDENTS_TERM, WorkedTerm};
 
 // Words of a request, and its reply.
 type Said = (&'static [u8], &'static [u8], &'static [u8], HallReply);
-
-const CATALOG: &[u8] = b"section,course,seats,credits,meetings
-A,AA,1,2,M0900-1000
-B,BB,2,2,M0930-1030
-C,CC,9,4,
-D,DD,9,1,
-E,EE,9,1,
-";
-
-const ROLL: &[u8] = b"student,budget,credits,courses\nu,0,5,2\nv,0,5,2\nw,0,5,2\n";
 
 // Each reply, where u holds A.
 const EACH: [Said; 24] = [
@@ -78,15 +66,6 @@ const EACH: [Said; 24] = [
     (b"add", b"w", b"C", HallReply::Credits),
 ];
 
-const LAPSE_CATALOG: &[u8] = b"section,course,seats,credits,meetings
-A,AA,1,1,M0900-1000
-B,BB,9,1,M0900-1000
-C,CC,9,1,
-";
-
-const LAPSE_ROLL: &[u8] =
-    b"student,budget,credits,courses\nu,0,9,2\nv,0,9,2\nw,0,9,2\nx,0,9,2\ny,0,9,2\n";
-
 // Two who took what clashes in the meantime lapse, and the third is next.
 const LAPSE: [Said; 8] = [
     (b"add", b"v", b"A", HallReply::Queued { ahead: 0 }),
@@ -107,29 +86,6 @@ const LAPSE: [Said; 8] = [
     (b"add", b"u", b"A", HallReply::Queued { ahead: 1 }),
 ];
 
-fn all_below(sections: usize, listed: &[SectionNo]) -> bool
-    ensures { IsTrue result → All (λ section. section.0 < sections) listed.now }
-{
-    listed
-        .iter()
-        .all(|section| usize::from(section.0) < sections)
-}
-
-fn is_below(sections: usize, bundle: &Bundle) -> bool
-    ensures { IsTrue result → (s : ℕ) → has (sections_of bundle.now) s ≡ true → s < sections }
-{
-    all_below(sections, bundle.sections())
-}
-
-fn are_below(sections: usize, bundles: &[Bundle]) -> bool
-    ensures { IsTrue result → AreBelow sections (map sections_of bundles.now) }
-{
-    match bundles {
-        [] => true,
-        [bundle, more @ ..] => is_below(sections, bundle) && are_below(sections, more),
-    }
-}
-
 // The request of these words.
 fn request_of(rt: &impl Abort, word: &[u8], student: &[u8], section: &[u8]) -> HallCommand {
     if word == b"".as_slice() {
@@ -145,12 +101,10 @@ fn request_of(rt: &impl Abort, word: &[u8], student: &[u8], section: &[u8]) -> H
 }
 
 // A desk at which the first student holds the first section.
-fn open(rt: &impl Abort, alloc: Global, catalog: &[u8], roll: &[u8]) -> HallDesk
-    requires catalog { length catalog.now ≤ 1000 }
-    requires roll { length roll.now ≤ 1000 }
-{
-    let catalog = read_catalog(alloc, catalog).expect(rt, "a catalogue");
-    let roll = read_roll(alloc, roll).expect(rt, "a roll");
+fn open(rt: &impl Abort, alloc: Global, term: &WorkedTerm) -> HallDesk {
+    assert!(rt; term.catalogue.len() <= 1000 && term.roll.len() <= 1000);
+    let catalog = read_catalog(alloc, term.catalogue).expect(rt, "a catalogue");
+    let roll = read_roll(alloc, term.roll).expect(rt, "a roll");
     let mut bundles = Vec::new(alloc);
     let first = Bundle::of(&[SectionNo(0)]).expect(rt, "one section");
     bundles.push(first).expect(rt, "memory");
@@ -173,7 +127,7 @@ fn say_each(rt: &impl Abort, desk: &mut HallDesk, said: &[Said]) {
 
 #[test]
 fn each_reply(rt: HostRuntime) -> Result<(), Fail> {
-    let mut desk = open(&rt, rt.alloc(), CATALOG, ROLL);
+    let mut desk = open(&rt, rt.alloc(), &FIVE_SECTIONS_TERM);
     say_each(&rt, &mut desk, &EACH);
     assert_eq!(rt; desk.room(), 0);
     Ok(())
@@ -181,7 +135,7 @@ fn each_reply(rt: HostRuntime) -> Result<(), Fail> {
 
 #[test]
 fn two_lapse(rt: HostRuntime) -> Result<(), Fail> {
-    let mut desk = open(&rt, rt.alloc(), LAPSE_CATALOG, LAPSE_ROLL);
+    let mut desk = open(&rt, rt.alloc(), &FIVE_STUDENTS_TERM);
     say_each(&rt, &mut desk, &LAPSE);
     Ok(())
 }

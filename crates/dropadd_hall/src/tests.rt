@@ -1,8 +1,5 @@
 // Requests read, made and told.
-ghost use Rattle.std.specs.Prelude.{◌≡◌, ◌<◌, ◌≤◌, ℕ, true, IfOk, IsTrue, All, length, map};
-ghost use Rattle.bundle_rules.specs.Bundles.{sections_of};
-ghost use Rattle.bundle_rules.specs.Sets.{has};
-ghost use Rattle.held_seats.specs.Floors.{AreBelow};
+ghost use Rattle.std.specs.Prelude.{◌≡◌, ◌≤◌, IfOk, length};
 ghost use Rattle.dropadd_desk.specs.HallView.{market_of, room_of};
 ghost use Rattle.dropadd_hall.specs.Streams.{request_count};
 
@@ -11,6 +8,7 @@ use bundle_rules::Bundle;
 use chronicle::Step;
 use course_catalog::{Catalog, read_catalog};
 use dropadd_desk::{HallCommand, HallDesk, HallReply};
+use held_seats::are_below;
 use market_edge::{Gate, MeetingGate, OpenGate};
 use market_units::SectionNo;
 use std::alloc::Global;
@@ -20,16 +18,7 @@ use std::test::Fail;
 use std::thread::Threads;
 use student_roll::{Roll, read_roll};
 use utility_language::StreamEnd;
-
-const CATALOG: &[u8] = b"section,course,seats,credits,meetings
-A,AA,1,2,M0900-1000
-B,BB,2,2,M0930-1030
-C,CC,9,4,
-D,DD,9,1,
-E,EE,9,1,
-";
-
-const ROLL: &[u8] = b"student,budget,credits,courses\nu,0,5,2\nv,0,5,2\nw,0,5,2\n";
+use worked_terms::FIVE_SECTIONS_TERM;
 
 // Requests with each reply, where u holds A.
 const REQUESTS: &[u8] = b"drop
@@ -147,29 +136,6 @@ struct Told {
     text: Vec<u8>,
 }
 
-fn all_below(sections: usize, listed: &[SectionNo]) -> bool
-    ensures { IsTrue result → All (λ section. section.0 < sections) listed.now }
-{
-    listed
-        .iter()
-        .all(|section| usize::from(section.0) < sections)
-}
-
-fn is_below(sections: usize, bundle: &Bundle) -> bool
-    ensures { IsTrue result → (s : ℕ) → has (sections_of bundle.now) s ≡ true → s < sections }
-{
-    all_below(sections, bundle.sections())
-}
-
-fn are_below(sections: usize, bundles: &[Bundle]) -> bool
-    ensures { IsTrue result → AreBelow sections (map sections_of bundles.now) }
-{
-    match bundles {
-        [] => true,
-        [bundle, more @ ..] => is_below(sections, bundle) && are_below(sections, more),
-    }
-}
-
 // A desk at which the first student holds the first section, with room for 200 requests.
 fn desk_of(rt: &impl Abort, alloc: Global, catalog: &Catalog, roll: &Roll) -> HallDesk
     ensures market { market_of result ≡ record { catalog = catalog.now; roll = roll.now } }
@@ -196,8 +162,10 @@ fn tell<R: Abort + Threads + Wait + Sync, G: Gate + Sync>(
     requires sessions { (1 ≤ length streams.now) × (length streams.now ≤ 64) }
     requires few { request_count streams.now ≤ 200 }
 {
-    let catalog = read_catalog(alloc, CATALOG)?;
-    let roll = read_roll(alloc, ROLL)?;
+    let term = FIVE_SECTIONS_TERM;
+    assert!(rt; term.catalogue.len() < 1000 && term.roll.len() < 1000);
+    let catalog = read_catalog(alloc, term.catalogue)?;
+    let roll = read_roll(alloc, term.roll)?;
     let desk = desk_of(rt, alloc, &catalog, &roll);
     let hall = open_hall(rt, alloc, desk, streams, gate)?;
     let text = put_hall(alloc, &catalog, &roll, &hall)?;

@@ -17,6 +17,10 @@ use std::sync::{Arc, Wait};
 use std::test::Fail;
 use std::thread::Threads;
 use student_roll::read_roll;
+use worked_terms::{
+    BEYOND_ONE_ENVY, EQUAL_ENVY, EQUAL_ROLL, FOUR_ENVY, FOUR_ROLL, LOWER_BASE_ENVY, NOBODY_ROLL,
+    ONE_SEAT_CATALOGUE, ORDINARY_ENVY, ORDINARY_ROLL,
+};
 
 // A section that is rated, with its course; each has one credit.
 fn rated(section: u16, course: u16, rating: u8) -> Rated {
@@ -135,8 +139,6 @@ fn try_text<R: Abort + Threads + Wait + Sync>(
     Ok(())
 }
 
-const ONE_SECTION: &[u8] = b"section,course,seats,credits,meetings\nX,XX,1,1,\n";
-
 // Four students of budgets 100 to 103 who want one section.
 fn four_students<R: Abort>(rt: &R, alloc: Global) -> Result<Crowd, Fail> {
     let mut crowd = nobody(alloc, 1);
@@ -155,9 +157,6 @@ fn four_students<R: Abort>(rt: &R, alloc: Global) -> Result<Crowd, Fail> {
     Ok(crowd)
 }
 
-const FOUR_NAMES: &[u8] =
-    b"student,budget,credits,courses\ns1,100,10,1\ns2,101,10,1\ns3,102,10,1\ns4,103,10,1\n";
-
 #[test]
 fn four_students_one_seat(rt: HostRuntime) -> Result<(), Fail> {
     let alloc = rt.alloc();
@@ -165,11 +164,11 @@ fn four_students_one_seat(rt: HostRuntime) -> Result<(), Fail> {
     try_text(
         &rt,
         alloc,
-        [ONE_SECTION, FOUR_NAMES],
+        [ONE_SEAT_CATALOGUE, FOUR_ROLL],
         four_students(&rt, alloc)?,
         &held,
         &held,
-        b"settled s1 0 1 0\nsees s4 [X] but for X\nsettled s2 0 1 0\nsees s4 [X] but for X\nsettled s3 0 1 0\nsees s4 [X] but for X\nsettled s4 0 0 0\nsettled total 0 3 0\nfinal s1 0 1 0\nsees s4 [X] but for X\nfinal s2 0 1 0\nsees s4 [X] but for X\nfinal s3 0 1 0\nsees s4 [X] but for X\nfinal s4 0 0 0\nfinal total 0 3 0\n",
+        FOUR_ENVY.as_bytes(),
     )
 }
 
@@ -193,14 +192,11 @@ fn equal_budgets_envy_after_the_aftermarket(rt: HostRuntime) -> Result<(), Fail>
     try_text(
         &rt,
         alloc,
-        [
-            ONE_SECTION,
-            b"student,budget,credits,courses\nu,100,10,1\nv,100,10,1\n",
-        ],
+        [ONE_SEAT_CATALOGUE, EQUAL_ROLL],
         crowd,
         &[&[], &[]],
         &[&[0], &[]],
-        b"settled u 0 0 0\nsettled v 0 0 0\nsettled total 0 0 0\nfinal u 0 0 0\nfinal v 1 0 0\nsees u [X] but for X\nfinal total 1 0 0\n",
+        EQUAL_ENVY.as_bytes(),
     )
 }
 
@@ -225,13 +221,13 @@ fn carried_tokens_count_for_higher_and_lower(rt: HostRuntime) -> Result<(), Fail
         &rt,
         alloc,
         [
-            ONE_SECTION,
+            ONE_SEAT_CATALOGUE,
             b"student,budget,credits,courses,carry\nu,100,10,1,0\nv,90,10,1,15\n",
         ],
         crowd,
         &[&[], &[0]],
         &[&[], &[0]],
-        b"settled u 0 1 0\nsees v [X] but for X\nsettled v 0 0 0\nsettled total 0 1 0\nfinal u 0 1 0\nsees v [X] but for X\nfinal v 0 0 0\nfinal total 0 1 0\n",
+        LOWER_BASE_ENVY.as_bytes(),
     )
 }
 
@@ -255,7 +251,7 @@ fn envy_beyond_one_section(rt: HostRuntime) -> Result<(), Fail> {
         crowd,
         &[&[0, 1, 2], &[]],
         &[&[0, 1, 2], &[]],
-        b"settled u 0 0 0\nsettled v 0 1 1\nsees u [A,B] beyond one\nsettled total 0 1 1\nfinal u 0 0 0\nfinal v 0 1 1\nsees u [A,B] beyond one\nfinal total 0 1 1\n",
+        BEYOND_ONE_ENVY.as_bytes(),
     )
 }
 
@@ -297,12 +293,12 @@ fn ordinary_term(rt: HostRuntime) -> Result<(), Fail> {
         alloc,
         [
             b"section,course,seats,credits,meetings\nA,ACCT,1,1,\nB,BIOL,2,1,\nC,CHEM,2,1,\nD,ACCT,1,1,\n",
-            b"student,budget,credits,courses\nann,100,10,2\nbob,101,10,2\ncat,102,10,2\n",
+            ORDINARY_ROLL,
         ],
         crowd,
         &[&[0, 1], &[2], &[3]],
         &[&[0, 1], &[2], &[3]],
-        b"settled ann 0 0 0\nsettled bob 0 1 0\nsees ann [A] but for A\nsettled cat 0 0 0\nsettled total 0 1 0\nfinal ann 0 0 0\nfinal bob 0 1 0\nsees ann [A] but for A\nfinal cat 0 0 0\nfinal total 0 1 0\n",
+        ORDINARY_ENVY.as_bytes(),
     )
 }
 
@@ -312,7 +308,7 @@ fn an_audit_of_nobody(rt: HostRuntime) -> Result<(), Fail> {
     try_text(
         &rt,
         alloc,
-        [ONE_SECTION, b"student,budget,credits,courses\n"],
+        [ONE_SEAT_CATALOGUE, NOBODY_ROLL],
         nobody(alloc, 1),
         &[],
         &[],

@@ -1,37 +1,13 @@
 // Three students and three sections.
-ghost use Rattle.std.specs.Prelude.{◌≡◌, ◌<◌, ◌≤◌, ℕ, true, IsTrue, All, length, map};
-ghost use Rattle.bundle_rules.specs.Sets.{has};
-ghost use Rattle.bundle_rules.specs.Bundles.{sections_of};
-ghost use Rattle.held_seats.specs.Floors.{AreBelow, IsFloor};
+ghost use Rattle.std.specs.Prelude.{◌≤◌, length};
+ghost use Rattle.held_seats.specs.Floors.{IsFloor};
 
 use super::*;
+use crate::below::is_below;
 use bundle_rules::Bundle;
 use market_units::{SectionNo, SectionSet};
 use std::process::Abort;
 use std::test::Fail;
-
-fn is_below(sections: usize, bundle: &Bundle) -> bool
-    ensures { IsTrue result → (s : ℕ) → has (sections_of bundle.now) s ≡ true → s < sections }
-{
-    all_below(sections, bundle.sections())
-}
-
-fn all_below(sections: usize, listed: &[SectionNo]) -> bool
-    ensures { IsTrue result → All (λ section. section.0 < sections) listed.now }
-{
-    listed
-        .iter()
-        .all(|section| usize::from(section.0) < sections)
-}
-
-fn are_below(sections: usize, bundles: &[Bundle]) -> bool
-    ensures { IsTrue result → AreBelow sections (map sections_of bundles.now) }
-{
-    match bundles {
-        [] => true,
-        [bundle, more @ ..] => is_below(sections, bundle) && are_below(sections, more),
-    }
-}
 
 // Which of the sections are in the set.
 fn of_three(set: &SectionSet) -> [bool; 3] {

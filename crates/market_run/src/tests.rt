@@ -9,8 +9,8 @@ use course_catalog::{Catalog, read_catalog};
 use market_edge::OpenGate;
 use market_maker::make;
 use market_settings::{Settings, read_settings};
-use preference_desk::{Desk, Entry};
-use published_market::PublishEnd;
+use preference_desk::Desk;
+use published_market::{PublishEnd, are_sessions};
 use std::alloc::Global;
 use std::process::Abort;
 use std::sync::Wait;
@@ -19,16 +19,6 @@ use std::thread::Threads;
 use student_roll::{Roll, read_roll};
 use utility_language::{Command, read_stream};
 use worked_terms::{ACCEPT_8, ACCEPT_9, FOUR_TERM};
-
-// Whether each entry is of a session from 1 to 64.
-fn are_sessions(journal: &[Entry]) -> bool
-    ensures { IsTrue result → All (λ entry. IsSession entry.session) journal.now }
-{
-    match journal {
-        [] => true,
-        [entry, more @ ..] => entry.session >= 1 && entry.session <= 64 && are_sessions(more),
-    }
-}
 
 // Whether each entry of the desk is of a session from 1 to 64.
 fn has_sessions(desk: &Desk) -> bool

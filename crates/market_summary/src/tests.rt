@@ -1,7 +1,6 @@
-ghost use Rattle.std.specs.Prelude.{◌≡◌, All, IsTrue};
+ghost use Rattle.std.specs.Prelude.{◌≡◌};
 ghost use Rattle.std.specs.Arc.{arc_value};
 ghost use Rattle.demand_api.specs.Made.{crowd_of};
-ghost use Rattle.market_certificate.specs.Publications.{IsSession};
 ghost use Rattle.market_settings.specs.Settings.{AreInRange};
 ghost use Rattle.preference_desk.specs.DeskView.{names_of};
 ghost use Rattle.published_parts.specs.Markets.{market_of, names_in};
@@ -11,8 +10,8 @@ use course_catalog::{Catalog, read_catalog};
 use demand_api::PlainDemands;
 use market_maker::make;
 use market_settings::{Settings, read_settings};
-use preference_desk::{Desk, Entry};
-use published_market::{crowd_after, publish};
+use preference_desk::Desk;
+use published_market::{are_sessions, crowd_after, publish};
 use std::alloc::Global;
 use std::process::Abort;
 use std::sync::{Arc, Wait};
@@ -20,16 +19,6 @@ use std::test::Fail;
 use std::thread::Threads;
 use student_roll::{Roll, read_roll};
 use utility_language::{Command, read_stream};
-
-// Whether each entry is of a session from 1 to 64.
-fn are_sessions(journal: &[Entry]) -> bool
-    ensures { IsTrue result → All (λ entry. IsSession entry.session) journal.now }
-{
-    match journal {
-        [] => true,
-        [entry, more @ ..] => entry.session >= 1 && entry.session <= 64 && are_sessions(more),
-    }
-}
 
 // Says each command at the desk, in this session.
 fn say_each(rt: &impl Abort, desk: &mut Desk, session: u16, commands: &[Command])

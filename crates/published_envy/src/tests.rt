@@ -14,7 +14,10 @@ use std::test::Fail;
 use std::thread::Threads;
 use student_roll::read_roll;
 use utility_language::read_stream;
-use worked_terms::{BEYOND_ONE_MARKET, EQUAL_MARKET, LOWER_BASE_MARKET, WorkedMarket};
+use worked_terms::{
+    BEYOND_ONE_ENVY, BEYOND_ONE_MARKET, EQUAL_ENVY, EQUAL_MARKET, LOWER_BASE_ENVY,
+    LOWER_BASE_MARKET, WorkedMarket,
+};
 
 // How an audit of the text by so many workers ends.
 fn audited<R: Abort + Threads + Wait + Sync>(
@@ -58,24 +61,9 @@ fn try_audit<R: Abort + Threads + Wait + Sync>(
 #[test]
 fn audits_of_published_texts(rt: HostRuntime) {
     let alloc = rt.alloc();
-    try_audit(
-        &rt,
-        alloc,
-        &EQUAL_MARKET,
-        b"settled u 0 0 0\nsettled v 0 0 0\nsettled total 0 0 0\nfinal u 0 0 0\nfinal v 1 0 0\nsees u [X] but for X\nfinal total 1 0 0\n",
-    );
-    try_audit(
-        &rt,
-        alloc,
-        &LOWER_BASE_MARKET,
-        b"settled u 0 1 0\nsees v [X] but for X\nsettled v 0 0 0\nsettled total 0 1 0\nfinal u 0 1 0\nsees v [X] but for X\nfinal v 0 0 0\nfinal total 0 1 0\n",
-    );
-    try_audit(
-        &rt,
-        alloc,
-        &BEYOND_ONE_MARKET,
-        b"settled u 0 0 0\nsettled v 0 1 1\nsees u [A,B] beyond one\nsettled total 0 1 1\nfinal u 0 0 0\nfinal v 0 1 1\nsees u [A,B] beyond one\nfinal total 0 1 1\n",
-    );
+    try_audit(&rt, alloc, &EQUAL_MARKET, EQUAL_ENVY.as_bytes());
+    try_audit(&rt, alloc, &LOWER_BASE_MARKET, LOWER_BASE_ENVY.as_bytes());
+    try_audit(&rt, alloc, &BEYOND_ONE_MARKET, BEYOND_ONE_ENVY.as_bytes());
 }
 
 // A text that tells no used seat where there is one is not accepted, and not audited.

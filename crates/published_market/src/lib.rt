@@ -8,10 +8,12 @@ mod order;
 mod publishing;
 mod rooms;
 mod seats;
+mod sessions;
 mod turns;
 
 pub use crowd::crowd_after;
 pub use publishing::{PublishEnd, Published, publish};
+pub use sessions::are_sessions;
 
 #[cfg(test)]
 mod tests;

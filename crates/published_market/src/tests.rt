@@ -1,5 +1,4 @@
-ghost use Rattle.std.specs.Prelude.{◌≡◌, All, IsTrue};
-ghost use Rattle.market_certificate.specs.Publications.{IsSession};
+ghost use Rattle.std.specs.Prelude.{◌≡◌};
 ghost use Rattle.market_settings.specs.Settings.{AreInRange};
 ghost use Rattle.preference_desk.specs.DeskView.{names_of};
 ghost use Rattle.published_parts.specs.Markets.{market_of, names_in};
@@ -11,7 +10,7 @@ use course_catalog::{Catalog, read_catalog};
 use demand_api::PlainDemands;
 use market_certificate::put_publication;
 use market_settings::{Settings, read_settings};
-use preference_desk::{Desk, Entry};
+use preference_desk::Desk;
 use std::alloc::Global;
 use std::process::Abort;
 use std::sync::{Arc, Wait};
@@ -31,16 +30,6 @@ const FOUR_SECTIONS: &[u8] =
     b"section,course,seats,credits,meetings\nA,AA,9,1,\nB,BB,30,1,\nC,CC,1,1,\nD,DD,2,1,\n";
 
 const FORTY_NAMES: &[u8] = b"abcdefghijklmnopqrstuvwxyzABCDEFGHIJKLMN";
-
-// Whether each entry is of a session from 1 to 64.
-fn are_sessions(journal: &[Entry]) -> bool
-    ensures { IsTrue result → All (λ entry. IsSession entry.session) journal.now }
-{
-    match journal {
-        [] => true,
-        [entry, more @ ..] => entry.session >= 1 && entry.session <= 64 && are_sessions(more),
-    }
-}
 
 // Says each command at the desk, in session 1.
 fn say_each(rt: &impl Abort, desk: &mut Desk, commands: &[Command])

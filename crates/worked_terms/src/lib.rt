@@ -1,13 +1,17 @@
-//! Terms worked by hand, for the tests of several crates: the inputs of small markets, and what is published of them. The published texts
-//! were computed apart from this program. A constant is named for its term, and then for the part of it that it is.
+//! Terms worked by hand, for the tests of several crates: the inputs of small markets, and what is published of them and told in an audit. These
+//! texts were computed apart from this program. A constant is named for its term, and then for the part of it that it is.
 #![tactic(auto)]
 
+mod envy;
+mod halls;
 mod one_seat;
 mod ordinary;
 mod sections;
 mod settings;
 mod term;
 
+pub use envy::{BEYOND_ONE_ENVY, EQUAL_ENVY, FOUR_ENVY, LOWER_BASE_ENVY, ORDINARY_ENVY};
+pub use halls::{FIVE_SECTIONS_TERM, FIVE_STUDENTS_TERM};
 pub use one_seat::{
     CARRIED_ROLL, CARRIED_TERM, CARRIED_TEXT, EQUAL_MARKET, EQUAL_ROLL, EQUAL_SESSION, EQUAL_TERM,
     EQUAL_TEXT, FOUR_MARKET, FOUR_ROLL, FOUR_SESSION, FOUR_TERM, FOUR_TEXT, LOWER_BASE_MARKET,

@@ -3,8 +3,9 @@ use super::changes::{Change, text_with};
 use super::term::answer_with;
 use super::*;
 use worked_terms::{
-    ACCEPT_99, BEYOND_ONE_MARKET, EQUAL_MARKET, FOUR_MARKET, LOWER_BASE_MARKET, NOBODY_MARKET,
-    ORDINARY_MARKET, WorkedMarket, WorkedTerm,
+    ACCEPT_99, BEYOND_ONE_ENVY, BEYOND_ONE_MARKET, EQUAL_ENVY, EQUAL_MARKET, FOUR_ENVY,
+    FOUR_MARKET, LOWER_BASE_ENVY, LOWER_BASE_MARKET, NOBODY_MARKET, ORDINARY_ENVY, ORDINARY_MARKET,
+    WorkedMarket, WorkedTerm,
 };
 
 // Each number of workers gives the same bytes.
@@ -13,38 +14,6 @@ const LINES: [&str; 3] = [
     "audit 2 CAT STU SET TEXT S1",
     "audit 16 CAT STU SET TEXT S1",
 ];
-
-// What is written of four students and one seat: each of the others envies the one whose budget is the greatest.
-pub(super) const ENVY_OF_FOUR: &str = "settled s1 0 1 0
-sees s4 [X] but for X
-settled s2 0 1 0
-sees s4 [X] but for X
-settled s3 0 1 0
-sees s4 [X] but for X
-settled s4 0 0 0
-settled total 0 3 0
-final s1 0 1 0
-sees s4 [X] but for X
-final s2 0 1 0
-sees s4 [X] but for X
-final s3 0 1 0
-sees s4 [X] but for X
-final s4 0 0 0
-final total 0 3 0
-";
-
-// What is written of the ordinary term.
-pub(super) const ENVY_OF_TERM: &str = "settled ann 0 0 0
-settled bob 0 1 0
-sees ann [A] but for A
-settled cat 0 0 0
-settled total 0 1 0
-final ann 0 0 0
-final bob 0 1 0
-sees ann [A] but for A
-final cat 0 0 0
-final total 0 1 0
-";
 
 // What the case shows, the market, the lines of its text that are changed, the number of the status, and what is written.
 type Case = (
@@ -56,20 +25,14 @@ type Case = (
 );
 
 const CASES: [Case; 8] = [
-    ("an ordinary term", ORDINARY_MARKET, &[], 0, ENVY_OF_TERM),
-    (
-        "four students of one seat",
-        FOUR_MARKET,
-        &[],
-        0,
-        ENVY_OF_FOUR,
-    ),
+    ("an ordinary term", ORDINARY_MARKET, &[], 0, ORDINARY_ENVY),
+    ("four students of one seat", FOUR_MARKET, &[], 0, FOUR_ENVY),
     (
         "equal budgets envy after the aftermarket",
         EQUAL_MARKET,
         &[],
         0,
-        "settled u 0 0 0\nsettled v 0 0 0\nsettled total 0 0 0\nfinal u 0 0 0\nfinal v 1 0 0\nsees u [X] but for X\nfinal total 1 0 0\n",
+        EQUAL_ENVY,
     ),
     (
         "a forged text",
@@ -83,14 +46,14 @@ const CASES: [Case; 8] = [
         LOWER_BASE_MARKET,
         &[],
         0,
-        "settled u 0 1 0\nsees v [X] but for X\nsettled v 0 0 0\nsettled total 0 1 0\nfinal u 0 1 0\nsees v [X] but for X\nfinal v 0 0 0\nfinal total 0 1 0\n",
+        LOWER_BASE_ENVY,
     ),
     (
         "envy beyond one section",
         BEYOND_ONE_MARKET,
         &[],
         0,
-        "settled u 0 0 0\nsettled v 0 1 1\nsees u [A,B] beyond one\nsettled total 0 1 1\nfinal u 0 0 0\nfinal v 0 1 1\nsees u [A,B] beyond one\nfinal total 0 1 1\n",
+        BEYOND_ONE_ENVY,
     ),
     (
         "sees only what is of use",

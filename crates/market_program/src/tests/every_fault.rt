@@ -1,9 +1,8 @@
 // Each call of the shelf in turn fails, and each place of the text at which the sink has no more room.
-use super::audit::ENVY_OF_TERM;
 use super::*;
 use worked_terms::{
-    ACCEPT_9, EQUAL_TERM, FOUR_ROLL, ONE_SEAT_CATALOGUE, ORDINARY_CATALOGUE, ORDINARY_ROLL,
-    ORDINARY_SESSION, ORDINARY_SETTINGS, ORDINARY_TEXT,
+    ACCEPT_9, EQUAL_TERM, FOUR_ROLL, ONE_SEAT_CATALOGUE, ORDINARY_CATALOGUE, ORDINARY_ENVY,
+    ORDINARY_ROLL, ORDINARY_SESSION, ORDINARY_SETTINGS, ORDINARY_TEXT,
 };
 
 // An input of a few bytes takes so many calls of the shelf: its begin, its reading, its end.
@@ -137,7 +136,7 @@ fn faults_of_an_audit(rt: HostRuntime) -> Result<(), Fail> {
     let files = whole_term();
     let line = "audit 2 CAT STU SET TEXT S1";
     try_faults(&rt, alloc, line, &files, 5)?;
-    try_rooms(&rt, alloc, line, &files, ENVY_OF_TERM)
+    try_rooms(&rt, alloc, line, &files, ORDINARY_ENVY)
 }
 
 #[test]

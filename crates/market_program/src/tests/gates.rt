@@ -1,11 +1,11 @@
 // Sessions and workers that meet, and how often they pass the gate.
-use super::audit::ENVY_OF_FOUR;
 use super::demand::{FIRST as OF_FIRST, ORDERS, SECOND as OF_SECOND, is_lawful};
-use super::hall::FIVE_SECTIONS;
 use super::*;
 use market_edge::{MeetingGate, Passes, Stop};
 use std::sync::atomic::{AtomicU64, Ordering};
-use worked_terms::{ACCEPT_9, FOUR_ROLL, FOUR_SESSION, FOUR_TEXT, ONE_SEAT_CATALOGUE};
+use worked_terms::{
+    ACCEPT_9, FIVE_SECTIONS_TERM, FOUR_ENVY, FOUR_ROLL, FOUR_SESSION, FOUR_TEXT, ONE_SEAT_CATALOGUE,
+};
 
 const FIRST: &str = "rate ann A 10\nrate zoe A 1\nrate ann A 30\nrate ann Q 1\n";
 
@@ -135,9 +135,9 @@ const HELD: &str =
 fn two_sessions_of_a_hall_request_at_once(rt: HostRuntime) -> Result<(), Fail> {
     let gate = MeetingGate::new();
     let files = [
-        ("CAT", FIVE_SECTIONS.catalogue),
-        ("STU", FIVE_SECTIONS.roll),
-        ("TEXT", FIVE_SECTIONS.text.as_bytes()),
+        ("CAT", FIVE_SECTIONS_TERM.catalogue),
+        ("STU", FIVE_SECTIONS_TERM.roll),
+        ("TEXT", FIVE_SECTIONS_TERM.text.as_bytes()),
         ("R1", FIRST_REQUESTS),
         ("R2", SECOND_REQUESTS),
         ("R3", b"# nothing\n".as_slice()),
@@ -244,7 +244,7 @@ fn two_workers_of_an_audit_post_at_once(rt: HostRuntime) -> Result<(), Fail> {
     let line = "audit 2 CAT STU SET TEXT S1";
     let (status, text) = run_by(&rt, rt.alloc(), line, &files, (0, 0), 1000, &gate)?;
     assert_eq!(rt; status, Status::Done);
-    assert_eq!(rt; text.as_str(), ENVY_OF_FOUR);
+    assert_eq!(rt; text.as_str(), FOUR_ENVY);
     assert_eq!(rt; gate.missed(), 0);
     let (first_starts, of_first) = gate.first_worker.counts();
     let (second_starts, of_second) = gate.second_worker.counts();

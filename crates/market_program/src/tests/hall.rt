@@ -1,7 +1,10 @@
 // `hall` over texts in memory: published texts with which halls open, requests, and what is told.
 use super::changes::{Change, marked, text_with};
 use super::*;
-use worked_terms::{EQUAL_ROLL, EQUAL_TERM, EQUAL_TEXT, ORDINARY_TERM, WorkedTerm};
+use worked_terms::{
+    EQUAL_ROLL, EQUAL_TERM, EQUAL_TEXT, FIVE_SECTIONS_TERM, FIVE_STUDENTS_TERM, ORDINARY_TERM,
+    WorkedTerm,
+};
 
 const LINE: &str = "hall CAT STU TEXT R1";
 
@@ -14,84 +17,6 @@ type Case = (
     u8,
     &'static str,
 );
-
-// Three students and five sections, of which two clash.
-pub(super) const FIVE_SECTIONS: WorkedTerm = WorkedTerm {
-    catalogue: b"section,course,seats,credits,meetings\nA,AA,1,2,M0900-1000\nB,BB,2,2,M0930-1030\nC,CC,9,4,\nD,DD,9,1,\nE,EE,9,1,\n",
-    roll: b"student,budget,credits,courses\nu,0,5,2\nv,0,5,2\nw,0,5,2\n",
-    text: "course-match 1
-order 1
-budget u 0
-budget v 0
-budget w 0
-start A 0
-start B 0
-start C 0
-start D 0
-start E 0
-error 0
-price A 0
-price B 0
-price C 0
-price D 0
-price E 0
-bundle u [A] +*n
-bundle v [] *
-bundle w [] *
-turn 1 u [A] +*n
-turn 1 v [] *
-turn 1 w [] *
-final u [A]
-final v []
-final w []
-used A 1 1
-used B 0 2
-used C 0 9
-used D 0 9
-used E 0 9
-end
-",
-};
-
-// Five students, of whom four can wait for one seat.
-const FIVE_STUDENTS: WorkedTerm = WorkedTerm {
-    catalogue: b"section,course,seats,credits,meetings\nA,AA,1,1,M0900-1000\nB,BB,9,1,M0900-1000\nC,CC,9,1,\n",
-    roll: b"student,budget,credits,courses\nu,0,9,2\nv,0,9,2\nw,0,9,2\nx,0,9,2\ny,0,9,2\n",
-    text: "course-match 1
-order 1
-budget u 0
-budget v 0
-budget w 0
-budget x 0
-budget y 0
-start A 0
-start B 0
-start C 0
-error 0
-price A 0
-price B 0
-price C 0
-bundle u [A] +*n
-bundle v [] *
-bundle w [] *
-bundle x [] *
-bundle y [] *
-turn 1 u [A] +*n
-turn 1 v [] *
-turn 1 w [] *
-turn 1 x [] *
-turn 1 y [] *
-final u [A]
-final v []
-final w []
-final x []
-final y []
-used A 1 1
-used B 0 9
-used C 0 9
-end
-",
-};
 
 // The seat that is filled, beside a section that nobody takes: its text has three lines more.
 const TWO_SECTIONS: WorkedTerm = WorkedTerm {
@@ -117,7 +42,7 @@ const HALLS: [Case; 9] = [
     ),
     (
         "every reply",
-        FIVE_SECTIONS,
+        FIVE_SECTIONS_TERM,
         &[],
         b"drop\nadd z Q\nadd u Q\nleave z A\nadd u A\nadd u B\nadd u C\nadd u D\nadd u E\nadd v A\nadd v A\nadd w A\nleave w B\ndrop v B\ndrop u A\nadd u A\ndrop v A\nleave w A\nleave u A\nadd w D\nadd w E\nadd w B\ndrop w D\nadd w C #\nadd w C\n",
         0,
@@ -157,7 +82,7 @@ const HALLS: [Case; 9] = [
     ),
     (
         "two lapse before the next",
-        FIVE_STUDENTS,
+        FIVE_STUDENTS_TERM,
         &[],
         b"add v A\nadd w A\nadd x A\nadd y A\nadd v B\nadd w B\ndrop u A\nadd u A\ndrop x A\ndrop y A\n",
         0,
@@ -165,7 +90,7 @@ const HALLS: [Case; 9] = [
     ),
     (
         "waiting list is printed",
-        FIVE_SECTIONS,
+        FIVE_SECTIONS_TERM,
         &[],
         b"add v A\nadd w A\n",
         0,

@@ -1,0 +1,32 @@
+// Whether bundles have only sections of a market.
+ghost use Rattle.std.specs.Prelude.{◌≡◌, ◌<◌, ℕ, true, IsTrue, All, map};
+ghost use Rattle.bundle_rules.specs.Bundles.{sections_of};
+ghost use Rattle.bundle_rules.specs.Sets.{has};
+ghost use Rattle.held_seats.specs.Floors.{AreBelow};
+
+use bundle_rules::Bundle;
+use market_units::SectionNo;
+
+/// Whether each section of each bundle is one of the first so many.
+pub fn are_below(sections: usize, bundles: &[Bundle]) -> bool
+    ensures { IsTrue result → AreBelow sections (map sections_of bundles.now) }
+{
+    match bundles {
+        [] => true,
+        [bundle, more @ ..] => is_below(sections, bundle) && are_below(sections, more),
+    }
+}
+
+pub(crate) fn is_below(sections: usize, bundle: &Bundle) -> bool
+    ensures { IsTrue result → (s : ℕ) → has (sections_of bundle.now) s ≡ true → s < sections }
+{
+    all_below(sections, bundle.sections())
+}
+
+fn all_below(sections: usize, listed: &[SectionNo]) -> bool
+    ensures { IsTrue result → All (λ section. section.0 < sections) listed.now }
+{
+    listed
+        .iter()
+        .all(|section| usize::from(section.0) < sections)
+}
