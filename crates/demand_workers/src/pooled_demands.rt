@@ -33,7 +33,7 @@ use std::thread::Threads;
 /// A gate of any kind, which all workers pass.
 pub type AnyGate<'g> = &'g (dyn Gate + Sync);
 
-/// A crowd that is asked by the workers of a bench, each with a workspace of its own. They draw the tasks of a call from one board, each
+/// A crowd that is asked by the workers of a bench, each with a workspace of its own. They draw the tasks of a call, or of one version of it, from one board, each
 /// in a thread of its own where one can be started, and pass the gate before their first draw and after each post. Where what is
 /// remembered of earlier calls leaves few students to ask, the caller's own thread asks them, without a board. Students who
 /// are surely asked, at several versions of which few are asked, or on the walk to a least price, are asked by several workers at once
