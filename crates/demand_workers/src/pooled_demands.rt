@@ -30,11 +30,11 @@ use std::alloc::Global;
 use std::sync::{Arc, Wait};
 use std::thread::Threads;
 
-/// A crowd that is asked by the workers of a bench, each with a workspace of its own. They draw the tasks of a call from one board, each
-/// in a thread of its own where one can be started, and pass the gate before their first draw and after each post. Where what is
-/// remembered of earlier calls leaves few students to ask, the caller's own thread asks them, without a board. Students who
-/// are surely asked, at several versions of which few are asked, or on the walk to a least price, are asked by several workers at once
-/// where they are enough for that, also without a board. Its one form is `PooledDemands<AnyGate>`, which `make` gives.
+/// A crowd that is asked by the workers of a bench, each with a workspace of its own. They draw the tasks of a call, or of one version
+/// of it, from one board, each in a thread of its own where one can be started, and pass the gate before their first draw and after
+/// each post. Where what is remembered of earlier calls leaves few students to ask, the caller's own thread asks them, without a board.
+/// Students who are surely asked, at several versions of which few are asked, or on the walk to a least price, are asked by several
+/// workers at once where they are enough for that, also without a board. Its one form is `PooledDemands<AnyGate>`, which `make` gives.
 #[derive(Drop)]
 pub struct PooledDemands<G> {
     crowd: Arc<Crowd>,

@@ -1,5 +1,5 @@
 // Whether bundles have only sections of a market.
-ghost use Rattle.std.specs.Prelude.{◌≡◌, ◌<◌, ℕ, true, IsTrue, All, map};
+ghost use Rattle.std.specs.Prelude.{◌≡◌, ◌↔◌, ◌<◌, ℕ, true, IsTrue, All, map};
 ghost use Rattle.bundle_rules.specs.Bundles.{sections_of};
 ghost use Rattle.bundle_rules.specs.Sets.{has};
 ghost use Rattle.held_seats.specs.Floors.{AreBelow};
@@ -9,7 +9,7 @@ use market_units::SectionNo;
 
 /// Whether each section of each bundle is one of the first so many.
 pub fn are_below(sections: usize, bundles: &[Bundle]) -> bool
-    ensures { IsTrue result → AreBelow sections (map sections_of bundles.now) }
+    ensures { IsTrue result ↔ AreBelow sections (map sections_of bundles.now) }
 {
     match bundles {
         [] => true,
@@ -18,13 +18,13 @@ pub fn are_below(sections: usize, bundles: &[Bundle]) -> bool
 }
 
 pub(crate) fn is_below(sections: usize, bundle: &Bundle) -> bool
-    ensures { IsTrue result → (s : ℕ) → has (sections_of bundle.now) s ≡ true → s < sections }
+    ensures { IsTrue result ↔ ((s : ℕ) → has (sections_of bundle.now) s ≡ true → s < sections) }
 {
     all_below(sections, bundle.sections())
 }
 
 fn all_below(sections: usize, listed: &[SectionNo]) -> bool
-    ensures { IsTrue result → All (λ section. section.0 < sections) listed.now }
+    ensures { IsTrue result ↔ All (λ section. section.0 < sections) listed.now }
 {
     listed
         .iter()
