@@ -9,7 +9,7 @@ use Rattle.market_certificate.specs.Lines.{joined}
 use Rattle.market_certificate.specs.Tables.{section_names}
 use Rattle.market_certificate.specs.Texts.{each_line}
 use Rattle.market_certificate.proofs.Joins.{each_more, joined_append, text_more, value_at}
-use Rattle.preference_desk.proofs.CopyLemmas.{read_at}
+use Rattle.market_units.proofs.NameLists.{read_at}
 use Rattle.student_roll.specs.Students.{Student, names_of, no_student}
 use Rattle.text_fields.proofs.SectionNames.{section_name}
 use Rattle.demand_text.specs.Texts.{count_line, taken_line}

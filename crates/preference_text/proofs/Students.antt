@@ -5,7 +5,7 @@ use Rattle.std.proofs.lemmas.List.{append-nil, length-take-le, take_more}
 use Rattle.course_catalog.specs.Sections.{Section}
 use Rattle.student_roll.specs.Students.{Student}
 use Rattle.preference_desk.specs.StudentPreferences.{StudentPreferences}
-use Rattle.preference_desk.proofs.CopyLemmas.{read_at}
+use Rattle.market_units.proofs.NameLists.{read_at}
 use Rattle.preference_text.specs.Texts.{student_text, wanted_text}
 
 one_more : (sections : List Section) (students : List Student) (wanted : List StudentPreferences) (s : Student) (w : StudentPreferences) → length students ≡ length wanted

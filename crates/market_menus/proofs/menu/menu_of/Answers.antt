@@ -3,7 +3,7 @@ use Rattle.bundle_rules.specs.Menus.{IsMenu}
 use Rattle.preference_desk.specs.PreferencesView.{wanted_by}
 use Rattle.preference_desk.specs.StudentPreferences.{no_preferences}
 use Rattle.preference_desk.proofs.BelowLemmas.{rated_below}
-use Rattle.preference_desk.proofs.CopyLemmas.{read_at}
+use Rattle.market_units.proofs.NameLists.{read_at}
 use Rattle.student_roll.specs.Students.{Student, no_student}
 use Rattle.market_menus.specs.MenusOf.{IsMenuOf}
 use Rattle.market_menus.specs.Students.{student_at}

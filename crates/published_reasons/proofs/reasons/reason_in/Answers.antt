@@ -10,7 +10,7 @@ use Rattle.certificate_checker.proofs.Composing.{ok_then}
 use Rattle.explain_desk.specs.Explanations.{IsExplained, offer_of_all}
 use Rattle.explain_desk.specs.Views.{explained_of}
 use Rattle.explain_desk.proofs.Printing.{names_below, rated_told}
-use Rattle.preference_desk.proofs.CopyLemmas.{read_option}
+use Rattle.market_units.proofs.NameLists.{read_option}
 use Rattle.student_roll.specs.Students.{Student}
 use Rattle.published_reasons.proofs.Students.{bundle_best, lows, menu_priced, menu_within, stands_at, told_there}
 use Rattle.published_reasons.proofs.reasons.reason_in.Goals as goal
