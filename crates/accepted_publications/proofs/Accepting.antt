@@ -26,7 +26,7 @@ use Rattle.published_market.specs.Turns.{IsPublishedTurn, offer_at}
 use Rattle.published_market.proofs.Prices.{price_in_tokens}
 use Rattle.published_market.proofs.Sentences.{stage_two_within}
 use Rattle.published_market.proofs.Turning.{made_each, same_held}
-use Rattle.certificate_checker.specs.Certificates.{HoldsOf, IsUsed}
+use Rattle.certificate_checker.specs.Certificates.{HoldsOf, IsUseTold}
 use Rattle.certificate_checker.specs.Firsts.{AllBelow}
 use Rattle.certificate_checker.specs.Students.{IsProvedBundle, offer_in, proved_in, student_in}
 use Rattle.certificate_checker.specs.Terms.{TermsData}
@@ -213,7 +213,7 @@ module _ (crowd : CrowdData) (seats : List ℕ) (settings : Settings) (lengths :
       empty_of [] long = refl
       empty_of (x ∷ xs) long = absurd (omega arith)
 
-  used : length seats ≡ crowd.sections → AllBelow crowd.sections (IsUsed seats p)
+  used : length seats ≡ crowd.sections → AllBelow crowd.sections (IsUseTold seats p)
   used same section low =
       ap (λ all. slice_index_or all section (0, 0)) is.used ∙ used_at (λ s. holders s p.allocation) 0 seats section (omega arith) ∙ ap (λ s. (holders s p.allocation, slice_index seats section)) none_before
     where

@@ -21,8 +21,8 @@ abbrev pub IsAllocated : Publication → ℕ → Type 0
 IsAllocated p student = slice_index_or p.allocation student [] ≡ slice_index_or (held_after (demanded p) p.turns) student []
 
 -- the printed seats of a section are the number of its final holders, and the catalogue's seats
-abbrev pub IsUsed : List ℕ → Publication → ℕ → Type 0
-IsUsed seats p section = slice_index_or p.used section (0, 0) ≡ (holders section p.allocation, slice_index seats section)
+abbrev pub IsUseTold : List ℕ → Publication → ℕ → Type 0
+IsUseTold seats p section = slice_index_or p.used section (0, 0) ≡ (holders section p.allocation, slice_index seats section)
 
 -- What is printed is right by these terms: each student's budget is the one that it draws; each bundle of stage two is affordable and feasible,
 -- with its tree; no section is above its seats; each turn is the due one, and its bundle is affordable, feasible and of what is offered,
@@ -35,7 +35,7 @@ pub record HoldsOf (terms : TermsData) (p : Publication) : Type 0 where
   pub turns : AllBelow (length p.turns) (IsRightTurn terms p)
   pub quiet : EndsQuietly terms.crowd p
   pub allocation : AllBelow (length terms.crowd.students) (IsAllocated p)
-  pub used : AllBelow terms.crowd.sections (IsUsed terms.seats p)
+  pub used : AllBelow terms.crowd.sections (IsUseTold terms.seats p)
 
 -- The certificate holds of a publication: its order merges the streams, and what is printed is right by the crowd after the order's
 -- journal, the seats of the catalogue and the raise of the settings.

@@ -23,7 +23,7 @@ use Rattle.certificate_checker.specs.Firsts.{AllBelow, FailsFirstAt}
 use Rattle.certificate_checker.specs.Orders.{FailsToMerge}
 use Rattle.certificate_checker.specs.Students.{HasBudget, IsAffordable, IsOffered, IsProvedBundle, MayTake, offer_in, proved_in}
 use Rattle.certificate_checker.specs.Turns.{EndsQuietly, IsDue, IsRightTurn, turn_in, turn_offer}
-use Rattle.certificate_checker.specs.Certificates.{IsAllocated, IsTextOf, IsUsed, IsWithinSeats}
+use Rattle.certificate_checker.specs.Certificates.{IsAllocated, IsTextOf, IsUseTold, IsWithinSeats}
 
 -- one of the students, and the bundles of those before it are as they should be
 pub record IsFirstStudent (crowd : CrowdData) (p : Publication) (student : ℕ) : Type 0 where
@@ -92,7 +92,7 @@ IsFound terms p (Seats section used seats) =
 IsFound terms p (Turn turn fault) = IsFirstTurn terms p turn fault
 IsFound terms p (NotQuiet turns) = (turns ≡ length p.turns) × (¬ EndsQuietly terms.crowd p)
 IsFound terms p (Allocation student) = FailsFirstAt (length terms.crowd.students) (IsAllocated p) student.0
-IsFound terms p (Used section) = FailsFirstAt terms.crowd.sections (IsUsed terms.seats p) section.0
+IsFound terms p (Used section) = FailsFirstAt terms.crowd.sections (IsUseTold terms.seats p) section.0
 
 -- The parts that are looked at, in their order: the budgets; the bundles of stage two; the seats; the turns; how they end; the final
 -- bundles. Each of these is all parts up to one.

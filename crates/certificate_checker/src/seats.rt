@@ -3,7 +3,7 @@ ghost use Rattle.std.specs.Prelude.{◌≡◌, ◌↔◌, IsTrue, IfErr, OnOk};
 ghost use Rattle.market_certificate.specs.Views.{publication_of};
 ghost use Rattle.published_parts.specs.Holdings.{demanded};
 ghost use Rattle.certificate_checker.specs.Findings.{HoldsToAllocation, HoldsToBundles, HoldsToSeats, IsFirstIn};
-ghost use Rattle.certificate_checker.specs.Certificates.{IsUsed};
+ghost use Rattle.certificate_checker.specs.Certificates.{IsUseTold};
 ghost use Rattle.certificate_checker.specs.Firsts.{AllBelow};
 ghost use Rattle.certificate_checker.specs.Parts.{CanCheck};
 ghost use Rattle.held_seats.specs.Floors.{IsFloor, held_on};
@@ -53,7 +53,7 @@ pub(crate) fn check_used(
     requires before { HoldsToAllocation (terms_of terms.now) (publication_of publication.now) }
     requires held { held_on floor.now ≡ (publication_of publication.now).allocation }
     requires floor { IsFloor terms.now.seats.items floor.now }
-    ensures ok { OnOk result (AllBelow (terms_of terms.now).crowd.sections (IsUsed (terms_of terms.now).seats (publication_of publication.now))) }
+    ensures ok { OnOk result (AllBelow (terms_of terms.now).crowd.sections (IsUseTold (terms_of terms.now).seats (publication_of publication.now))) }
     ensures first { IfErr result (IsFirstIn (terms_of terms.now) (publication_of publication.now)) }
 {
     for place in 0..terms.seats.len() {

@@ -31,14 +31,14 @@ pub record HasTurnForm (turn : ProvedTurn) : Type 0 where
   pub pass : turn.pass < 2 ^ 64
 
 -- the bundle is the best of an offer
-abbrev pub IsBestOf : Offer → List ℕ → Type 0
-IsBestOf offer bundle = IsBest (wishes_of offer.menu) offer.price offer.budget offer.allowed bundle
+abbrev pub IsBestOfOffer : Offer → List ℕ → Type 0
+IsBestOfOffer offer bundle = IsBest (wishes_of offer.menu) offer.price offer.budget offer.allowed bundle
 
 -- a turn of a student of the crowd, to the best of what is offered to it
 pub record IsBestTurn (crowd : CrowdData) (prices : List Tokens) (raise : ℕ) (turn : TurnData) : Type 0 where
   pub who : Student
   pub listed : slice_get crowd.students turn.student ≡ Some who
-  pub best : IsBestOf (offer_at prices raise who turn) turn.bundle
+  pub best : IsBestOfOffer (offer_at prices raise who turn) turn.bundle
 
 -- what the first students take at the prices, with its trees
 pub record AreProved (crowd : Crowd) (prices : List Tokens) (all : List proved.Proved) : Type 0 where
