@@ -287,6 +287,21 @@ fn best_beside(
     demand_beside(workspace, menu, prices, budget, allowed, section, &first)
 }
 
+// The best bundle, found beside itself: where it has the section, the search begins with a bundle that has it.
+fn best_beside_itself(
+    workspace: &mut Workspace,
+    menu: &Menu,
+    prices: &[Tokens],
+    budget: Tokens,
+    allowed: &SectionSet,
+    section: SectionNo,
+) -> Bundle
+    requires prices { HasPrices menu.now prices.now }
+{
+    let first = demand(workspace, menu, prices, budget, allowed);
+    demand_beside(workspace, menu, prices, budget, allowed, section, &first)
+}
+
 #[test]
 fn the_best_beside_one_without_a_section(rt: HostRuntime) -> Result<(), Fail> {
     let mut seed = 3;
@@ -305,6 +320,8 @@ fn the_best_beside_one_without_a_section(rt: HostRuntime) -> Result<(), Fail> {
         let best = best_beside(&mut workspace, &menu, &prices, budget, &allowed, section);
         let plain = demand(&mut workspace, &menu, &prices, budget, &allowed);
         assert!(rt; best == plain, "at turn {turn}");
+        let again = best_beside_itself(&mut workspace, &menu, &prices, budget, &allowed, section);
+        assert!(rt; again == plain, "at turn {turn}");
         with_it = with_it.wrapping_add(u32::from(best.has(section)));
         without = without.wrapping_add(u32::from(!best.has(section)));
     }
