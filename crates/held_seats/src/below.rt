@@ -11,10 +11,7 @@ use market_units::SectionNo;
 pub fn are_below(sections: usize, bundles: &[Bundle]) -> bool
     ensures { IsTrue result ↔ AreBelow sections (map sections_of bundles.now) }
 {
-    match bundles {
-        [] => true,
-        [bundle, more @ ..] => is_below(sections, bundle) && are_below(sections, more),
-    }
+    bundles.iter().all(|bundle| is_below(sections, bundle))
 }
 
 pub(crate) fn is_below(sections: usize, bundle: &Bundle) -> bool

@@ -1,6 +1,6 @@
 -- The sections of a bundle that a menu allows are sections of the catalogue.
 use Rattle.std.proofs.Common.{ℕ, zero, suc, ◌≡◌, ◌<◌, true, List, [], ◌∷◌, All, length, get_or, map, arith, subst, sym}
-use Rattle.std.proofs.lemmas.List.Elements.{All-cons, All-head, All-nil, All-tail}
+use Rattle.std.proofs.lemmas.List.Elements.{All-head, All-tail}
 use Rattle.std.specs.FinMap.{entries}
 use Rattle.std.specs.Prelude.{slice_index_or}
 use Rattle.bundle_rules.specs.declared.menu.Rated.{Rated}
@@ -13,14 +13,11 @@ use Rattle.bundle_rules.specs.Wishes.{IsFeasible}
 use Rattle.bundle_rules.proofs.Feasibility.{place_of_rated}
 use Rattle.course_catalog.specs.Sections.{Section}
 use Rattle.market_menus.specs.MenusOf.{AreMenusOf, IsMenuOf, places_of, rated_of}
+use Rattle.market_lists.proofs.Images.{unmapped}
 use Rattle.market_units.specs.declared.units.SectionNo.{SectionNo}
 use Rattle.preference_desk.specs.StudentPreferences.{SectionsBelow, StudentPreferences, no_preferences}
 use Rattle.student_roll.specs.Students.{Student}
 use Rattle.market_host.proofs.QuoteFacts.{first_menu}
-
-All-from_map : {A B : Type 0} (P : B → Type 0) (f : A → B) (xs : List A) → All P (map f xs) → All (λ x. P (f x)) xs
-All-from_map P f [] all = All-nil (λ x. P (f x))
-All-from_map P f (x ∷ xs) all = All-cons (λ y. P (f y)) x xs (All-head P (f x) (map f xs) all) (All-from_map P f xs (All-tail P (f x) (map f xs) all))
 
 place_below : (catalog : List Section) (n : ℕ) (es : List (ℕ × ℕ)) (k : ℕ) → All (λ (rated : ℕ × ℕ). rated.0 < n) es → k < length (map (rated_of catalog) es) → section_at (map (rated_of catalog) es) k < n
 place_below catalog n [] k below inside = absurd (omega arith)
@@ -40,8 +37,8 @@ pub bundle_listed : (catalog : List Section) (student : Student) (wanted : Stude
     → SectionsBelow (length catalog) wanted → IsFeasible (wishes_of menu) bundle → ordinals sections ≡ bundle → All (λ (section : SectionNo). section.0 < length catalog) sections
 bundle_listed catalog student wanted menu bundle sections is below feasible same =
     let each : (s : ℕ) → has bundle s ≡ true → s < length catalog = λ s in_bundle. listed catalog wanted menu.places s below is.places (place_of_rated menu bundle feasible.rated s in_bundle) in
-    All-from_map (λ s. s < length catalog) (λ (section : SectionNo). section.0) sections
-    (subst (All (λ s. s < length catalog)) (sym same) (All-from_map (λ s. s < length catalog) (λ s. s) bundle (all_of_has (λ s. s < length catalog) (λ s. s) bundle each)))
+    unmapped (λ s. s < length catalog) (λ (section : SectionNo). section.0) sections
+    (subst (All (λ s. s < length catalog)) (sym same) (unmapped (λ s. s < length catalog) (λ s. s) bundle (all_of_has (λ s. s < length catalog) (λ s. s) bundle each)))
 
 has_preferences : (catalog : List Section) (student : Student) (preferences : List StudentPreferences) (menus : List MenuData) → AreMenusOf catalog (student ∷ []) preferences menus → 0 < length preferences
 has_preferences catalog student (wanted ∷ more) (menu ∷ menus) are = omega arith

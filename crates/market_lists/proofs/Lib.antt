@@ -1,4 +1,5 @@
 pub mod Fronts
+pub mod Images
 pub mod Orders
 pub mod Parts
 pub mod Sums

@@ -2,14 +2,10 @@
 use Rattle.std.proofs.Common.{ℕ, ◌≡◌, ◌<◌, List, map, sym, subst, arith}
 use Rattle.std.specs.Prelude.{ℤ, All}
 use Rattle.std.specs.FinMap.{entries}
-use Rattle.std.proofs.lemmas.List.{get_or-map, length-map}
+use Rattle.market_lists.proofs.Images.{unmapped}
 use Rattle.market_units.specs.declared.units.SectionNo.{SectionNo}
 use Rattle.preference_desk.specs.Rows.{pair_entry, rating_entry}
 use Rattle.preference_desk.specs.StudentPreferences.{SectionsBelow, StudentPreferences}
-
--- what holds of each image
-pub unmapped : {X Y : Type 0} (P : Y → Type 0) (f : X → Y) (xs : List X) → All P (map f xs) → All (λ x. P (f x)) xs
-unmapped P f xs each k d inside = subst P (get_or-map f xs k d (f d) inside) (each k (f d) (omega (arith, length-map xs f)))
 
 -- the sections of a student's ratings are below the number of sections
 pub rated_below : (n : ℕ) (wanted : StudentPreferences) (items : List (SectionNo × ℕ)) → SectionsBelow n wanted → map rating_entry items ≡ entries wanted.ratings → All (λ (rated : SectionNo × ℕ). rated.0.0 < n) items

@@ -1,0 +1,11 @@
+use Rattle.std.proofs.Common.{ℕ, ◌≡◌, ◌<◌, List, true}
+use Rattle.std.proofs.lemmas.List.Elements.{All-map}
+use Rattle.bundle_rules.specs.Bundles.{sections_of}
+use Rattle.bundle_rules.specs.Sets.{has}
+use Rattle.market_lists.proofs.Images.{unmapped}
+use Rattle.held_seats.proofs.below.are_below.Goals as goal
+
+pub returns : goal.returns
+returns c =
+    let P : List ℕ → Type 0 = λ bundle. (s : ℕ) → has bundle s ≡ true → s < c.args.sections in
+    ((λ is. All-map P sections_of c.args.bundles.now (c.all.ensures.0 is)), (λ below. c.all.ensures.1 (unmapped P sections_of c.args.bundles.now below)))
