@@ -11,6 +11,12 @@ use market_units::SectionNo;
 pub fn are_below(sections: usize, bundles: &[Bundle]) -> bool
     ensures { IsTrue result ↔ AreBelow sections (map sections_of bundles.now) }
 {
+    each_is_below(sections, bundles)
+}
+
+fn each_is_below(sections: usize, bundles: &[Bundle]) -> bool
+    ensures { IsTrue result ↔ All (λ bundle. (s : ℕ) → has (sections_of bundle) s ≡ true → s < sections) bundles.now }
+{
     bundles.iter().all(|bundle| is_below(sections, bundle))
 }
 
