@@ -5,4 +5,4 @@ use Rattle.preference_desk.specs.declared.entry.Entry.{Entry}
 use Rattle.market_run.proofs.tests.has_sessions.Goals as goal
 
 pub returns : goal.returns
-returns c = subst (λ (journal : List Entry). IsTrue c.are_sessions.result → All (λ (entry : Entry). IsSession entry.session) journal) c.journal.ensures.entries c.are_sessions.ensures
+returns c = subst (λ (journal : List Entry). IsTrue c.are_sessions.result → All (λ (entry : Entry). IsSession entry.session) journal) c.journal.ensures.entries c.are_sessions.ensures.0
