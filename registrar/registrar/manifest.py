@@ -14,7 +14,7 @@ from dataclasses import dataclass
 from typing import List, Sequence, Tuple
 
 from registrar import program, tables
-from registrar.tell import FAULTS, NO_FILE, Trouble
+from registrar.tell import FAULTS, NO_FILE, USAGE, Trouble
 
 NAME = "manifest.json"
 ROLES = ("catalogue", "roll", "settings", "session")
@@ -34,6 +34,7 @@ class Manifest:
     program: str
     elapsed: float
     made: str
+    text_sum: str = ""
 
     @property
     def folder(self) -> str:
@@ -106,22 +107,39 @@ def read(path: str = NAME, verify: bool = True, text_too: bool = True) -> Manife
         raise Trouble(f"{path} has to name one catalogue, one roll, one settings file and at least one session")
     return Manifest(
         path, by_role["catalogue"][0], by_role["roll"][0], by_role["settings"][0], tuple(by_role["session"]),
-        os.path.join(folder, text[0]), words, *rest,
+        os.path.join(folder, text[0]), words, *rest, text[1],
     )
 
 
 def refuse_changed(path: str, folder: str, files: List[Tuple[str, str, str]]) -> None:
     """Refuses where a file is gone or has changed since the run."""
+    names = {total: name for _, name, total in files}
     told = []
     for role, name, total in files:
         full = os.path.join(folder, name)
         if not os.path.exists(full):
             told.append(f"{full} ({role}) is not there")
-        elif program.sha256(full) != total:
-            told.append(f"{full} ({role}) has changed since the run")
+            continue
+        now = program.sha256(full)
+        if now != total:
+            other = f": it is what {names[now]} was. Were the two swapped?" if now in names else ""
+            told.append(f"{full} ({role}) has changed since the run{other}")
     if told:
         advice = "Put the file of that run back, or run again with the files as they are now."
         raise Trouble("\n".join([f"by {path}:"] + ["  " + one for one in told] + [advice]), FAULTS)
+
+
+def of_files(files: Sequence[str]) -> Manifest:
+    """What a manifest of these files (CATALOGUE ROLL SETTINGS TEXT SESSION..) would say, for a reader who has none."""
+    if len(files) < 5:
+        raise Trouble("give no files, or CATALOGUE ROLL SETTINGS TEXT SESSION..", USAGE)
+    catalogue, roll, settings, text = files[:4]
+    return Manifest("", catalogue, roll, settings, tuple(files[4:]), text, (), "", 0.0, "")
+
+
+def is_text_as_run(found: Manifest) -> bool:
+    """Whether the published text is the one that the run wrote."""
+    return program.sha256(found.text) == found.text_sum
 
 
 def inputs_words(found: Manifest) -> List[str]:

@@ -6,7 +6,7 @@ import json
 import os
 import sys
 import time
-from typing import Dict, List, Optional, Sequence, TextIO, Union
+from typing import Dict, List, Optional, Sequence, TextIO
 
 # The tool's own exit statuses (those of sysexits.h), apart from 1 to 9, which are the program's.
 USAGE = 64
@@ -111,12 +111,19 @@ class Life:
             self.open = False
 
 
-Size = Dict[str, Union[int, str]]
+Size = Dict[str, int]
 
 
 def times_of(folder: str, size: Size) -> List[float]:
-    """What the last runs of this size took, by the file in the output folder; none where it cannot be read."""
-    return [one["seconds"] for one in read_times(folder) if one.get("size") == size]
+    """What the last runs of about this size took, by the file in the output folder; none where it cannot be read."""
+    return [one["seconds"] for one in read_times(folder) if is_like(one.get("size"), size)]
+
+
+def is_like(one: object, other: Size) -> bool:
+    """Whether two sizes have the same measures, each within a tenth of the other's."""
+    if not isinstance(one, dict) or set(one) != set(other):
+        return False
+    return all(isinstance(one[name], int) and abs(one[name] - other[name]) * 10 <= other[name] for name in other)
 
 
 def read_times(folder: str) -> List[dict]:
