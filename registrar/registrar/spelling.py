@@ -84,7 +84,7 @@ class Names:
         self.rules = rules
         self.originals: dict[str, str] = {}
         self.folded: dict[str, str] = {}
-        self.unknown: dict[str, str] = {}
+        self.nearer: Meant | None = None
         #: Whether the school's table could be read: where it could not, no name is looked up in it.
         self.is_whole = True
 
@@ -132,20 +132,15 @@ class Names:
 
     def missing(self, name: str) -> str:
         """What is said of a name that nobody has."""
-        if name not in self.unknown:
-            near = nearest(name, self.originals) if len(self.unknown) < COMPARED else ""
-            self.unknown[name] = f"a {self.kind} of the {table_of(self.kind)}{self.hint(name, near)}"
-        return self.unknown[name]
-
-    def hint(self, name: str, near: str) -> str:
-        """What may have been meant by a name that nobody has."""
-        if name.casefold() in self.folded:
-            return f"; nearest: {self.folded[name.casefold()]}, with other capitals (`any case = yes` joins them)"
-        stripped = name.lstrip("0")
-        zeros = [known for known in self.originals if stripped and known.lstrip("0") == stripped]
-        if zeros and name.isdigit():
-            return f"; {zeros[0]} has other leading zeros, which a spreadsheet may have taken (`pad = {len(zeros[0])}` joins them)"
-        return f"; nearest: {near}" if near else ""
+        if self.nearer is None:
+            self.nearer = Meant(self.originals)
+        hint = self.nearer.hint(name)
+        advice = ""
+        if hint.endswith("capitals)"):
+            advice = "; `any case = yes` joins them"
+        elif hint.endswith("zeros)"):
+            advice = f"; `pad = {max(len(known) for known in self.originals if known.isdigit())}` joins them"
+        return f"a {self.kind} of the {table_of(self.kind)}{hint}{advice}"
 
     def rows(self) -> list[list[str]]:
         """The rows of `names.csv`: kind, code, name."""
@@ -161,3 +156,30 @@ def nearest(name: str, known: Iterable[str]) -> str:
     """The known name that is most like this one, or nothing where none is much like it."""
     found = difflib.get_close_matches(name, list(known), n=1, cutoff=0.75)
     return found[0] if found else ""
+
+
+class Meant:
+    """What may have been meant by names that nobody has."""
+
+    def __init__(self, known: Iterable[str]) -> None:
+        self.known = list(known)
+        self.folded = {spelt(name).casefold(): name for name in reversed(self.known)}
+        self.bare = {name.lstrip("0"): name for name in reversed(self.known) if name.isdigit() and name.strip("0")}
+        self.told: dict[str, str] = {}
+
+    def hint(self, name: str) -> str:
+        """`; nearest: FNCE-601-A`, and where the difference is capitals or zeros, that it is; nothing where none is near."""
+        if name not in self.told:
+            self.told[name] = self.look(name)
+        return self.told[name]
+
+    def look(self, name: str) -> str:
+        """The hint for a name that was not looked for yet."""
+        folded = self.folded.get(spelt(name).casefold())
+        if folded:
+            return f"; nearest: {folded} (other capitals)"
+        bare = self.bare.get(name.lstrip("0")) if name.isdigit() else None
+        if bare:
+            return f"; nearest: {bare} (a spreadsheet may have taken leading zeros)"
+        near = nearest(name, self.known) if len(self.told) < COMPARED else ""
+        return f"; nearest: {near}" if near else ""
