@@ -1,0 +1,79 @@
+"""The command line: one subcommand for each command module."""
+
+from __future__ import annotations
+
+import argparse
+import importlib
+from typing import List, Optional, Sequence
+
+from registrar import tell
+
+# The command modules in the order of a term. Each has NAME, HELP, add_arguments(parser) and run(arguments) -> exit status.
+MODULES = (
+    "import_exports",
+    "look",
+    "run_market",
+    "try_settings",
+    "check",
+    "explain",
+    "audit",
+    "again",
+    "lists",
+    "summary",
+    "hall",
+    "next_term",
+)
+
+STATUSES = (
+    "Exit statuses: 0, all is well; 1 to 9, the program's own status (docs/FORMATS.md); 64, the words are wrong; "
+    "65, faults or warnings stand in the files, and are told; 66, a file is missing; 69, there is no program yet."
+)
+
+
+class Parser(argparse.ArgumentParser):
+    """A parser whose refusals have a status of their own, since 2 is a status of the program."""
+
+    def error(self, message: str) -> None:
+        """Tells the usage and the fault, and ends."""
+        self.print_usage(tell.errors())
+        self.exit(tell.USAGE, f"{self.prog}: {message}\n")
+
+
+def command_modules() -> List[object]:
+    """The command modules that are there."""
+    found = []
+    for name in MODULES:
+        try:
+            found.append(importlib.import_module("registrar." + name))
+        except ModuleNotFoundError as missing:
+            if missing.name != "registrar." + name:
+                raise
+    return found
+
+
+def parser() -> argparse.ArgumentParser:
+    """The parser of all commands."""
+    top = Parser(prog="registrar", description=__import__("registrar").__doc__.strip().splitlines()[0], epilog=STATUSES)
+    commands = top.add_subparsers(dest="command", metavar="COMMAND", parser_class=Parser)
+    for module in command_modules():
+        one = commands.add_parser(module.NAME, help=module.HELP, description=module.HELP, epilog=STATUSES)
+        module.add_arguments(one)
+        one.set_defaults(run=module.run)
+    return top
+
+
+def main(words: Optional[Sequence[str]] = None) -> int:
+    """Runs the command of these words, and answers its exit status."""
+    reader = parser()
+    arguments = reader.parse_args(words)
+    if arguments.command is None:
+        reader.print_help()
+        return tell.USAGE
+    try:
+        return arguments.run(arguments)
+    except tell.Trouble as trouble:
+        tell.warn(str(trouble))
+        return trouble.status
+    except KeyboardInterrupt:
+        tell.warn("stopped by the keyboard; what stood before still stands")
+        return 130

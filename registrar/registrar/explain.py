@@ -1,0 +1,42 @@
+"""`explain`: why a student has no seat in a section, as the program tells it and in words for the student."""
+
+from __future__ import annotations
+
+import argparse
+
+from registrar import check, manifest, program, published, reasons, streams, tell
+
+NAME = "explain"
+HELP = "tell why a student has no seat in a section, by the manifest, with words for the student"
+
+
+def add_arguments(parser: argparse.ArgumentParser) -> None:
+    """The words of `explain`."""
+    parser.add_argument("student", metavar="STUDENT")
+    parser.add_argument("section", metavar="SECTION")
+    manifest.add_argument(parser)
+
+
+def run(arguments: argparse.Namespace) -> int:
+    """Calls the program, and tells its answer and what to say to the student."""
+    found = manifest.read(arguments.manifest, text_too=False)
+    answer = program.call(manifest.explain_words(found, arguments.student, arguments.section), tell.Life("explaining"))
+    tell.say(answer.text.rstrip("\n"))
+    if answer.status == 0:
+        tell.say()
+        tell.say(reasons.in_words(market_of(found), reasons.read_reason(answer.lines)))
+    else:
+        tell_refusal(found, answer)
+    return answer.status
+
+
+def market_of(found: manifest.Manifest) -> reasons.Market:
+    """The market of a manifest."""
+    text = published.read_published(found.text)
+    return reasons.market_of(text, found.catalogue, found.roll, streams.in_order(text.order, found.sessions))
+
+
+def tell_refusal(found: manifest.Manifest, answer: program.Answer) -> None:
+    """Tells a status other than 0; a finding with its place."""
+    for line in check.about(found, answer.lines[-1]) if answer.status == 8 else program.retell(answer):
+        tell.warn(line)

@@ -1,0 +1,219 @@
+"""`lists`: what a school hands out, from the published text: students, rosters, sections, and a text for each student."""
+
+from __future__ import annotations
+
+import argparse
+import concurrent.futures
+import importlib
+import os
+from dataclasses import dataclass
+from typing import Dict, List, Sequence
+
+from registrar import explain, manifest, program, published, reasons, run_market, tables, tell
+
+NAME = "lists"
+HELP = "write students.csv, rosters.csv, sections.csv and a text for each student, by the manifest"
+
+# Without another wish, the program is asked for each reason only where all of them take no longer than this.
+PATIENCE = 300.0
+
+
+@dataclass(frozen=True)
+class Ask:
+    """What the reasons are asked from: the manifest, the market, and how."""
+
+    found: manifest.Manifest
+    market: reasons.Market
+    how: str
+
+
+def add_arguments(parser: argparse.ArgumentParser) -> None:
+    """The options of `lists`."""
+    manifest.add_argument(parser)
+    parser.add_argument("--out", default="lists", metavar="FOLDER", help="where the lists go (default: lists)")
+    parser.add_argument("--student", action="append", default=[], metavar="NAME", help="texts for these students alone; may be repeated")
+    parser.add_argument(
+        "--reasons", choices=("auto", "program", "plain", "none"), default="auto",
+        help="program: ask the program's `explain` for each section, which checks the whole text each time; plain: tell the first "
+        "line of its answer, found by the rule of FORMATS; auto: the program where that takes at most five minutes, else plain",
+    )
+    parser.add_argument("--no-reasons", dest="reasons", action="store_const", const="none", help="the same as --reasons none")
+    run_market.add_workers(parser)
+
+
+def run(arguments: argparse.Namespace) -> int:
+    """Checks the text, and writes the lists."""
+    found = manifest.read(arguments.manifest)
+    answer = program.call(manifest.check_words(found), tell.Life("checking the text"))
+    if answer.status:
+        tell.say(answer.text.rstrip("\n"))
+        explain.tell_refusal(found, answer)
+        return answer.status
+    market = explain.market_of(found)
+    names = chosen(arguments.student, market)
+    os.makedirs(os.path.join(arguments.out, "students"), exist_ok=True)
+    books = {
+        "students": student_rows(market),
+        "rosters": roster_rows(market),
+        "sections": section_rows(market),
+    }
+    for name, rows in books.items():
+        tables.write_csv(os.path.join(arguments.out, name + ".csv"), rows)
+    write_book(os.path.join(arguments.out, "lists.xlsx"), books)
+    how = how_to_ask(arguments, market, names, answer.elapsed)
+    write_texts(os.path.join(arguments.out, "students"), Ask(found, market, how), names, arguments.workers)
+    tell.say(f"{arguments.out}: students.csv, rosters.csv, sections.csv, and {tell.count(len(names), 'text', 'texts')} in students/")
+    return 0
+
+
+def chosen(names: Sequence[str], market: reasons.Market) -> List[str]:
+    """The students whose texts are written."""
+    for name in names:
+        if name not in market.students:
+            raise tell.Trouble(f"no student of the roll has the name '{name}'. Capital letters count")
+    return list(names) or list(market.students)
+
+
+def student_rows(market: reasons.Market) -> List[Sequence[object]]:
+    """A row for each student: final sections, credits, tokens spent and left."""
+    rows: List[Sequence[object]] = [("student", "sections", "credits", "spent", "left")]
+    for name, final in market.text.finals.items():
+        spent = market.text.cost(final.sections)
+        # What the aftermarket's raise paid is not owed.
+        left = max(0, market.text.budgets[name] - spent)
+        rows.append((name, " ".join(final.sections), credits_of(market, final.sections), spent, left))
+    return rows
+
+
+def credits_of(market: reasons.Market, sections: Sequence[str]) -> int:
+    """The credits of these sections."""
+    return sum(market.sections[one].credits for one in sections)
+
+
+def roster_rows(market: reasons.Market) -> List[Sequence[object]]:
+    """A row for each seat that is taken: section by section, the students in the order of the roll."""
+    rows: List[Sequence[object]] = [("section", "student")]
+    for section in market.sections:
+        rows += [(section, name) for name, final in market.text.finals.items() if section in final.sections]
+    return rows
+
+
+def section_rows(market: reasons.Market) -> List[Sequence[object]]:
+    """A row for each section: price, seats, how many are used, and how many students rated it."""
+    rows: List[Sequence[object]] = [("section", "price", "seats", "used", "wanted")]
+    for section, used in market.text.used.items():
+        wanted = sum(1 for rated in market.ratings.values() if section in rated)
+        rows.append((section, market.text.prices[section], used.seats, used.used, wanted))
+    return rows
+
+
+def write_book(path: str, books: Dict[str, List[Sequence[object]]]) -> None:
+    """Writes the tables as one .xlsx too, where that can be done."""
+    try:
+        sheet = importlib.import_module("registrar.sheet")
+    except ModuleNotFoundError:
+        return
+    if sheet.has_xlsx():
+        sheet.write_book(path, {name: [list(row) for row in rows] for name, rows in books.items()})
+
+
+def missed(market: reasons.Market, name: str) -> List[str]:
+    """The sections that a student lacks and rated higher than the lowest of what it has, highest rating first."""
+    rated = market.ratings.get(name, {})
+    held = market.text.finals[name].sections
+    least = min((rated.get(one, 0) for one in held), default=0)
+    better = [one for one in rated if one not in held and rated[one] > least]
+    places = {code: place for place, code in enumerate(market.sections)}
+    return sorted(better, key=lambda one: (-rated[one], places[one]))
+
+
+def how_to_ask(arguments: argparse.Namespace, market: reasons.Market, names: Sequence[str], check: float) -> str:
+    """`program`, `plain` or `none`: what was wished, or by what it would cost."""
+    if arguments.reasons != "auto":
+        return arguments.reasons
+    calls = sum(len(missed(market, name)) for name in names)
+    cost = calls * check / max(1, arguments.workers)
+    if cost <= PATIENCE:
+        return "program"
+    tell.warn(
+        f"{calls} reasons would take the program about {tell.seconds(cost)}: the texts have the first line of each, found by rule. "
+        "`registrar explain STUDENT SECTION` has the whole of one, `registrar lists --student NAME` all of a student"
+    )
+    return "plain"
+
+
+def write_texts(folder: str, ask: Ask, names: Sequence[str], workers: int) -> None:
+    """Writes a text for each student, a few at a time, and says how far it is."""
+    life = tell.Life("")
+    with concurrent.futures.ThreadPoolExecutor(max_workers=max(1, workers)) as pool:
+        for done, (name, text) in enumerate(zip(names, pool.map(lambda one: student_text(ask, one), names)), 1):
+            tables.write_whole(os.path.join(folder, name + ".txt"), text.encode("utf-8"))
+            life.what = f"texts: {done} of {len(names)}"
+            life.tick()
+    life.end()
+
+
+def student_text(ask: Ask, name: str) -> str:
+    """A student's own lines, and why it has no seat in what it would rather have had."""
+    text, market = ask.market.text, ask.market
+    final = text.finals[name].sections
+    spent = text.cost(final)
+    lines = [name, ""]
+    lines.append(f"You have {reasons.and_joined(final)}: {credits_of(market, final)} credits.")
+    raised = ": the aftermarket raised the budgets" if spent > text.budgets[name] else ""
+    lines.append(f"Your budget was {text.budgets[name]} tokens. What you have costs {spent}{raised}.")
+    lines += ["", "Your sections:", ""] + section_lines(market, name, final)
+    lines += ["", "Your lines of the published text, with their numbers:", ""] + own_lines(text, name)
+    if ask.how != "none":
+        lines += reason_lines(ask, name)
+    return "\n".join(lines) + "\n"
+
+
+def section_lines(market: reasons.Market, name: str, final: Sequence[str]) -> List[str]:
+    """The sections that a student has, with price, own rating and meetings."""
+    rated = market.ratings.get(name, {})
+    rows = [
+        (one, market.text.prices[one], rated.get(one, 0), market.sections[one].credits, market.sections[one].meetings or "none")
+        for one in final
+    ]
+    return ["  " + line for line in tell.table(("section", "price", "your rating", "credits", "meetings"), rows)]
+
+
+def own_lines(text: published.Published, name: str) -> List[str]:
+    """The lines of the published text that are a student's own, with their numbers."""
+    wanted = [
+        number
+        for number, line in enumerate(text.lines, 1)
+        if line.startswith((f"budget {name} ", f"bundle {name} ", f"final {name} "))
+    ]
+    wanted += [turn.line for turn in text.turns if turn.student == name]
+    return [f"  {number}: {text.lines[number - 1]}" for number in sorted(wanted)]
+
+
+def reason_lines(ask: Ask, name: str) -> List[str]:
+    """For each section that the student would rather have had, why it has none."""
+    better = missed(ask.market, name)
+    if not better:
+        return ["", "You have all that you rated highest."]
+    lines = ["", "Sections that you rated higher than one of yours, and have not:"]
+    settled = ask.market.text.bundles[name].sections
+    if settled != ask.market.text.finals[name].sections:
+        lines += [
+            "",
+            f"(These answers speak of the second stage, in which you had {reasons.and_joined(settled)}. What the aftermarket "
+            "changed, your turn lines tell.)",
+        ]
+    for section in better:
+        reason = reason_of(ask, name, section)
+        lines += ["", f"  {section} (your rating {ask.market.ratings[name][section]})", "  " + reasons.in_words(ask.market, reason)]
+    return lines
+
+
+def reason_of(ask: Ask, name: str, section: str) -> reasons.Reason:
+    """The program's answer, or the first line of it by rule."""
+    if ask.how == "plain":
+        return reasons.plain_reason(ask.market, name, section)
+    answer = program.call(manifest.explain_words(ask.found, name, section))
+    if answer.status:
+        raise tell.Trouble("\n".join(program.retell(answer)), answer.status)
+    return reasons.read_reason(answer.lines)

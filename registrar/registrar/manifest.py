@@ -1,0 +1,167 @@
+"""The manifest beside a published text: which files, words and program made it, with their SHA-256.
+
+By it `check`, `explain`, `audit`, `hall`, `again`, `lists` and `summary` are called without naming files again. Reading it
+verifies each sum, so that none of them speaks of files that have changed since.
+"""
+
+from __future__ import annotations
+
+import argparse
+import json
+import os
+import time
+from dataclasses import dataclass
+from typing import List, Sequence, Tuple
+
+from registrar import program, tables
+from registrar.tell import FAULTS, NO_FILE, USAGE, Trouble
+
+NAME = "manifest.json"
+ROLES = ("catalogue", "roll", "settings", "session")
+
+
+@dataclass(frozen=True)
+class Manifest:
+    """A manifest that was read: the paths of its files, as they are to be opened from here."""
+
+    path: str
+    catalogue: str
+    roll: str
+    settings: str
+    sessions: Tuple[str, ...]
+    text: str
+    words: Tuple[str, ...]
+    program: str
+    elapsed: float
+    made: str
+    text_sum: str = ""
+
+    @property
+    def folder(self) -> str:
+        """The folder in which the manifest stands."""
+        return os.path.dirname(self.path) or "."
+
+    @property
+    def workers(self) -> str:
+        """The number of workers of the run."""
+        return self.words[1] if len(self.words) > 1 and self.words[1].isdigit() else "1"
+
+
+def add_argument(parser: argparse.ArgumentParser) -> None:
+    """The option by which a command takes a manifest."""
+    parser.add_argument(
+        "--manifest", default=NAME, metavar="FILE", help="the manifest that `run` wrote (default: manifest.json in this folder)"
+    )
+
+
+def beside(text: str) -> str:
+    """The path of the manifest of a text: `manifest.json` for `published.txt`, else the text's name with `.manifest.json`."""
+    folder, name = os.path.split(text)
+    stem = os.path.splitext(name)[0]
+    return os.path.join(folder, NAME if stem == "published" else f"{stem}.{NAME}")
+
+
+def write(path: str, words: Sequence[str], text: str, elapsed: float) -> None:
+    """Writes the manifest of a run of these words (`run WORKERS CATALOGUE ROLL SETTINGS SESSION..`) that made this text."""
+    folder = os.path.dirname(os.path.abspath(path))
+    inputs = [
+        {"role": one.role, "file": relative(one.path, folder), "sha256": program.sha256(one.path)}
+        for one in program.inputs_of(words)
+    ]
+    kept = {
+        "inputs": inputs,
+        "words": list(words[:2]) + [one["file"] for one in inputs],
+        "program": program.sha256(program.find_program()),
+        "text": {"file": relative(text, folder), "sha256": program.sha256(text)},
+        "elapsed": round(elapsed, 1),
+        "made": time.strftime("%Y-%m-%dT%H:%M:%SZ", time.gmtime()),
+    }
+    tables.write_whole(path, (json.dumps(kept, indent=1, ensure_ascii=False) + "\n").encode("utf-8"))
+
+
+def relative(path: str, folder: str) -> str:
+    """A path as seen from a folder, with slashes."""
+    return os.path.relpath(os.path.abspath(path), folder).replace(os.sep, "/")
+
+
+def read(path: str = NAME, verify: bool = True, text_too: bool = True) -> Manifest:
+    """Reads a manifest. With `verify`, a file that is gone or has changed since the run is a refusal that names all such files.
+
+    `text_too=False` leaves the published text out of that: `check` judges a text that may have been changed.
+    """
+    if not os.path.exists(path):
+        raise Trouble(f"there is no manifest {path}: `registrar run` writes one beside the published text", NO_FILE)
+    try:
+        kept = json.loads(tables.read_text(path))
+        inputs = [(one["role"], one["file"], one["sha256"]) for one in kept["inputs"]]
+        text = (kept["text"]["file"], kept["text"]["sha256"])
+        words = tuple(str(word) for word in kept["words"])
+        rest = (str(kept["program"]), float(kept["elapsed"]), str(kept["made"]))
+    except (ValueError, KeyError, TypeError) as error:
+        raise Trouble(f"{path} is no manifest of `registrar run` ({error})") from error
+    folder = os.path.dirname(path)
+    if verify:
+        refuse_changed(path, folder, [(role, name, total) for role, name, total in inputs] + [("text", *text)] * text_too)
+    by_role = {role: [os.path.join(folder, name) for one, name, _ in inputs if one == role] for role in ROLES}
+    if any(len(by_role[role]) != 1 for role in ROLES[:3]) or not by_role["session"]:
+        raise Trouble(f"{path} has to name one catalogue, one roll, one settings file and at least one session")
+    return Manifest(
+        path, by_role["catalogue"][0], by_role["roll"][0], by_role["settings"][0], tuple(by_role["session"]),
+        os.path.join(folder, text[0]), words, *rest, text[1],
+    )
+
+
+def refuse_changed(path: str, folder: str, files: List[Tuple[str, str, str]]) -> None:
+    """Refuses where a file is gone or has changed since the run."""
+    names = {total: name for _, name, total in files}
+    told = []
+    for role, name, total in files:
+        full = os.path.join(folder, name)
+        if not os.path.exists(full):
+            told.append(f"{full} ({role}) is not there")
+            continue
+        now = program.sha256(full)
+        if now != total:
+            other = f": it is what {names[now]} was. Were the two swapped?" if now in names else ""
+            told.append(f"{full} ({role}) has changed since the run{other}")
+    if told:
+        advice = "Put the file of that run back, or run again with the files as they are now."
+        raise Trouble("\n".join([f"by {path}:"] + ["  " + one for one in told] + [advice]), FAULTS)
+
+
+def of_files(files: Sequence[str]) -> Manifest:
+    """What a manifest of these files (CATALOGUE ROLL SETTINGS TEXT SESSION..) would say, for a reader who has none."""
+    if len(files) < 5:
+        raise Trouble("give no files, or CATALOGUE ROLL SETTINGS TEXT SESSION..", USAGE)
+    catalogue, roll, settings, text = files[:4]
+    return Manifest("", catalogue, roll, settings, tuple(files[4:]), text, (), "", 0.0, "")
+
+
+def is_text_as_run(found: Manifest) -> bool:
+    """Whether the published text is the one that the run wrote."""
+    return program.sha256(found.text) == found.text_sum
+
+
+def inputs_words(found: Manifest) -> List[str]:
+    """CATALOGUE ROLL SETTINGS TEXT of a call."""
+    return [found.catalogue, found.roll, found.settings, found.text]
+
+
+def check_words(found: Manifest) -> List[str]:
+    """The words of `check`."""
+    return ["check", *inputs_words(found), *found.sessions]
+
+
+def audit_words(found: Manifest, workers: str) -> List[str]:
+    """The words of `audit`."""
+    return ["audit", workers, *inputs_words(found), *found.sessions]
+
+
+def explain_words(found: Manifest, student: str, section: str) -> List[str]:
+    """The words of `explain`."""
+    return ["explain", *inputs_words(found), student, section, *found.sessions]
+
+
+def hall_words(found: Manifest, requests: Sequence[str]) -> List[str]:
+    """The words of `hall`."""
+    return ["hall", found.catalogue, found.roll, found.text, *requests]

@@ -1,0 +1,147 @@
+"""What the tools say: lines, tables, refusals, and a line of life while the program works."""
+
+from __future__ import annotations
+
+import json
+import os
+import sys
+import time
+from typing import Dict, List, Optional, Sequence, TextIO
+
+# The tool's own exit statuses (those of sysexits.h), apart from 1 to 9, which are the program's.
+USAGE = 64
+FAULTS = 65
+NO_FILE = 66
+NO_PROGRAM = 69
+
+# The file in the output folder that keeps what earlier runs took.
+TIMES = "registrar-times.json"
+
+
+class Trouble(Exception):
+    """What keeps a command from its work. It is told on standard error, and `status` is the exit status."""
+
+    def __init__(self, message: str, status: int = FAULTS) -> None:
+        super().__init__(message)
+        self.status = status
+
+
+def errors() -> TextIO:
+    """Standard error."""
+    return sys.stderr
+
+
+def say(line: str = "") -> None:
+    """A line of the answer, to standard output."""
+    print(line, flush=True)
+
+
+def warn(line: str) -> None:
+    """A line about the work, to standard error."""
+    print(line, file=sys.stderr, flush=True)
+
+
+def table(header: Sequence[str], rows: Sequence[Sequence[object]]) -> List[str]:
+    """The lines of a table in plain text: columns that hold numbers alone stand to the right."""
+    cells = [[str(cell) for cell in row] for row in rows]
+    widths = [max([len(head)] + [len(row[i]) for row in cells]) for i, head in enumerate(header)]
+    right = [bool(rows) and all(isinstance(row[i], (int, float)) for row in rows) for i in range(len(header))]
+
+    def line(row: Sequence[str]) -> str:
+        parts = [cell.rjust(width) if flush else cell.ljust(width) for cell, width, flush in zip(row, widths, right)]
+        return "  ".join(parts).rstrip()
+
+    return [line(header), "  ".join("-" * width for width in widths)] + [line(row) for row in cells]
+
+
+def seconds(elapsed: float) -> str:
+    """A span of time in words: `19 s`, `3 min 05 s`."""
+    whole = int(round(elapsed))
+    if whole < 60:
+        return f"{whole} s"
+    return f"{whole // 60} min {whole % 60:02d} s"
+
+
+def count(number: int, one: str, more: str) -> str:
+    """A number with its noun: `1 seat`, `2 seats`."""
+    return f"{number} {one if number == 1 else more}"
+
+
+class Life:
+    """A line of life while the program works: what it does, how long, and what the last such runs took.
+
+    On a terminal the line is written anew each second; elsewhere a line comes each half minute.
+    """
+
+    def __init__(self, what: str, before: Sequence[float] = (), stream: Optional[TextIO] = None) -> None:
+        self.what = what
+        self.before = list(before)
+        self.stream = stream if stream is not None else sys.stderr
+        self.begun = time.monotonic()
+        self.told = self.begun
+        self.open = False
+
+    def line(self, elapsed: float) -> str:
+        """The line at this time."""
+        earlier = ""
+        if self.before:
+            earlier = "; the last runs of this size took " + ", ".join(seconds(one) for one in self.before[-3:])
+        return f"{self.what}: {seconds(elapsed)}{earlier}"
+
+    def tick(self) -> None:
+        """To be called often: tells the line where it is due."""
+        now = time.monotonic()
+        due = 1.0 if self.stream.isatty() else 30.0
+        if now - self.told < due:
+            return
+        self.told = now
+        text = self.line(now - self.begun)
+        if self.stream.isatty():
+            self.stream.write("\r" + text + "\x1b[K")
+            self.open = True
+        else:
+            self.stream.write(text + "\n")
+        self.stream.flush()
+
+    def end(self) -> None:
+        """Takes the line from the terminal."""
+        if self.open:
+            self.stream.write("\r\x1b[K")
+            self.stream.flush()
+            self.open = False
+
+
+Size = Dict[str, int]
+
+
+def times_of(folder: str, size: Size) -> List[float]:
+    """What the last runs of about this size took, by the file in the output folder; none where it cannot be read."""
+    return [one["seconds"] for one in read_times(folder) if is_like(one.get("size"), size)]
+
+
+def is_like(one: object, other: Size) -> bool:
+    """Whether two sizes have the same measures, each within a tenth of the other's."""
+    if not isinstance(one, dict) or set(one) != set(other):
+        return False
+    return all(isinstance(one[name], int) and abs(one[name] - other[name]) * 10 <= other[name] for name in other)
+
+
+def read_times(folder: str) -> List[dict]:
+    """All that the file of times keeps."""
+    try:
+        with open(os.path.join(folder, TIMES), encoding="utf-8") as file:
+            kept = json.load(file)
+        return [one for one in kept if isinstance(one, dict) and isinstance(one.get("seconds"), (int, float))]
+    except (OSError, ValueError, TypeError):
+        return []
+
+
+def keep_time(folder: str, size: Size, elapsed: float) -> None:
+    """Keeps what a run of this size took. A folder that takes no file is no fault of the run."""
+    kept = read_times(folder)[-99:] + [{"size": size, "seconds": round(elapsed, 1)}]
+    try:
+        with open(os.path.join(folder, TIMES), "w", encoding="utf-8") as file:
+            json.dump(kept, file, indent=1)
+            file.write("\n")
+    except OSError:
+        pass
