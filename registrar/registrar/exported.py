@@ -57,14 +57,11 @@ class Export:
 
     def read(self) -> None:
         """Reads the file."""
-        header_row = self.source.get("header row")
-        if not re.fullmatch("[1-9][0-9]{0,3}", header_row):
-            self.faults.add(self.file, None, "header row", header_row, "the number of a row, from 1")
-            return
+        header_row = int(self.source.get("header row"))
         try:
             rows = read_rows(self.source.path, self.source.get("encoding"), self.source.get("sheet"))
             for number, cells in enumerate(rows, 1):
-                self.take(number, cells, int(header_row))
+                self.take(number, cells, header_row)
         except SheetFault as fault:
             self.faults.add(self.file, fault.row, "", fault.value, fault.expected)
             return
@@ -72,7 +69,7 @@ class Export:
             self.faults.add(self.file, None, "", self.source.path, f"a file that can be read ({error.strerror})")
             return
         if not any(cell.strip() for cell in self.header):
-            self.faults.add(self.file, int(header_row), "", "", "the columns' names (`header row` says where they stand)")
+            self.faults.add(self.file, header_row, "", "", "the columns' names (`header row` says where they stand)")
             return
         self.is_read = True
 

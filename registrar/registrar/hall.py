@@ -24,7 +24,8 @@ REQUESTS = ("add", "drop", "leave")
 
 def add_arguments(parser: argparse.ArgumentParser) -> None:
     """The options of `hall`."""
-    parser.epilog = (
+    parser.description = (
+        f"{HELP}. "
         "The requests of all [requests NAME] of the mapping make one stream, in the order of the mapping and of the rows, so that "
         "the replies are the same each time. Written are hall.requests, hall.txt (what the program printed), and as tables "
         "hall-replies.csv, hall-rosters.csv, hall-students.csv and hall-waiting.csv."

@@ -30,7 +30,8 @@ MOST_TOKENS = 900_000
 
 def add_arguments(parser: argparse.ArgumentParser) -> None:
     """The options of `import`."""
-    parser.epilog = (
+    parser.description = (
+        f"{HELP}. "
         "First `import EXPORT ..`: it writes the mapping as a guess, says what it could not guess, and stops. Correct the mapping, "
         "then `import`: it tells all faults at once, or writes catalogue.csv, roll.csv, a session for each survey, and names.csv."
     )

@@ -76,7 +76,7 @@ class Seen:
 def add_arguments(parser: argparse.ArgumentParser) -> None:
     """The options of `look`."""
     kinds = "; ".join(f"{kind}: {what}" for kind, what in KINDS.items())
-    parser.epilog = f"It ends with 0 where nothing is found that is not allowed, else with 65. The kinds: {kinds}."
+    parser.description = f"{HELP}. It ends with 0 where nothing is found that is not allowed, else with 65. The kinds: {kinds}."
     parser.add_argument("catalogue", metavar="CATALOGUE")
     parser.add_argument("roll", metavar="ROLL")
     parser.add_argument("sessions", nargs="+", metavar="SESSION")

@@ -13,7 +13,7 @@ from dataclasses import dataclass, field
 from decimal import Decimal
 from typing import Mapping as Dict
 
-from registrar.amounts import AmountFault, amount
+from registrar.amounts import AmountFault, amount, whole
 from registrar.faults import Faults
 from registrar.meetings import DAYS, NO_MEETING, MeetingFault, MeetingRules, clock
 from registrar.sheet import SheetFault, decoded
@@ -68,6 +68,7 @@ OPTIONS: Dict[str, Dict[str, str]] = {
         "section": "(wishes) the column of the section",
         "second": "(wishes) the column of a second section: where it is filled, the row is about both together",
         "value": "(wishes) the column of the rating or rank",
+        "value default": "(wishes) what a blank there means; blank: a fault",
         "columns": "(students, choices) the names of the columns, * standing for the section or for the number of the choice",
         "extra": "(students, `columns = *`) the columns that are no sections, with | between them: any other has to be one",
         "pairs": "(students, choices) a column with pairs as `A-1 + B-2 = 9; A-1 + C-1 = -5`",
@@ -138,12 +139,21 @@ FREE: Dict[str, str] = {
     "spell courses": "a course = a name of the program, chosen by hand",
 }
 
+#: Options that are one of a few words.
 CHOICES: Dict[str, tuple[str, ...]] = {
     "shape": ("wishes", "students", "choices"),
     "says": ("rating", "rank"),
     "again": ("refuse", "last"),
     "any case": ("yes", "no"),
     "decimal": (".", ","),
+}
+
+#: Options that are whole numbers, and their ranges.
+RANGES: Dict[str, tuple[int, int]] = {
+    "header row": (1, 9999),
+    "first rating": (1, 100),
+    "rating step": (0, 100),
+    "least rating": (1, 100),
 }
 
 
@@ -255,14 +265,26 @@ class MappingReader:
                 self.fault(title, option, option, "an option of this section" + (f"; nearest: {near[0]}" if near else ""))
             elif value and option in CHOICES and value not in CHOICES[option]:
                 self.fault(title, option, value, " or ".join(CHOICES[option]))
+                values[option] = ""
+            elif value and option in RANGES:
+                values[option] = self.in_range(title, option, value)
         if kind not in ("catalogue", "roll", "survey", "requests"):
             return
         if kind in ("survey", "requests") and not is_name(name):
             self.fault(title, "", title, f"[{kind} NAME], the name of letters, digits, '-', '_' and '.'")
             return
-        self.mapping.sources.append(Source(title, kind, name, os.path.dirname(self.path), values))
-        if not values.get("file"):
-            self.fault(title, "file", "", OF_EVERY_EXPORT["file"])
+        if values.get("file"):
+            self.mapping.sources.append(Source(title, kind, name, os.path.dirname(self.path), values))
+        else:
+            self.fault(title, "file", "", "the export's file")
+
+    def in_range(self, title: str, option: str, value: str) -> str:
+        """The value where it is a whole number of its range; else nothing, with a fault."""
+        try:
+            return str(whole(value, *RANGES[option]))
+        except AmountFault as fault:
+            self.fault(title, option, value, str(fault))
+            return ""
 
     def value(self, title: str, option: str) -> str:
         """The value of an option of one of the sections without an export, or its default."""

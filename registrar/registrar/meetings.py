@@ -81,7 +81,7 @@ def days_of(text: str, rules: MeetingRules) -> str:
             continue
         word = next((rest[:size] for size in range(min(len(rest), 12), 0, -1) if rest[:size] in words), "")
         if not word:
-            raise MeetingFault(f"{EXPECTED}: \"{rest}\" is no day; write the days one by one, or name it under [days]")
+            raise MeetingFault(f"{EXPECTED}: \"{text.strip()}\" are no days; write them one by one, or name them under [days]")
         if words[word] in letters:
             raise MeetingFault(f"{EXPECTED}: a day stands twice in \"{text.strip()}\"")
         letters += words[word]
@@ -120,6 +120,8 @@ def span(start: str, end: str, length: int, rules: MeetingRules) -> tuple[int, i
     """
     begin = clock(start)
     if not end:
+        if re.fullmatch(r"\d{1,2}", start.strip()):
+            raise MeetingFault(f"{EXPECTED}: \"{start.strip()}\" alone is no time")
         minutes = length or rules.length
         if not minutes:
             raise MeetingFault("an end or a length: state `length` or `length default`, in minutes")

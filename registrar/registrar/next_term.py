@@ -24,7 +24,8 @@ MOST_TOKENS = 900_000
 
 def add_arguments(parser: argparse.ArgumentParser) -> None:
     """The options of `next`."""
-    parser.epilog = (
+    parser.description = (
+        f"{HELP}. "
         "The rule: what is carried over is the student's budget less the prices of its final sections, and 0 where these come to "
         "more. The text is not judged: `registrar check` does that."
     )

@@ -117,6 +117,9 @@ class Names:
         known = self.originals.get(name)
         if known is not None and known != code:
             raise NameFault(f"a name of its own: \"{known}\" is spelt {name} too; choose one by `spell`")
+        folded = self.folded.get(name.casefold(), name)
+        if self.rules.any_case and folded != name:
+            raise NameFault(f"a name of its own under `any case = yes`: {folded} differs from {name} by capitals alone")
         self.originals[name] = code
         self.folded.setdefault(name.casefold(), name)
         return name

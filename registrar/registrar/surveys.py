@@ -58,11 +58,10 @@ class Known:
 
 @dataclass
 class Survey:
-    """What one survey says. `answered` are the students with a row in it, `passed_over` the columns that nothing was taken from."""
+    """What one survey says. `passed_over` are the columns that nothing was taken from."""
 
     name: str
     wishes: list[Wish]
-    answered: list[str]
     passed_over: list[str]
 
 
@@ -70,17 +69,6 @@ def rating_of(rank: int, source: Source) -> int:
     """The rating of a rank by the mapping's rule: the first one, less a step for each further rank, and never below the least."""
     first, step, least = (int(source.get(option)) for option in ("first rating", "rating step", "least rating"))
     return max(least, first - step * (rank - 1))
-
-
-def rule_faults(source: Source, faults: Faults) -> bool:
-    """Whether the rule of a survey's ranks is in order. What is not is added to the faults."""
-    before = len(faults)
-    for option, least, most in (("first rating", 1, 100), ("rating step", 0, 100), ("least rating", 1, 100)):
-        try:
-            whole(source.get(option), least, most)
-        except AmountFault as fault:
-            faults.add(source.get("file"), None, f"[{source.title}] {option}", source.get(option), str(fault))
-    return len(faults) == before
 
 
 def answers_of(source: Source) -> dict[str, str]:
@@ -98,13 +86,13 @@ class SurveyReader:
         self.faults = faults
         self.export = Export(source, faults)
         self.answers = answers_of(source)
-        self.survey = Survey(source.name, [], [], [])
+        self.survey = Survey(source.name, [], [])
+        self.rows_of: dict[str, list[int]] = {}
 
     def read(self) -> Survey:
         """The survey's wishes; each fault is added to the faults."""
-        in_order = rule_faults(self.source, self.faults)
         student = self.export.column("student", needed=True)
-        if not in_order or not self.export.is_read or not student:
+        if not self.export.is_read or not student:
             return self.survey
         shapes: dict[str, Callable[[], Iterator[Wish]]] = {
             "wishes": self.by_wish, "students": self.by_section, "choices": self.by_choice,
@@ -112,7 +100,6 @@ class SurveyReader:
         shape = shapes.get(self.source.get("shape"))
         if shape:
             wishes = list(shape())
-            self.survey.answered = list(dict.fromkeys(self.survey.answered))
             self.survey.wishes = self.once(wishes)
             self.limits()
         return self.survey
@@ -132,7 +119,7 @@ class SurveyReader:
         for row in self.export.rows:
             student = self.name(self.known.students, row, column.title, column.cell(row))
             if student:
-                self.survey.answered.append(student)
+                self.rows_of.setdefault(student, []).append(row.number)
             yield row, student
 
     def points(self, row: Row, column: str, text: str) -> int | None:
@@ -165,7 +152,7 @@ class SurveyReader:
             first = self.name(self.known.sections, row, section.title, section.cell(row))
             other_text = second.cell(row) if second else ""
             other = self.name(self.known.sections, row, second.title, other_text) if second and other_text else ""
-            text = value.cell(row)
+            text = self.export.cell(row, "value")
             points = self.adjustment(row, value.title, text) if other_text else self.points(row, value.title, text)
             if student and first and points is not None and bool(other) == bool(other_text):
                 yield Wish(student, first, other, points, row.number, value.title, text)
@@ -246,26 +233,30 @@ class SurveyReader:
 
     def once(self, wishes: list[Wish]) -> list[Wish]:
         """The wishes without repeats: a repeat is a fault, or the last one counts, as the mapping says."""
-        by_row = self.source.get("shape") != "wishes"
-        last: dict[tuple[str, ...], int] = {}
-        for wish in wishes:
-            last[(wish.student,) if by_row else (wish.student, *wish.about)] = wish.row
+        takes_last = self.source.get("again") == "last"
+        if self.source.get("shape") != "wishes":
+            wishes = self.of_one_row(wishes, takes_last)
+            takes_last = False
         kept: dict[tuple[str, ...], Wish] = {}
-        told: set[tuple[str, int]] = set()
         for wish in wishes:
             key = (wish.student, *wish.about)
-            counts = last[key[:1] if by_row else key]
-            if self.source.get("again") == "last" and wish.row != counts:
-                continue
-            before = kept.get(key)
             if wish.second == wish.section:
                 self.fault(wish, "two different sections")
-            elif before is None or self.source.get("again") == "last" and before.row != wish.row:
+            elif takes_last or key not in kept:
                 kept[key] = wish
-            elif (wish.student, wish.row) not in told or before.row == wish.row:
-                told.add((wish.student, wish.row))
-                self.fault(wish, f"one answer of {wish.student}; row {before.row} has it already (`again = last` takes the last)")
+            else:
+                said = f"row {kept[key].row}" if kept[key].row != wish.row else "this row"
+                self.fault(wish, f"a wish of {wish.student} that {said} does not have yet")
         return list(kept.values())
+
+    def of_one_row(self, wishes: list[Wish], takes_last: bool) -> list[Wish]:
+        """The wishes of one row for each student: the last row, or else a further row is a fault."""
+        column = self.export.column("student")
+        for student, rows in self.rows_of.items():
+            for row in rows[1:] if column and not takes_last else []:
+                expected = f"one row for each student; row {rows[0]} is one of {student} too (`again = last` takes the last)"
+                self.faults.add(self.export.file, row, column.title if column else "", student, expected)
+        return [wish for wish in wishes if wish.row == self.rows_of[wish.student][-1 if takes_last else 0]]
 
     def fault(self, wish: Wish, expected: str) -> None:
         """Keeps a fault of a wish."""

@@ -80,7 +80,7 @@ def made_school(seed: int, students: int, sections: int) -> School:
     """The school of a seed."""
     draw = random.Random(seed)
     offered = made_sections(draw, students, sections)
-    worth = {section.code: draw.choice([0, 0, 0, 4, 8, 15]) for section in offered}
+    worth = {section.code: draw.choice([0, 0, 0, 1, 2, 4]) for section in offered}
     who: list[Student] = []
     for at in range(students):
         last_year = draw.random() < 0.3
@@ -119,7 +119,7 @@ def rate(draw: random.Random, student: Student, offered: list[Section], worth: d
     count = min(len(offered), draw.randint(10, 40) if len(offered) > 40 else draw.randint(5, 8))
     ranked = sorted(offered, key=lambda section: draw.random() * 20 + worth[section.code], reverse=True)[:count]
     for section in sorted(ranked, key=offered.index):
-        student.ratings[section.code] = min(100, 70 + draw.randint(0, 15) + worth[section.code])
+        student.ratings[section.code] = min(100, 70 + draw.randint(0, 15) + 4 * worth[section.code])
     if student.survey == "choices":
         codes = [section.code for section in ranked[:10]]
         student.ratings = {code: max(1, 100 - 5 * at) for at, code in enumerate(codes)}
