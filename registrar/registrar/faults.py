@@ -1,0 +1,108 @@
+"""Faults in what a registrar gave: where each stands, what stands there, and what was expected.
+
+A command gathers all faults before it answers, so that one run tells them all.
+"""
+
+from __future__ import annotations
+
+from collections import Counter
+from dataclasses import dataclass, replace
+from typing import Iterable, Sequence, TextIO
+
+#: How many characters of a value are shown.
+SHOWN = 60
+
+#: How many rows, or runs of rows, one line names.
+NAMED = 40
+
+
+@dataclass(frozen=True)
+class Fault:
+    """One fault: its file, its row and column where it has them, the value that stands there, and what was expected."""
+
+    file: str
+    row: int | None
+    column: str
+    value: str
+    expected: str
+
+    def line(self, rows: Sequence[int] = ()) -> str:
+        """The fault in one line, for a person; with `rows` it is that of several rows."""
+        place = self.file
+        if len(rows) > 1:
+            place += f" rows {spans(rows)}"
+        elif self.row is not None:
+            place += f" row {self.row}"
+        if self.column:
+            place += f", column {self.column}"
+        return f"{place}: {shown(self.value)} where this was expected: {self.expected}"
+
+
+def spans(rows: Sequence[int]) -> str:
+    """Row numbers with runs put together: `2-5, 9`."""
+    runs: list[list[int]] = []
+    for row in sorted(set(rows)):
+        if runs and runs[-1][1] == row - 1:
+            runs[-1][1] = row
+        else:
+            runs.append([row, row])
+    words = [str(first) if first == last else f"{first}-{last}" for first, last in runs[:NAMED]]
+    left = sum(last - first + 1 for first, last in runs[NAMED:])
+    return ", ".join(words) + (f" and {left} more (`--faults FILE` writes them all)" if left else "")
+
+
+def shown(value: str) -> str:
+    """A value as a fault shows it: in quotes, in one line, cut where it is long."""
+    plain = " ".join(value.split())
+    if not plain:
+        return "blank"
+    if len(plain) > SHOWN:
+        plain = plain[: SHOWN - 2] + ".."
+    return f'"{plain}"'
+
+
+class Faults:
+    """The faults that one run has found, in the order in which they were found."""
+
+    def __init__(self) -> None:
+        self.found: list[Fault] = []
+
+    def __len__(self) -> int:
+        return len(self.found)
+
+    def add(self, file: str, row: int | None, column: str, value: str, expected: str) -> None:
+        """Keeps one fault more."""
+        self.found.append(Fault(file, row, column, value, expected))
+
+    def tell(self, out: TextIO) -> None:
+        """Writes a line for each fault, equal ones of several rows together, and then how many there are in each column.
+
+        Files come in the order in which they were read, and in each file the rows in theirs.
+        """
+        files = {file: at for at, file in enumerate(dict.fromkeys(fault.file for fault in self.found))}
+        ordered = sorted(self.found, key=lambda fault: (files[fault.file], fault.row or 0))
+        rows: dict[Fault, list[int]] = {}
+        for fault in ordered:
+            rows.setdefault(replace(fault, row=None), []).append(fault.row or 0)
+        for fault in ordered:
+            same = rows.pop(replace(fault, row=None), None)
+            if same is not None:
+                print(fault.line(same), file=out)
+        if len(self.found) > 1:
+            for words in sums(self.found):
+                print(words, file=out)
+
+    def rows(self) -> list[list[object]]:
+        """The faults as a table, which a spreadsheet sorts."""
+        found = [[one.file, "" if one.row is None else one.row, one.column, one.value, one.expected] for one in self.found]
+        return [["file", "row", "column", "value", "expected"], *found]
+
+
+def sums(faults: Iterable[Fault]) -> list[str]:
+    """How many faults stand in each column of each file, the most first."""
+    counts = Counter((fault.file, fault.column) for fault in faults)
+    lines = [f"{sum(counts.values())} faults"]
+    for (file, column), count in counts.most_common():
+        place = f"{file} column {column}" if column else file
+        lines.append(f"  {count} in {place}")
+    return lines

@@ -1,0 +1,304 @@
+"""A first guess of a mapping, from the columns' names and what stands below them.
+
+The guess never decides: it is written as a file that the registrar reads and corrects, and what could not be guessed is told.
+"""
+
+from __future__ import annotations
+
+import os
+import re
+from dataclasses import dataclass, field
+
+from registrar import tell
+from registrar.exported import plain
+from registrar.mapping import mapping_text
+from registrar.sheet import SheetFault, read_rows
+from registrar.spelling import spelt, tidy
+from registrar.surveys import rank_of
+from registrar.tables import write_whole
+
+#: How columns are called, by what they say. The first word that a file has is taken.
+WORDS: dict[str, str] = {
+    "section": "section code|section id|section|course section|class code|class nbr|class number|class|crn|code|offering",
+    "course": "course code|course id|course|course number|module|subject",
+    "seats": "seats|capacity|max enrollment|max enrolment|enrollment cap|enrolment cap|enrl cap|max seats|cap|places|size|limit",
+    "credits": "credits|credit|units|credit units|credit hours|cu|ects|max credits|credit cap|credit limit|max units|hours",
+    "meetings": "meetings|meeting times|meeting time|meeting|days times|days and times|day time|schedule|times|time|meets|when",
+    "days": "days|day|meeting days|weekdays|weekday",
+    "start": "start|start time|begin|begin time|starts|from",
+    "end": "end|end time|ends|until|to",
+    "length": "length|duration|minutes|length min|duration min|length minutes",
+    "parts": "parts|part of term|half|term half|part",
+    "student": "student number|student id|student no|student|matriculation number|id number|id|net id|netid|username|email|"
+    "e mail|email address|name",
+    "budget": "budget|tokens|bid points|endowment|points",
+    "courses": "max courses|courses|course cap|course limit|max sections|section cap|section limit|max number of courses",
+    "carry": "carry|carried over|carry over|tokens carried over|tokens left|left over|rollover",
+    "rating": "rating|score|points|utility|value|stars|how much",
+    "rank": "rank|priority|preference|order of preference",
+    "second": "second section|together with|with section|other section|with|second",
+    "request": "request|action|type of request|what",
+    "add": "section to add|add section|add",
+    "drop": "section to drop|drop section|drop",
+    "leave": "waiting list to leave|leave|leave waiting list",
+    "pairs": "pairs|together|better together|pair",
+}
+
+#: What is looked for in each kind of file, and how it is called there.
+SOUGHT = {
+    "catalogue": ("section", "course", "seats", "credits", "meetings", "days", "start", "end", "length", "parts"),
+    "roll": ("student", "budget", "credits", "courses", "carry"),
+}
+
+#: What a mapping needs to be whole: one of each group of options.
+NEEDED = {
+    "catalogue": ("section", "course", "seats", "credits", "meetings|days"),
+    "roll": ("student", "budget|budget default", "credits|credits default", "courses|courses default"),
+    "survey": ("student",),
+    "requests": ("student", "request|add|drop"),
+}
+
+
+@dataclass
+class Seen:
+    """A file that is looked at: its header, the rows below, and in which row the header stands."""
+
+    path: str
+    header: list[str]
+    rows: list[list[str]]
+    header_row: int
+    encoding: str = ""
+    kind: str = ""
+    values: dict[str, str] = field(default_factory=dict)
+
+    def has(self, what: str) -> str:
+        """The column that is called like this, or nothing."""
+        names = {plain(title): title for title in reversed(self.header) if title}
+        return next((names[word] for word in WORDS[what].split("|") if word in names), "")
+
+    def column(self, title: str) -> list[str]:
+        """What stands in a column, blanks left out."""
+        at = self.header.index(title)
+        return [tidy(row[at]) for row in self.rows if at < len(row) and row[at].strip()]
+
+
+def look_at(path: str, encoding: str) -> Seen:
+    """Reads a file and finds its header: of the first rows the one with the most names that are known."""
+    rows = [[tidy(cell) for cell in row] for row in read_rows(path, encoding)]
+    known = {word for words in WORDS.values() for word in words.split("|")}
+
+    def names(row: list[str]) -> int:
+        return sum(plain(cell) in known for cell in row)
+
+    first = next((at for at, row in enumerate(rows) if any(row)), 0)
+    best = max(range(first, min(len(rows), first + 10)), key=lambda at: (names(rows[at]), -at), default=0)
+    header = rows[best] if rows else []
+    return Seen(path, header, [row for row in rows[best + 1 :] if any(row)], best + 1, encoding)
+
+
+class Guesser:
+    """Guesses what the files are. `open` are what the registrar has to say."""
+
+    def __init__(self, files: list[Seen], folder: str) -> None:
+        self.files = files
+        self.folder = folder
+        self.codes: set[str] = set()
+        self.numbers: set[str] = set()
+        self.open: list[str] = []
+        self.told: list[str] = []
+        self.sections: dict[str, dict[str, str]] = {}
+        self.notes: dict[str, list[str]] = {}
+
+    def guess(self) -> str:
+        """The mapping as text."""
+        self.tables()
+        for seen in self.files:
+            if not seen.kind:
+                self.speaking(seen)
+        for kind in ("catalogue", "roll"):
+            if not any(seen.kind == kind for seen in self.files):
+                self.open.append(f"[{kind}]: none of the files looks like it")
+                self.sections[kind] = {}
+        order = {"catalogue": 0, "roll": 1, "survey": 2, "requests": 3}
+        for seen in sorted((seen for seen in self.files if seen.kind), key=lambda seen: order[seen.kind]):
+            self.keep(seen)
+        self.sections = dict(sorted(self.sections.items(), key=lambda item: order[item[0].split(" ")[0]]))
+        self.sections["numbers"] = self.of_numbers()
+        self.sections |= {"times": {}, "students": {}, "sections": {}}
+        return mapping_text(self.sections, self.notes)
+
+    def tables(self) -> None:
+        """Finds the catalogue and the roll, and the codes and numbers that they have."""
+        for seen in self.files:
+            if seen.has("section") and seen.has("seats") and not self.of("catalogue"):
+                seen.kind = "catalogue"
+                seen.values = {what: seen.has(what) for what in SOUGHT["catalogue"]}
+                self.split_codes(seen)
+                self.codes = {spelt(code) for code in self.joined(seen, seen.values["section"])}
+        for seen in self.files:
+            caps = [seen.has(what) for what in ("budget", "credits", "courses")]
+            if not seen.kind and seen.has("student") and any(caps) and not seen.has("section") and not self.of("roll"):
+                seen.kind = "roll"
+                seen.values = {what: seen.has(what) for what in SOUGHT["roll"]}
+                self.numbers = {spelt(number) for number in seen.column(seen.values["student"])}
+
+    def of(self, kind: str) -> list[Seen]:
+        """The files of a kind."""
+        return [seen for seen in self.files if seen.kind == kind]
+
+    def joined(self, seen: Seen, names: str) -> list[str]:
+        """The codes of a column, or of several that are joined by `-`."""
+        places = [seen.header.index(name) for name in names.split(" + ")]
+        return ["-".join(row[at] for at in places if at < len(row) and row[at]) for row in seen.rows]
+
+    def split_codes(self, seen: Seen) -> None:
+        """Where the section's column has a letter alone (`A`), the code is the course's and it; likewise subject and number."""
+        section, course = seen.values["section"], seen.values["course"]
+        subject = next((title for title in seen.header if plain(title) in ("subject", "dept", "department")), "")
+        number = next((title for title in seen.header if plain(title) in ("number", "catalog number", "catalogue number", "course no")), "")
+        if subject and number:
+            course = f"{subject} + {number}"
+            seen.values["course"] = course
+        if course and len(set(seen.column(section))) * 2 < len(seen.rows):
+            seen.values["section"] = f"{course} + {section}"
+        if seen.values["meetings"] and seen.values["days"]:
+            clocks = seen.column(seen.values["meetings"])
+            if not any(re.match(r"[A-Za-z]", clock) for clock in clocks):
+                seen.values["start"], seen.values["meetings"] = seen.values["start"] or seen.values["meetings"], ""
+
+    def like(self, seen: Seen, known: set[str]) -> str:
+        """The column that has the most of the known names, where it has any."""
+        def shared(title: str) -> int:
+            return len({spelt(value) for value in seen.column(title)} & known)
+
+        titles = [title for title in dict.fromkeys(seen.header) if title]
+        best = max(titles, key=shared, default="")
+        return best if best and shared(best) else ""
+
+    def speaking(self, seen: Seen) -> None:
+        """Guesses what a file is that is neither catalogue nor roll: a survey of one of three shapes, or requests."""
+        student = self.like(seen, self.numbers) or seen.has("student")
+        columns = self.code_columns(seen)
+        choices = self.choice_columns(seen)
+        section = self.like(seen, self.codes) or seen.has("section")
+        asked = {what: seen.has(what) for what in ("request", "add", "drop", "leave")}
+        value = seen.has("rating") or seen.has("rank")
+        if student and (asked["request"] and section or asked["add"] or asked["drop"]):
+            seen.kind = "requests"
+            seen.values = {"student": student, **asked}
+            if asked["request"]:
+                seen.values["section"] = seen.has("section") or section
+        elif student and len(columns[1]) > 1:
+            seen.kind = "survey"
+            extra = [title for title in seen.header if title and title not in columns[1] and title != student]
+            seen.values = {"student": student, "shape": "students", "columns": columns[0], "pairs": seen.has("pairs")}
+            if columns[0] == "*":
+                seen.values["extra"] = " | ".join(title for title in extra if title != seen.values["pairs"])
+            self.says(seen, [value for title in columns[1] for value in seen.column(title)])
+        elif student and choices:
+            seen.kind = "survey"
+            seen.values = {"student": student, "shape": "choices", "columns": choices, "pairs": seen.has("pairs")}
+        elif student and section and value:
+            seen.kind = "survey"
+            second = seen.has("second")
+            seen.values = {"student": student, "shape": "wishes", "section": section, "second": second, "value": value}
+            if second == section:
+                seen.values["section"] = seen.has("section")
+            seen.values["says"] = "rating" if seen.has("rating") else "rank"
+        else:
+            self.open.append(f"{os.path.basename(seen.path)}: neither catalogue, roll, survey nor requests; it is left out")
+
+    def says(self, seen: Seen, values: list[str]) -> None:
+        """Ratings or ranks: numbers of which none is above the number of columns, and each row has a 1, are ranks."""
+        numbers = [int(value) for value in values if re.fullmatch(r"[1-9][0-9]?", value)]
+        ones = sum(number == 1 for number in numbers)
+        is_rank = bool(numbers) and len(numbers) == len(values) and max(numbers) <= 60 and ones * 2 > len(seen.rows)
+        seen.values["says"] = "rank" if is_rank else "rating"
+
+    def code_columns(self, seen: Seen) -> tuple[str, list[str]]:
+        """The columns whose name has a section's code in it, and how their names are built around it."""
+        shapes: dict[str, list[str]] = {}
+        for title in seen.header:
+            for found in re.finditer(r"[^\[\]():]+", title):
+                if spelt(found.group().strip()) in self.codes:
+                    lead = len(found.group()) - len(found.group().lstrip())
+                    stem = found.group().strip()
+                    at = found.start() + lead
+                    shapes.setdefault(title[:at] + "*" + title[at + len(stem) :], []).append(title)
+        return max(shapes.items(), key=lambda item: len(item[1]), default=("", []))
+
+    def choice_columns(self, seen: Seen) -> str:
+        """How the names of the columns for choices are built (`Choice *`), or nothing."""
+        shapes: dict[str, int] = {}
+        for title in seen.header:
+            for found in re.finditer(r"\w+", title):
+                if rank_of(found.group()):
+                    shape = title[: found.start()] + "*" + title[found.end() :]
+                    shapes[shape] = shapes.get(shape, 0) + 1
+        shape = max(shapes, key=lambda one: shapes[one], default="")
+        return shape if shape and shapes[shape] > 1 else ""
+
+    def keep(self, seen: Seen) -> None:
+        """Keeps a file's section of the mapping, and what is open in it."""
+        stem = spelt(os.path.splitext(os.path.basename(seen.path))[0])[:32] or "one"
+        title = seen.kind if seen.kind in ("catalogue", "roll") else f"{seen.kind} {stem}"
+        file = os.path.relpath(seen.path, self.folder)
+        self.sections[title] = {"file": file, "encoding": seen.encoding, "header row": str(seen.header_row), **seen.values}
+        self.notes[title] = ["the columns of the file: " + " | ".join(name for name in seen.header if name)]
+        named = [f"{option} = {value}" for option, value in seen.values.items() if value]
+        self.told.append(f"{os.path.basename(seen.path)} is [{title}]: " + "; ".join(named))
+        for options in NEEDED[seen.kind]:
+            if not any(seen.values.get(option) for option in options.split("|")):
+                self.open.append(f"[{title}] {options.replace('|', ' or ')}")
+        for option in ("seats", "credits", "meetings", "budget", "courses"):
+            name = seen.values.get(option)
+            blanks = len(seen.rows) - len(seen.column(name)) if name and seen.kind in SOUGHT else 0
+            if blanks:
+                self.open.append(f"[{title}] {option} default: {blanks} of {len(seen.rows)} rows have nothing in {name}")
+        if seen.kind == "catalogue" and seen.values["meetings"]:
+            lacking = [text for text in seen.column(seen.values["meetings"]) if re.search(r"\d", text) and not re.search(r"\d\s*[-–]|to", text)]
+            if lacking and not seen.values["length"]:
+                self.open.append(f"[{title}] length or length default: \"{lacking[0]}\" has no end")
+
+    def of_numbers(self) -> dict[str, str]:
+        """The decimal sign, and the unit of credits, by the numbers that stand in the tables."""
+        texts = [
+            text
+            for seen in self.files
+            for what in ("credits", "seats", "budget")
+            if seen.kind in SOUGHT and seen.values.get(what)
+            for text in seen.column(seen.values[what])
+        ]
+        decimal = "," if any(re.fullmatch(r"\d+,\d{1,2}", text) for text in texts) else "."
+        parts = {text.rpartition(decimal)[2].rstrip("0") for text in texts if decimal in text}
+        unit = "1" if parts <= {""} else "0.5" if parts <= {"", "5"} else "0.25" if parts <= {"", "5", "25", "75"} else "0.01"
+        self.told.append(f"decimal = {decimal}; credit unit = {unit}")
+        return {"decimal": decimal, "credit unit": unit}
+
+
+def run(exports: list[str], mapping: str, encoding: str) -> int:
+    """Writes a guessed mapping, and tells what was guessed and what is open."""
+    if os.path.exists(mapping):
+        raise tell.Trouble(f"{mapping} stands already; name another by --mapping, or remove it")
+    seen: list[Seen] = []
+    faults: list[str] = []
+    for path in exports:
+        try:
+            seen.append(look_at(path, encoding))
+        except SheetFault as fault:
+            faults.append(f"{path}" + (f" row {fault.row}" if fault.row else "") + f": {fault.expected}")
+        except OSError as error:
+            faults.append(f"{path} can not be read: {error.strerror}")
+    if faults:
+        raise tell.Trouble("\n".join(faults))
+    guesser = Guesser(seen, os.path.dirname(mapping) or ".")
+    write_whole(mapping, guesser.guess().encode("utf-8"))
+    tell.say(f"{mapping} is written. What was guessed, and is to be looked at:")
+    for line in guesser.told:
+        tell.say(f"  {line}")
+    if guesser.open:
+        tell.say("What could not be guessed, and has to be written there:")
+    for line in guesser.open:
+        tell.say(f"  {line}")
+    tell.say(f"then: registrar import --mapping {mapping}")
+    return tell.FAULTS if guesser.open else 0

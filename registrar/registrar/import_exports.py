@@ -1,0 +1,349 @@
+"""`import`: from the exports of a school to catalogue, roll and sessions, by a mapping file of columns."""
+
+from __future__ import annotations
+
+import argparse
+import os
+import sys
+from dataclasses import dataclass, field
+
+from registrar import guess, tables, tell
+from registrar.amounts import AmountFault, grouped, in_units, whole
+from registrar.exported import Export, Row
+from registrar.faults import Faults
+from registrar.mapping import Mapping, Source, read_mapping
+from registrar.meetings import MeetingFault, joined, meetings_by_columns, meetings_of, minutes_of
+from registrar.spelling import NameFault, Names
+from registrar.surveys import Known, Survey, SurveyReader
+
+NAME = "import"
+HELP = "make catalogue, roll and sessions from a school's exports, by a mapping of columns"
+
+#: The limits of the program.
+MOST_SECTIONS = 400
+MOST_STUDENTS = 2000
+MOST_SESSIONS = 64
+MOST_COMMANDS = 200_000
+MOST_BYTES = 16 * 1024 * 1024
+MOST_TOKENS = 900_000
+
+
+def add_arguments(parser: argparse.ArgumentParser) -> None:
+    """The options of `import`."""
+    parser.description = (
+        f"{HELP}. "
+        "First `import EXPORT ..`: it writes the mapping as a guess, says what it could not guess, and stops. Correct the mapping, "
+        "then `import`: it tells all faults at once, or writes catalogue.csv, roll.csv, a session for each survey, and names.csv."
+    )
+    parser.add_argument("exports", nargs="*", metavar="EXPORT", help="the exports of which a first mapping is to be guessed")
+    parser.add_argument("--mapping", default="mapping.ini", metavar="FILE", help="the mapping (default: mapping.ini)")
+    parser.add_argument("--encoding", default="", help="with EXPORT: what a text is in that has no mark and is not UTF-8, as cp1252")
+    parser.add_argument("--into", default=".", metavar="FOLDER", help="where the files are written (default: this folder)")
+    parser.add_argument("--replace", action="store_true", help="write over files that stand there and differ")
+    parser.add_argument("--faults", metavar="FILE", help="write the faults as a table too")
+
+
+def run(arguments: argparse.Namespace) -> int:
+    """Guesses a mapping, or imports by one."""
+    if arguments.exports:
+        return guess.run(arguments.exports, arguments.mapping, arguments.encoding)
+    if not os.path.exists(arguments.mapping):
+        raise tell.Trouble(
+            f"there is no mapping {arguments.mapping}: `registrar import EXPORT ..` with the exports writes a first one", tell.NO_FILE
+        )
+    faults = Faults()
+    made = Importer(arguments.mapping, faults).made()
+    if not faults:
+        made.limits(faults)
+    if faults:
+        return tell_faults(faults, arguments.faults, arguments.mapping)
+    write_all(arguments.into, made.files(), arguments.replace)
+    for line in made.lines():
+        tell.say(line)
+    return 0
+
+
+def tell_faults(faults: Faults, table: str | None, mapping: str) -> int:
+    """Tells all faults, and that nothing was written."""
+    faults.tell(sys.stdout)
+    if table:
+        tables.write_whole(table, tables.csv_text(faults.rows()).encode("utf-8-sig"))
+    tell.say(f"nothing is written; correct the exports, or {mapping}, and run again")
+    return tell.FAULTS
+
+
+@dataclass
+class Draft:
+    """A section as its rows say it. `said` has each column's value with the row that said it first."""
+
+    name: str
+    said: dict[str, tuple[str, int]] = field(default_factory=dict)
+    meetings: list[str] = field(default_factory=list)
+    rows: list[int] = field(default_factory=list)
+
+
+@dataclass
+class Made:
+    """What an import makes: the rows of both tables, the surveys, and the names."""
+
+    mapping: Mapping
+    catalogue: list[list[str]] = field(default_factory=list)
+    roll: list[list[str]] = field(default_factory=list)
+    surveys: list[Survey] = field(default_factory=list)
+    names: list[list[str]] = field(default_factory=list)
+    notes: list[str] = field(default_factory=list)
+
+    def files(self) -> dict[str, bytes]:
+        """The files by name."""
+        files = {
+            "catalogue.csv": tables.csv_text(self.catalogue).encode(),
+            "roll.csv": tables.csv_text(self.roll).encode(),
+            "names.csv": tables.csv_text([["kind", "original", "name"], *self.names]).encode("utf-8-sig"),
+        }
+        for survey in self.surveys:
+            files[f"{survey.name}.session"] = session_text(survey).encode()
+        return files
+
+    def limits(self, faults: Faults) -> None:
+        """Adds what passes the limits of the program."""
+        source = os.path.basename(self.mapping.path)
+        counts = (
+            ("sections", len(self.catalogue) - 1, MOST_SECTIONS),
+            ("students", len(self.roll) - 1, MOST_STUDENTS),
+            ("surveys", len(self.surveys), MOST_SESSIONS),
+            ("wishes", sum(len(survey.wishes) for survey in self.surveys), MOST_COMMANDS),
+        )
+        for what, count, most in counts:
+            if count > most:
+                faults.add(source, None, what, grouped(count), f"at most {grouped(most)} {what}, the limit of the program")
+        if not self.surveys:
+            faults.add(source, None, "", "", "a survey at least: [survey NAME]")
+        for name, content in self.files().items():
+            if len(content) > MOST_BYTES and name != "names.csv":
+                faults.add(name, None, "", f"{grouped(len(content))} bytes", f"at most {grouped(MOST_BYTES)} bytes")
+
+    def lines(self) -> list[str]:
+        """What is told of an import."""
+        students = len(self.roll) - 1
+        lines = [f"catalogue.csv: {tell.count(len(self.catalogue) - 1, 'section', 'sections')}"]
+        lines.append(f"roll.csv: {tell.count(students, 'student', 'students')}")
+        spoke: set[str] = set()
+        for survey in self.surveys:
+            named = {wish.student for wish in survey.wishes}
+            spoke |= named
+            wishes = tell.count(len(survey.wishes), "wish", "wishes")
+            lines.append(f"{survey.name}.session: {wishes} of {tell.count(len(named), 'student', 'students')}")
+            if survey.passed_over:
+                lines.append(f"  columns passed over: {', '.join(survey.passed_over)}")
+        spelt = sum(original != name for _, original, name in self.names)
+        lines.append(f"names.csv: {tell.count(len(self.names), 'name', 'names')}, {spelt} of them spelt anew")
+        lines += self.notes
+        if students > len(spoke):
+            lines.append(f"{tell.count(students - len(spoke), 'student has', 'students have')} no wishes; `registrar look` names them")
+        return lines
+
+
+def session_text(survey: Survey) -> str:
+    """A survey as a session."""
+    lines = [f"# The survey {survey.name}, written by `registrar import`."]
+    return "\n".join(lines + [wish.command() for wish in survey.wishes]) + "\n"
+
+
+class Importer:
+    """Reads all exports of a mapping."""
+
+    def __init__(self, path: str, faults: Faults) -> None:
+        self.faults = faults
+        try:
+            self.mapping = read_mapping(path, faults)
+        except OSError as error:
+            raise tell.Trouble(f"{path} can not be read: {error.strerror}", tell.NO_FILE) from error
+        self.students = Names("student", self.mapping.students)
+        self.sections = Names("section", self.mapping.sections)
+        self.courses = Names("course", self.mapping.courses)
+        self.result = Made(self.mapping)
+
+    def made(self) -> Made:
+        """The files' content. Where there are faults it is not to be used."""
+        for kind, take in (("catalogue", self.take_catalogue), ("roll", self.take_roll)):
+            sources = self.mapping.of_kind(kind)
+            if sources:
+                take(Export(sources[0], self.faults))
+            else:
+                self.faults.add(self.mapping.path, None, f"[{kind}]", "", "this section of the mapping")
+        for source in self.mapping.of_kind("survey"):
+            self.result.surveys.append(self.survey(source))
+        self.result.names = [*self.sections.rows(), *self.courses.rows(), *self.students.rows()]
+        return self.result
+
+    def survey(self, source: Source) -> Survey:
+        """A survey. Where a table could not be read its names are not looked up: that would be a fault a row."""
+        return SurveyReader(source, Known(self.mapping, self.students, self.sections), self.faults).read()
+
+    def number(self, export: Export, row: Row, option: str, most: int) -> str:
+        """A whole number, as the program reads it; 0, with a fault, where it is none."""
+        text = export.cell(row, option)
+        try:
+            if option == "credits":
+                return str(in_units(text, self.mapping.unit, most, self.mapping.decimal))
+            return str(whole(text, 0, most, self.mapping.decimal))
+        except AmountFault as fault:
+            hint = "" if text else f"; `{option} default` states what a blank means"
+            export.fault(row, option, text, f"{fault}{hint}")
+            return "0"
+
+    def take_catalogue(self, export: Export) -> None:
+        """The catalogue, a section's rows together."""
+        self.sections.is_whole = export.is_read
+        for option in ("section", "course"):
+            export.column(option, needed=True)
+        for option in ("seats", "credits"):
+            export.column(option, needed=not export.source.get(f"{option} default"))
+        if not any(export.column(option) for option in ("meetings", "days")):
+            export.column("meetings", needed=not export.source.get("meetings default"))
+        drafts: dict[str, Draft] = {}
+        for row in export.rows if export.column("section") else []:
+            text = export.cell(row, "section")
+            try:
+                name = self.sections.define(text)
+            except NameFault as fault:
+                export.fault(row, "section", text, str(fault))
+                name = f"\0{row.number}"
+            draft = drafts.setdefault(name, Draft(name))
+            draft.rows.append(row.number)
+            self.take_row(export, row, draft)
+        self.settle(export, list(drafts.values()))
+
+    def take_row(self, export: Export, row: Row, draft: Draft) -> None:
+        """One row of a section. What it says of course, seats, credits and parts has to be what its other rows say."""
+        for option in ("course", "seats", "credits", "parts"):
+            column = export.column(option)
+            text = column.cell(row) if column else ""
+            said = draft.said.get(option)
+            if text and said and said[0] != text:
+                export.fault(row, option, text, f"\"{said[0]}\", as row {said[1]} says of {draft.name}")
+            elif text and not said:
+                draft.said[option] = (text, row.number)
+        draft.meetings += self.meetings(export, row)
+
+    def meetings(self, export: Export, row: Row) -> list[str]:
+        """The meetings that a row says."""
+        option = "meetings" if export.column("meetings") else "days"
+        text = export.cell(row, option)
+        if option == "days" and not export.cell(row, "start"):
+            text = text or export.source.get("meetings default")
+        rules = self.mapping.meetings
+        try:
+            length = self.length(export, row)
+            if not text and not (option == "days" and export.cell(row, "start")):
+                text = export.source.get("meetings default")
+                if not text:
+                    raise MeetingFault("days and times; `meetings default = TBA` states that a blank is no meeting")
+                option = "meetings"
+            if option == "meetings":
+                return meetings_of(text, length, rules)
+            return meetings_by_columns(text, export.cell(row, "start"), export.cell(row, "end"), length, rules)
+        except MeetingFault as fault:
+            parts = [export.cell(row, part) for part in (option, "start", "end")] if option == "days" else [text]
+            export.fault(row, option, " ".join(parts), str(fault))
+            return []
+
+    def length(self, export: Export, row: Row) -> int:
+        """The minutes of the row's meetings that state no end; 0 where none are stated."""
+        text = export.cell(row, "length")
+        return minutes_of(text) if text else 0
+
+    def settle(self, export: Export, drafts: list[Draft]) -> None:
+        """The rows of the catalogue, in the order in which the export has the sections."""
+        has_parts = bool(export.column("parts"))
+        header = ["section", "course", "seats", "credits", "meetings"] + ["parts"] * has_parts
+        self.result.catalogue = [header]
+        by_number = {row.number: row for row in export.rows}
+        for draft in drafts:
+            first = by_number[draft.rows[0]]
+            row = {option: by_number[draft.said[option][1]] if option in draft.said else first for option in header[1:]}
+            try:
+                meetings = ";".join(joined(draft.meetings))
+            except MeetingFault as fault:
+                export.fault(first, "meetings", draft.name, str(fault))
+                meetings = ""
+            cells = [draft.name, self.course(export, row["course"])]
+            cells += [self.number(export, row["seats"], "seats", 9999), self.number(export, row["credits"], "credits", 100), meetings]
+            self.result.catalogue.append(cells + ([self.parts(export, row["parts"])] if has_parts else []))
+        several = [draft.name for draft in drafts if len(draft.rows) > 1]
+        if several:
+            shown = ", ".join(several[:5]) + (", .." if len(several) > 5 else "")
+            self.result.notes.append(f"{tell.count(len(several), 'section has', 'sections have')} several rows, put together: {shown}")
+
+    def course(self, export: Export, row: Row) -> str:
+        """The course of a section."""
+        text = export.cell(row, "course")
+        try:
+            return self.courses.define(text) if export.column("course") else ""
+        except NameFault as fault:
+            export.fault(row, "course", text, str(fault))
+            return ""
+
+    def parts(self, export: Export, row: Row) -> str:
+        """The half of the term, or both."""
+        text = export.cell(row, "parts")
+        plain = text.removesuffix(".0")
+        if plain not in ("1", "2", "12"):
+            export.fault(row, "parts", text, "1 for the first half of the term, 2 for the second, 12 for both (`parts default` for a blank)")
+        return plain
+
+    def take_roll(self, export: Export) -> None:
+        """The roll."""
+        self.students.is_whole = export.is_read
+        has_carry = bool(export.column("carry"))
+        self.result.roll = [["student", "budget", "credits", "courses"] + ["carry"] * has_carry]
+        column = export.column("student", needed=True)
+        for option in ("budget", "credits", "courses"):
+            export.column(option, needed=not export.source.get(f"{option} default"))
+        rows: dict[str, int] = {}
+        for row in export.rows if column else []:
+            text = export.cell(row, "student")
+            try:
+                name = self.students.define(text)
+            except NameFault as fault:
+                export.fault(row, "student", text, str(fault))
+                name = ""
+            if name and name in rows:
+                export.fault(row, "student", text, f"a student once; row {rows[name]} has it already")
+            rows.setdefault(name, row.number)
+            budget = self.number(export, row, "budget", MOST_TOKENS)
+            cells = [name, budget, self.number(export, row, "credits", 800), self.number(export, row, "courses", 8)]
+            if has_carry:
+                cells.append(self.number(export, row, "carry", MOST_TOKENS - int(budget)))
+            self.result.roll.append(cells)
+
+
+def write_all(folder: str, files: dict[str, bytes], replace: bool) -> None:
+    """Writes all files, or none where one can not be written or stands there with another content.
+
+    Each is written under another name first; they take their names when all are whole.
+    """
+    paths = {os.path.join(folder, name): content for name, content in files.items()}
+    if not replace:
+        refuse_standing(paths)
+    written: list[str] = []
+    try:
+        os.makedirs(folder, exist_ok=True)
+        for path, content in paths.items():
+            written.append(path + ".part")
+            with open(path + ".part", "wb") as file:
+                file.write(content)
+        for path in paths:
+            os.replace(path + ".part", path)
+    except OSError as error:
+        for path in written:
+            if os.path.exists(path):
+                os.remove(path)
+        raise tell.Trouble(f"{error.filename} can not be written: {error.strerror}") from error
+
+
+def refuse_standing(paths: dict[str, bytes]) -> None:
+    """Refuses where a file stands already that would change."""
+    standing = [path for path, content in paths.items() if os.path.exists(path) and tables.read_bytes(path) != content]
+    if standing:
+        raise tell.Trouble(f"these files stand already and would change: {', '.join(standing)}. `--replace` writes over them")

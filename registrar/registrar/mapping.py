@@ -1,0 +1,377 @@
+"""The mapping file: which export is what, which column says what, and how codes, numbers and times are to be read.
+
+It is an INI text with a comment above each option. `import` writes it as a first guess, and the registrar corrects it.
+"""
+
+from __future__ import annotations
+
+import configparser
+import difflib
+import os
+import re
+from dataclasses import dataclass, field
+from decimal import Decimal
+from typing import Mapping as Dict
+
+from registrar.amounts import AmountFault, amount, whole
+from registrar.faults import Faults
+from registrar.meetings import DAYS, NO_MEETING, MeetingFault, MeetingRules, clock
+from registrar.sheet import SheetFault, decoded
+from registrar.spelling import NameRules, is_name, tidy
+
+#: The options of every export.
+OF_EVERY_EXPORT: Dict[str, str] = {
+    "file": "the export; its place is told from the folder of this mapping",
+    "sheet": "of an .xlsx book, the name of the sheet; the first one where blank",
+    "encoding": "of a text without a mark that is not UTF-8, for instance cp1252",
+    "header row": "the row that has the columns' names",
+}
+
+#: The options of each kind of section, each with what is said above it. A column may also be `@3`, the third one, or several
+#: joined by `-`, written `Subject + Number`.
+OPTIONS: Dict[str, Dict[str, str]] = {
+    "catalogue": {
+        **OF_EVERY_EXPORT,
+        "section": "the column of the section's code",
+        "course": "the column of the course: of one course a student takes one section",
+        "seats": "the column of the seats",
+        "seats default": "what a blank there means",
+        "credits": "the column of the credits",
+        "credits default": "what a blank there means",
+        "meetings": "the column of days and times together, as `MWF 9:00-10:15`",
+        "days": "or a column of the days",
+        "start": "and one of the start",
+        "end": "and one of the end",
+        "length": "and, where there is no end, one of the length in minutes",
+        "length default": "the minutes of a meeting without an end",
+        "meetings default": "what a blank means, for instance TBA; blank: a fault",
+        "parts": "the column of the half of the term: 1, 2 or 12; none: every section runs in the whole term",
+        "parts default": "what a blank there means",
+    },
+    "roll": {
+        **OF_EVERY_EXPORT,
+        "student": "the column of the student's number or name",
+        "budget": "the column of the tokens",
+        "budget default": "the tokens of a student without a number there, or of all where there is no such column",
+        "credits": "the column of the cap on credits",
+        "credits default": "the cap of a student without one there",
+        "courses": "the column of the cap on sections, at most 8",
+        "courses default": "the cap of a student without one there",
+        "carry": "the column of the tokens from the term before; none: nobody brings any",
+        "carry default": "what a blank there means",
+    },
+    "survey": {
+        **OF_EVERY_EXPORT,
+        "shape": "wishes: a row for each wish; students: a row for each student and a column for each section; "
+        "choices: a row for each student and a column for each choice",
+        "student": "the column of the student",
+        "section": "(wishes) the column of the section",
+        "second": "(wishes) the column of a second section: where it is filled, the row is about both together",
+        "value": "(wishes) the column of the rating or rank",
+        "value default": "(wishes) what a blank there means; blank: a fault",
+        "columns": "(students, choices) the names of the columns, * standing for the section or for the number of the choice",
+        "extra": "(students, `columns = *`) the columns that are no sections, with | between them: any other has to be one",
+        "pairs": "(students, choices) a column with pairs as `A-1 + B-2 = 9; A-1 + C-1 = -5`",
+        "says": "rating: 0 to 100, more is better; rank: 1 is the best",
+        "first rating": "(rank, choices) the rating of rank 1",
+        "rating step": "(rank, choices) by so much less each next rank is rated",
+        "least rating": "(rank, choices) and no less than this",
+        "answers": "words in place of numbers, as `High: 100, Medium: 60, Low: 20`",
+        "again": "what a second answer of one student means: refuse, or last (the lowest row counts)",
+    },
+    "requests": {
+        **OF_EVERY_EXPORT,
+        "student": "the column of the student",
+        "request": "the column that says what is asked for",
+        "section": "and the column of the section of that request",
+        "add": "or a column of sections to add",
+        "drop": "and one of sections to drop",
+        "leave": "and one of waiting lists to leave",
+        "both": "where a row has several of these: the order, as `drop, add`; blank: a fault",
+        "add words": "what stands in the column `request` for add",
+        "drop words": "for drop",
+        "leave words": "for leave",
+    },
+    "numbers": {
+        "decimal": "the decimal sign: . or , (the other one may stand between thousands)",
+        "credit unit": "how many credits are one unit of the program, which takes whole units: 0.5 for half credits",
+    },
+    "times": {
+        "earliest": "an earlier time that says neither am nor pm is a fault",
+        "no meeting": "the words for no meeting",
+    },
+    "students": {
+        "pad": "how many digits a student's number has: zeros are filled in where a spreadsheet took them; 0: as it stands",
+        "endings": "what is dropped behind, for instance @school.edu; several with commas between them",
+        "any case": "yes: capital and small letters are the same; no: they count",
+    },
+    "sections": {
+        "endings": "what is dropped behind a section's code",
+        "any case": "yes: capital and small letters are the same; no: they count",
+    },
+}
+
+#: The values of options that are not blank where nothing is written.
+DEFAULTS: Dict[str, Dict[str, str]] = {
+    "catalogue": {"header row": "1"},
+    "roll": {"header row": "1"},
+    "survey": {
+        "header row": "1", "shape": "wishes", "says": "rating", "first rating": "100", "rating step": "5",
+        "least rating": "1", "again": "refuse",
+    },
+    "requests": {
+        "header row": "1", "add words": "add, enrol, enroll", "drop words": "drop, withdraw",
+        "leave words": "leave, leave waitlist",
+    },
+    "numbers": {"decimal": ".", "credit unit": "1"},
+    "times": {"earliest": "7:00", "no meeting": ", ".join(NO_MEETING)},
+    "students": {"pad": "0", "any case": "no"},
+    "sections": {"any case": "no"},
+}  # fmt: skip
+
+#: Sections whose options are the registrar's own words.
+FREE: Dict[str, str] = {
+    "days": "words for days and the program's letters (M T W R F S U), as `Di = T`",
+    "same students": "what stands in an export = the student that is meant",
+    "same sections": "what stands in an export = the section that is meant",
+    "spell students": "a student = a name of the program, chosen by hand",
+    "spell sections": "a section = a name of the program, chosen by hand",
+    "spell courses": "a course = a name of the program, chosen by hand",
+}
+
+#: Options that are one of a few words.
+CHOICES: Dict[str, tuple[str, ...]] = {
+    "shape": ("wishes", "students", "choices"),
+    "says": ("rating", "rank"),
+    "again": ("refuse", "last"),
+    "any case": ("yes", "no"),
+    "decimal": (".", ","),
+}
+
+#: Options that are whole numbers, and their ranges.
+RANGES: Dict[str, tuple[int, int]] = {
+    "header row": (1, 9999),
+    "first rating": (1, 100),
+    "rating step": (0, 100),
+    "least rating": (1, 100),
+}
+
+
+@dataclass
+class Source:
+    """One export, as the mapping has it."""
+
+    title: str
+    kind: str
+    name: str
+    folder: str
+    options: dict[str, str]
+
+    def get(self, option: str) -> str:
+        """The value of an option, or its default."""
+        return self.options.get(option) or DEFAULTS[self.kind].get(option, "")
+
+    @property
+    def path(self) -> str:
+        """Where the export is."""
+        return os.path.join(self.folder, self.get("file"))
+
+
+@dataclass
+class Mapping:
+    """A mapping that was read."""
+
+    path: str
+    sources: list[Source] = field(default_factory=list)
+    decimal: str = "."
+    unit: Decimal = Decimal(1)
+    meetings: MeetingRules = field(default_factory=MeetingRules)
+    students: NameRules = field(default_factory=NameRules)
+    sections: NameRules = field(default_factory=NameRules)
+    courses: NameRules = field(default_factory=NameRules)
+
+    def of_kind(self, kind: str) -> list[Source]:
+        """The exports of a kind, in the mapping's order."""
+        return [source for source in self.sources if source.kind == kind]
+
+
+def parser() -> configparser.ConfigParser:
+    """A reader of mappings: `=` alone ends an option's name, `#` at the beginning of a line alone begins a comment."""
+    reader = configparser.ConfigParser(
+        delimiters=("=",), comment_prefixes=("#",), inline_comment_prefixes=None, interpolation=None,
+        default_section="\0", empty_lines_in_values=False,
+    )  # fmt: skip
+    reader.optionxform = tidy  # type: ignore[assignment,method-assign]
+    return reader
+
+
+class MappingReader:
+    """Reads one mapping, and keeps all of its faults."""
+
+    def __init__(self, path: str, faults: Faults) -> None:
+        self.path = path
+        self.faults = faults
+        self.lines: list[str] = []
+        self.parsed = parser()
+        self.mapping = Mapping(path)
+
+    def read(self) -> Mapping:
+        """The mapping. Raises `OSError` where it can not be read."""
+        try:
+            with open(self.path, "rb") as file:
+                text = decoded(file.read(), "")
+            self.lines = text.splitlines()
+            self.parsed.read_string(text)
+        except SheetFault as fault:
+            self.faults.add(self.path, fault.row, "", fault.value, fault.expected)
+        except configparser.Error as error:
+            self.faults.add(self.path, getattr(error, "lineno", None), "", "", f"a mapping: {error.message}")
+        else:
+            for title in self.parsed.sections():
+                self.take(title)
+            self.settle()
+        return self.mapping
+
+    def fault(self, title: str, option: str, value: str, expected: str) -> None:
+        """Keeps a fault of an option, with its line."""
+        place = f"[{title}] {option}".strip()
+        self.faults.add(self.path, self.line_of(title, option), place, value, expected)
+
+    def line_of(self, title: str, option: str) -> int | None:
+        """The line of an option, or of its section."""
+        found = None
+        inside = False
+        for number, line in enumerate(self.lines, 1):
+            if line.startswith("["):
+                inside = line.strip() == f"[{title}]"
+                found = number if inside else found
+            elif inside and option and tidy(line.split("=")[0]) == option:
+                return number
+        return found
+
+    def take(self, title: str) -> None:
+        """Takes a section that is about an export; of every section, tells the options that nobody knows."""
+        kind, _, name = title.partition(" ")
+        if title in FREE:
+            return
+        if kind not in OPTIONS or (name and kind not in ("survey", "requests")):
+            known = [*OPTIONS, *FREE]
+            self.fault(title, "", title, f"one of {', '.join(known)}")
+            return
+        values = {option: tidy(value) for option, value in self.parsed[title].items()}
+        for option, value in values.items():
+            if option not in OPTIONS[kind]:
+                near = difflib.get_close_matches(option, OPTIONS[kind], n=1)
+                self.fault(title, option, option, "an option of this section" + (f"; nearest: {near[0]}" if near else ""))
+            elif value and option in CHOICES and value not in CHOICES[option]:
+                self.fault(title, option, value, " or ".join(CHOICES[option]))
+                values[option] = ""
+            elif value and option in RANGES:
+                values[option] = self.in_range(title, option, value)
+        if kind not in ("catalogue", "roll", "survey", "requests"):
+            return
+        if kind in ("survey", "requests") and not is_name(name):
+            self.fault(title, "", title, f"[{kind} NAME], the name of letters, digits, '-', '_' and '.'")
+            return
+        if values.get("file"):
+            self.mapping.sources.append(Source(title, kind, name, os.path.dirname(self.path), values))
+        else:
+            self.fault(title, "file", "", "the export's file")
+
+    def in_range(self, title: str, option: str, value: str) -> str:
+        """The value where it is a whole number of its range; else nothing, with a fault."""
+        try:
+            return str(whole(value, *RANGES[option]))
+        except AmountFault as fault:
+            self.fault(title, option, value, str(fault))
+            return ""
+
+    def value(self, title: str, option: str) -> str:
+        """The value of an option of one of the sections without an export, or its default."""
+        written = self.parsed.get(title, option, fallback="") if self.parsed.has_section(title) else ""
+        return tidy(written) or DEFAULTS.get(title, {}).get(option, "")
+
+    def settle(self) -> None:
+        """Takes the sections on numbers, times and names."""
+        mapping = self.mapping
+        mapping.decimal = self.value("numbers", "decimal")
+        unit = self.value("numbers", "credit unit")
+        try:
+            mapping.unit = amount(unit)
+            if mapping.unit <= 0:
+                raise AmountFault
+        except AmountFault:
+            self.fault("numbers", "credit unit", unit, "a number above 0, as 1 or 0.5")
+            mapping.unit = Decimal(1)
+        mapping.meetings = self.meeting_rules()
+        mapping.students = self.name_rules("students")
+        mapping.sections = self.name_rules("sections")
+        mapping.courses = self.name_rules("courses")
+
+    def meeting_rules(self) -> MeetingRules:
+        """What is stated of meetings."""
+        rules = MeetingRules(none=tuple(split(self.value("times", "no meeting"))))
+        earliest = self.value("times", "earliest")
+        try:
+            rules.earliest = clock(earliest).minutes
+        except MeetingFault as fault:
+            self.fault("times", "earliest", earliest, str(fault))
+        for word, letter in self.free("days").items():
+            if letter not in set(DAYS.values()):
+                self.fault("days", word, letter, "one of the letters M, T, W, R, F, S, U")
+            rules.days[word.casefold()] = letter
+        return rules
+
+    def name_rules(self, title: str) -> NameRules:
+        """What is stated of the names of one kind."""
+        rules = NameRules(same=self.free(f"same {title}"), spell=self.free(f"spell {title}"))
+        rules.endings = tuple(split(self.value(title, "endings")))
+        rules.any_case = self.value(title, "any case") == "yes"
+        pad = self.value(title, "pad") or "0"
+        if re.fullmatch("[0-9]|[12][0-9]|3[0-2]", pad):
+            rules.pad = int(pad)
+        else:
+            self.fault(title, "pad", pad, "a number of digits from 0 to 32")
+        for code, name in rules.spell.items():
+            if not is_name(name):
+                self.fault(f"spell {title}", code, name, "1 to 32 letters, digits, '-', '_' and '.'")
+        return rules
+
+    def free(self, title: str) -> dict[str, str]:
+        """The pairs of a section whose options are the registrar's own words."""
+        if not self.parsed.has_section(title):
+            return {}
+        return {tidy(key): tidy(value) for key, value in self.parsed[title].items()}
+
+
+def split(text: str) -> list[str]:
+    """The words of a list with commas."""
+    return [word.strip() for word in text.split(",") if word.strip()]
+
+
+def read_mapping(path: str, faults: Faults) -> Mapping:
+    """Reads a mapping, and adds its faults to `faults`. Raises `OSError` where it can not be read."""
+    return MappingReader(path, faults).read()
+
+
+def mapping_text(sections: Dict[str, Dict[str, str]], notes: Dict[str, list[str]]) -> str:
+    """A mapping as text, with a comment above each option. `notes` are lines above a section.
+
+    Options that are blank stand there too, so that the registrar sees what could be said.
+    """
+    lines = [
+        "# Which export is what, and which column says what. `registrar import` reads it.",
+        "# A line that begins with # is a comment. A column is named as in the export; capitals and blanks there do not count.",
+        "# `@3` is the third column; `Subject + Number` joins two columns by `-`. An option that is blank says nothing.",
+    ]
+    for title, values in sections.items():
+        kind = title.split(" ")[0]
+        lines += ["", f"[{title}]"]
+        lines += [f"# {note}" for note in notes.get(title, [])]
+        for option, comment in OPTIONS[kind].items():
+            lines.append(f"# {comment}")
+            value = values.get(option) or DEFAULTS.get(kind, {}).get(option, "")
+            lines.append(f"{option} = {value}".rstrip())
+    for title, comment in FREE.items():
+        lines += ["", f"[{title}]", f"# {comment}"]
+    return "\n".join(lines) + "\n"

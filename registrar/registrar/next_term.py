@@ -1,0 +1,119 @@
+"""`next`: the roll of the next term, with the tokens that are carried over.
+
+The rule is that of the guide ("What is carried over"): the student's budget less the prices of what it holds in the end, and 0
+where these come to more.
+"""
+
+from __future__ import annotations
+
+import argparse
+import os
+import sys
+from dataclasses import dataclass
+
+from registrar import manifest, published, tables, tell
+from registrar.faults import Faults
+from registrar.import_exports import write_all
+
+NAME = "next"
+HELP = "make the roll of the next term, with the tokens that are carried over"
+
+#: The greatest number of tokens that base and carry may come to.
+MOST_TOKENS = 900_000
+
+
+def add_arguments(parser: argparse.ArgumentParser) -> None:
+    """The options of `next`."""
+    parser.description = (
+        f"{HELP}. "
+        "The rule: what is carried over is the student's budget less the prices of its final sections, and 0 where these come to "
+        "more. The text is not judged: `registrar check` does that."
+    )
+    manifest.add_argument(parser)
+    parser.add_argument("--roll", metavar="ROLL", help="the roll of the text, where no manifest is at hand; together with --text")
+    parser.add_argument("--text", metavar="TEXT", help="the published text, where no manifest is at hand")
+    parser.add_argument(
+        "--students", metavar="ROLL", help="who is there in the next term, with new bases and caps (default: the roll of the text)"
+    )
+    parser.add_argument("--most", type=int, default=MOST_TOKENS, metavar="N", help="nobody carries over more than so many tokens")
+    parser.add_argument("--into", default="roll.next.csv", metavar="FILE", help="the roll that is written (default: roll.next.csv)")
+    parser.add_argument("--replace", action="store_true", help="write over a file that stands there and differs")
+
+
+@dataclass(frozen=True)
+class Carried:
+    """What the students of a text carry over, and who of them is not there in the next term."""
+
+    rows: list[list[object]]
+    brings: int
+    tokens: int
+    gone: list[str]
+    new: int
+
+
+def run(arguments: argparse.Namespace) -> int:
+    """Writes the roll of the next term."""
+    if bool(arguments.roll) != bool(arguments.text):
+        raise tell.Trouble("--roll and --text go together", tell.USAGE)
+    if not arguments.text:
+        found = manifest.read(arguments.manifest)
+        arguments.roll, arguments.text = found.roll, found.text
+    faults = Faults()
+    text = published.read_published(arguments.text)
+    compare(arguments, text, faults)
+    students = tables.read_roll(arguments.students or arguments.roll)
+    carried = carry_over(text, students, arguments, faults)
+    if faults:
+        faults.tell(sys.stdout)
+        tell.say("nothing is written")
+        return tell.FAULTS
+    content = tables.csv_text([["student", "budget", "credits", "courses", "carry"], *carried.rows]).encode()
+    folder, name = os.path.split(arguments.into)
+    write_all(folder or ".", {name: content}, arguments.replace)
+    tell.say(f"{arguments.into}: {tell.count(len(students), 'student', 'students')}")
+    tell.say(f"{tell.count(carried.brings, 'brings', 'bring')} tokens, {carried.tokens} together")
+    if carried.new:
+        tell.say(f"{carried.new} {'is' if carried.new == 1 else 'are'} new and {'brings' if carried.new == 1 else 'bring'} none")
+    for student in carried.gone:
+        tell.say(f"not on the new roll: {student}")
+    return 0
+
+
+def compare(arguments: argparse.Namespace, text: published.Published, faults: Faults) -> None:
+    """Adds where the roll is not the one of the text."""
+    names = [student.name for student in tables.read_roll(arguments.roll)]
+    for row, (name, budgeted) in enumerate(zip(names, text.budgets), 2):
+        if name != budgeted:
+            faults.add(os.path.basename(arguments.roll), row, "student", name, f"{budgeted}, as the published text has it; it is of another roll")
+            return
+    if len(names) != len(text.budgets):
+        expected = f"{len(text.budgets)} students, as the published text has; it is of another roll"
+        faults.add(os.path.basename(arguments.roll), None, "", f"{len(names)} students", expected)
+
+
+def left_over(text: published.Published, student: str) -> int:
+    """The student's budget less the prices of its final sections, and 0 where these come to more."""
+    return max(0, text.budgets[student] - text.cost(text.finals[student].sections))
+
+
+def carry_over(
+    text: published.Published, students: list[tables.Student], arguments: argparse.Namespace, faults: Faults
+) -> Carried:
+    """The rows of the next roll. A row whose base and carry come to more than a student may have is a fault."""
+    rows: list[list[object]] = []
+    brings = tokens = new = 0
+    for one in students:
+        if arguments.students and one.carry:
+            expected = "0: what is carried over comes from the published text"
+            faults.add(os.path.basename(one.file), one.row, "carry", str(one.carry), expected)
+        left = min(arguments.most, left_over(text, one.name)) if one.name in text.finals else 0
+        new += one.name not in text.finals
+        if one.budget + left > MOST_TOKENS:
+            expected = f"at most {MOST_TOKENS - left}, since {left} tokens are carried over; `--most` states how many may be"
+            faults.add(os.path.basename(one.file), one.row, "budget", str(one.budget), expected)
+        brings += left > 0
+        tokens += left
+        rows.append([one.name, one.budget, one.credits, one.courses, left])
+    there = {one.name for one in students}
+    gone = [f"{name}, with {left_over(text, name)} tokens left" for name in text.finals if name not in there]
+    return Carried(rows, brings, tokens, gone, new)

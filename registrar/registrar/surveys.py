@@ -1,0 +1,283 @@
+"""Surveys: what the students want, from exports of three shapes, as wishes with their places.
+
+`wishes` has a row for each wish, `students` a row for each student and a column for each section, `choices` a row for each
+student and a column for each choice. A wish says a rating, or a rank that the mapping's rule turns into a rating.
+"""
+
+from __future__ import annotations
+
+import re
+from dataclasses import dataclass
+from typing import Callable, Iterator
+
+from registrar.amounts import AmountFault, whole
+from registrar.exported import Column, Export, Row, plain
+from registrar.faults import Faults
+from registrar.mapping import Mapping, Source, split
+from registrar.spelling import NameFault, Names, tidy
+
+#: How many sections a student rates above 0, and how many pairs it adjusts, at most.
+MOST_RATED = 60
+MOST_PAIRS = 200
+
+ORDINALS = "first second third fourth fifth sixth seventh eighth ninth tenth".split()
+
+
+@dataclass(frozen=True)
+class Wish:
+    """What a student says of a section, or of two together, with its place in the export."""
+
+    student: str
+    section: str
+    second: str
+    points: int
+    row: int
+    column: str
+    value: str
+
+    @property
+    def about(self) -> tuple[str, ...]:
+        """The section, or both in one order whichever was named first."""
+        return tuple(sorted((self.section, self.second))) if self.second else (self.section,)
+
+    def command(self) -> str:
+        """The wish as a command of a session."""
+        if self.second:
+            return f"pair {self.student} {self.section} {self.second} {self.points}"
+        return f"rate {self.student} {self.section} {self.points}"
+
+
+@dataclass(frozen=True)
+class Known:
+    """Who and what the wishes may be about."""
+
+    mapping: Mapping
+    students: Names
+    sections: Names
+
+
+@dataclass
+class Survey:
+    """What one survey says. `passed_over` are the columns that nothing was taken from."""
+
+    name: str
+    wishes: list[Wish]
+    passed_over: list[str]
+
+
+def rating_of(rank: int, source: Source) -> int:
+    """The rating of a rank by the mapping's rule: the first one, less a step for each further rank, and never below the least."""
+    first, step, least = (int(source.get(option)) for option in ("first rating", "rating step", "least rating"))
+    return max(least, first - step * (rank - 1))
+
+
+def answers_of(source: Source) -> dict[str, str]:
+    """The words that a survey has in place of numbers."""
+    pairs = (word.rsplit(":", 1) for word in split(source.get("answers")))
+    return {tidy(pair[0]).casefold(): pair[1].strip() for pair in pairs if len(pair) == 2}
+
+
+class SurveyReader:
+    """Reads one survey."""
+
+    def __init__(self, source: Source, known: Known, faults: Faults) -> None:
+        self.source = source
+        self.known = known
+        self.faults = faults
+        self.export = Export(source, faults)
+        self.answers = answers_of(source)
+        self.survey = Survey(source.name, [], [])
+        self.rows_of: dict[str, list[int]] = {}
+
+    def read(self) -> Survey:
+        """The survey's wishes; each fault is added to the faults."""
+        student = self.export.column("student", needed=True)
+        if not self.export.is_read or not student:
+            return self.survey
+        shapes: dict[str, Callable[[], Iterator[Wish]]] = {
+            "wishes": self.by_wish, "students": self.by_section, "choices": self.by_choice,
+        }  # fmt: skip
+        shape = shapes.get(self.source.get("shape"))
+        if shape:
+            wishes = list(shape())
+            self.survey.wishes = self.once(wishes)
+            self.limits()
+        return self.survey
+
+    def name(self, names: Names, row: Row, column: str, text: str) -> str:
+        """The name that a cell means, or nothing, with a fault, where it is nobody's."""
+        try:
+            return names.find(text)
+        except NameFault as fault:
+            self.faults.add(self.export.file, row.number, column, text, str(fault))
+            return ""
+
+    def students(self) -> Iterator[tuple[Row, str]]:
+        """The rows with the student of each. A row whose student is nobody's is still read, for its other faults."""
+        column = self.export.column("student")
+        assert column is not None
+        for row in self.export.rows:
+            student = self.name(self.known.students, row, column.title, column.cell(row))
+            if student:
+                self.rows_of.setdefault(student, []).append(row.number)
+            yield row, student
+
+    def points(self, row: Row, column: str, text: str) -> int | None:
+        """The rating that a cell says, by the rule of ranks where it says a rank; none, with a fault, where it says neither."""
+        text = self.answers.get(tidy(text).casefold(), text)
+        try:
+            if self.source.get("says") == "rank":
+                return rating_of(whole(text, 1, 999, self.known.mapping.decimal), self.source)
+            return whole(text, 0, 100, self.known.mapping.decimal)
+        except AmountFault as fault:
+            self.faults.add(self.export.file, row.number, column, text, str(fault))
+            return None
+
+    def adjustment(self, row: Row, column: str, text: str) -> int | None:
+        """What a cell says of two sections together; none, with a fault, where it says nothing."""
+        try:
+            return whole(text, -200, 200, self.known.mapping.decimal)
+        except AmountFault as fault:
+            self.faults.add(self.export.file, row.number, column, text, str(fault))
+            return None
+
+    def by_wish(self) -> Iterator[Wish]:
+        """The wishes of a row for each wish."""
+        section = self.export.column("section", needed=True)
+        value = self.export.column("value", needed=True)
+        second = self.export.column("second")
+        if not section or not value:
+            return
+        for row, student in self.students():
+            first = self.name(self.known.sections, row, section.title, section.cell(row))
+            other_text = second.cell(row) if second else ""
+            other = self.name(self.known.sections, row, second.title, other_text) if second and other_text else ""
+            text = self.export.cell(row, "value")
+            points = self.adjustment(row, value.title, text) if other_text else self.points(row, value.title, text)
+            if student and first and points is not None and bool(other) == bool(other_text):
+                yield Wish(student, first, other, points, row.number, value.title, text)
+
+    def section_columns(self) -> list[tuple[Column, str]]:
+        """The columns that stand for sections, with the section of each. One that should and does not is a fault."""
+        used = {self.source.get("student"), self.source.get("pairs")}
+        extra = {plain(name) for name in self.source.get("extra").split("|")} | {plain(name) for name in used}
+        found: list[tuple[Column, str]] = []
+        for column, text in self.matching():
+            if plain(column.title) in extra:
+                continue
+            try:
+                found.append((column, self.known.sections.find(text)))
+            except NameFault as fault:
+                hint = "; a column that is none goes under `extra`" if self.source.get("columns") in ("", "*") else ""
+                header_row = int(self.source.get("header row"))
+                self.faults.add(self.export.file, header_row, column.title, text, f"{fault}{hint}")
+        taken = {column.title for column, _ in found} | used
+        self.survey.passed_over = [title for title in self.export.header if title and title not in taken]
+        return found
+
+    def matching(self) -> list[tuple[Column, str]]:
+        """The columns whose name is like `columns`, with what stands there for the `*`."""
+        shape = tidy(self.source.get("columns")) or "*"
+        like = re.compile("(.+)".join(re.escape(part) for part in shape.split("*", 1)), re.IGNORECASE)
+        found: list[tuple[Column, str]] = []
+        for place, title in enumerate(self.export.header):
+            match = like.fullmatch(title)
+            if match and like.groups:
+                found.append((Column((place,), title), tidy(match.group(1))))
+        if not found:
+            self.export.missing("columns", shape, "the names of some columns, with a * for the section or the number of the choice")
+        return found
+
+    def by_section(self) -> Iterator[Wish]:
+        """The wishes of a row for each student with a column for each section. A blank is no wish."""
+        columns = self.section_columns()
+        for row, student in self.students():
+            for column, section in columns:
+                text = column.cell(row)
+                if not text:
+                    continue
+                points = self.points(row, column.title, text)
+                if student and points is not None:
+                    yield Wish(student, section, "", points, row.number, column.title, text)
+            yield from self.pairs(row, student)
+
+    def by_choice(self) -> Iterator[Wish]:
+        """The wishes of a row for each student with a column for each choice. A blank is no choice."""
+        columns: list[tuple[Column, int]] = []
+        for column, text in self.matching():
+            rank = rank_of(text)
+            if rank:
+                columns.append((column, rank))
+        for row, student in self.students():
+            for column, rank in columns:
+                text = column.cell(row)
+                section = self.name(self.known.sections, row, column.title, text) if text else ""
+                if student and section:
+                    yield Wish(student, section, "", rating_of(rank, self.source), row.number, column.title, text)
+            yield from self.pairs(row, student)
+
+    def pairs(self, row: Row, student: str) -> Iterator[Wish]:
+        """The pairs of a row: `A-1 + B-2 = 9; A-1 + C-1 = -5`."""
+        column = self.export.column("pairs")
+        for text in re.split(r"[;\n]", column.cell(row)) if column else []:
+            found = re.fullmatch(r"\s*(.+?)\s+(?:\+|&|and)\s+(.+?)\s*[=:]\s*(\S+)\s*", text)
+            if column is None or not text.strip():
+                continue
+            if not found:
+                self.faults.add(self.export.file, row.number, column.title, text, "pairs as `A-1 + B-2 = 9; A-1 + C-1 = -5`")
+                continue
+            both = [self.name(self.known.sections, row, column.title, found.group(at)) for at in (1, 2)]
+            points = self.adjustment(row, column.title, found.group(3))
+            if student and all(both) and points is not None:
+                yield Wish(student, both[0], both[1], points, row.number, column.title, text)
+
+    def once(self, wishes: list[Wish]) -> list[Wish]:
+        """The wishes without repeats: a repeat is a fault, or the last one counts, as the mapping says."""
+        takes_last = self.source.get("again") == "last"
+        if self.source.get("shape") != "wishes":
+            wishes = self.of_one_row(wishes, takes_last)
+            takes_last = False
+        kept: dict[tuple[str, ...], Wish] = {}
+        for wish in wishes:
+            key = (wish.student, *wish.about)
+            if wish.second == wish.section:
+                self.fault(wish, "two different sections")
+            elif takes_last or key not in kept:
+                kept[key] = wish
+            else:
+                said = f"row {kept[key].row}" if kept[key].row != wish.row else "this row"
+                self.fault(wish, f"a wish of {wish.student} that {said} does not have yet")
+        return list(kept.values())
+
+    def of_one_row(self, wishes: list[Wish], takes_last: bool) -> list[Wish]:
+        """The wishes of one row for each student: the last row, or else a further row is a fault."""
+        column = self.export.column("student")
+        for student, rows in self.rows_of.items():
+            for row in rows[1:] if column and not takes_last else []:
+                expected = f"one row for each student; row {rows[0]} is one of {student} too (`again = last` takes the last)"
+                self.faults.add(self.export.file, row, column.title if column else "", student, expected)
+        return [wish for wish in wishes if wish.row == self.rows_of[wish.student][-1 if takes_last else 0]]
+
+    def fault(self, wish: Wish, expected: str) -> None:
+        """Keeps a fault of a wish."""
+        self.faults.add(self.export.file, wish.row, wish.column, wish.value, expected)
+
+    def limits(self) -> None:
+        """Adds the students with more wishes than the program takes, and drops the wishes that say 0."""
+        counts: dict[tuple[str, bool], int] = {}
+        self.survey.wishes = [wish for wish in self.survey.wishes if wish.points]
+        for wish in self.survey.wishes:
+            key = (wish.student, bool(wish.second))
+            counts[key] = counts.get(key, 0) + 1
+            most = MOST_PAIRS if wish.second else MOST_RATED
+            if counts[key] == most + 1:
+                what = "pairs" if wish.second else "rated sections"
+                self.fault(wish, f"at most {most} {what} of one student; {wish.student} has more from here on")
+
+
+def rank_of(text: str) -> int:
+    """The number of a choice: `1`, `1st`, `first`; 0 where the text is none."""
+    found = re.fullmatch(r"([1-9][0-9]?)(?:st|nd|rd|th|\.)?", text, re.IGNORECASE)
+    if found:
+        return int(found.group(1))
+    return ORDINALS.index(text.casefold()) + 1 if text.casefold() in ORDINALS else 0
