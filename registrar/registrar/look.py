@@ -216,7 +216,7 @@ def given_twice(paths: Sequence[str]) -> list[Finding]:
 def in_two_sessions(seen: Seen) -> list[Finding]:
     """Students of the roll who are named in two sessions."""
     named: dict[str, dict[str, int]] = {student.name: {} for student in seen.students}
-    for entry in seen.entries:
+    for entry in sorted(seen.entries, key=lambda one: (one.command.session, one.command.line)):
         student = entry.command.student
         if student in named:
             named[student].setdefault(seen.paths[entry.command.session - 1], entry.command.line)

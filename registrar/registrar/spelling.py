@@ -155,10 +155,9 @@ def table_of(kind: str) -> str:
     return "roll" if kind == "student" else "catalogue"
 
 
-def nearest(name: str, known: Iterable[str]) -> str:
-    """The known name that is most like this one, or nothing where none is much like it."""
-    found = difflib.get_close_matches(name, list(known), n=1, cutoff=0.75)
-    return found[0] if found else ""
+def letters_of(name: str) -> str:
+    """A name's letters and digits alone, in small letters."""
+    return re.sub("[-_.]", "", spelt(name).casefold())
 
 
 class Meant:
@@ -166,7 +165,7 @@ class Meant:
 
     def __init__(self, known: Iterable[str]) -> None:
         self.known = list(known)
-        self.folded = {spelt(name).casefold(): name for name in reversed(self.known)}
+        self.by_letters = {letters_of(name): name for name in reversed(self.known)}
         self.bare = {name.lstrip("0"): name for name in reversed(self.known) if name.isdigit() and name.strip("0")}
         self.told: dict[str, str] = {}
 
@@ -178,11 +177,12 @@ class Meant:
 
     def look(self, name: str) -> str:
         """The hint for a name that was not looked for yet."""
-        folded = self.folded.get(spelt(name).casefold())
-        if folded:
-            return f"; nearest: {folded} (other capitals)"
+        letters = letters_of(name)
+        same = self.by_letters.get(letters)
+        if same:
+            return f"; nearest: {same}" + (" (other capitals)" if same.casefold() == spelt(name).casefold() else "")
         bare = self.bare.get(name.lstrip("0")) if name.isdigit() else None
         if bare:
             return f"; nearest: {bare} (a spreadsheet may have taken leading zeros)"
-        near = nearest(name, self.known) if len(self.told) < COMPARED else ""
-        return f"; nearest: {near}" if near else ""
+        near = difflib.get_close_matches(letters, self.by_letters, n=1, cutoff=0.75) if len(self.told) < COMPARED else []
+        return f"; nearest: {self.by_letters[near[0]]}" if near else ""
