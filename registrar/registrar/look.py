@@ -81,7 +81,12 @@ def add_arguments(parser: argparse.ArgumentParser) -> None:
     parser.add_argument("roll", metavar="ROLL")
     parser.add_argument("sessions", nargs="+", metavar="SESSION")
     parser.add_argument(
-        "--allow", action="append", default=[], choices=list(KINDS), metavar="KIND", help="a kind that does not count; may come again"
+        "--allow",
+        action="append",
+        default=[],
+        choices=list(KINDS),
+        metavar="KIND",
+        help="a kind that does not count; may come again",
     )
     parser.add_argument("--all", action="store_true", help="show seats and wishes of all sections")
 

@@ -108,7 +108,9 @@ class Names:
         name = self.rules.spell.get(code) or spelt(code)
         if not is_name(name):
             told = f"{name} has {len(name)}" if name else "it has none"
-            raise NameFault(f"a {self.kind} of 1 to 32 letters, digits, '-', '_' and '.' ({told}); `spell` or `endings` can shorten it")
+            raise NameFault(
+                f"a {self.kind} of 1 to 32 letters, digits, '-', '_' and '.' ({told}); `spell` or `endings` can shorten it"
+            )
         return code, name
 
     def define(self, cell: str) -> str:
@@ -116,7 +118,7 @@ class Names:
         code, name = self.spelt(cell)
         known = self.originals.get(name)
         if known is not None and known != code:
-            raise NameFault(f"a name of its own: \"{known}\" is spelt {name} too; choose one by `spell`")
+            raise NameFault(f'a name of its own: "{known}" is spelt {name} too; choose one by `spell`')
         folded = self.folded.get(name.casefold(), name)
         if self.rules.any_case and folded != name:
             raise NameFault(f"a name of its own under `any case = yes`: {folded} differs from {name} by capitals alone")

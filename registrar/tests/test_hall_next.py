@@ -128,7 +128,9 @@ class Hall(InFolder):
         self.write("form.csv", "When,Who,What,Section\n1,f.gomes,Add,FNCE-717-A\n2,n.jones,want,FNCE-717\n")
         status, told = say("hall", "--into", "hall")
         self.assertEqual(status, tell.FAULTS)
-        self.assertIn('form.csv row 2, column Who: "f.gomes" where this was expected: a student of the roll; nearest: f.gomez', told)
+        self.assertIn(
+            'form.csv row 2, column Who: "f.gomes" where this was expected: a student of the roll; nearest: f.gomez', told
+        )
         self.assertIn('form.csv row 3, column What: "want" where this was expected: one of add', told)
         self.assertFalse(os.path.exists("hall"))
 
@@ -157,7 +159,9 @@ class Hall(InFolder):
 class WholeTerm(WithSchool):
     def test_from_exports_to_rosters_after_the_hall(self) -> None:
         self.assertEqual(self.imported()[0], 0)
-        self.write("settings.json", '{"seed":1,"spread":7,"accept":1000000,"turns":1,"tabu":30,"patience":25,"steps":[3],"raise":10}')
+        self.write(
+            "settings.json", '{"seed":1,"spread":7,"accept":1000000,"turns":1,"tabu":30,"patience":25,"steps":[3],"raise":10}'
+        )
         sessions = ["out/web.session", "out/desk.session", "out/choices.session"]
         status, told = say("run", "out/catalogue.csv", "out/roll.csv", "settings.json", *sessions)
         self.assertEqual(status, 0, told)

@@ -63,7 +63,7 @@ class Imports(WithSchool):
         line = next(line for line in told.splitlines() if f'"{wrong}"' in line)
         self.assertEqual([int(row) for row in re.findall(r"\d+", line.split(", column")[0])], rows)
         name = code.replace("É", "E").replace(" ", "_")
-        self.assertIn(f"column SECTION: \"{wrong}\" where this was expected: a section of the catalogue; nearest: {name}", line)
+        self.assertIn(f'column SECTION: "{wrong}" where this was expected: a section of the catalogue; nearest: {name}', line)
         self.write("mapping.ini", self.read("mapping.ini").replace("[same sections]", f"[same sections]\n{wrong} = {code}"))
         self.assertEqual(self.imported()[0], 0)
         self.expect_the_school()
@@ -71,15 +71,39 @@ class Imports(WithSchool):
     def test_each_fault_is_told_with_file_row_column_and_value_and_nothing_is_written(self) -> None:
         first = self.school.sections[0]
         cases = [
-            ("timetable.csv", f";{first.seats}.0;", ";many;", 'timetable.csv row 2, column Max Enrollment: "many"', "0 to 9,999"),
-            ("timetable.csv", f";{first.seats}.0;", ";12,000;", 'timetable.csv row 2, column Max Enrollment: "12,000"', "0 to 9,999"),
+            (
+                "timetable.csv",
+                f";{first.seats}.0;",
+                ";many;",
+                'timetable.csv row 2, column Max Enrollment: "many"',
+                "0 to 9,999",
+            ),
+            (
+                "timetable.csv",
+                f";{first.seats}.0;",
+                ";12,000;",
+                'timetable.csv row 2, column Max Enrollment: "12,000"',
+                "0 to 9,999",
+            ),
             ("timetable.csv", ";1.0;", ";0.7;", '"0.7"', "a multiple of 0.5"),
             ("timetable.csv", "TBA", "", "column Meeting Times: blank", "`meetings default = TBA`"),
             ("timetable.csv", "TBA", "MWF 1:30-2:45", '"MWF 1:30-2:45"', "am or pm"),
             ("timetable.csv", ";80;", ";;", "column Meeting Times", "`length` or `length default`"),
             ("timetable.csv", f"{first.code};", ";", "timetable.csv row 2, column SECTION CODE: blank", "a section of 1 to 32"),
-            ("timetable.csv", "\nACCT 101 B;", "\nACCT_101_A;", 'column SECTION CODE: "ACCT_101_A"', "\"ACCT 101 A\" is spelt ACCT_101_A too"),
-            ("timetable.csv", "\nACCT 101 B;", "\nACCT 101 A;", "timetable.csv row 3, column Max Enrollment", "as row 2 says of ACCT_101_A"),
+            (
+                "timetable.csv",
+                "\nACCT 101 B;",
+                "\nACCT_101_A;",
+                'column SECTION CODE: "ACCT_101_A"',
+                '"ACCT 101 A" is spelt ACCT_101_A too',
+            ),
+            (
+                "timetable.csv",
+                "\nACCT 101 B;",
+                "\nACCT 101 A;",
+                "timetable.csv row 3, column Max Enrollment",
+                "as row 2 says of ACCT_101_A",
+            ),
             ("timetable.csv", "Max Enrollment", "Places", "[catalogue] seats", "a column of the file"),
             ("timetable.csv", ";R0\r", ";R0;x\r", 'timetable.csv row 2: "x"', "at most 8 cells"),
             ("register.csv", '"5,000"', "4,5OO", 'register.csv row 2, column Max Credits: "5OO"', "credits"),
@@ -87,7 +111,13 @@ class Imports(WithSchool):
             ("register.csv", "000256,", "000113,", 'register.csv row 3, column Student ID: "000113"', "row 2 has it already"),
             ("register.csv", '"5,000"', "-1", 'column Tokens: "-1"', "0 to 900,000"),
             ("register.csv", '"5,000"', "", "column Tokens: blank", "`budget default` states what a blank means"),
-            ("web.csv", "[ACCT 101 A]", "[ACCT 101 Z]", 'web.csv row 1, column Rate the sections [ACCT 101 Z]: "ACCT 101 Z"', "nearest"),
+            (
+                "web.csv",
+                "[ACCT 101 A]",
+                "[ACCT 101 Z]",
+                'web.csv row 1, column Rate the sections [ACCT 101 Z]: "ACCT 101 Z"',
+                "nearest",
+            ),
             ("web.csv", ",000256,", ",000999,", 'column Student ID: "000999"', "a student of the roll"),
             ("web.csv", ",86,", ",101,", '"101"', "a whole number from 0 to 100"),
             ("web.csv", ",86,", ",8.6,", '"8.6"', "a whole number from 0 to 100"),
@@ -122,7 +152,9 @@ class Imports(WithSchool):
     def test_a_survey_that_is_ranks(self) -> None:
         self.settle("says", "rank", "survey desk")
         number = next(one for one in self.school.students if one.survey == "desk").number
-        self.write("desk.tsv", f"STUDENT\tSECTION\tTOGETHER WITH\tPOINTS\n{number}\tACCT 101 A\t\t1\n{number}\tACCT 101 B\t\t3.0\n")
+        self.write(
+            "desk.tsv", f"STUDENT\tSECTION\tTOGETHER WITH\tPOINTS\n{number}\tACCT 101 A\t\t1\n{number}\tACCT 101 B\t\t3.0\n"
+        )
         self.settle("rating step", "10", "survey desk")
         status, told = self.imported()
         self.assertEqual(status, 0, told)
@@ -172,7 +204,9 @@ class Many(InFolder):
         status, told = say("import", "--into", "out")
         self.assertEqual(status, tell.FAULTS)
         for at in range(300):
-            self.assertIn(f'r.csv row {at + 2}, column b: "bad{at}" where this was expected: a whole number from 0 to 900,000', told)
+            self.assertIn(
+                f'r.csv row {at + 2}, column b: "bad{at}" where this was expected: a whole number from 0 to 900,000', told
+            )
         self.assertIn("300 faults\n  300 in r.csv column b\n", told)
         self.assertFalse(os.path.exists("out"))
 

@@ -8,7 +8,9 @@ from registrar import tell
 from tests import school
 from tests.term import InFolder, WithSchool, has_program, say
 
-CATALOGUE = "section,course,seats,credits,meetings\nFNCE-601-A,FNCE-601,2,1,\nFNCE-601-B,FNCE-601,2,1,\nMGMT-690-A,MGMT-690,2,1,\n"
+CATALOGUE = (
+    "section,course,seats,credits,meetings\nFNCE-601-A,FNCE-601,2,1,\nFNCE-601-B,FNCE-601,2,1,\nMGMT-690-A,MGMT-690,2,1,\n"
+)
 ROLL = "student,budget,credits,courses\n00123,100,8,5\nt.jain,100,8,5\n"
 ALL = "rate 00123 FNCE-601-A 5\nrate 00123 MGMT-690-A 5\nrate t.jain FNCE-601-B 5\n"
 
@@ -27,10 +29,22 @@ class Looks(InFolder):
 
     def test_each_finding_has_its_place(self) -> None:
         cases = [
-            ("# note\n\nrate t.jain FNCE601-A 100\n", "1.session:3: no-section: rate t.jain FNCE601-A 100; nearest: FNCE-601-A"),
-            ("pair t.jain FNCE-601-A MGMT-69-A 1\n", "1.session:1: no-section: pair t.jain FNCE-601-A MGMT-69-A 1; nearest: MGMT-690-A"),
-            ("rate 123 FNCE-601-A 1\n", "1.session:1: no-student: rate 123 FNCE-601-A 1; nearest: 00123 (a spreadsheet may have taken leading zeros)"),
-            ("rate T.Jain FNCE-601-A 1\n", "1.session:1: no-student: rate T.Jain FNCE-601-A 1; nearest: t.jain (other capitals)"),
+            (
+                "# note\n\nrate t.jain FNCE601-A 100\n",
+                "1.session:3: no-section: rate t.jain FNCE601-A 100; nearest: FNCE-601-A",
+            ),
+            (
+                "pair t.jain FNCE-601-A MGMT-69-A 1\n",
+                "1.session:1: no-section: pair t.jain FNCE-601-A MGMT-69-A 1; nearest: MGMT-690-A",
+            ),
+            (
+                "rate 123 FNCE-601-A 1\n",
+                "1.session:1: no-student: rate 123 FNCE-601-A 1; nearest: 00123 (a spreadsheet may have taken leading zeros)",
+            ),
+            (
+                "rate T.Jain FNCE-601-A 1\n",
+                "1.session:1: no-student: rate T.Jain FNCE-601-A 1; nearest: t.jain (other capitals)",
+            ),
             ("rate t.jain FNCE-601-A 101\n", "1.session:1: out-of-range: rate t.jain FNCE-601-A 101"),
             ("pair t.jain FNCE-601-A FNCE-601-A 1\n", "1.session:1: same-pair: pair t.jain FNCE-601-A FNCE-601-A 1"),
             ("rate t.jain FNCE-601-A\n", '1.session:1: unreadable: "rate t.jain FNCE-601-A"'),
@@ -89,14 +103,18 @@ class Looks(InFolder):
 
     def test_more_wishes_than_the_desk_takes(self) -> None:
         self.write("roll.csv", "student,budget,credits,courses\ns,1,1,1\n")
-        self.write("catalogue.csv", "section,course,seats,credits,meetings\n" + "".join(f"C{at},C{at},1,1,\n" for at in range(61)))
+        self.write(
+            "catalogue.csv", "section,course,seats,credits,meetings\n" + "".join(f"C{at},C{at},1,1,\n" for at in range(61))
+        )
         self.write("1.session", "".join(f"rate s C{at} 5\n" for at in range(61)))
         status, told = say("look", "catalogue.csv", "roll.csv", "1.session")
         self.assertEqual(status, tell.FAULTS)
         self.assertTrue(told.startswith("1.session:61: too-many: rate s C60 5\n"))
 
     def test_all_faults_of_both_tables_are_told_with_file_row_column_and_value(self) -> None:
-        self.write("catalogue.csv", "section,course,seats,credits,meetings,parts\nA,A,5,0.5,,1\nA,B c,05,1,MWF 9:00,3\nB,B,5,1\n")
+        self.write(
+            "catalogue.csv", "section,course,seats,credits,meetings,parts\nA,A,5,0.5,,1\nA,B c,05,1,MWF 9:00,3\nB,B,5,1\n"
+        )
         self.write("roll.csv", "student,budget,credits,courses,carry\nu v,1,000,9,0\nw,900000,8,5,1\n")
         self.write("1.session", "")
         status, told = say("look", "catalogue.csv", "roll.csv", "1.session")
@@ -131,7 +149,9 @@ class Looks(InFolder):
         self.write("1.session", ALL)
         status, told = say("look", "catalogue.csv", "roll.csv", "1.session")
         self.assertEqual(status, tell.FAULTS)
-        self.assertIn('catalogue.csv row 1: "section;course;seats;credits;meetings" where this was expected: section,course', told)
+        self.assertIn(
+            'catalogue.csv row 1: "section;course;seats;credits;meetings" where this was expected: section,course', told
+        )
 
 
 @unittest.skipUnless(has_program(), "there is no program")
@@ -148,7 +168,9 @@ class LooksAtSchool(WithSchool):
 
     def test_what_was_imported_is_in_order(self) -> None:
         self.assertEqual(self.imported()[0], 0)
-        status, told = say("look", "out/catalogue.csv", "out/roll.csv", "out/web.session", "out/desk.session", "out/choices.session")
+        status, told = say(
+            "look", "out/catalogue.csv", "out/roll.csv", "out/web.session", "out/desk.session", "out/choices.session"
+        )
         self.assertEqual(status, 0, told)
         self.assertTrue(told.endswith("nothing is found\n"))
         wishes = sum(len(one.ratings) for one in self.school.students)
