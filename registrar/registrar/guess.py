@@ -316,7 +316,9 @@ def run(exports: list[str], mapping: str, encoding: str) -> int:
     if faults:
         raise tell.Trouble("\n".join(faults))
     guesser = Guesser(seen, os.path.dirname(mapping) or ".")
-    write_whole(mapping, guesser.guess().encode("utf-8"))
+    text = guesser.guess()
+    os.makedirs(os.path.dirname(mapping) or ".", exist_ok=True)
+    write_whole(mapping, text.encode("utf-8"))
     tell.say(f"{mapping} is written. What was guessed, and is to be looked at:")
     for line in guesser.told:
         tell.say(f"  {line}")

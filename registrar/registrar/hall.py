@@ -36,7 +36,7 @@ def add_arguments(parser: argparse.ArgumentParser) -> None:
         "requests", nargs="*", metavar="REQUESTS", help="streams in the program's own form, in place of a mapping's"
     )
     parser.add_argument("--mapping", default="mapping.ini", metavar="FILE", help="the mapping (default: mapping.ini)")
-    parser.add_argument("--into", default=".", metavar="FOLDER", help="where the files are written (default: this folder)")
+    parser.add_argument("--into", metavar="FOLDER", help="where the files are written (default: the mapping's folder)")
     parser.add_argument("--replace", action="store_true", help="write over files that stand there and differ")
 
 
@@ -73,7 +73,7 @@ def run(arguments: argparse.Namespace) -> int:
             tell.warn(line)
         return answer.status
     files = {"hall.requests": text.encode(), "hall.txt": answer.output, **tables_of(asked, answer.lines)}
-    write_all(arguments.into, files, arguments.replace)
+    write_all(arguments.into or os.path.dirname(arguments.mapping) or ".", files, arguments.replace)
     tell_replies(asked, replies_of(answer.lines))
     return 0
 

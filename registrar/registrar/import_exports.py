@@ -40,7 +40,7 @@ def add_arguments(parser: argparse.ArgumentParser) -> None:
     parser.add_argument(
         "--encoding", default="", help="with EXPORT: what a text is in that has no mark and is not UTF-8, as cp1252"
     )
-    parser.add_argument("--into", default=".", metavar="FOLDER", help="where the files are written (default: this folder)")
+    parser.add_argument("--into", metavar="FOLDER", help="where the files are written (default: the mapping's folder)")
     parser.add_argument("--replace", action="store_true", help="write over files that stand there and differ")
     parser.add_argument("--faults", metavar="FILE", help="write the faults as a table too")
 
@@ -60,7 +60,7 @@ def run(arguments: argparse.Namespace) -> int:
         made.limits(faults)
     if faults:
         return tell_faults(faults, arguments.faults, arguments.mapping)
-    write_all(arguments.into, made.files(), arguments.replace)
+    write_all(arguments.into or os.path.dirname(arguments.mapping) or ".", made.files(), arguments.replace)
     for line in made.lines():
         tell.say(line)
     return 0

@@ -14,7 +14,7 @@ import random
 import sys
 from dataclasses import dataclass, field
 
-SUBJECTS = "ACCT FNCE MGMT MKTG STAT HCMG LGST COMM REAL GÉNI MUS BIOL CHEM HIST PHIL PHYS MATH SOCI LING ARTH".split()
+SUBJECTS = "ACCT GÉNI FNCE MGMT MKTG STAT HCMG LGST COMM REAL MUS BIOL CHEM HIST PHIL PHYS MATH SOCI LING ARTH".split()
 SLOTS = [
     ("MW", 510),
     ("TR", 510),
@@ -108,7 +108,7 @@ def made_school(seed: int, students: int, sections: int) -> School:
 
 
 def made_sections(draw: random.Random, students: int, count: int) -> list[Section]:
-    """The sections: one to four of a course, with seats for some six a student."""
+    """The sections: one to four of a course, with seats for four or five a student."""
     found: list[Section] = []
     number = 100
     while len(found) < count:
@@ -121,7 +121,7 @@ def made_sections(draw: random.Random, students: int, count: int) -> list[Sectio
             days, start = draw.choice(SLOTS)
             course = f"{subject} {number}"
             name = course.replace("É", "E").replace(" ", "_")
-            seats = max(2, round(students * 6 / count * draw.choice([0.4, 0.7, 1, 1.3, 1.6])))
+            seats = max(2, round(students * 4.5 / count * draw.choice([0.4, 0.7, 1, 1.3, 1.6])))
             if len(found) % 11 == 10:
                 days = ""
             length = 50 if days == "MWF" else 80

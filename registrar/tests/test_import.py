@@ -37,7 +37,7 @@ class Imports(WithSchool):
         self.expect_the_school()
         names = self.read("out/names.csv").splitlines()
         self.assertEqual(names[0], "kind,original,name")
-        self.assertIn("section,GÉNI 110 A,GENI_110_A", names)
+        self.assertIn("section,GÉNI 102 A,GENI_102_A", names)
 
     def test_leading_zeros_that_a_survey_lost_are_told_and_joined_by_pad(self) -> None:
         number = next(one.number for one in self.school.students if one.survey == "desk")
