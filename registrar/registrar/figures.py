@@ -6,7 +6,7 @@ from typing import Dict, List, Sequence, Tuple
 
 from registrar import published, reasons
 
-# Choices beyond this are counted together.
+# Whoever holds a choice beyond this is counted once, as one who holds a later one.
 CHOICES = 10
 
 
@@ -66,10 +66,10 @@ def choices(market: reasons.Market) -> List[Tuple[str, float]]:
     for name, final in market.text.finals.items():
         rated = market.ratings.get(name, {})
         ranked = sorted(rated, key=lambda one: (-rated[one], places[one]))
-        for place, section in enumerate(ranked):
-            if section in final.sections:
-                found[min(place, CHOICES)] += 1
-    return [(str(place + 1), number) for place, number in enumerate(found[:-1])] + [(f"over {CHOICES}", found[-1])]
+        held = {min(place, CHOICES) for place, section in enumerate(ranked) if section in final.sections}
+        for place in held:
+            found[place] += 1
+    return [(str(place + 1), number) for place, number in enumerate(found[:-1])] + [("a later one", found[-1])]
 
 
 def fill(text: published.Published) -> List[Tuple[str, float]]:

@@ -8,11 +8,11 @@ from dataclasses import dataclass
 from typing import List, Sequence, Tuple
 
 WIDTH = 720
-HEIGHT = 300
+HEIGHT = 320
 LEFT = 64
 RIGHT = 16
 TOP = 40
-BOTTOM = 56
+BOTTOM = 76
 
 INK = "#222222"
 FAINT = "#cccccc"

@@ -1,0 +1,197 @@
+"""`lists`, `summary` and `settings`."""
+
+import json
+import os
+import random
+import unittest
+import xml.etree.ElementTree
+from unittest import mock
+
+from registrar import explain, figures, lists, manifest, plots, program, published, reasons, tell
+from tests.support import SCARCE, SCARCE_WORDS, TERM, InFolder, call, needs_program
+
+TERM_FILES = [
+    os.path.join(TERM, name)
+    for name in ("catalogue.csv", "roll.csv", "settings.json", "published.txt", "desk.session", "web.session")
+]
+
+
+def term() -> reasons.Market:
+    """The market of examples/term."""
+    return explain.market_of(manifest.of_files(TERM_FILES))
+
+
+@needs_program
+class Lists(InFolder):
+    """The lists of the scarce market, told by hand: X has one seat, Y has two."""
+
+    def setUp(self) -> None:
+        """A text, and who of the two has X."""
+        super().setUp()
+        self.run_scarce()
+        text = self.read("published.txt")
+        self.winner, self.loser = ("v", "u") if "budget u 100\n" in text else ("u", "v")
+
+    def test_tables(self) -> None:
+        """Each table, and who wanted what."""
+        told = call("lists")
+        self.assertEqual(told.status, 0)
+        self.assertEqual(self.read("lists/rosters.csv"), f"section,student\nX,{self.winner}\nY,u\nY,v\n")
+        price = published.read_published("published.txt").prices["X"]
+        self.assertEqual(self.read("lists/sections.csv"), f"section,price,seats,used,wanted\nX,{price},1,1,2\nY,0,2,2,2\n")
+        rows = self.read("lists/students.csv").splitlines()
+        self.assertEqual(rows[0], "student,sections,credits,spent,left")
+        self.assertIn(f"{self.winner},X Y,2,{price},{110 - price}", rows)
+        self.assertIn(f"{self.loser},Y,1,0,100", rows)
+
+    def test_texts(self) -> None:
+        """The loser's text has the reason, by the program and by rule alike; the winner needs none."""
+        for how in ("program", "plain"):
+            with self.subTest(how):
+                self.assertEqual(call("lists", "--reasons", how).status, 0)
+                text = self.read(f"lists/students/{self.loser}.txt")
+                self.assert_told(text, ("You have Y: 1 credits.", "It alone passes your budget of 100.", f"budget {self.loser} 100"))
+                self.assertIn("You have all that you rated highest.", self.read(f"lists/students/{self.winner}.txt"))
+
+    def test_no_reasons(self) -> None:
+        """`--no-reasons` leaves them out, and one student alone may be asked for."""
+        self.assertEqual(call("lists", "--no-reasons", "--student", self.loser).status, 0)
+        self.assertEqual(os.listdir("lists/students"), [self.loser + ".txt"])
+        self.assertNotIn("rated higher", self.read(f"lists/students/{self.loser}.txt"))
+        self.assertEqual(call("lists", "--student", "w").status, tell.FAULTS)
+
+    def test_where_it_costs_too_much(self) -> None:
+        """Where the program would take too long, that is said, and the reasons are found by rule."""
+        with mock.patch.object(lists, "PATIENCE", 0.0):
+            told = call("lists")
+        self.assertEqual(told.status, 0)
+        self.assertIn("found by rule", told.err)
+
+    def test_a_text_that_does_not_hold(self) -> None:
+        """No lists come of it."""
+        self.put("published.txt", self.read("published.txt").replace("used X 1 1", "used X 0 1"))
+        self.assertEqual(call("lists").status, tell.FAULTS)
+        self.assertFalse(os.path.exists("lists"))
+
+    def test_summary(self) -> None:
+        """The page has each figure, and each plot is XML with a title and a text alternative."""
+        self.assertEqual(call("summary").status, 0)
+        page = self.read("summary.html")
+        self.assert_told(page, ("Seats taken in the end", "In the end 1 student envies somebody", "Clearing error by stage"))
+        for one in page.split("<svg")[1:]:
+            plot = xml.etree.ElementTree.fromstring("<svg" + one.split("</svg>")[0] + "</svg>")
+            self.assertEqual(plot.get("role"), "img")
+            self.assertTrue(plot.get("aria-label"))
+        self.assertEqual(page.count("<svg"), 7)
+        self.assertEqual(call("summary", "--no-audit").status, 0)
+        self.assertNotIn("envies", self.read("summary.html"))
+
+
+@needs_program
+class Settings(InFolder):
+    """At price 0 the error is 1; a search finds 0."""
+
+    def test_the_table(self) -> None:
+        """Both numbers of turns, the least error first read with accept 0."""
+        self.scarce()
+        told = call("settings", *SCARCE_WORDS, "--turns", "0,20")
+        self.assertEqual(told.status, 0)
+        rows = [line.split() for line in told.out.splitlines()[2:5]]
+        self.assertEqual(rows[0][:3] + rows[0][5:8], ["1", "0", "0", "no", "prices:", "least"])
+        self.assertEqual(rows[1][:3] + rows[1][5:6], ["2", "0", "1", "1"])
+        self.assertEqual(rows[2][:3] + rows[2][5:8], ["3", "20", "0", "0", "3", "3"])
+        self.assertIn("--take 20 0", told.out)
+
+    def test_writing(self) -> None:
+        """The settings of the row of least error, or those that are taken, with the rest as it was."""
+        self.scarce()
+        before = json.loads(self.read("settings.json"))
+        self.assertEqual(call("settings", *SCARCE_WORDS, "--turns", "0", "--write", "new.json").status, 0)
+        self.assertEqual(json.loads(self.read("new.json")), {**before, "turns": 0, "accept": 1})
+        self.assertEqual(call("settings", *SCARCE_WORDS, "--take", "30", "2", "--write", "new.json").status, 0)
+        self.assertEqual(json.loads(self.read("new.json")), {**before, "turns": 30, "accept": 2})
+        self.assertEqual(call("settings", *SCARCE_WORDS, "--take", "30", "2").status, tell.USAGE)
+
+    def test_refusals(self) -> None:
+        """A fault of a table ends the trials with the program's status."""
+        self.scarce()
+        self.put("roll.csv", "student,budget,credits,courses\nu,1e2,4,2\n")
+        told = call("settings", *SCARCE_WORDS)
+        self.assertEqual(told.status, 3)
+        self.assertIn("roll.csv, row 2 (line 2), column 2 'budget'", told.err)
+        self.assertEqual(call("settings", *SCARCE_WORDS, "--turns", "a").status, tell.USAGE)
+
+
+class Figures(unittest.TestCase):
+    """Figures of examples/term, against numbers of its text and its audit."""
+
+    def test_choices(self) -> None:
+        """No more students have a choice than there are, and the aftermarket's last pass changes nothing."""
+        market = term()
+        self.assertTrue(all(0 <= number <= 100 for _, number in figures.choices(market)))
+        self.assertEqual(figures.changes_by_pass(market.text)[-1], ("pass 5", 0))
+        self.assertIn("n.jones", figures.changed(market.text))
+        self.assertEqual(figures.median([3, 1, 2]), 2)
+
+    def test_error_of_the_end(self) -> None:
+        """By hand: the squares of the free seats of sections with a price, from the lines `price` and `used`."""
+        text = term().text
+        by_hand = 0
+        for line in text.lines:
+            words = line.split(" ")
+            if words[0] == "used" and text.prices[words[1]]:
+                by_hand += (int(words[3]) - int(words[2])) ** 2
+        self.assertEqual(figures.errors_by_stage(text)[2], ("aftermarket", by_hand))
+        self.assertEqual(figures.errors_by_stage(text)[0], ("search", 59))
+
+    def test_plots_of_nothing(self) -> None:
+        """A market without sections or students has plots all the same."""
+        axes = plots.Axes("a <title>", 'a "text"', "x", "y")
+        for plot in (plots.bars(axes, []), plots.histogram(axes, []), plots.line(axes, []), plots.line(axes, [(1, 2), (3, 4)])):
+            self.assertEqual(xml.etree.ElementTree.fromstring(plot).get("role"), "img")
+
+    def test_histogram(self) -> None:
+        """Each value is counted once."""
+        plot = plots.histogram(plots.Axes("t", "t", "x", "y"), [5, 5, 7, 11], 4)
+        self.assertEqual(sum(int(part.split("<")[0]) for part in plot.split(": ")[1:]), 4)
+
+
+@needs_program
+class Reasons(InFolder):
+    """The first line of each reason by rule, against the program's `explain`, in a drawn market with few seats."""
+
+    STUDENTS = 10
+    SECTIONS = 8
+
+    def draw(self) -> None:
+        """A market with a seed of its own: two sections a course, clashes, both halves of the term, caps that bind."""
+        dice = random.Random(52)
+        meetings = ("M0900-1000", "M0930-1030;W0900-1000", "T0900-1000", "", "M1000-1100")
+        sections = [
+            f"S{j},K{j // 2},{dice.randint(1, 4)},{dice.randint(1, 4)},{dice.choice(meetings)},{dice.choice(('1', '2', '12'))}"
+            for j in range(self.SECTIONS)
+        ]
+        roll = [f"p{i},100,{dice.randint(3, 9)},{dice.randint(1, 3)}" for i in range(self.STUDENTS)]
+        wishes = [
+            f"rate p{i} S{j} {dice.randint(1, 100)}" for i in range(self.STUDENTS) for j in range(self.SECTIONS) if dice.random() < 0.7
+        ]
+        wishes += [f"pair p{i} S0 S{dice.randint(1, 7)} {dice.choice((-150, 20))}" for i in range(self.STUDENTS)]
+        self.put("catalogue.csv", "section,course,seats,credits,meetings,parts\n" + "\n".join(sections) + "\n")
+        self.put("roll.csv", "student,budget,credits,courses\n" + "\n".join(roll) + "\n")
+        self.put("a.session", "\n".join(wishes) + "\n")
+        self.put("settings.json", SCARCE["settings.json"].replace('"accept": 0', '"accept": 1000'))
+
+    def test_by_rule(self) -> None:
+        """Each student with each section."""
+        self.draw()
+        self.assertEqual(call("run", "catalogue.csv", "roll.csv", "settings.json", "a.session").status, 0)
+        found = manifest.read()
+        market = explain.market_of(found)
+        kinds = set()
+        for name in market.students:
+            for section in market.sections:
+                answer = program.call(manifest.explain_words(found, name, section))
+                words = reasons.read_reason(answer.lines).words
+                self.assertEqual(words, reasons.plain_reason(market, name, section).words, f"{name} {section}")
+                kinds.add(words[0])
+        self.assertLessEqual({"held", "unrated", "alone", "clash", "beside"}, kinds)

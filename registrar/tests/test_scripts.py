@@ -1,0 +1,88 @@
+"""The scripts: usage where words are missing, the program's status with words, and rt's numbers never in its place."""
+
+import os
+import shutil
+import subprocess
+import unittest
+from typing import List, Optional
+
+from registrar import program, tell
+from tests.support import MARKET, SCRIPTS, InFolder, needs_program
+
+# Each form with too few words for it.
+FORMS = {
+    "run": ["2", "c.csv", "r.csv", "s.json"],
+    "check": ["c.csv", "r.csv", "s.json", "t.txt"],
+    "explain": ["c.csv", "r.csv", "s.json", "t.txt", "a", "B"],
+    "hall": ["c.csv", "r.csv", "t.txt"],
+    "audit": ["2", "c.csv", "r.csv", "s.json", "t.txt"],
+    "quote": ["c.csv", "a.session", "a", "12"],
+    "prefer": ["c.csv", "r.csv"],
+    "demand": ["2", "c.csv", "r.csv", "s.json", "p.csv"],
+}
+
+
+@unittest.skipUnless(os.path.isdir(SCRIPTS) and shutil.which("bash"), "the scripts are not here")
+class Scripts(InFolder):
+    """The scripts of the repository."""
+
+    def script(self, name: str, words: List[str], named: Optional[str] = None, path: Optional[str] = None) -> subprocess.CompletedProcess:
+        """Calls a script, with another program or another search path."""
+        there = dict(os.environ)
+        if named is not None:
+            there["COURSE_MATCH_PROGRAM"] = named
+        if path is not None:
+            there["PATH"] = path + os.pathsep + there["PATH"]
+        return subprocess.run([os.path.join(SCRIPTS, name), *words], env=there, capture_output=True, text=True, check=False)
+
+    def test_usage(self) -> None:
+        """`--help` answers 0 and the usage; missing words answer it on standard error, and no status of the program."""
+        for name, words in FORMS.items():
+            with self.subTest(name):
+                helped = self.script(name, ["--help"])
+                self.assertEqual((helped.returncode, helped.stderr), (0, ""))
+                self.assertIn(f"scripts/{name} ", helped.stdout)
+                short = self.script(name, words)
+                self.assertEqual((short.returncode, short.stdout, short.stderr), (tell.USAGE, "", helped.stdout))
+        for name in ("examples", "program", "registrar"):
+            self.assertEqual(self.script(name, ["--help"]).returncode, 0)
+
+    def test_no_program(self) -> None:
+        """With words and without a program each ends with 69."""
+        for name, words in FORMS.items():
+            with self.subTest(name):
+                told = self.script(name, words + ["more"], named=os.path.join(self.folder, "none"))
+                self.assertEqual((told.returncode, told.stdout), (tell.NO_PROGRAM, ""))
+                self.assertIn("there is no program yet", told.stderr)
+
+    def test_numbers_of_rt(self) -> None:
+        """Where `rt try` fails with a number that is also one of the program's, the script does not end with it."""
+        os.mkdir("bin")
+        self.put("bin/rt", "#!/bin/sh\nexit 6\n")
+        os.chmod("bin/rt", 0o755)
+        for name in FORMS:
+            with self.subTest(name):
+                told = self.script(name, [], named=os.path.join(self.folder, "none"), path=os.path.join(self.folder, "bin"))
+                self.assertEqual(told.returncode, 70)
+                self.assertIn("rt try ended with 6", told.stderr)
+
+    @needs_program
+    def test_with_words(self) -> None:
+        """`quote`, `prefer` and `demand` take the program where it stands, with files from any folder."""
+        shutil.copytree(MARKET, "m")
+        built = program.find_program()
+        ann = self.script("quote", ["m/catalogue.csv", "m/ann.session", "ann", "12", "4"], named=built)
+        self.assertEqual(ann.stdout, "bundle ann [ACCT-101-A,ECON-201-B,MATH-210-B,PHIL-150-A]\nutility 288\n")
+        self.assertEqual(self.script("prefer", ["m/catalogue.csv", "m/roll.csv", "m/none"], named=built).returncode, 2)
+        words = ["2", "m/catalogue.csv", "m/roll.csv", "m/settings.json", "m/prices.csv", "m/ann.session"]
+        self.assertEqual(self.script("demand", words, named=built).returncode, 0)
+
+    @needs_program
+    def test_many_wishes(self) -> None:
+        """`prefer` of 300 students with 60 ratings each prints each entry: 18,000."""
+        self.put("c.csv", "section,course,seats,credits,meetings\n" + "".join(f"S{j},K{j},9,1,\n" for j in range(60)))
+        self.put("r.csv", "student,budget,credits,courses\n" + "".join(f"p{i},100,9,5\n" for i in range(300)))
+        self.put("a.session", "".join(f"rate p{i} S{j} 7\n" for i in range(300) for j in range(60)))
+        told = self.script("prefer", ["c.csv", "r.csv", "a.session"], named=program.find_program())
+        self.assertEqual(told.returncode, 0)
+        self.assertEqual(told.stdout.count("entry 1 done"), 18000)
