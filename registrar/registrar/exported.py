@@ -80,7 +80,9 @@ class Export:
         elif number > header_row and any(cell.strip() for cell in cells):
             beyond = [cell for cell in cells[len(self.header) :] if cell.strip()]
             if beyond:
-                expected = f"at most {len(self.header)} cells, as the header has; a separator too many, or a quote that is missing"
+                expected = (
+                    f"at most {len(self.header)} cells, as the header has; a separator too many, or a quote that is missing"
+                )
                 self.faults.add(self.file, number, "", beyond[0], expected)
             self.rows.append(Row(number, cells))
 
@@ -95,7 +97,9 @@ class Export:
             if len(found) == 1:
                 return found[0]
             if len(found) > 1:
-                self.faults.add(self.file, None, name, name, f"one column of this name; {len(found)} have it (`@3` names the third)")
+                self.faults.add(
+                    self.file, None, name, name, f"one column of this name; {len(found)} have it (`@3` names the third)"
+                )
                 return found[0]
         return None
 

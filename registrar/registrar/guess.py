@@ -155,7 +155,10 @@ class Guesser:
         """Where the section's column has a letter alone (`A`), the code is the course's and it; likewise subject and number."""
         section, course = seen.values["section"], seen.values["course"]
         subject = next((title for title in seen.header if plain(title) in ("subject", "dept", "department")), "")
-        number = next((title for title in seen.header if plain(title) in ("number", "catalog number", "catalogue number", "course no")), "")
+        number = next(
+            (title for title in seen.header if plain(title) in ("number", "catalog number", "catalogue number", "course no")),
+            "",
+        )
         if subject and number:
             course = f"{subject} + {number}"
             seen.values["course"] = course
@@ -168,6 +171,7 @@ class Guesser:
 
     def like(self, seen: Seen, known: set[str]) -> str:
         """The column that has the most of the known names, where it has any."""
+
         def shared(title: str) -> int:
             return len({spelt(value) for value in seen.column(title)} & known)
 
@@ -250,15 +254,35 @@ class Guesser:
         for options in NEEDED[seen.kind]:
             if not any(seen.values.get(option) for option in options.split("|")):
                 self.open.append(f"[{title}] {options.replace('|', ' or ')}")
+        if seen.kind in SOUGHT:
+            self.open += [f"[{title}] {line}" for line in (*self.blanks(seen), *self.lengths(seen))]
+
+    def blanks(self, seen: Seen) -> list[str]:
+        """The columns of a table that are blank in some rows, so that the mapping has to say what a blank means.
+
+        Of several rows of one section the first alone has to say its seats and credits.
+        """
+        names = self.joined(seen, seen.values["section"]) if seen.kind == "catalogue" else []
+        firsts = [row for at, row in enumerate(seen.rows) if not names or names.index(names[at]) == at]
+        found: list[str] = []
         for option in ("seats", "credits", "meetings", "budget", "courses"):
-            name = seen.values.get(option)
-            blanks = len(seen.rows) - len(seen.column(name)) if name and seen.kind in SOUGHT else 0
-            if blanks:
-                self.open.append(f"[{title}] {option} default: {blanks} of {len(seen.rows)} rows have nothing in {name}")
-        if seen.kind == "catalogue" and seen.values["meetings"]:
-            lacking = [text for text in seen.column(seen.values["meetings"]) if re.search(r"\d", text) and not re.search(r"\d\s*[-–]|to", text)]
-            if lacking and not seen.values["length"]:
-                self.open.append(f"[{title}] length or length default: \"{lacking[0]}\" has no end")
+            title = seen.values.get(option, "")
+            rows = seen.rows if option == "meetings" else firsts
+            at = seen.header.index(title) if title else 0
+            blank = sum(at >= len(row) or not row[at] for row in rows) if title else 0
+            if blank:
+                found.append(f"{option} default: {blank} of {len(rows)} rows have nothing in {title}")
+        return found
+
+    def lengths(self, seen: Seen) -> list[str]:
+        """That meetings without an end need a length, where there are some and no column has one."""
+        if not seen.values.get("meetings") or seen.values.get("length"):
+            return []
+        texts = seen.column(seen.values["meetings"])
+        open_ended = [
+            text for text in texts if re.search(r"\d", text) and not re.search(r"\d\s*(am|pm)?\s*([-\u2013]|to)", text, re.I)
+        ]
+        return [f'length or length default: "{text}" has no end' for text in open_ended[:1]]
 
     def of_numbers(self) -> dict[str, str]:
         """The decimal sign, and the unit of credits, by the numbers that stand in the tables."""
@@ -292,7 +316,9 @@ def run(exports: list[str], mapping: str, encoding: str) -> int:
     if faults:
         raise tell.Trouble("\n".join(faults))
     guesser = Guesser(seen, os.path.dirname(mapping) or ".")
-    write_whole(mapping, guesser.guess().encode("utf-8"))
+    text = guesser.guess()
+    os.makedirs(os.path.dirname(mapping) or ".", exist_ok=True)
+    write_whole(mapping, text.encode("utf-8"))
     tell.say(f"{mapping} is written. What was guessed, and is to be looked at:")
     for line in guesser.told:
         tell.say(f"  {line}")

@@ -5,6 +5,7 @@ from __future__ import annotations
 import argparse
 import os
 import sys
+import tempfile
 from dataclasses import dataclass
 from typing import Iterator, Sequence
 
@@ -31,9 +32,11 @@ def add_arguments(parser: argparse.ArgumentParser) -> None:
         "hall-replies.csv, hall-rosters.csv, hall-students.csv and hall-waiting.csv."
     )
     manifest.add_argument(parser)
-    parser.add_argument("requests", nargs="*", metavar="REQUESTS", help="streams in the program's own form, in place of a mapping's")
+    parser.add_argument(
+        "requests", nargs="*", metavar="REQUESTS", help="streams in the program's own form, in place of a mapping's"
+    )
     parser.add_argument("--mapping", default="mapping.ini", metavar="FILE", help="the mapping (default: mapping.ini)")
-    parser.add_argument("--into", default=".", metavar="FOLDER", help="where the files are written (default: this folder)")
+    parser.add_argument("--into", metavar="FOLDER", help="where the files are written (default: the mapping's folder)")
     parser.add_argument("--replace", action="store_true", help="write over files that stand there and differ")
 
 
@@ -41,7 +44,7 @@ def add_arguments(parser: argparse.ArgumentParser) -> None:
 class Request:
     """A request, with its place in the export."""
 
-    words: tuple[str, str, str]
+    words: tuple[str, ...]
     file: str
     row: int
 
@@ -55,7 +58,7 @@ def run(arguments: argparse.Namespace) -> int:
     """Makes the stream, asks the program, and writes what it answers."""
     found = manifest.read(arguments.manifest)
     if arguments.requests:
-        asked = [Request(one.words, one.file, one.line) for path in arguments.requests for one in stream(path)]
+        asked = [request for path in arguments.requests for request in stream(path)]
     else:
         faults = Faults()
         asked = Gatherer(arguments.mapping, found, faults).requests()
@@ -70,30 +73,18 @@ def run(arguments: argparse.Namespace) -> int:
             tell.warn(line)
         return answer.status
     files = {"hall.requests": text.encode(), "hall.txt": answer.output, **tables_of(asked, answer.lines)}
-    write_all(arguments.into, files, arguments.replace)
+    write_all(arguments.into or os.path.dirname(arguments.mapping) or ".", files, arguments.replace)
     tell_replies(asked, replies_of(answer.lines))
     return 0
 
 
-@dataclass(frozen=True)
-class Line:
-    """A line of a stream in the program's own form."""
-
-    words: tuple[str, ...]
-    file: str
-    line: int
-
-
-def stream(path: str) -> Iterator[Line]:
-    """The requests of a stream. The lines of a stream are those of a session."""
-    for command in tables.read_session(path):
-        yield Line(command.words, os.path.basename(path), command.line)
+def stream(path: str) -> list[Request]:
+    """The requests of a stream in the program's own form. Its lines are those of a session."""
+    return [Request(one.words, os.path.basename(path), one.line) for one in tables.read_session(path)]
 
 
 def ask(found: manifest.Manifest, text: str) -> program.Answer:
     """Calls `hall` of the program with one stream."""
-    import tempfile
-
     with tempfile.TemporaryDirectory() as folder:
         path = os.path.join(folder, "hall.requests")
         with open(path, "w", encoding="utf-8", newline="") as file:
@@ -150,7 +141,9 @@ class Gatherer:
         filled = [word for word in REQUESTS if export.cell(row, word)]
         order = [tidy(word) for word in split(export.source.get("both"))]
         if len(filled) > 1 and not set(filled) <= set(order):
-            export.fault(row, filled[0], " and ".join(filled), "one request; `both = drop, add` states an order for rows with several")
+            export.fault(
+                row, filled[0], " and ".join(filled), "one request; `both = drop, add` states an order for rows with several"
+            )
             return []
         if not filled:
             self.faults.add(export.file, row.number, "", "", "a request")
@@ -184,7 +177,7 @@ def tables_of(asked: Sequence[Request], lines: Sequence[str]) -> dict[str, bytes
     """The tables after the hall: replies, rosters, each student's sections, and who waits."""
     replies = [["file", "row", "request", "student", "section", "reply"]]
     for request, reply in zip(asked, replies_of(lines)):
-        word, student, section = (*request.words, "", "", "")[:3]
+        word, student, section = request.words if len(request.words) == 3 else (" ".join(request.words), "", "")
         replies.append([request.file, str(request.row), word, student, section, reply])
     rosters, holds, waits = [["section", "student"]], [["student", "sections"]], [["section", "place", "student"]]
     held: dict[str, list[str]] = {}

@@ -37,8 +37,10 @@ def add_arguments(parser: argparse.ArgumentParser) -> None:
     )
     parser.add_argument("exports", nargs="*", metavar="EXPORT", help="the exports of which a first mapping is to be guessed")
     parser.add_argument("--mapping", default="mapping.ini", metavar="FILE", help="the mapping (default: mapping.ini)")
-    parser.add_argument("--encoding", default="", help="with EXPORT: what a text is in that has no mark and is not UTF-8, as cp1252")
-    parser.add_argument("--into", default=".", metavar="FOLDER", help="where the files are written (default: this folder)")
+    parser.add_argument(
+        "--encoding", default="", help="with EXPORT: what a text is in that has no mark and is not UTF-8, as cp1252"
+    )
+    parser.add_argument("--into", metavar="FOLDER", help="where the files are written (default: the mapping's folder)")
     parser.add_argument("--replace", action="store_true", help="write over files that stand there and differ")
     parser.add_argument("--faults", metavar="FILE", help="write the faults as a table too")
 
@@ -49,7 +51,8 @@ def run(arguments: argparse.Namespace) -> int:
         return guess.run(arguments.exports, arguments.mapping, arguments.encoding)
     if not os.path.exists(arguments.mapping):
         raise tell.Trouble(
-            f"there is no mapping {arguments.mapping}: `registrar import EXPORT ..` with the exports writes a first one", tell.NO_FILE
+            f"there is no mapping {arguments.mapping}: `registrar import EXPORT ..` with the exports writes a first one",
+            tell.NO_FILE,
         )
     faults = Faults()
     made = Importer(arguments.mapping, faults).made()
@@ -57,7 +60,7 @@ def run(arguments: argparse.Namespace) -> int:
         made.limits(faults)
     if faults:
         return tell_faults(faults, arguments.faults, arguments.mapping)
-    write_all(arguments.into, made.files(), arguments.replace)
+    write_all(arguments.into or os.path.dirname(arguments.mapping) or ".", made.files(), arguments.replace)
     for line in made.lines():
         tell.say(line)
     return 0
@@ -139,7 +142,9 @@ class Made:
         lines.append(f"names.csv: {tell.count(len(self.names), 'name', 'names')}, {spelt} of them spelt anew")
         lines += self.notes
         if students > len(spoke):
-            lines.append(f"{tell.count(students - len(spoke), 'student has', 'students have')} no wishes; `registrar look` names them")
+            lines.append(
+                f"{tell.count(students - len(spoke), 'student has', 'students have')} no wishes; `registrar look` names them"
+            )
         return lines
 
 
@@ -221,7 +226,7 @@ class Importer:
             text = column.cell(row) if column else ""
             said = draft.said.get(option)
             if text and said and said[0] != text:
-                export.fault(row, option, text, f"\"{said[0]}\", as row {said[1]} says of {draft.name}")
+                export.fault(row, option, text, f'"{said[0]}", as row {said[1]} says of {draft.name}')
             elif text and not said:
                 draft.said[option] = (text, row.number)
         draft.meetings += self.meetings(export, row)
@@ -268,12 +273,18 @@ class Importer:
                 export.fault(first, "meetings", draft.name, str(fault))
                 meetings = ""
             cells = [draft.name, self.course(export, row["course"])]
-            cells += [self.number(export, row["seats"], "seats", 9999), self.number(export, row["credits"], "credits", 100), meetings]
+            cells += [
+                self.number(export, row["seats"], "seats", 9999),
+                self.number(export, row["credits"], "credits", 100),
+                meetings,
+            ]
             self.result.catalogue.append(cells + ([self.parts(export, row["parts"])] if has_parts else []))
         several = [draft.name for draft in drafts if len(draft.rows) > 1]
         if several:
             shown = ", ".join(several[:5]) + (", .." if len(several) > 5 else "")
-            self.result.notes.append(f"{tell.count(len(several), 'section has', 'sections have')} several rows, put together: {shown}")
+            self.result.notes.append(
+                f"{tell.count(len(several), 'section has', 'sections have')} several rows, put together: {shown}"
+            )
 
     def course(self, export: Export, row: Row) -> str:
         """The course of a section."""
@@ -289,7 +300,12 @@ class Importer:
         text = export.cell(row, "parts")
         plain = text.removesuffix(".0")
         if plain not in ("1", "2", "12"):
-            export.fault(row, "parts", text, "1 for the first half of the term, 2 for the second, 12 for both (`parts default` for a blank)")
+            export.fault(
+                row,
+                "parts",
+                text,
+                "1 for the first half of the term, 2 for the second, 12 for both (`parts default` for a blank)",
+            )
         return plain
 
     def take_roll(self, export: Export) -> None:

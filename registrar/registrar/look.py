@@ -81,7 +81,12 @@ def add_arguments(parser: argparse.ArgumentParser) -> None:
     parser.add_argument("roll", metavar="ROLL")
     parser.add_argument("sessions", nargs="+", metavar="SESSION")
     parser.add_argument(
-        "--allow", action="append", default=[], choices=list(KINDS), metavar="KIND", help="a kind that does not count; may come again"
+        "--allow",
+        action="append",
+        default=[],
+        choices=list(KINDS),
+        metavar="KIND",
+        help="a kind that does not count; may come again",
     )
     parser.add_argument("--all", action="store_true", help="show seats and wishes of all sections")
 
@@ -216,7 +221,7 @@ def given_twice(paths: Sequence[str]) -> list[Finding]:
 def in_two_sessions(seen: Seen) -> list[Finding]:
     """Students of the roll who are named in two sessions."""
     named: dict[str, dict[str, int]] = {student.name: {} for student in seen.students}
-    for entry in seen.entries:
+    for entry in sorted(seen.entries, key=lambda one: (one.command.session, one.command.line)):
         student = entry.command.student
         if student in named:
             named[student].setdefault(seen.paths[entry.command.session - 1], entry.command.line)

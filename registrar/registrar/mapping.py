@@ -169,7 +169,7 @@ class Source:
 
     def get(self, option: str) -> str:
         """The value of an option, or its default."""
-        return self.options.get(option) or DEFAULTS[self.kind].get(option, "")
+        return self.options.get(option, "") or DEFAULTS[self.kind].get(option, "")
 
     @property
     def path(self) -> str:
@@ -201,7 +201,7 @@ def parser() -> configparser.ConfigParser:
         delimiters=("=",), comment_prefixes=("#",), inline_comment_prefixes=None, interpolation=None,
         default_section="\0", empty_lines_in_values=False,
     )  # fmt: skip
-    reader.optionxform = tidy  # type: ignore[assignment,method-assign]
+    reader.optionxform = tidy  # type: ignore[assignment]
     return reader
 
 

@@ -81,9 +81,9 @@ def days_of(text: str, rules: MeetingRules) -> str:
             continue
         word = next((rest[:size] for size in range(min(len(rest), 12), 0, -1) if rest[:size] in words), "")
         if not word:
-            raise MeetingFault(f"{EXPECTED}: \"{text.strip()}\" are no days; write them one by one, or name them under [days]")
+            raise MeetingFault(f'{EXPECTED}: "{text.strip()}" are no days; write them one by one, or name them under [days]')
         if words[word] in letters:
-            raise MeetingFault(f"{EXPECTED}: a day stands twice in \"{text.strip()}\"")
+            raise MeetingFault(f'{EXPECTED}: a day stands twice in "{text.strip()}"')
         letters += words[word]
         rest = rest[len(word) :]
     if not letters:
@@ -121,7 +121,7 @@ def span(start: str, end: str, length: int, rules: MeetingRules) -> tuple[int, i
     begin = clock(start)
     if not end:
         if re.fullmatch(r"\d{1,2}", start.strip()):
-            raise MeetingFault(f"{EXPECTED}: \"{start.strip()}\" alone is no time")
+            raise MeetingFault(f'{EXPECTED}: "{start.strip()}" alone is no time')
         minutes = length or rules.length
         if not minutes:
             raise MeetingFault("an end or a length: state `length` or `length default`, in minutes")
@@ -169,13 +169,13 @@ def meetings_of(text: str, length: int, rules: MeetingRules) -> list[str]:
         for match in MEETING.finditer(rest):
             between = rest[at : match.start()]
             if between.strip(" ,/&+"):
-                raise MeetingFault(f"{EXPECTED}: \"{between.strip()}\" is more than that")
+                raise MeetingFault(f'{EXPECTED}: "{between.strip()}" is more than that')
             letters = days_of(match["days"], rules)
             begin, stop = span(match["start"], match["end"] or "", length, rules)
             found += [meeting(day, begin, stop) for day in letters]
             at = match.end()
         if rest[at:].strip(" ,/&+") or at == 0:
-            raise MeetingFault(f"{EXPECTED}: \"{rest[at:].strip()}\" can not be read")
+            raise MeetingFault(f'{EXPECTED}: "{rest[at:].strip()}" can not be read')
     if not found:
         raise MeetingFault(EXPECTED)
     return found

@@ -30,13 +30,21 @@ def add_arguments(parser: argparse.ArgumentParser) -> None:
         "more. The text is not judged: `registrar check` does that."
     )
     manifest.add_argument(parser)
-    parser.add_argument("--roll", metavar="ROLL", help="the roll of the text, where no manifest is at hand; together with --text")
+    parser.add_argument(
+        "--roll", metavar="ROLL", help="the roll of the text, where no manifest is at hand; together with --text"
+    )
     parser.add_argument("--text", metavar="TEXT", help="the published text, where no manifest is at hand")
     parser.add_argument(
-        "--students", metavar="ROLL", help="who is there in the next term, with new bases and caps (default: the roll of the text)"
+        "--students",
+        metavar="ROLL",
+        help="who is there in the next term, with new bases and caps (default: the roll of the text)",
     )
-    parser.add_argument("--most", type=int, default=MOST_TOKENS, metavar="N", help="nobody carries over more than so many tokens")
-    parser.add_argument("--into", default="roll.next.csv", metavar="FILE", help="the roll that is written (default: roll.next.csv)")
+    parser.add_argument(
+        "--most", type=int, default=MOST_TOKENS, metavar="N", help="nobody carries over more than so many tokens"
+    )
+    parser.add_argument(
+        "--into", default="roll.next.csv", metavar="FILE", help="the roll that is written (default: roll.next.csv)"
+    )
     parser.add_argument("--replace", action="store_true", help="write over a file that stands there and differs")
 
 
@@ -73,7 +81,9 @@ def run(arguments: argparse.Namespace) -> int:
     tell.say(f"{arguments.into}: {tell.count(len(students), 'student', 'students')}")
     tell.say(f"{tell.count(carried.brings, 'brings', 'bring')} tokens, {carried.tokens} together")
     if carried.new:
-        tell.say(f"{carried.new} {'is' if carried.new == 1 else 'are'} new and {'brings' if carried.new == 1 else 'bring'} none")
+        tell.say(
+            f"{carried.new} {'is' if carried.new == 1 else 'are'} new and {'brings' if carried.new == 1 else 'bring'} none"
+        )
     for student in carried.gone:
         tell.say(f"not on the new roll: {student}")
     return 0
@@ -84,7 +94,13 @@ def compare(arguments: argparse.Namespace, text: published.Published, faults: Fa
     names = [student.name for student in tables.read_roll(arguments.roll)]
     for row, (name, budgeted) in enumerate(zip(names, text.budgets), 2):
         if name != budgeted:
-            faults.add(os.path.basename(arguments.roll), row, "student", name, f"{budgeted}, as the published text has it; it is of another roll")
+            faults.add(
+                os.path.basename(arguments.roll),
+                row,
+                "student",
+                name,
+                f"{budgeted}, as the published text has it; it is of another roll",
+            )
             return
     if len(names) != len(text.budgets):
         expected = f"{len(text.budgets)} students, as the published text has; it is of another roll"

@@ -113,7 +113,9 @@ def text_rows(text: str) -> Iterator[list[str]]:
         except StopIteration:
             return
         except csv.Error as error:
-            raise SheetFault(number, "", f"a row: {error}; a quote that is not closed, or text behind a closing quote") from None
+            raise SheetFault(
+                number, "", f"a row: {error}; a quote that is not closed, or text behind a closing quote"
+            ) from None
         yield row
         number += 1
 
@@ -151,7 +153,9 @@ def widths_of(text: str, separator: str) -> list[int]:
 def book_rows(data: bytes, name: str, sheet: str) -> Iterator[list[str]]:
     """The rows of a sheet of an .xlsx book."""
     if not has_xlsx():
-        raise SheetFault(None, name, "CSV: reading .xlsx needs the Python package openpyxl; install it, or save the sheet as CSV")
+        raise SheetFault(
+            None, name, "CSV: reading .xlsx needs the Python package openpyxl; install it, or save the sheet as CSV"
+        )
     import openpyxl
 
     try:

@@ -108,7 +108,9 @@ class Names:
         name = self.rules.spell.get(code) or spelt(code)
         if not is_name(name):
             told = f"{name} has {len(name)}" if name else "it has none"
-            raise NameFault(f"a {self.kind} of 1 to 32 letters, digits, '-', '_' and '.' ({told}); `spell` or `endings` can shorten it")
+            raise NameFault(
+                f"a {self.kind} of 1 to 32 letters, digits, '-', '_' and '.' ({told}); `spell` or `endings` can shorten it"
+            )
         return code, name
 
     def define(self, cell: str) -> str:
@@ -116,7 +118,7 @@ class Names:
         code, name = self.spelt(cell)
         known = self.originals.get(name)
         if known is not None and known != code:
-            raise NameFault(f"a name of its own: \"{known}\" is spelt {name} too; choose one by `spell`")
+            raise NameFault(f'a name of its own: "{known}" is spelt {name} too; choose one by `spell`')
         folded = self.folded.get(name.casefold(), name)
         if self.rules.any_case and folded != name:
             raise NameFault(f"a name of its own under `any case = yes`: {folded} differs from {name} by capitals alone")
@@ -155,10 +157,9 @@ def table_of(kind: str) -> str:
     return "roll" if kind == "student" else "catalogue"
 
 
-def nearest(name: str, known: Iterable[str]) -> str:
-    """The known name that is most like this one, or nothing where none is much like it."""
-    found = difflib.get_close_matches(name, list(known), n=1, cutoff=0.75)
-    return found[0] if found else ""
+def letters_of(name: str) -> str:
+    """A name's letters and digits alone, in small letters."""
+    return re.sub("[-_.]", "", spelt(name).casefold())
 
 
 class Meant:
@@ -166,7 +167,7 @@ class Meant:
 
     def __init__(self, known: Iterable[str]) -> None:
         self.known = list(known)
-        self.folded = {spelt(name).casefold(): name for name in reversed(self.known)}
+        self.by_letters = {letters_of(name): name for name in reversed(self.known)}
         self.bare = {name.lstrip("0"): name for name in reversed(self.known) if name.isdigit() and name.strip("0")}
         self.told: dict[str, str] = {}
 
@@ -178,11 +179,12 @@ class Meant:
 
     def look(self, name: str) -> str:
         """The hint for a name that was not looked for yet."""
-        folded = self.folded.get(spelt(name).casefold())
-        if folded:
-            return f"; nearest: {folded} (other capitals)"
+        letters = letters_of(name)
+        same = self.by_letters.get(letters)
+        if same:
+            return f"; nearest: {same}" + (" (other capitals)" if same.casefold() == spelt(name).casefold() else "")
         bare = self.bare.get(name.lstrip("0")) if name.isdigit() else None
         if bare:
             return f"; nearest: {bare} (a spreadsheet may have taken leading zeros)"
-        near = nearest(name, self.known) if len(self.told) < COMPARED else ""
-        return f"; nearest: {near}" if near else ""
+        near = difflib.get_close_matches(letters, self.by_letters, n=1, cutoff=0.75) if len(self.told) < COMPARED else []
+        return f"; nearest: {self.by_letters[near[0]]}" if near else ""

@@ -185,7 +185,9 @@ class SurveyReader:
             if match and like.groups:
                 found.append((Column((place,), title), tidy(match.group(1))))
         if not found:
-            self.export.missing("columns", shape, "the names of some columns, with a * for the section or the number of the choice")
+            self.export.missing(
+                "columns", shape, "the names of some columns, with a * for the section or the number of the choice"
+            )
         return found
 
     def by_section(self) -> Iterator[Wish]:

@@ -40,7 +40,9 @@ def add_faults(kind: str, path: str, faults: Faults) -> None:
             faults.add(file, record.row, "", ",".join(record.fields), f"{width} fields, as the header has")
             continue
         if record.fields[0] in first:
-            faults.add(file, record.row, COLUMNS[kind][0][0], record.fields[0], f"a name once; row {first[record.fields[0]]} has it")
+            faults.add(
+                file, record.row, COLUMNS[kind][0][0], record.fields[0], f"a name once; row {first[record.fields[0]]} has it"
+            )
         first.setdefault(record.fields[0], record.row)
         for (column, most), value in zip(COLUMNS[kind], record.fields):
             expected = fault_of(column, most, value)
@@ -65,5 +67,10 @@ def fault_of(column: str, most: int | None, value: str) -> str:
 def add_too_much(file: str, record: tables.Record, faults: Faults) -> None:
     """Adds that base and carry together are above what a student may have."""
     budget, carry = record.fields[1], record.fields[4]
-    if all(tables.NUMBER.match(value) and int(value) <= 900_000 for value in (budget, carry)) and int(budget) + int(carry) > 900_000:
-        faults.add(file, record.row, "carry", carry, f"at most {900_000 - int(budget)}: base and carry together are at most 900000")
+    if (
+        all(tables.NUMBER.match(value) and int(value) <= 900_000 for value in (budget, carry))
+        and int(budget) + int(carry) > 900_000
+    ):
+        faults.add(
+            file, record.row, "carry", carry, f"at most {900_000 - int(budget)}: base and carry together are at most 900000"
+        )

@@ -14,8 +14,19 @@ import random
 import sys
 from dataclasses import dataclass, field
 
-SUBJECTS = "ACCT FNCE MGMT MKTG STAT HCMG LGST COMM REAL GÉNI MUS BIOL CHEM HIST PHIL PHYS MATH SOCI LING ARTH".split()
-SLOTS = [("MW", 510), ("TR", 510), ("MW", 600), ("TR", 600), ("MWF", 720), ("TR", 810), ("MW", 900), ("TR", 900), ("F", 540), ("TR", 1020)]
+SUBJECTS = "ACCT GÉNI FNCE MGMT MKTG STAT HCMG LGST COMM REAL MUS BIOL CHEM HIST PHIL PHYS MATH SOCI LING ARTH".split()
+SLOTS = [
+    ("MW", 510),
+    ("TR", 510),
+    ("MW", 600),
+    ("TR", 600),
+    ("MWF", 720),
+    ("TR", 810),
+    ("MW", 900),
+    ("TR", 900),
+    ("F", 540),
+    ("TR", 1020),
+]
 LETTERS = "ABCDEFGH"
 GIVEN = "Ana Béla Chen Dana Émile Farid Grace Hugo Inès Jonas Kaja Lena Mira Noor Otto Priya Rosa Sven Tara Uma".split()
 FAMILY = "Abara Baker Costa Dvořák Evans Fischer Gómez Haddad Ivanov Jones Kim Lee Müller Novak Ortiz Park Rossi Silva Tran Weiss".split()
@@ -35,10 +46,12 @@ class Section:
     days: str
     start: int
     length: int
+    has_practice: bool
 
     def meetings(self) -> str:
-        """The meetings as the program reads them."""
-        return ";".join(f"{day}{hour(self.start)}-{hour(self.start + self.length)}" for day in self.days)
+        """The meetings as the program reads them. Practice is on Friday, from 13:00 on."""
+        found = [f"{day}{hour(self.start)}-{hour(self.start + self.length)}" for day in self.days]
+        return ";".join(found + ["F1300-1350"] * self.has_practice)
 
 
 @dataclass
@@ -86,14 +99,16 @@ def made_school(seed: int, students: int, sections: int) -> School:
         last_year = draw.random() < 0.3
         title = f"{draw.choice(GIVEN)} {draw.choice(FAMILY)}"
         survey = ("web", "web", "desk", "choices")[at % 4]
-        one = Student(f"{1000 * at // 7 + at + 113:06d}", title, 5000 if last_year else 4500, draw.choice([8, 9, 10]), 5, survey)
+        one = Student(
+            f"{1000 * at // 7 + at + 113:06d}", title, 5000 if last_year else 4500, draw.choice([8, 9, 10]), 5, survey
+        )
         rate(draw, one, offered, worth)
         who.append(one)
     return School(offered, who)
 
 
 def made_sections(draw: random.Random, students: int, count: int) -> list[Section]:
-    """The sections: one to four of a course, with seats for some six a student."""
+    """The sections: one to four of a course, with seats for four or five a student."""
     found: list[Section] = []
     number = 100
     while len(found) < count:
@@ -106,11 +121,13 @@ def made_sections(draw: random.Random, students: int, count: int) -> list[Sectio
             days, start = draw.choice(SLOTS)
             course = f"{subject} {number}"
             name = course.replace("É", "E").replace(" ", "_")
-            seats = max(2, round(students * 6 / count * draw.choice([0.4, 0.7, 1, 1.3, 1.6])))
-            if len(found) % 17 == 16:
+            seats = max(2, round(students * 4.5 / count * draw.choice([0.4, 0.7, 1, 1.3, 1.6])))
+            if len(found) % 11 == 10:
                 days = ""
             length = 50 if days == "MWF" else 80
-            found.append(Section(f"{course} {letter}", f"{name}_{letter}", course, name, seats, credits, days, start, length))
+            has_practice = len(found) % 9 == 4 and days != ""
+            names = (f"{course} {letter}", f"{name}_{letter}", course, name)
+            found.append(Section(*names, seats, credits, days, start, length, has_practice))
     return found
 
 
@@ -148,7 +165,9 @@ def catalogue_rows(school: School) -> list[list[str]]:
         seats = f"{section.seats}.0" if at % 5 == 0 else f"{section.seats:,}"
         credits = f"{section.credits / 2:.1f}"
         rows.append([section.code, section.course, f"Topics in {section.course}", seats, credits, when, length, f"R{at % 30}"])
-        if at % 20 == 19:
+        if section.has_practice:
+            rows.append([section.code, section.course, "Practice", "", "", "Fri 13:00-13:50", "", "R31"])
+        if at % 10 == 9:
             rows.append([""] * 8)
     return rows
 
