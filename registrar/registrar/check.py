@@ -14,8 +14,9 @@ from registrar import findings, manifest, program, tables, tell
 NAME = "check"
 HELP = "check the published text by its manifest; a finding is told with its place"
 
-# No more orders of the sessions than this are tried.
+# No more orders of the sessions than this are tried, and those only for the findings that the sessions bear upon.
 TRIES = 24
+OF_SESSIONS = ("journal", "student", "turn", "not", "final")
 
 
 def add_arguments(parser: argparse.ArgumentParser) -> None:
@@ -76,7 +77,9 @@ def about(found: manifest.Manifest, finding: str) -> List[str]:
         told += repaired(found)
     elif finding.startswith("finding: journal"):
         told += findings.entries_that_differ(findings.order_of(found.text), found.sessions)
-    return told + swapped(found)
+    if finding.split(" ")[1] in OF_SESSIONS:
+        told += swapped(found)
+    return told
 
 
 def names_of(found: manifest.Manifest) -> Tuple[List[str], List[str]]:
@@ -115,7 +118,7 @@ def orders(found: manifest.Manifest) -> Iterator[Tuple[str, ...]]:
     order = findings.order_of(found.text)
     counts = {path: len(tables.read_session(path)) for path in found.sessions}
     wanted = [sum(1 for one in order if one == number) for number in range(1, len(found.sessions) + 1)]
-    if not order or len(found.sessions) < 2:
+    if not order or sorted(counts.values()) != sorted(wanted):
         return
     for sessions in candidates(found.sessions, counts, wanted):
         if sessions != found.sessions:

@@ -4,7 +4,7 @@ from __future__ import annotations
 
 import argparse
 
-from registrar import check, manifest, program, published, reasons, streams, tell
+from registrar import check, manifest, own_names, program, published, reasons, streams, tell
 
 NAME = "explain"
 HELP = "tell why a student has no seat in a section, by the manifest, with words for the student"
@@ -12,15 +12,18 @@ HELP = "tell why a student has no seat in a section, by the manifest, with words
 
 def add_arguments(parser: argparse.ArgumentParser) -> None:
     """The words of `explain`."""
-    parser.add_argument("student", metavar="STUDENT")
-    parser.add_argument("section", metavar="SECTION")
+    parser.add_argument("student", metavar="STUDENT", help="the student's name, or the school's own spelling of it in names.csv")
+    parser.add_argument("section", metavar="SECTION", help="the section's name, or the school's own spelling of it")
     manifest.add_argument(parser)
 
 
 def run(arguments: argparse.Namespace) -> int:
     """Calls the program, and tells its answer and what to say to the student."""
     found = manifest.read(arguments.manifest, text_too=False)
-    answer = program.call(manifest.explain_words(found, arguments.student, arguments.section), tell.Life("explaining"))
+    own = own_names.beside(found.catalogue)
+    student = own_names.meant(own, "student", arguments.student)
+    section = own_names.meant(own, "section", arguments.section)
+    answer = program.call(manifest.explain_words(found, student, section), tell.Life("explaining"))
     tell.say(answer.text.rstrip("\n"))
     if answer.status == 0:
         tell.say()

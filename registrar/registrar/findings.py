@@ -70,7 +70,8 @@ def place_and_meaning(words: Sequence[str], lines: Sequence[str], last: str) -> 
         holders = [line.split(" ")[1] for line in lines if line.startswith(last + " ") and words[1] in sections_of(line)]
         return numbered(lines, f"used {words[1]} "), f"{words[2]} students have it in their {last} lines: {', '.join(holders)}"
     if words[0] == "budget":
-        return numbered(lines, f"budget {words[1]} "), "the budget is not base, carry and drawn amount: roll, settings or this line changed"
+        meaning = "the budget is not base, carry and drawn amount: roll, settings or this line changed"
+        return numbered(lines, f"budget {words[1]} "), meaning
     if words[0] == "final":
         return numbered(lines, f"final {words[1]} "), "these are not the sections that the student has after its last turn"
     return numbered(lines, f"used {words[1]} "), "the last bundles take another number of seats, or the catalogue has another"

@@ -66,6 +66,7 @@ def run(arguments: argparse.Namespace) -> int:
     write_book(os.path.join(arguments.out, "lists.xlsx"), books)
     how = how_to_ask(arguments, market, names, answer.elapsed)
     write_texts(os.path.join(arguments.out, "students"), Ask(found, market, how), names, arguments.workers)
+    warn_of_others(os.path.join(arguments.out, "students"), list(market.students))
     tell.say(f"{arguments.out}: students.csv, rosters.csv, sections.csv, and {tell.count(len(names), 'text', 'texts')} in students/")
     return 0
 
@@ -159,6 +160,14 @@ def write_texts(folder: str, ask: Ask, names: Sequence[str], workers: int) -> No
             life.what = f"texts: {done} of {len(names)}"
             life.tick()
     life.end()
+
+
+def warn_of_others(folder: str, names: Sequence[str]) -> None:
+    """Says which texts of an earlier run are still there: they are of nobody on this roll."""
+    wanted = {name + ".txt" for name in names}
+    others = sorted(one for one in os.listdir(folder) if one.endswith(".txt") and one not in wanted)
+    if others:
+        tell.warn(f"warning: {folder} has {tell.count(len(others), 'text', 'texts')} of nobody on this roll, such as {others[0]}")
 
 
 def student_text(ask: Ask, name: str) -> str:

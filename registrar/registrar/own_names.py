@@ -30,6 +30,14 @@ def read(path: str) -> Own:
     return own
 
 
+def meant(own: Own, kind: str, word: str) -> str:
+    """The program's name of what is given in the school's own spelling; any other word is left as it is."""
+    for name, original in own.get(kind, {}).items():
+        if original == word:
+            return name
+    return word
+
+
 def spelt(own: Own, kind: str, name: str) -> str:
     """A name in the school's own spelling, or as it is where the file has none."""
     return own.get(kind, {}).get(name, name)

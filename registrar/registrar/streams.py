@@ -15,7 +15,9 @@ def in_order(order: Sequence[int], sessions: Sequence[str]) -> List[tables.Comma
     for place, number in enumerate(order, 1):
         command = next(left[number - 1], None) if 0 < number <= len(left) else None
         if command is None:
-            raise Trouble(f"entry {place} of the text's order is of session {number}, which has no command left: `registrar check` says more")
+            raise Trouble(
+                f"entry {place} of the text's order is of session {number}, which has no command left: `registrar check` says more"
+            )
         merged.append(command)
     for number, rest in enumerate(left, 1):
         if next(rest, None) is not None:

@@ -88,23 +88,21 @@ def market_plots(market: reasons.Market) -> List[str]:
     errors = figures.errors_by_stage(text)
     passes = figures.changes_by_pass(text)
     return [
-        plots.bars(
-            plots.Axes("Seats used", f"{full} of {len(fill)} sections are full; the bars fall from the fullest section on.", "section", "percent"),
-            fill,
-        ),
-        plots.bars(
-            plots.Axes("Prices", f"The dearest section, {dear[0][0]}, costs {dear[0][1]} tokens." if dear else "No sections.", "section", "tokens"),
-            dear,
-        ),
-        plots.bars(
-            plots.Axes("Clearing error by stage", "; ".join(f"{name}: {value:g}" for name, value in errors) + ".", "stage", "error"),
-            errors,
-        ),
-        plots.bars(
-            plots.Axes("Changes in the aftermarket", "; ".join(f"{name}: {value:g}" for name, value in passes) + ".", "pass", "turns that changed"),
-            passes,
-        ),
+        plots.bars(plots.Axes("Seats used", f"{full} of {len(fill)} sections are full, the fullest stand first.", "section", "percent"), fill),
+        plots.bars(plots.Axes("Prices", dearest(dear), "section", "tokens"), dear),
+        plots.bars(plots.Axes("Clearing error by stage", listed(errors), "stage", "error"), errors),
+        plots.bars(plots.Axes("Changes in the aftermarket", listed(passes), "pass", "turns that changed"), passes),
     ]
+
+
+def listed(items: List[Tuple[str, float]]) -> str:
+    """All items in words."""
+    return "; ".join(f"{name}: {value:g}" for name, value in items) + "."
+
+
+def dearest(prices: List[Tuple[str, float]]) -> str:
+    """The dearest section in words."""
+    return f"The dearest section, {prices[0][0]}, costs {prices[0][1]:g} tokens." if prices else "There are no sections."
 
 
 def student_plots(market: reasons.Market) -> List[str]:
@@ -117,8 +115,9 @@ def student_plots(market: reasons.Market) -> List[str]:
         plots.bars(
             plots.Axes(
                 "Who has the first, second, .. choice",
-                f"{choices[0][1]:g} students have the section that they rated highest, {choices[1][1]:g} that of the second highest rating.",
-                "choice, by the own ratings", "students",
+                f"{choices[0][1]:g} students have the section that they rated highest, {choices[1][1]:g} the next one.",
+                "choice, by the own ratings",
+                "students",
             ),
             choices,
         ),
@@ -132,6 +131,4 @@ def envy_plot(envy: Dict[str, audit.Envy]) -> str:
         found[lower + higher] = found.get(lower + higher, 0) + 1
     items = [(str(number), float(found.get(number, 0))) for number in range(max(found, default=0) + 1)]
     none = found.get(0, 0)
-    return plots.bars(
-        plots.Axes("Envy in the end", f"{none} students envy nobody.", "how many others a student would rather be", "students"), items
-    )
+    return plots.bars(plots.Axes("Envy in the end", f"{none} students envy nobody.", "others whom a student envies", "students"), items)

@@ -146,6 +146,12 @@ class Explain(InFolder):
         self.assertEqual(told.status, 0)
         self.assert_told(told.out, (f"{loser} X alone price\n", "X costs 10", "It alone passes your budget of 100."))
 
+    def test_own_spelling(self) -> None:
+        """A section may be named as the school spells it."""
+        self.run_scarce()
+        self.put("names.csv", "kind,original,name\nsection,GÉNI 1,X\n")
+        self.assertIn("u X ", call("explain", "u", "GÉNI 1").out)
+
     def test_no_name(self) -> None:
         """Status 9 names the word."""
         self.run_scarce()

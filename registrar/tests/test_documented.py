@@ -23,7 +23,7 @@ import unittest
 from dataclasses import dataclass
 from typing import Callable, Dict, Iterator, List, Tuple
 
-from registrar import program
+from registrar import explain, manifest, program, reasons
 from tests.support import MARKET, MARKET_FILES, MARKET_SESSIONS, TERM, needs_program
 
 DOCUMENTS = ("README.md", "docs/GUIDE.md", "docs/FORMATS.md")
@@ -157,6 +157,42 @@ class Marks(unittest.TestCase):
                 with self.subTest(f"{path}:{block.line}"):
                     self.assertTrue(block.mark, block.lines[:1])
                     self.assertTrue(not block.printer or block.printer in PRINTERS, block.printer)
+
+
+class Tables(unittest.TestCase):
+    """Tables of GUIDE that are reckoned from the published text."""
+
+    def rows(self, first: str) -> List[List[str]]:
+        """The rows of GUIDE's table whose header begins with this cell."""
+        with open(os.path.join(program.TOP, "docs", "GUIDE.md"), encoding="utf-8") as file:
+            lines = file.read().split("\n")
+        at = next(number for number, line in enumerate(lines) if line.startswith(f"| {first} |"))
+        end = lines.index("", at)
+        return [[cell.strip().strip("`") for cell in line.split("|")[1:-1]] for line in lines[at + 2 : end]]
+
+    def market(self) -> reasons.Market:
+        """The market of the term."""
+        return explain.market_of(manifest.of_files([*TERM_WORDS, os.path.join(TERM, "published.txt"), *SESSIONS]))
+
+    def test_places_of_a_tree(self) -> None:
+        """The places of n.jones are the sections that it rated, with rating and price."""
+        market = self.market()
+        rated = [code for code in market.sections if code in market.ratings["n.jones"]]
+        rows = [[str(place), code, str(market.ratings["n.jones"][code]), str(market.text.prices[code])] for place, code in enumerate(rated)]
+        self.assertEqual(self.rows("Place"), rows)
+
+    def test_what_is_carried_over(self) -> None:
+        """Budget, final sections with their prices, and what is left."""
+        text = self.market().text
+        for name, budget, final, left, row in self.rows("Student"):
+            with self.subTest(name):
+                sections = text.finals[name].sections
+                prices = [text.prices[one] for one in sections]
+                rest = text.budgets[name] - sum(prices)
+                shown = f"[{','.join(sections)}]`: {' + '.join(map(str, prices))} = {sum(prices)}"
+                self.assertEqual((budget, final), (str(text.budgets[name]), shown))
+                self.assertEqual(left, str(rest) if rest > 0 else "none")
+                self.assertTrue(row.endswith(f",{max(0, rest)}"))
 
 
 @needs_program

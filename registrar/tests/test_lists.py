@@ -50,6 +50,13 @@ class Lists(InFolder):
         self.assertEqual(call("lists", "--no-reasons").status, 0)
         self.assert_told(self.read("lists/rosters.csv"), ("GÉNI 1,", "Y,Ü 7"))
 
+    def test_texts_of_an_earlier_run(self) -> None:
+        """A text of somebody who is not on this roll is told, and left."""
+        os.makedirs("lists/students")
+        self.put("lists/students/w.txt", "an earlier text")
+        self.assertIn("1 text of nobody on this roll, such as w.txt", call("lists", "--no-reasons").err)
+        self.assertTrue(os.path.exists("lists/students/w.txt"))
+
     def test_texts(self) -> None:
         """The loser's text has the reason, by the program and by rule alike; the winner needs none."""
         for how in ("program", "plain"):
