@@ -13,7 +13,7 @@ from registrar.exported import Export, Row
 from registrar.faults import Faults
 from registrar.mapping import Mapping, Source, read_mapping
 from registrar.meetings import MeetingFault, joined, meetings_by_columns, meetings_of, minutes_of
-from registrar.spelling import NameFault, Names
+from registrar.spelling import NAMES_FILE, NameFault, Names
 from registrar.surveys import Known, Survey, SurveyReader
 
 NAME = "import"
@@ -101,7 +101,7 @@ class Made:
         files = {
             "catalogue.csv": tables.csv_text(self.catalogue).encode(),
             "roll.csv": tables.csv_text(self.roll).encode(),
-            "names.csv": tables.csv_text([["kind", "original", "name"], *self.names]).encode("utf-8-sig"),
+            NAMES_FILE: tables.csv_text([["kind", "original", "name"], *self.names]).encode("utf-8-sig"),
         }
         for survey in self.surveys:
             files[f"{survey.name}.session"] = session_text(survey).encode()
@@ -122,7 +122,7 @@ class Made:
         if not self.surveys:
             faults.add(source, None, "", "", "a survey at least: [survey NAME]")
         for name, content in self.files().items():
-            if len(content) > MOST_BYTES and name != "names.csv":
+            if len(content) > MOST_BYTES and name != NAMES_FILE:
                 faults.add(name, None, "", f"{grouped(len(content))} bytes", f"at most {grouped(MOST_BYTES)} bytes")
 
     def lines(self) -> list[str]:
@@ -139,7 +139,7 @@ class Made:
             if survey.passed_over:
                 lines.append(f"  columns passed over: {', '.join(survey.passed_over)}")
         spelt = sum(original != name for _, original, name in self.names)
-        lines.append(f"names.csv: {tell.count(len(self.names), 'name', 'names')}, {spelt} of them spelt anew")
+        lines.append(f"{NAMES_FILE}: {tell.count(len(self.names), 'name', 'names')}, {spelt} of them spelt anew")
         lines += self.notes
         if students > len(spoke):
             lines.append(
