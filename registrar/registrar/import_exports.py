@@ -60,8 +60,10 @@ def run(arguments: argparse.Namespace) -> int:
         made.limits(faults)
     if faults:
         return tell_faults(faults, arguments.faults, arguments.mapping)
-    write_all(arguments.into or os.path.dirname(arguments.mapping) or ".", made.files(), arguments.replace)
-    for line in made.lines():
+    folder = arguments.into or os.path.dirname(arguments.mapping) or "."
+    files = made.files()
+    write_all(folder, files, arguments.replace)
+    for line in [*made.lines(), *strange_sessions(folder, files)]:
         tell.say(line)
     return 0
 
@@ -73,6 +75,12 @@ def tell_faults(faults: Faults, table: str | None, mapping: str) -> int:
         tables.write_whole(table, tables.csv_text(faults.rows()).encode("utf-8-sig"))
     tell.say(f"nothing is written; correct the exports, or {mapping}, and run again")
     return tell.FAULTS
+
+
+def strange_sessions(folder: str, written: dict[str, bytes]) -> list[str]:
+    """The sessions that stand in the folder and are of no survey: a run with all sessions there would hear them too."""
+    strange = sorted(name for name in os.listdir(folder) if name.endswith(".session") and name not in written)
+    return [f"{os.path.join(folder, name)} stands there and is of no survey of this mapping" for name in strange]
 
 
 @dataclass
@@ -119,6 +127,9 @@ class Made:
         for what, count, most in counts:
             if count > most:
                 faults.add(source, None, what, grouped(count), f"at most {grouped(most)} {what}, the limit of the program")
+        for what, count, _ in counts[:2]:
+            if not count:
+                faults.add(source, None, what, "", f"{what}: the export has none below its header")
         if not self.surveys:
             faults.add(source, None, "", "", "a survey at least: [survey NAME]")
         for name, content in self.files().items():

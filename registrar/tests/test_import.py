@@ -173,6 +173,23 @@ class Imports(WithSchool):
         one.ratings[code] = 1
         self.expect_the_school()
 
+    def test_a_session_of_an_earlier_survey_is_told(self) -> None:
+        os.mkdir("out")
+        self.write("out/old.session", "rate 000113 ACCT_101_A 5\n")
+        status, told = self.imported()
+        self.assertEqual(status, 0)
+        self.assertIn("out/old.session stands there and is of no survey of this mapping", told)
+
+    def test_tables_without_rows(self) -> None:
+        self.settle("header row", "70", "roll")
+        status, told = self.imported()
+        self.assertEqual(status, tell.FAULTS)
+        self.assertIn("register.csv row 70: blank where this was expected: the columns' names", told)
+        self.write("empty.csv", "SECTION CODE,Course,Max Enrollment,Credits,Meeting Times,Length\n")
+        self.settle("file", "empty.csv", "catalogue")
+        self.settle("header row", "1", "roll")
+        self.assertIn("a section of the catalogue", self.imported()[1])
+
     def test_files_that_stand_are_written_over_by_word_alone(self) -> None:
         self.assertEqual(self.imported()[0], 0)
         self.assertEqual(self.imported()[0], 0)
