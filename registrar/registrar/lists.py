@@ -9,10 +9,13 @@ import os
 from dataclasses import dataclass
 from typing import Dict, List, Sequence
 
-from registrar import explain, manifest, program, published, reasons, run_market, tables, tell
+from registrar import explain, manifest, own_names, program, published, reasons, run_market, tables, tell
 
 NAME = "lists"
-HELP = "write students.csv, rosters.csv, sections.csv and a text for each student, by the manifest"
+HELP = (
+    "write students.csv, rosters.csv, sections.csv and a text for each student, by the manifest; "
+    "the tables have the school's own spelling where names.csv stands beside the catalogue"
+)
 
 # Without another wish, the program is asked for each reason only where all of them take no longer than this.
 PATIENCE = 300.0
@@ -52,10 +55,11 @@ def run(arguments: argparse.Namespace) -> int:
     market = explain.market_of(found)
     names = chosen(arguments.student, market)
     os.makedirs(os.path.join(arguments.out, "students"), exist_ok=True)
+    own = own_names.beside(found.catalogue)
     books = {
-        "students": student_rows(market),
-        "rosters": roster_rows(market),
-        "sections": section_rows(market),
+        "students": student_rows(market, own),
+        "rosters": roster_rows(market, own),
+        "sections": section_rows(market, own),
     }
     for name, rows in books.items():
         tables.write_csv(os.path.join(arguments.out, name + ".csv"), rows)
@@ -74,14 +78,15 @@ def chosen(names: Sequence[str], market: reasons.Market) -> List[str]:
     return list(names) or list(market.students)
 
 
-def student_rows(market: reasons.Market) -> List[Sequence[object]]:
+def student_rows(market: reasons.Market, own: own_names.Own) -> List[Sequence[object]]:
     """A row for each student: final sections, credits, tokens spent and left."""
     rows: List[Sequence[object]] = [("student", "sections", "credits", "spent", "left")]
     for name, final in market.text.finals.items():
         spent = market.text.cost(final.sections)
         # What the aftermarket's raise paid is not owed.
         left = max(0, market.text.budgets[name] - spent)
-        rows.append((name, " ".join(final.sections), credits_of(market, final.sections), spent, left))
+        sections = "; ".join(own_names.spelt(own, "section", one) for one in final.sections)
+        rows.append((own_names.spelt(own, "student", name), sections, credits_of(market, final.sections), spent, left))
     return rows
 
 
@@ -90,20 +95,23 @@ def credits_of(market: reasons.Market, sections: Sequence[str]) -> int:
     return sum(market.sections[one].credits for one in sections)
 
 
-def roster_rows(market: reasons.Market) -> List[Sequence[object]]:
+def roster_rows(market: reasons.Market, own: own_names.Own) -> List[Sequence[object]]:
     """A row for each seat that is taken: section by section, the students in the order of the roll."""
     rows: List[Sequence[object]] = [("section", "student")]
     for section in market.sections:
-        rows += [(section, name) for name, final in market.text.finals.items() if section in final.sections]
+        code = own_names.spelt(own, "section", section)
+        holders = [name for name, final in market.text.finals.items() if section in final.sections]
+        rows += [(code, own_names.spelt(own, "student", name)) for name in holders]
     return rows
 
 
-def section_rows(market: reasons.Market) -> List[Sequence[object]]:
+def section_rows(market: reasons.Market, own: own_names.Own) -> List[Sequence[object]]:
     """A row for each section: price, seats, how many are used, and how many students rated it."""
     rows: List[Sequence[object]] = [("section", "price", "seats", "used", "wanted")]
     for section, used in market.text.used.items():
         wanted = sum(1 for rated in market.ratings.values() if section in rated)
-        rows.append((section, market.text.prices[section], used.seats, used.used, wanted))
+        code = own_names.spelt(own, "section", section)
+        rows.append((code, market.text.prices[section], used.seats, used.used, wanted))
     return rows
 
 

@@ -300,8 +300,9 @@ def csv_text(rows: Iterable[Sequence[object]]) -> str:
 
 
 def write_csv(path: str, rows: Iterable[Sequence[object]]) -> None:
-    """Writes a table whole or not at all."""
-    write_whole(path, csv_text(rows).encode("utf-8"))
+    """Writes a table whole or not at all. With letters beyond ASCII it has a mark, by which a spreadsheet knows them."""
+    text = csv_text(rows)
+    write_whole(path, text.encode("utf-8" if text.isascii() else "utf-8-sig"))
 
 
 def write_whole(path: str, content: bytes) -> None:

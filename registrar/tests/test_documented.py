@@ -9,7 +9,7 @@ An indented block in these documents has a comment above it, which does not show
 - `<!-- printed by NAME -->`: each line was printed by one of `PRINTERS`;
 - `<!-- form -->`: a grammar or a file, and nothing that is printed.
 
-Above a table, `<!-- printed by NAME -->` speaks of what stands between backticks in its first column.
+Above a table, `<!-- printed by NAME -->` speaks of all that stands between backticks in its rows.
 """
 
 from __future__ import annotations
@@ -62,10 +62,9 @@ def blocks_of(path: str) -> Iterator[Block]:
 
 
 def shown(lines: List[str]) -> List[str]:
-    """The lines of a block without their indent, or what a table has between backticks in its first column."""
+    """The lines of a block without their indent, or what a table has between backticks."""
     if lines[0].startswith("|"):
-        cells = [line.split("|")[1].strip() for line in lines]
-        return [cell[1:-1] for cell in cells if cell.startswith("`") and cell.endswith("`")]
+        return [span for line in lines for span in re.findall("`([^`]+)`", line)]
     return [line[4:] for line in lines]
 
 
@@ -144,8 +143,8 @@ PRINTERS: Dict[str, Callable[[], List[str]]] = {
 
 
 def plain(line: str) -> str:
-    """A line without what differs from run to run."""
-    return SPAN.sub("N s", line.rstrip())
+    """A line without what differs from run to run, and without the mark and the widths of columns."""
+    return " ".join(SPAN.sub("N s", line.replace("\ufeff", "")).split())
 
 
 class Marks(unittest.TestCase):

@@ -41,8 +41,14 @@ class Lists(InFolder):
         self.assertEqual(self.read("lists/sections.csv"), f"section,price,seats,used,wanted\nX,{price},1,1,2\nY,0,2,2,2\n")
         rows = self.read("lists/students.csv").splitlines()
         self.assertEqual(rows[0], "student,sections,credits,spent,left")
-        self.assertIn(f"{self.winner},X Y,2,{price},{110 - price}", rows)
+        self.assertIn(f"{self.winner},X; Y,2,{price},{110 - price}", rows)
         self.assertIn(f"{self.loser},Y,1,0,100", rows)
+
+    def test_own_spelling(self) -> None:
+        """Where `import` left names.csv, the tables have the school's own codes."""
+        self.put("names.csv", "kind,original,name\nsection,GÉNI 1,X\nstudent,Ü 7,u\n")
+        self.assertEqual(call("lists", "--no-reasons").status, 0)
+        self.assert_told(self.read("lists/rosters.csv"), ("GÉNI 1,", "Y,Ü 7"))
 
     def test_texts(self) -> None:
         """The loser's text has the reason, by the program and by rule alike; the winner needs none."""
