@@ -38,6 +38,8 @@ def whole(text: str, least: int, most: int, decimal: str = ".") -> int:
         found = amount(text, decimal)
     except AmountFault:
         raise AmountFault(expected) from None
+    if re.fullmatch(rf"[-+]?[1-9]\d{{0,2}}{re.escape(decimal)}\d{{3}}", text.strip()):
+        raise AmountFault(f"{expected}; this may be thousands or have three decimals")
     if found != found.to_integral_value() or not least <= found <= most:
         raise AmountFault(expected)
     return int(found)

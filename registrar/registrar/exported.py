@@ -77,7 +77,7 @@ class Export:
         """Takes one row of the sheet."""
         if number == header_row:
             self.header = [tidy(cell) for cell in cells]
-        elif number > header_row and any(cell.strip() for cell in cells):
+        elif number > max(header_row, int(self.source.get("first row") or 1) - 1) and any(cell.strip() for cell in cells):
             beyond = [cell for cell in cells[len(self.header) :] if cell.strip()]
             if beyond:
                 expected = (

@@ -53,7 +53,7 @@ def spans(rows: Sequence[int]) -> str:
 
 def shown(value: str) -> str:
     """A value as a fault shows it: in quotes, in one line, cut where it is long."""
-    plain = " ".join(value.split())
+    plain = "".join(sign if sign.isprintable() else "?" for sign in " ".join(value.split()))
     if not plain:
         return "blank"
     if len(plain) > SHOWN:

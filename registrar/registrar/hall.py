@@ -14,7 +14,7 @@ from registrar.exported import Export, Row
 from registrar.faults import Faults
 from registrar.import_exports import write_all
 from registrar.mapping import Mapping, Source, read_mapping, split
-from registrar.spelling import NameFault, Names, NameRules, tidy
+from registrar.spelling import NameFault, NameRules, Names, read_originals, tidy, with_originals
 
 NAME = "hall"
 HELP = "drop and add after publication: requests of a form to a stream, and the rosters after the hall"
@@ -72,7 +72,11 @@ def run(arguments: argparse.Namespace) -> int:
         for line in program.retell(answer):
             tell.warn(line)
         return answer.status
-    files = {"hall.requests": text.encode(), "hall.txt": answer.output, **tables_of(asked, answer.lines)}
+    files = {
+        "hall.requests": text.encode(),
+        "hall.txt": answer.output,
+        **tables_of(asked, answer.lines, read_originals(found.catalogue)),
+    }
     write_all(arguments.into or os.path.dirname(arguments.mapping) or ".", files, arguments.replace)
     tell_replies(asked, replies_of(answer.lines))
     return 0
@@ -173,8 +177,11 @@ def replies_of(lines: Sequence[str]) -> list[str]:
     return [line.split(": ", 1)[1] for line in lines if line.startswith("entry ")]
 
 
-def tables_of(asked: Sequence[Request], lines: Sequence[str]) -> dict[str, bytes]:
-    """The tables after the hall: replies, rosters, each student's sections, and who waits."""
+def tables_of(asked: Sequence[Request], lines: Sequence[str], originals: dict[tuple[str, str], str]) -> dict[str, bytes]:
+    """The tables after the hall: replies, rosters, each student's sections, and who waits.
+
+    `originals` are the school's own codes, which come behind the names where they differ.
+    """
     replies = [["file", "row", "request", "student", "section", "reply"]]
     for request, reply in zip(asked, replies_of(lines)):
         word, student, section = request.words if len(request.words) == 3 else (" ".join(request.words), "", "")
@@ -192,7 +199,9 @@ def tables_of(asked: Sequence[Request], lines: Sequence[str]) -> dict[str, bytes
         elif words[0] == "used":
             rosters += [[words[1], student] for student in held.get(words[1], [])]
     made = {"replies": replies, "rosters": rosters, "students": holds, "waiting": waits}
-    return {f"hall-{name}.csv": tables.csv_text(rows).encode("utf-8-sig") for name, rows in made.items()}
+    return {
+        f"hall-{name}.csv": tables.csv_text(with_originals(rows, originals)).encode("utf-8-sig") for name, rows in made.items()
+    }
 
 
 def tell_replies(asked: Sequence[Request], replies: Sequence[str]) -> None:

@@ -13,7 +13,7 @@ from registrar.exported import Export, Row
 from registrar.faults import Faults
 from registrar.mapping import Mapping, Source, read_mapping
 from registrar.meetings import MeetingFault, joined, meetings_by_columns, meetings_of, minutes_of
-from registrar.spelling import NameFault, Names
+from registrar.spelling import NAMES_FILE, NameFault, Names
 from registrar.surveys import Known, Survey, SurveyReader
 
 NAME = "import"
@@ -60,8 +60,10 @@ def run(arguments: argparse.Namespace) -> int:
         made.limits(faults)
     if faults:
         return tell_faults(faults, arguments.faults, arguments.mapping)
-    write_all(arguments.into or os.path.dirname(arguments.mapping) or ".", made.files(), arguments.replace)
-    for line in made.lines():
+    folder = arguments.into or os.path.dirname(arguments.mapping) or "."
+    files = made.files()
+    write_all(folder, files, arguments.replace)
+    for line in [*made.lines(), *strange_sessions(folder, files)]:
         tell.say(line)
     return 0
 
@@ -73,6 +75,12 @@ def tell_faults(faults: Faults, table: str | None, mapping: str) -> int:
         tables.write_whole(table, tables.csv_text(faults.rows()).encode("utf-8-sig"))
     tell.say(f"nothing is written; correct the exports, or {mapping}, and run again")
     return tell.FAULTS
+
+
+def strange_sessions(folder: str, written: dict[str, bytes]) -> list[str]:
+    """The sessions that stand in the folder and are of no survey: a run with all sessions there would hear them too."""
+    strange = sorted(name for name in os.listdir(folder) if name.endswith(".session") and name not in written)
+    return [f"{os.path.join(folder, name)} stands there and is of no survey of this mapping" for name in strange]
 
 
 @dataclass
@@ -101,7 +109,7 @@ class Made:
         files = {
             "catalogue.csv": tables.csv_text(self.catalogue).encode(),
             "roll.csv": tables.csv_text(self.roll).encode(),
-            "names.csv": tables.csv_text([["kind", "original", "name"], *self.names]).encode("utf-8-sig"),
+            NAMES_FILE: tables.csv_text([["kind", "original", "name"], *self.names]).encode("utf-8-sig"),
         }
         for survey in self.surveys:
             files[f"{survey.name}.session"] = session_text(survey).encode()
@@ -119,10 +127,13 @@ class Made:
         for what, count, most in counts:
             if count > most:
                 faults.add(source, None, what, grouped(count), f"at most {grouped(most)} {what}, the limit of the program")
+        for what, count, _ in counts[:2]:
+            if not count:
+                faults.add(source, None, what, "", f"{what}: the export has none below its header")
         if not self.surveys:
             faults.add(source, None, "", "", "a survey at least: [survey NAME]")
         for name, content in self.files().items():
-            if len(content) > MOST_BYTES and name != "names.csv":
+            if len(content) > MOST_BYTES and name != NAMES_FILE:
                 faults.add(name, None, "", f"{grouped(len(content))} bytes", f"at most {grouped(MOST_BYTES)} bytes")
 
     def lines(self) -> list[str]:
@@ -139,7 +150,7 @@ class Made:
             if survey.passed_over:
                 lines.append(f"  columns passed over: {', '.join(survey.passed_over)}")
         spelt = sum(original != name for _, original, name in self.names)
-        lines.append(f"names.csv: {tell.count(len(self.names), 'name', 'names')}, {spelt} of them spelt anew")
+        lines.append(f"{NAMES_FILE}: {tell.count(len(self.names), 'name', 'names')}, {spelt} of them spelt anew")
         lines += self.notes
         if students > len(spoke):
             lines.append(

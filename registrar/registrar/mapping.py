@@ -25,6 +25,7 @@ OF_EVERY_EXPORT: Dict[str, str] = {
     "sheet": "of an .xlsx book, the name of the sheet; the first one where blank",
     "encoding": "of a text without a mark that is not UTF-8, for instance cp1252",
     "header row": "the row that has the columns' names",
+    "first row": "the first row below it that counts, where it is not the next one",
 }
 
 #: The options of each kind of section, each with what is said above it. A column may also be `@3`, the third one, or several
@@ -151,6 +152,7 @@ CHOICES: Dict[str, tuple[str, ...]] = {
 #: Options that are whole numbers, and their ranges.
 RANGES: Dict[str, tuple[int, int]] = {
     "header row": (1, 9999),
+    "first row": (1, 9999),
     "first rating": (1, 100),
     "rating step": (0, 100),
     "least rating": (1, 100),

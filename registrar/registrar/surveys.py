@@ -205,11 +205,7 @@ class SurveyReader:
 
     def by_choice(self) -> Iterator[Wish]:
         """The wishes of a row for each student with a column for each choice. A blank is no choice."""
-        columns: list[tuple[Column, int]] = []
-        for column, text in self.matching():
-            rank = rank_of(text)
-            if rank:
-                columns.append((column, rank))
+        columns = self.choice_columns()
         for row, student in self.students():
             for column, rank in columns:
                 text = column.cell(row)
@@ -217,6 +213,22 @@ class SurveyReader:
                 if student and section:
                     yield Wish(student, section, "", rating_of(rank, self.source), row.number, column.title, text)
             yield from self.pairs(row, student)
+
+    def choice_columns(self) -> list[tuple[Column, int]]:
+        """The columns that stand for choices, with the number of each. Two of one number are a fault."""
+        ranks: dict[int, Column] = {}
+        for column, text in self.matching():
+            rank = rank_of(text)
+            if rank in ranks:
+                header_row = int(self.source.get("header row"))
+                self.faults.add(
+                    self.export.file, header_row, column.title, text, f"another number than that of {ranks[rank].title}"
+                )
+            elif rank:
+                ranks[rank] = column
+        taken = {column.title for column in ranks.values()} | {self.source.get("student"), self.source.get("pairs")}
+        self.survey.passed_over = [title for title in self.export.header if title and title not in taken]
+        return [(column, rank) for rank, column in ranks.items()]
 
     def pairs(self, row: Row, student: str) -> Iterator[Wish]:
         """The pairs of a row: `A-1 + B-2 = 9; A-1 + C-1 = -5`."""

@@ -2,47 +2,22 @@
 
 from __future__ import annotations
 
-import contextlib
-import io
-import os
 import re
-import tempfile
-import unittest
 
-from registrar import command, program, tell
-from tests import school
+from tests import school, support
 
 #: The encodings of the made school's exports.
 ENCODINGS = {"timetable.csv": "utf-16", "web.csv": "utf-8"}
 
 
 def say(*words: str) -> tuple[int, str]:
-    """The status of a command, and what it says on standard output and standard error together."""
-    out = io.StringIO()
-    with contextlib.redirect_stdout(out), contextlib.redirect_stderr(out):
-        status = command.main(list(words))
-    return status, out.getvalue()
+    """The status of a command, and what it says, on standard output and then on standard error."""
+    told = support.call(*words)
+    return told.status, told.out + told.err
 
 
-def has_program() -> bool:
-    """Whether the program is there."""
-    try:
-        program.find_program()
-    except tell.Trouble:
-        return False
-    return True
-
-
-class InFolder(unittest.TestCase):
-    """A test in a folder of its own."""
-
-    def setUp(self) -> None:
-        held = tempfile.TemporaryDirectory()
-        self.addCleanup(held.cleanup)
-        self.folder = held.name
-        before = os.getcwd()
-        self.addCleanup(os.chdir, before)
-        os.chdir(self.folder)
+class InFolder(support.InFolder):
+    """A test in a folder of its own, with files in any encoding."""
 
     def write(self, name: str, text: str, encoding: str = "utf-8") -> None:
         """Writes a file."""

@@ -6,10 +6,9 @@ import os
 import shutil
 import unittest
 
-from registrar import program, tell
-from tests.term import InFolder, WithSchool, has_program, say
-
-TERM = os.path.join(program.TOP, "examples", "term")
+from registrar import manifest, tell
+from tests.support import TERM, needs_program
+from tests.term import InFolder, WithSchool, say
 
 
 class Next(InFolder):
@@ -86,12 +85,10 @@ FORM = (
 MAPPING = "[requests form]\nfile = form.csv\nstudent = Who\nrequest = What\nsection = Section\n[sections]\nany case = yes\n"
 
 
-@unittest.skipUnless(has_program(), "there is no program")
+@needs_program
 class Hall(InFolder):
     def setUp(self) -> None:
         super().setUp()
-        from registrar import manifest
-
         for name in ("catalogue.csv", "roll.csv", "settings.json", "desk.session", "web.session", "published.txt"):
             shutil.copy(os.path.join(TERM, name), name)
         words = ["run", "2", "catalogue.csv", "roll.csv", "settings.json", "desk.session", "web.session"]
@@ -155,7 +152,7 @@ class Hall(InFolder):
         self.assertEqual(say("hall")[0], tell.NO_FILE)
 
 
-@unittest.skipUnless(has_program(), "there is no program")
+@needs_program
 class WholeTerm(WithSchool):
     def test_from_exports_to_rosters_after_the_hall(self) -> None:
         self.assertEqual(self.imported()[0], 0)
@@ -168,6 +165,10 @@ class WholeTerm(WithSchool):
         status, told = say("hall", "--into", "hall")
         self.assertEqual(status, 0, told)
         self.assertEqual(told.count("changes.csv row"), 12)
+        codes = {section.name: section.code for section in self.school.sections}
+        rosters = [row.split(",") for row in self.read("hall/hall-rosters.csv").splitlines()]
+        self.assertEqual(rosters[0], ["section", "student", "original section"])
+        self.assertTrue(all(codes[row[0]] == row[2] for row in rosters[1:]))
         status, told = say("next")
         self.assertEqual(status, 0, told)
         self.assertEqual(len(self.read("roll.next.csv").splitlines()), 61)

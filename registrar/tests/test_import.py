@@ -6,9 +6,11 @@ import os
 import re
 import unittest
 
-from registrar import sheet, tell
+from registrar import program, sheet, tell
 from tests import school
 from tests.term import InFolder, WithSchool, say
+
+EXPORTS = os.path.join(program.TOP, "examples", "exports")
 
 
 class Imports(WithSchool):
@@ -55,7 +57,7 @@ class Imports(WithSchool):
 
     def test_one_misspelt_code_is_told_with_all_its_rows_and_the_nearest_one(self) -> None:
         code = max({code for one in self.school.students for code in one.ratings if one.survey == "desk"})
-        rows = [at for at, line in enumerate(self.read("desk.tsv").splitlines(), 1) if f"\t{code}\t" in line]
+        rows = [at for at, line in enumerate(self.read("desk.tsv").splitlines(), 1) if line.split("\t")[1] == code]
         wrong = code.replace(" ", "", 1)
         self.spoil("desk.tsv", f"\t{code}\t", f"\t{wrong}\t")
         status, told = self.imported()
@@ -171,6 +173,23 @@ class Imports(WithSchool):
         one.ratings[code] = 1
         self.expect_the_school()
 
+    def test_a_session_of_an_earlier_survey_is_told(self) -> None:
+        os.mkdir("out")
+        self.write("out/old.session", "rate 000113 ACCT_101_A 5\n")
+        status, told = self.imported()
+        self.assertEqual(status, 0)
+        self.assertIn("out/old.session stands there and is of no survey of this mapping", told)
+
+    def test_tables_without_rows(self) -> None:
+        self.settle("header row", "70", "roll")
+        status, told = self.imported()
+        self.assertEqual(status, tell.FAULTS)
+        self.assertIn("register.csv row 70: blank where this was expected: the columns' names", told)
+        self.write("empty.csv", "SECTION CODE,Course,Max Enrollment,Credits,Meeting Times,Length\n")
+        self.settle("file", "empty.csv", "catalogue")
+        self.settle("header row", "1", "roll")
+        self.assertIn("a section of the catalogue", self.imported()[1])
+
     def test_files_that_stand_are_written_over_by_word_alone(self) -> None:
         self.assertEqual(self.imported()[0], 0)
         self.assertEqual(self.imported()[0], 0)
@@ -191,6 +210,20 @@ class Imports(WithSchool):
         self.assertEqual(rows[0], ["file", "row", "column", "value", "expected"])
         self.assertEqual([row[0] for row in rows[1:]], ["register.csv"] * bad)
         self.assertEqual(rows[1][2:4], ["Tokens", "5,0OO"])
+
+
+class Examples(InFolder):
+    """`examples/exports`."""
+
+    def test_the_examples_are_the_school_that_the_script_makes(self) -> None:
+        made = school.made_school(2026, 40, 12)
+        for name, content in school.exports(made).items():
+            with open(os.path.join(EXPORTS, name), "rb") as file:
+                self.assertEqual(file.read(), content, name)
+        status, told = say("import", "--mapping", os.path.join(EXPORTS, "mapping.ini"), "--into", ".")
+        self.assertEqual(status, 0, told)
+        self.assertEqual(self.read("catalogue.csv"), school.catalogue_text(made))
+        self.assertEqual(self.read("roll.csv"), school.roll_text(made))
 
 
 class Many(InFolder):

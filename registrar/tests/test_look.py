@@ -6,7 +6,8 @@ import unittest
 
 from registrar import tell
 from tests import school
-from tests.term import InFolder, WithSchool, has_program, say
+from tests.support import needs_program
+from tests.term import InFolder, WithSchool, say
 
 CATALOGUE = (
     "section,course,seats,credits,meetings\nFNCE-601-A,FNCE-601,2,1,\nFNCE-601-B,FNCE-601,2,1,\nMGMT-690-A,MGMT-690,2,1,\n"
@@ -15,7 +16,7 @@ ROLL = "student,budget,credits,courses\n00123,100,8,5\nt.jain,100,8,5\n"
 ALL = "rate 00123 FNCE-601-A 5\nrate 00123 MGMT-690-A 5\nrate t.jain FNCE-601-B 5\n"
 
 
-@unittest.skipUnless(has_program(), "there is no program")
+@needs_program
 class Looks(InFolder):
     def look(self, *sessions: str, words: tuple[str, ...] = ()) -> tuple[int, list[str]]:
         """What is found in these sessions, without the table of seats."""
@@ -154,7 +155,7 @@ class Looks(InFolder):
         )
 
 
-@unittest.skipUnless(has_program(), "there is no program")
+@needs_program
 class LooksAtSchool(WithSchool):
     def test_a_raw_export_given_as_a_session(self) -> None:
         self.assertEqual(self.imported()[0], 0)

@@ -117,6 +117,10 @@ class Amounts(unittest.TestCase):
     def test_ranges_and_units(self) -> None:
         self.assertEqual(amounts.whole("9,999.0", 0, 9999), 9999)
         self.assertEqual(amounts.in_units("1.5", Decimal("0.5"), 100), 3)
+        self.assertEqual(amounts.in_units("3.000", Decimal("1"), 100), 3)
+        with self.assertRaises(amounts.AmountFault) as told:
+            amounts.whole("1.000", 0, 9999)
+        self.assertIn("three decimals", str(told.exception))
         for text in ("10,000", "-1", "1.5"):
             with self.subTest(text=text), self.assertRaises(amounts.AmountFault) as told:
                 amounts.whole(text, 0, 9999)
