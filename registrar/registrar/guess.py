@@ -124,7 +124,7 @@ class Guesser:
             self.keep(seen)
         self.sections = dict(sorted(self.sections.items(), key=lambda item: order[item[0].split(" ")[0]]))
         self.sections["numbers"] = self.of_numbers()
-        self.sections |= {"times": {}, "students": {}, "sections": {}}
+        self.sections.update({"times": {}, "students": {}, "sections": {}})
         return mapping_text(self.sections, self.notes)
 
     def tables(self) -> None:

@@ -71,7 +71,7 @@ class Clock:
 
 def days_of(text: str, rules: MeetingRules) -> str:
     """The program's letters for the days that the text names, in its order. Raises `MeetingFault`."""
-    words = dict(DAYS) | rules.days
+    words = {**DAYS, **rules.days}
     letters = ""
     rest = text.casefold()
     while rest:
