@@ -64,6 +64,8 @@ class NameRules:
     pad: int = 0
     #: Endings that are dropped, `@school.edu` for instance.
     endings: tuple[str, ...] = ()
+    #: The sign behind which, and a blank, a cell has more than the code; nothing where it has the code alone.
+    cut: str = ""
     #: Whether capital and small letters are the same.
     any_case: bool = False
     #: What stands in an export, and the code that is meant.
@@ -92,6 +94,8 @@ class Names:
         """The code that a cell means, by the rules: corrections, endings, zeros."""
         code = tidy(cell)
         code = self.rules.same.get(code, code)
+        if self.rules.cut:
+            code = code.split(f"{self.rules.cut} ", 1)[0].strip()
         for ending in self.rules.endings:
             if ending and code.lower().endswith(ending.lower()):
                 code = code[: len(code) - len(ending)]
