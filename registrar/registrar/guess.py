@@ -124,7 +124,7 @@ class Guesser:
             self.keep(seen)
         self.sections = dict(sorted(self.sections.items(), key=lambda item: order[item[0].split(" ")[0]]))
         self.sections["numbers"] = self.of_numbers()
-        self.sections |= {"times": {}, "students": {}, "sections": {}}
+        self.sections.update({"times": {}, "students": {}, "sections": {}})
         return mapping_text(self.sections, self.notes)
 
     def tables(self) -> None:
@@ -223,12 +223,14 @@ class Guesser:
         """The columns whose name has a section's code in it, and how their names are built around it."""
         shapes: dict[str, list[str]] = {}
         for title in seen.header:
-            for found in re.finditer(r"[^\[\]():]+", title):
-                if spelt(found.group().strip()) in self.codes:
-                    lead = len(found.group()) - len(found.group().lstrip())
-                    stem = found.group().strip()
-                    at = found.start() + lead
-                    shapes.setdefault(title[:at] + "*" + title[at + len(stem) :], []).append(title)
+            for found in re.finditer(r"(?:(?! [-\u2013] )[^\[\]():])+", title):
+                stem = found.group().strip()
+                if spelt(stem) in self.codes:
+                    at = title.index(stem, found.start())
+                    behind = title[at + len(stem) :]
+                    shapes.setdefault(title[:at] + "*" + behind, []).append(title)
+                    if re.search(r"\w", behind):
+                        shapes.setdefault(title[:at] + "*" + re.split(r"\w", behind)[0] + "*", []).append(title)
         return max(shapes.items(), key=lambda item: len(item[1]), default=("", []))
 
     def choice_columns(self, seen: Seen) -> str:
@@ -245,7 +247,9 @@ class Guesser:
     def keep(self, seen: Seen) -> None:
         """Keeps a file's section of the mapping, and what is open in it."""
         stem = spelt(os.path.splitext(os.path.basename(seen.path))[0])[:32] or "one"
-        title = seen.kind if seen.kind in ("catalogue", "roll") else f"{seen.kind} {stem}"
+        title = seen.kind if seen.kind in SOUGHT else f"{seen.kind} {stem}"
+        while title in self.sections:
+            title += "-2"
         file = os.path.relpath(seen.path, self.folder)
         self.sections[title] = {"file": file, "encoding": seen.encoding, "header row": str(seen.header_row), **seen.values}
         self.notes[title] = ["the columns of the file: " + " | ".join(name for name in seen.header if name)]

@@ -3,18 +3,19 @@
 from __future__ import annotations
 
 import argparse
+import functools
 import os
 import sys
 import tempfile
 from dataclasses import dataclass
 from typing import Iterator, Sequence
 
-from registrar import manifest, program, tables, tell
+from registrar import manifest, own_names, program, tables, tell
 from registrar.exported import Export, Row
 from registrar.faults import Faults
 from registrar.import_exports import write_all
 from registrar.mapping import Mapping, Source, read_mapping, split
-from registrar.spelling import NameFault, NameRules, Names, read_originals, tidy, with_originals
+from registrar.spelling import NameFault, NameRules, Names, tidy
 
 NAME = "hall"
 HELP = "drop and add after publication: requests of a form to a stream, and the rosters after the hall"
@@ -75,7 +76,7 @@ def run(arguments: argparse.Namespace) -> int:
     files = {
         "hall.requests": text.encode(),
         "hall.txt": answer.output,
-        **tables_of(asked, answer.lines, read_originals(found.catalogue)),
+        **tables_of(asked, answer.lines, own_names.beside(found.catalogue)),
     }
     write_all(arguments.into or os.path.dirname(arguments.mapping) or ".", files, arguments.replace)
     tell_replies(asked, replies_of(answer.lines))
@@ -177,31 +178,27 @@ def replies_of(lines: Sequence[str]) -> list[str]:
     return [line.split(": ", 1)[1] for line in lines if line.startswith("entry ")]
 
 
-def tables_of(asked: Sequence[Request], lines: Sequence[str], originals: dict[tuple[str, str], str]) -> dict[str, bytes]:
-    """The tables after the hall: replies, rosters, each student's sections, and who waits.
-
-    `originals` are the school's own codes, which come behind the names where they differ.
-    """
+def tables_of(asked: Sequence[Request], lines: Sequence[str], own: own_names.Own) -> dict[str, bytes]:
+    """The tables after the hall: replies, rosters, each student's sections, and who waits; in the school's own spelling."""
+    section, student = (functools.partial(own_names.spelt, own, kind) for kind in ("section", "student"))
     replies = [["file", "row", "request", "student", "section", "reply"]]
     for request, reply in zip(asked, replies_of(lines)):
-        word, student, section = request.words if len(request.words) == 3 else (" ".join(request.words), "", "")
-        replies.append([request.file, str(request.row), word, student, section, reply])
+        word, who, what = request.words if len(request.words) == 3 else (" ".join(request.words), "", "")
+        replies.append([request.file, str(request.row), word, student(who), section(what), reply])
     rosters, holds, waits = [["section", "student"]], [["student", "sections"]], [["section", "place", "student"]]
     held: dict[str, list[str]] = {}
     for words in (line.split(" ") for line in lines):
         if words[0] == "final":
             sections = [one for one in words[2][1:-1].split(",") if one]
-            holds.append([words[1], " ".join(sections)])
-            for section in sections:
-                held.setdefault(section, []).append(words[1])
+            holds.append([student(words[1]), "; ".join(section(one) for one in sections)])
+            for one in sections:
+                held.setdefault(one, []).append(words[1])
         elif words[0] == "wait":
-            waits += [[words[1], str(place), student] for place, student in enumerate(words[2:], 1)]
+            waits += [[section(words[1]), str(place), student(who)] for place, who in enumerate(words[2:], 1)]
         elif words[0] == "used":
-            rosters += [[words[1], student] for student in held.get(words[1], [])]
+            rosters += [[section(words[1]), student(who)] for who in held.get(words[1], [])]
     made = {"replies": replies, "rosters": rosters, "students": holds, "waiting": waits}
-    return {
-        f"hall-{name}.csv": tables.csv_text(with_originals(rows, originals)).encode("utf-8-sig") for name, rows in made.items()
-    }
+    return {f"hall-{name}.csv": tables.csv_text(rows).encode("utf-8-sig") for name, rows in made.items()}
 
 
 def tell_replies(asked: Sequence[Request], replies: Sequence[str]) -> None:

@@ -4,16 +4,17 @@ from __future__ import annotations
 
 import argparse
 import os
+import re
 import sys
 from dataclasses import dataclass, field
 
-from registrar import guess, tables, tell
+from registrar import guess, own_names, tables, tell
 from registrar.amounts import AmountFault, grouped, in_units, whole
 from registrar.exported import Export, Row
 from registrar.faults import Faults
 from registrar.mapping import Mapping, Source, read_mapping
 from registrar.meetings import MeetingFault, joined, meetings_by_columns, meetings_of, minutes_of
-from registrar.spelling import NAMES_FILE, NameFault, Names
+from registrar.spelling import NameFault, Names
 from registrar.surveys import Known, Survey, SurveyReader
 
 NAME = "import"
@@ -109,7 +110,7 @@ class Made:
         files = {
             "catalogue.csv": tables.csv_text(self.catalogue).encode(),
             "roll.csv": tables.csv_text(self.roll).encode(),
-            NAMES_FILE: tables.csv_text([["kind", "original", "name"], *self.names]).encode("utf-8-sig"),
+            own_names.FILE: tables.csv_text([["kind", "original", "name"], *self.names]).encode("utf-8-sig"),
         }
         for survey in self.surveys:
             files[f"{survey.name}.session"] = session_text(survey).encode()
@@ -133,7 +134,7 @@ class Made:
         if not self.surveys:
             faults.add(source, None, "", "", "a survey at least: [survey NAME]")
         for name, content in self.files().items():
-            if len(content) > MOST_BYTES and name != NAMES_FILE:
+            if len(content) > MOST_BYTES and name != own_names.FILE:
                 faults.add(name, None, "", f"{grouped(len(content))} bytes", f"at most {grouped(MOST_BYTES)} bytes")
 
     def lines(self) -> list[str]:
@@ -150,7 +151,7 @@ class Made:
             if survey.passed_over:
                 lines.append(f"  columns passed over: {', '.join(survey.passed_over)}")
         spelt = sum(original != name for _, original, name in self.names)
-        lines.append(f"{NAMES_FILE}: {tell.count(len(self.names), 'name', 'names')}, {spelt} of them spelt anew")
+        lines.append(f"{own_names.FILE}: {tell.count(len(self.names), 'name', 'names')}, {spelt} of them spelt anew")
         lines += self.notes
         if students > len(spoke):
             lines.append(
@@ -309,7 +310,7 @@ class Importer:
     def parts(self, export: Export, row: Row) -> str:
         """The half of the term, or both."""
         text = export.cell(row, "parts")
-        plain = text.removesuffix(".0")
+        plain = re.sub(r"\.0+$", "", text)
         if plain not in ("1", "2", "12"):
             export.fault(
                 row,

@@ -9,9 +9,9 @@ import configparser
 import difflib
 import os
 import re
+import typing
 from dataclasses import dataclass, field
 from decimal import Decimal
-from typing import Mapping as Dict
 
 from registrar.amounts import AmountFault, amount, whole
 from registrar.faults import Faults
@@ -20,7 +20,7 @@ from registrar.sheet import SheetFault, decoded
 from registrar.spelling import NameRules, is_name, tidy
 
 #: The options of every export.
-OF_EVERY_EXPORT: Dict[str, str] = {
+OF_EVERY_EXPORT: typing.Mapping[str, str] = {
     "file": "the export; its place is told from the folder of this mapping",
     "sheet": "of an .xlsx book, the name of the sheet; the first one where blank",
     "encoding": "of a text without a mark that is not UTF-8, for instance cp1252",
@@ -30,7 +30,7 @@ OF_EVERY_EXPORT: Dict[str, str] = {
 
 #: The options of each kind of section, each with what is said above it. A column may also be `@3`, the third one, or several
 #: joined by `-`, written `Subject + Number`.
-OPTIONS: Dict[str, Dict[str, str]] = {
+OPTIONS: typing.Mapping[str, typing.Mapping[str, str]] = {
     "catalogue": {
         **OF_EVERY_EXPORT,
         "section": "the column of the section's code",
@@ -70,7 +70,8 @@ OPTIONS: Dict[str, Dict[str, str]] = {
         "second": "(wishes) the column of a second section: where it is filled, the row is about both together",
         "value": "(wishes) the column of the rating or rank",
         "value default": "(wishes) what a blank there means; blank: a fault",
-        "columns": "(students, choices) the names of the columns, * standing for the section or for the number of the choice",
+        "columns": "(students, choices) the names of the columns, the first * standing for the section or for the number of the "
+        "choice, a further one for anything",
         "extra": "(students, `columns = *`) the columns that are no sections, with | between them: any other has to be one",
         "pairs": "(students, choices) a column with pairs as `A-1 + B-2 = 9; A-1 + C-1 = -5`",
         "says": "rating: 0 to 100, more is better; rank: 1 is the best",
@@ -108,12 +109,13 @@ OPTIONS: Dict[str, Dict[str, str]] = {
     },
     "sections": {
         "endings": "what is dropped behind a section's code",
+        "cut": "the sign behind which a cell has more than the code, for instance - for `FNCE-601-A - Corporate Finance`",
         "any case": "yes: capital and small letters are the same; no: they count",
     },
 }
 
 #: The values of options that are not blank where nothing is written.
-DEFAULTS: Dict[str, Dict[str, str]] = {
+DEFAULTS: typing.Mapping[str, typing.Mapping[str, str]] = {
     "catalogue": {"header row": "1"},
     "roll": {"header row": "1"},
     "survey": {
@@ -131,7 +133,7 @@ DEFAULTS: Dict[str, Dict[str, str]] = {
 }  # fmt: skip
 
 #: Sections whose options are the registrar's own words.
-FREE: Dict[str, str] = {
+FREE: typing.Mapping[str, str] = {
     "days": "words for days and the program's letters (M T W R F S U), as `Di = T`",
     "same students": "what stands in an export = the student that is meant",
     "same sections": "what stands in an export = the section that is meant",
@@ -141,7 +143,7 @@ FREE: Dict[str, str] = {
 }
 
 #: Options that are one of a few words.
-CHOICES: Dict[str, tuple[str, ...]] = {
+CHOICES: typing.Mapping[str, tuple[str, ...]] = {
     "shape": ("wishes", "students", "choices"),
     "says": ("rating", "rank"),
     "again": ("refuse", "last"),
@@ -150,7 +152,7 @@ CHOICES: Dict[str, tuple[str, ...]] = {
 }
 
 #: Options that are whole numbers, and their ranges.
-RANGES: Dict[str, tuple[int, int]] = {
+RANGES: typing.Mapping[str, tuple[int, int]] = {
     "header row": (1, 9999),
     "first row": (1, 9999),
     "first rating": (1, 100),
@@ -328,6 +330,7 @@ class MappingReader:
         """What is stated of the names of one kind."""
         rules = NameRules(same=self.free(f"same {title}"), spell=self.free(f"spell {title}"))
         rules.endings = tuple(split(self.value(title, "endings")))
+        rules.cut = self.value(title, "cut")
         rules.any_case = self.value(title, "any case") == "yes"
         pad = self.value(title, "pad") or "0"
         if re.fullmatch("[0-9]|[12][0-9]|3[0-2]", pad):
@@ -356,7 +359,7 @@ def read_mapping(path: str, faults: Faults) -> Mapping:
     return MappingReader(path, faults).read()
 
 
-def mapping_text(sections: Dict[str, Dict[str, str]], notes: Dict[str, list[str]]) -> str:
+def mapping_text(sections: typing.Mapping[str, typing.Mapping[str, str]], notes: typing.Mapping[str, list[str]]) -> str:
     """A mapping as text, with a comment above each option. `notes` are lines above a section.
 
     Options that are blank stand there too, so that the registrar sees what could be said.

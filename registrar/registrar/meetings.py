@@ -35,12 +35,12 @@ EXPECTED = "days and times as `MWF 9:00-10:15`, or a word for no meeting"
 #: The most meetings that a section has.
 MOST = 10
 
-TIME = r"\d{1,2}(?:[:.h]\d{2}|\d{2})?(?:\s*[ap]\.?m\.?)?"
+TIME = r"\d{1,2}(?:[:.h]\d{2}(?::00)?|\d{2})?(?:\s*[ap]\.?m\.?)?"
 MEETING = re.compile(
     rf"(?P<days>[^\W\d_][^\d;|\n]*?)\s*(?P<start>{TIME})(?:\s*(?:-|\u2013|\u2014|\bto\b|\bbis\b)\s*(?P<end>{TIME}))?(?![\d:])",
     re.IGNORECASE,
 )
-CLOCK = re.compile(r"(?P<hour>\d{1,2})(?:[:.h]?(?P<minute>\d{2}))?\s*(?P<half>[ap])?\.?(?:m\.?)?", re.IGNORECASE)
+CLOCK = re.compile(r"(?P<hour>\d{1,2})(?:[:.h]?(?P<minute>\d{2})(?::00)?)?\s*(?P<half>[ap])?\.?(?:m\.?)?", re.IGNORECASE)
 
 
 class MeetingFault(Exception):
@@ -71,7 +71,7 @@ class Clock:
 
 def days_of(text: str, rules: MeetingRules) -> str:
     """The program's letters for the days that the text names, in its order. Raises `MeetingFault`."""
-    words = dict(DAYS) | rules.days
+    words = {**DAYS, **rules.days}
     letters = ""
     rest = text.casefold()
     while rest:

@@ -182,7 +182,7 @@ def cell_text(value: Any, shape: str = "") -> str:
     if isinstance(value, datetime.time):
         return value.strftime("%H:%M")
     if isinstance(value, datetime.datetime):
-        return value.strftime("%Y-%m-%d %H:%M:%S").removesuffix(" 00:00:00")
+        return value.strftime("%Y-%m-%d %H:%M:%S").replace(" 00:00:00", "")
     return str(value)
 
 

@@ -9,16 +9,10 @@ would become one name are refused, so that `names.csv`, which has each code besi
 from __future__ import annotations
 
 import difflib
-import os
 import re
 import unicodedata
 from dataclasses import dataclass, field
-from typing import Iterable, Mapping, Sequence
-
-from registrar.sheet import read_rows
-
-#: The file that has each code beside its name.
-NAMES_FILE = "names.csv"
+from typing import Iterable, Mapping
 
 #: What a name of the program is.
 NAME = re.compile(r"[A-Za-z0-9._-]{1,32}")
@@ -70,6 +64,8 @@ class NameRules:
     pad: int = 0
     #: Endings that are dropped, `@school.edu` for instance.
     endings: tuple[str, ...] = ()
+    #: The sign behind which, and a blank, a cell has more than the code; nothing where it has the code alone.
+    cut: str = ""
     #: Whether capital and small letters are the same.
     any_case: bool = False
     #: What stands in an export, and the code that is meant.
@@ -98,6 +94,8 @@ class Names:
         """The code that a cell means, by the rules: corrections, endings, zeros."""
         code = tidy(cell)
         code = self.rules.same.get(code, code)
+        if self.rules.cut:
+            code = code.split(f"{self.rules.cut} ", 1)[0].strip()
         for ending in self.rules.endings:
             if ending and code.lower().endswith(ending.lower()):
                 code = code[: len(code) - len(ending)]
@@ -161,26 +159,6 @@ class Names:
 def table_of(kind: str) -> str:
     """The table that has the names of a kind."""
     return "roll" if kind == "student" else "catalogue"
-
-
-def read_originals(catalogue: str) -> dict[tuple[str, str], str]:
-    """The school's own codes by kind and name, from the `names.csv` beside a catalogue; none where there is none."""
-    path = os.path.join(os.path.dirname(catalogue), NAMES_FILE)
-    if not os.path.exists(path):
-        return {}
-    rows = list(read_rows(path))
-    return {(row[0], row[2]): row[1] for row in rows[1:] if len(row) == 3}
-
-
-def with_originals(rows: Sequence[Sequence[object]], originals: Mapping[tuple[str, str], str]) -> list[list[object]]:
-    """A table with the school's own codes behind its columns `section` and `student`, where these differ from the names."""
-    found = [list(row) for row in rows]
-    for at, kind in enumerate(rows[0] if rows else []):
-        codes = [originals.get((str(kind), str(row[at])), str(row[at])) for row in rows[1:]]
-        if codes != [str(row[at]) for row in rows[1:]]:
-            for row, code in zip(found, [f"original {kind}", *codes]):
-                row.append(code)
-    return found
 
 
 def letters_of(name: str) -> str:

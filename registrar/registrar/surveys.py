@@ -178,7 +178,8 @@ class SurveyReader:
     def matching(self) -> list[tuple[Column, str]]:
         """The columns whose name is like `columns`, with what stands there for the `*`."""
         shape = tidy(self.source.get("columns")) or "*"
-        like = re.compile("(.+)".join(re.escape(part) for part in shape.split("*", 1)), re.IGNORECASE)
+        before, *behind = (re.escape(part) for part in shape.split("*"))
+        like = re.compile(before + "(.+?)" * bool(behind) + ".+?".join(behind), re.IGNORECASE)
         found: list[tuple[Column, str]] = []
         for place, title in enumerate(self.export.header):
             match = like.fullmatch(title)

@@ -284,6 +284,25 @@ class Many(InFolder):
         self.assertEqual(self.read("out/roll.csv"), "student,budget,credits,courses\na1,5,19,5\nb1,5,19,5\n")
         self.assertIn("rate a1 ACCT-101-A 5\nrate a1 ACCT-101-B 7\n", self.read("out/w.session"))
 
+    def test_codes_with_their_titles(self) -> None:
+        self.write("c.csv", "section,course,seats,credits,meetings\nECON-1-A,ECON-1,5,1,TBA\nECON-1-B,ECON-1,5,1,TBA\n")
+        self.write("r.csv", "student,budget,credits,courses\na1,5,9,5\nb1,5,9,5\n")
+        self.write("w.csv", "student,ECON-1-A - Micro (first),ECON-1-B - Macro\na1,5,7\n")
+        self.write("w.tsv", "student\tFirst choice\tSecond choice\nb1\tECON-1-B - Macro\tECON-1-A - Micro (first)\n")
+        self.assertEqual(say("import", "c.csv", "r.csv", "w.csv", "w.tsv")[0], 0)
+        text = self.read("mapping.ini")
+        self.assertIn("\ncolumns = * - *\n", text)
+        self.assertIn("\n[survey w-2]\n", text)
+        self.assertIn("\ncolumns = * choice\n", text)
+        status, told = say("import")
+        self.assertEqual(status, tell.FAULTS)
+        self.assertIn('w.tsv row 2, column First choice: "ECON-1-B - Macro"', told)
+        self.write("mapping.ini", text.replace("\ncut =", "\ncut = -"))
+        status, told = say("import")
+        self.assertEqual(status, 0, told)
+        self.assertIn("rate a1 ECON-1-A 5\nrate a1 ECON-1-B 7\n", self.read("w.session"))
+        self.assertIn("rate b1 ECON-1-B 100\nrate b1 ECON-1-A 95\n", self.read("w-2.session"))
+
     def test_a_column_that_is_no_section_is_not_passed_over_in_silence(self) -> None:
         self.write("mapping.ini", "[catalogue]\nfile = c.csv\nsection = s\ncourse = s\nseats default = 5\ncredits default = 1\n"
                    "meetings default = TBA\n[roll]\nfile = r.csv\nstudent = id\nbudget default = 5\ncredits default = 9\n"
