@@ -182,7 +182,7 @@ class Reasons(InFolder):
         ]
         roll = [f"p{i},100,{dice.randint(3, 9)},{dice.randint(1, 3)}" for i in range(self.STUDENTS)]
         wishes = [
-            f"rate p{i} S{j} {dice.randint(1, 100)}" for i in range(self.STUDENTS) for j in range(self.SECTIONS) if dice.random() < 0.7
+            f"rate p{i} S{j} {dice.choice((0, dice.randint(1, 100)))}" for i in range(self.STUDENTS) for j in range(self.SECTIONS) if dice.random() < 0.7
         ]
         wishes += [f"pair p{i} S0 S{dice.randint(1, 7)} {dice.choice((-150, 20))}" for i in range(self.STUDENTS)]
         self.put("catalogue.csv", "section,course,seats,credits,meetings,parts\n" + "\n".join(sections) + "\n")
@@ -191,7 +191,7 @@ class Reasons(InFolder):
         self.put("settings.json", SCARCE["settings.json"].replace('"accept": 0', '"accept": 1000'))
 
     def test_alone(self) -> None:
-        """Each student with each section: the same bytes."""
+        """Each student with each section that it named: the same bytes."""
         self.draw()
         self.assertEqual(call("run", "catalogue.csv", "roll.csv", "settings.json", "a.session").status, 0)
         found = manifest.read()
@@ -201,7 +201,7 @@ class Reasons(InFolder):
         kinds = set()
         for name in market.students:
             alone.enter(room, name)
-            for section in market.sections:
+            for section in (one.code for one in alone.named_by(room, name)):
                 answer = program.call(manifest.explain_words(found, name, section))
                 self.assertEqual(alone.explain(room, name, section).output, answer.output, f"{name} {section}")
                 kinds.add(reasons.read_reason(answer.lines).words[0])
