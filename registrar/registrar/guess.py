@@ -246,7 +246,7 @@ class Guesser:
 
     def keep(self, seen: Seen) -> None:
         """Keeps a file's section of the mapping, and what is open in it."""
-        stem = spelt(os.path.splitext(os.path.basename(seen.path))[0])[:32] or "one"
+        stem = spelt(os.path.splitext(os.path.basename(seen.path))[0])[:28] or "one"
         title = seen.kind if seen.kind in SOUGHT else f"{seen.kind} {stem}"
         while title in self.sections:
             title += "-2"

@@ -57,8 +57,7 @@ def run(arguments: argparse.Namespace) -> int:
         )
     faults = Faults()
     made = Importer(arguments.mapping, faults).made()
-    if not faults:
-        made.limits(faults)
+    made.limits(faults)
     if faults:
         return tell_faults(faults, arguments.faults, arguments.mapping)
     folder = arguments.into or os.path.dirname(arguments.mapping) or "."
@@ -129,9 +128,9 @@ class Made:
             if count > most:
                 faults.add(source, None, what, grouped(count), f"at most {grouped(most)} {what}, the limit of the program")
         for what, count, _ in counts[:2]:
-            if not count:
+            if not count and not faults:
                 faults.add(source, None, what, "", f"{what}: the export has none below its header")
-        if not self.surveys:
+        if not self.mapping.of_kind("survey"):
             faults.add(source, None, "", "", "a survey at least: [survey NAME]")
         for name, content in self.files().items():
             if len(content) > MOST_BYTES and name != own_names.FILE:
@@ -211,15 +210,14 @@ class Importer:
 
     def take_catalogue(self, export: Export) -> None:
         """The catalogue, a section's rows together."""
-        self.sections.is_whole = export.is_read
-        for option in ("section", "course"):
-            export.column(option, needed=True)
+        self.sections.is_whole = bool(export.column("section", needed=True))
+        export.column("course", needed=True)
         for option in ("seats", "credits"):
             export.column(option, needed=not export.source.get(f"{option} default"))
         if not any(export.column(option) for option in ("meetings", "days")):
             export.column("meetings", needed=not export.source.get("meetings default"))
         drafts: dict[str, Draft] = {}
-        for row in export.rows if export.column("section") else []:
+        for row in export.rows if self.sections.is_whole else []:
             text = export.cell(row, "section")
             try:
                 name = self.sections.define(text)
@@ -244,25 +242,21 @@ class Importer:
         draft.meetings += self.meetings(export, row)
 
     def meetings(self, export: Export, row: Row) -> list[str]:
-        """The meetings that a row says."""
+        """The meetings that a row says, in one cell or in cells for days and times."""
         option = "meetings" if export.column("meetings") else "days"
+        start = export.cell(row, "start") if option == "days" else ""
         text = export.cell(row, option)
-        if option == "days" and not export.cell(row, "start"):
-            text = text or export.source.get("meetings default")
-        rules = self.mapping.meetings
+        if not text and not start:
+            text = export.source.get("meetings default")
         try:
+            if not text and not start:
+                raise MeetingFault("days and times; `meetings default = TBA` states that a blank is no meeting")
             length = self.length(export, row)
-            if not text and not (option == "days" and export.cell(row, "start")):
-                text = export.source.get("meetings default")
-                if not text:
-                    raise MeetingFault("days and times; `meetings default = TBA` states that a blank is no meeting")
-                option = "meetings"
-            if option == "meetings":
-                return meetings_of(text, length, rules)
-            return meetings_by_columns(text, export.cell(row, "start"), export.cell(row, "end"), length, rules)
+            if start:
+                return meetings_by_columns(text, start, export.cell(row, "end"), length, self.mapping.meetings)
+            return meetings_of(text, length, self.mapping.meetings)
         except MeetingFault as fault:
-            parts = [export.cell(row, part) for part in (option, "start", "end")] if option == "days" else [text]
-            export.fault(row, option, " ".join(parts), str(fault))
+            export.fault(row, option, f"{text} {start}".strip(), str(fault))
             return []
 
     def length(self, export: Export, row: Row) -> int:
@@ -310,26 +304,22 @@ class Importer:
     def parts(self, export: Export, row: Row) -> str:
         """The half of the term, or both."""
         text = export.cell(row, "parts")
-        plain = re.sub(r"\.0+$", "", text)
+        plain = self.mapping.parts.get(text.casefold(), re.sub(r"\.0+$", "", text))
         if plain not in ("1", "2", "12"):
             export.fault(
-                row,
-                "parts",
-                text,
-                "1 for the first half of the term, 2 for the second, 12 for both (`parts default` for a blank)",
+                row, "parts", text, "1 for the first half of the term, 2 for the second, 12 for both, or a word of [parts]"
             )
         return plain
 
     def take_roll(self, export: Export) -> None:
         """The roll."""
-        self.students.is_whole = export.is_read
+        self.students.is_whole = bool(export.column("student", needed=True))
         has_carry = bool(export.column("carry"))
         self.result.roll = [["student", "budget", "credits", "courses"] + ["carry"] * has_carry]
-        column = export.column("student", needed=True)
         for option in ("budget", "credits", "courses"):
             export.column(option, needed=not export.source.get(f"{option} default"))
         rows: dict[str, int] = {}
-        for row in export.rows if column else []:
+        for row in export.rows if self.students.is_whole else []:
             text = export.cell(row, "student")
             try:
                 name = self.students.define(text)

@@ -265,8 +265,8 @@ class Many(InFolder):
         self.write("mapping.ini", "[catalogue]\nfile = c.csv\nsection = Subject + No + Sec\ncourse = Subject + No\nseats = cap\ncredits = cr\n"
                    "days = Days\nstart = Begin\nend = End\nparts = Half\nparts default = 12\n[numbers]\ndecimal = ,\ncredit unit = 0.5\n"
                    "[roll]\nfile = r.csv\nheader row = 3\nstudent = @2\nbudget default = 5\ncredits default = 9,5\ncourses default = 5\n"
-                   "[survey w]\nfile = w.csv\nshape = students\nstudent = id\nextra = name\n")  # fmt: skip
-        self.write("c.csv", "SUBJECT;no;sec;CAP;cr;days;begin;end;half\nACCT;101;A;1.200;1,5;MW;9:00;10:15;1\nACCT;101;A;;;F;1:00 PM;2:00 PM;\n"
+                   "[survey w]\nfile = w.csv\nshape = students\nstudent = id\nextra = name\n[parts]\nQ1 = 1\n")  # fmt: skip
+        self.write("c.csv", "SUBJECT;no;sec;CAP;cr;days;begin;end;half\nACCT;101;A;1.200;1,5;MW;9:00;10:15;Q1\nACCT;101;A;;;F;1:00 PM;2:00 PM;\n"
                    ";;;;;;;;\nACCT;101;B;20,0;1;TBA;;;\n")  # fmt: skip
         self.write("r.csv", "The register\n\nname,number\nAnn,a1\nBen,b1\n")
         self.write("w.csv", "id,name,ACCT-101-A,acct 101 b\na1,Ann,5,7\n")
