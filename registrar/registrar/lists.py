@@ -6,10 +6,11 @@ import argparse
 import concurrent.futures
 import importlib
 import os
+import tempfile
 from dataclasses import dataclass
-from typing import Dict, List, Sequence
+from typing import Dict, List, Optional, Sequence
 
-from registrar import explain, manifest, own_names, program, published, reasons, run_market, tables, tell
+from registrar import alone, explain, manifest, own_names, program, published, reasons, run_market, streams, tables, tell
 
 NAME = "lists"
 HELP = (
@@ -17,17 +18,14 @@ HELP = (
     "the tables have the school's own spelling where names.csv stands beside the catalogue"
 )
 
-# Without another wish, the program is asked for each reason only where all of them take no longer than this.
-PATIENCE = 300.0
-
-
 @dataclass(frozen=True)
 class Ask:
-    """What the reasons are asked from: the manifest, the market, and how."""
+    """What the texts are made from: the manifest, the market, each student's lines, and where reasons are asked, if at all."""
 
     found: manifest.Manifest
     market: reasons.Market
-    how: str
+    lines: Dict[str, List[int]]
+    room: Optional[alone.Room]
 
 
 def add_arguments(parser: argparse.ArgumentParser) -> None:
@@ -35,12 +33,7 @@ def add_arguments(parser: argparse.ArgumentParser) -> None:
     manifest.add_argument(parser)
     parser.add_argument("--out", default="lists", metavar="FOLDER", help="where the lists go (default: lists)")
     parser.add_argument("--student", action="append", default=[], metavar="NAME", help="texts for these students alone; may be repeated")
-    parser.add_argument(
-        "--reasons", choices=("auto", "program", "plain", "none"), default="auto",
-        help="program: ask the program's `explain` for each section, which checks the whole text each time; plain: tell the first "
-        "line of its answer, found by the rule of FORMATS; auto: the program where that takes at most five minutes, else plain",
-    )
-    parser.add_argument("--no-reasons", dest="reasons", action="store_const", const="none", help="the same as --reasons none")
+    parser.add_argument("--no-reasons", action="store_true", help="leave the program's reasons out of the texts, which takes less time")
     run_market.add_workers(parser)
 
 
@@ -64,8 +57,11 @@ def run(arguments: argparse.Namespace) -> int:
     for name, rows in books.items():
         tables.write_csv(os.path.join(arguments.out, name + ".csv"), rows)
     write_book(os.path.join(arguments.out, "lists.xlsx"), books)
-    how = how_to_ask(arguments, market, names, answer.elapsed)
-    write_texts(os.path.join(arguments.out, "students"), Ask(found, market, how), names, arguments.workers)
+    with tempfile.TemporaryDirectory() as folder:
+        commands = streams.in_order(market.text.order, found.sessions)
+        room = None if arguments.no_reasons else alone.room(folder, market, commands)
+        ask = Ask(found, market, own_lines(market.text), room)
+        write_texts(os.path.join(arguments.out, "students"), ask, names, arguments.workers)
     warn_of_others(os.path.join(arguments.out, "students"), list(market.students))
     tell.say(f"{arguments.out}: students.csv, rosters.csv, sections.csv, and {tell.count(len(names), 'text', 'texts')} in students/")
     return 0
@@ -136,21 +132,6 @@ def missed(market: reasons.Market, name: str) -> List[str]:
     return sorted(better, key=lambda one: (-rated[one], places[one]))
 
 
-def how_to_ask(arguments: argparse.Namespace, market: reasons.Market, names: Sequence[str], check: float) -> str:
-    """`program`, `plain` or `none`: what was wished, or by what it would cost."""
-    if arguments.reasons != "auto":
-        return arguments.reasons
-    calls = sum(len(missed(market, name)) for name in names)
-    cost = calls * check / max(1, arguments.workers)
-    if cost <= PATIENCE:
-        return "program"
-    tell.warn(
-        f"{calls} reasons would take the program about {tell.seconds(cost)}: the texts have the first line of each, found by rule. "
-        "`registrar explain STUDENT SECTION` has the whole of one, `registrar lists --student NAME` all of a student"
-    )
-    return "plain"
-
-
 def write_texts(folder: str, ask: Ask, names: Sequence[str], workers: int) -> None:
     """Writes a text for each student, a few at a time, and says how far it is."""
     life = tell.Life("")
@@ -180,9 +161,10 @@ def student_text(ask: Ask, name: str) -> str:
     raised = ": the aftermarket raised the budgets" if spent > text.budgets[name] else ""
     lines.append(f"Your budget was {text.budgets[name]} tokens. What you have costs {spent}{raised}.")
     lines += ["", "Your sections:", ""] + section_lines(market, name, final)
-    lines += ["", "Your lines of the published text, with their numbers:", ""] + own_lines(text, name)
-    if ask.how != "none":
-        lines += reason_lines(ask, name)
+    lines += ["", "Your lines of the published text, with their numbers:", ""]
+    lines += [f"  {number}: {text.lines[number - 1]}" for number in ask.lines[name]]
+    if ask.room is not None:
+        lines += reason_lines(ask, ask.room, name)
     return "\n".join(lines) + "\n"
 
 
@@ -196,18 +178,15 @@ def section_lines(market: reasons.Market, name: str, final: Sequence[str]) -> Li
     return ["  " + line for line in tell.table(("section", "price", "your rating", "credits", "meetings"), rows)]
 
 
-def own_lines(text: published.Published, name: str) -> List[str]:
-    """The lines of the published text that are a student's own, with their numbers."""
-    wanted = [
-        number
-        for number, line in enumerate(text.lines, 1)
-        if line.startswith((f"budget {name} ", f"bundle {name} ", f"final {name} "))
-    ]
-    wanted += [turn.line for turn in text.turns if turn.student == name]
-    return [f"  {number}: {text.lines[number - 1]}" for number in sorted(wanted)]
+def own_lines(text: published.Published) -> Dict[str, List[int]]:
+    """The numbers of the lines of the published text that are each student's own. The budgets stand from line 3 on."""
+    found = {name: [number] for number, name in enumerate(text.budgets, 3)}
+    for bundle in (*text.bundles.values(), *text.turns, *text.finals.values()):
+        found[bundle.student].append(bundle.line)
+    return found
 
 
-def reason_lines(ask: Ask, name: str) -> List[str]:
+def reason_lines(ask: Ask, room: alone.Room, name: str) -> List[str]:
     """For each section that the student would rather have had, why it has none."""
     better = missed(ask.market, name)
     if not better:
@@ -220,17 +199,20 @@ def reason_lines(ask: Ask, name: str) -> List[str]:
             f"(These answers speak of the second stage, in which you had {reasons.and_joined(settled)}. What the aftermarket "
             "changed, your turn lines tell.)",
         ]
+    alone.enter(room, name)
     for section in better:
-        reason = reason_of(ask, name, section)
+        reason = reason_of(ask, room, name, section)
         lines += ["", f"  {section} (your rating {ask.market.ratings[name][section]})", "  " + reasons.in_words(ask.market, reason)]
+    alone.leave(room, name)
     return lines
 
 
-def reason_of(ask: Ask, name: str, section: str) -> reasons.Reason:
-    """The program's answer, or the first line of it by rule."""
-    if ask.how == "plain":
-        return reasons.plain_reason(ask.market, name, section)
-    answer = program.call(manifest.explain_words(ask.found, name, section))
+def reason_of(ask: Ask, room: alone.Room, name: str, section: str) -> reasons.Reason:
+    """The program's answer, in a market of the student alone where that has the student's budget, else in the whole one."""
+    if ask.market.text.budgets[name] <= alone.MOST_BASE:
+        answer = alone.explain(room, name, section)
+    else:
+        answer = program.call(manifest.explain_words(ask.found, name, section))
     if answer.status:
-        raise tell.Trouble("\n".join(program.retell(answer)), answer.status)
+        raise tell.Trouble(f"explain {name} {section}: {answer.text}", tell.FAULTS)
     return reasons.read_reason(answer.lines)

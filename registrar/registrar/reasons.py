@@ -1,9 +1,4 @@
-"""Why a student has no seat in a section: the answer of `explain` in the guide's words, and the plain part of it by rule.
-
-The program's `explain` checks the whole text before it answers, which takes as long as `check`. The first line of its
-answer follows from the text, the catalogue and the roll by "Explanations" in docs/FORMATS.md, and `plain_reason` finds it
-so. What the best bundle with the section would have been, `explain` alone tells.
-"""
+"""Why a student has no seat in a section: the answer of the program's `explain` in the guide's words."""
 
 from __future__ import annotations
 
@@ -21,7 +16,6 @@ class Market:
     sections: Dict[str, tables.Section]
     students: Dict[str, tables.Student]
     ratings: Dict[str, Dict[str, int]]
-    pairs: Dict[str, Dict[Tuple[str, str], int]]
 
 
 @dataclass(frozen=True)
@@ -40,8 +34,7 @@ def market_of(text: published.Published, catalogue: str, roll: str, commands: Se
     """The market of a text, the commands being in the text's order."""
     sections = {one.code: one for one in tables.read_catalogue(catalogue)}
     students = {one.name: one for one in tables.read_roll(roll)}
-    ratings, pairs = tables.preferences(commands, sections)
-    return Market(text, sections, students, ratings, pairs)
+    return Market(text, sections, students, tables.ratings_of(commands, sections))
 
 
 def read_reason(lines: Sequence[str]) -> Reason:
@@ -52,52 +45,6 @@ def read_reason(lines: Sequence[str]) -> Reason:
     _, bundle, worth = lines[1].split(" ")
     best = tuple(bundle[1:-1].split(",")) if bundle != "[]" else ()
     return Reason(student, section, tuple(words), best, int(worth), int(lines[2].split(" ")[1]))
-
-
-def plain_reason(market: Market, student: str, section: str) -> Reason:
-    """The first line of `explain`'s answer, by the rule of docs/FORMATS.md, "Explanations"."""
-    held = market.text.bundles[student].sections
-    if section in held:
-        return Reason(student, section, ("held",))
-    if not market.ratings.get(student, {}).get(section):
-        return Reason(student, section, ("unrated",))
-    alone = limit_passed(market, student, (section,))
-    if alone:
-        return Reason(student, section, ("alone", alone))
-    for other in held:
-        if do_clash(market.sections[other], market.sections[section]):
-            return Reason(student, section, ("clash", other))
-    beside = limit_passed(market, student, (*held, section))
-    return Reason(student, section, ("beside", beside) if beside else ("less",))
-
-
-def limit_passed(market: Market, student: str, sections: Sequence[str]) -> str:
-    """The first limit that these sections pass together: `price`, `credits`, `courses`; empty where they pass none."""
-    caps = market.students[student]
-    if market.text.cost(tuple(sections)) > market.text.budgets[student]:
-        return "price"
-    if sum(market.sections[one].credits for one in sections) > caps.credits:
-        return "credits"
-    return "courses" if len(sections) > caps.courses else ""
-
-
-def do_clash(one: tables.Section, other: tables.Section) -> bool:
-    """Whether two sections are of one course, or meet at the same time in the same half of the term."""
-    if one.course == other.course:
-        return True
-    if not set(one.parts) & set(other.parts):
-        return False
-    return any(overlap(a, b) for a in meetings_of(one) for b in meetings_of(other))
-
-
-def meetings_of(section: tables.Section) -> List[Tuple[str, str, str]]:
-    """The meetings of a section: day, start, end."""
-    return [(one[0], one[1:5], one[6:10]) for one in section.meetings.split(";")] if section.meetings else []
-
-
-def overlap(one: Tuple[str, str, str], other: Tuple[str, str, str]) -> bool:
-    """Whether two meetings are on one day and each starts before the other ends."""
-    return one[0] == other[0] and one[1] < other[2] and other[1] < one[2]
 
 
 def and_joined(names: Sequence[str]) -> str:

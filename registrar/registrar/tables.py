@@ -258,30 +258,22 @@ def read_sessions(paths: Sequence[str]) -> List[List[Command]]:
     return [read_session(path, number) for number, path in enumerate(paths, 1)]
 
 
-def preferences(
-    sessions: Iterable[Command], sections: Iterable[str]
-) -> Tuple[Dict[str, Dict[str, int]], Dict[str, Dict[Tuple[str, str], int]]]:
-    """What each student wants after these commands, heard in this order: ratings, and adjustments of pairs.
+def ratings_of(commands: Iterable[Command], sections: Iterable[str]) -> Dict[str, Dict[str, int]]:
+    """How each student rates sections after these commands, heard in this order.
 
     It follows the desk's rules but for students who are not on the roll and the limits on how many.
     """
-    known = {code: place for place, code in enumerate(sections)}
+    known = set(sections)
     ratings: Dict[str, Dict[str, int]] = {}
-    pairs: Dict[str, Dict[Tuple[str, str], int]] = {}
-    for command in sessions:
+    for command in commands:
         kind = command.kind
         if kind == "close":
             break
         if kind == "clear":
             ratings.pop(command.words[1], None)
-            pairs.pop(command.words[1], None)
         elif kind == "rate" and command.words[2] in known and 0 <= int(command.words[3]) <= 100:
             set_or_drop(ratings.setdefault(command.words[1], {}), command.words[2], int(command.words[3]))
-        elif kind == "pair" and all(word in known for word in command.words[2:4]):
-            if command.words[2] != command.words[3] and -200 <= int(command.words[4]) <= 200:
-                both = tuple(sorted(command.words[2:4], key=known.__getitem__))
-                set_or_drop(pairs.setdefault(command.words[1], {}), both, int(command.words[4]))
-    return ratings, pairs
+    return ratings
 
 
 def set_or_drop(kept: dict, key: object, value: int) -> None:

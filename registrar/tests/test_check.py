@@ -203,7 +203,6 @@ class Reading(unittest.TestCase):
             "FNCE-717-A costs 3252. Beside what you have it passes your budget of 4542. The best that you could have had with it "
             "is ACCT-611-B and FNCE-717-A, worth 188 to you by your own ratings. What you have is worth 260, 72 more.",
         )
-        self.assertEqual(reasons.plain_reason(market, "n.jones", "FNCE-717-A").words, reason.words)
 
     def test_findings(self) -> None:
         """Findings on bundles and turns of the term, with the lines in which they stand."""

@@ -7,7 +7,7 @@ import unittest
 import xml.etree.ElementTree
 from unittest import mock
 
-from registrar import explain, figures, lists, manifest, plots, program, published, reasons, tell
+from registrar import alone, explain, figures, manifest, plots, program, published, reasons, streams, tell
 from tests.support import SCARCE, SCARCE_WORDS, TERM, InFolder, call, needs_program
 
 TERM_FILES = [
@@ -58,13 +58,11 @@ class Lists(InFolder):
         self.assertTrue(os.path.exists("lists/students/w.txt"))
 
     def test_texts(self) -> None:
-        """The loser's text has the reason, by the program and by rule alike; the winner needs none."""
-        for how in ("program", "plain"):
-            with self.subTest(how):
-                self.assertEqual(call("lists", "--reasons", how).status, 0)
-                text = self.read(f"lists/students/{self.loser}.txt")
-                self.assert_told(text, ("You have Y: 1 credits.", "It alone passes your budget of 100.", f"budget {self.loser} 100"))
-                self.assertIn("You have all that you rated highest.", self.read(f"lists/students/{self.winner}.txt"))
+        """The loser's text has the reason; the winner needs none."""
+        self.assertEqual(call("lists").status, 0)
+        text = self.read(f"lists/students/{self.loser}.txt")
+        self.assert_told(text, ("You have Y: 1 credits.", "It alone passes your budget of 100.", f"budget {self.loser} 100"))
+        self.assertIn("You have all that you rated highest.", self.read(f"lists/students/{self.winner}.txt"))
 
     def test_no_reasons(self) -> None:
         """`--no-reasons` leaves them out, and one student alone may be asked for."""
@@ -73,12 +71,10 @@ class Lists(InFolder):
         self.assertNotIn("rated higher", self.read(f"lists/students/{self.loser}.txt"))
         self.assertEqual(call("lists", "--student", "w").status, tell.FAULTS)
 
-    def test_where_it_costs_too_much(self) -> None:
-        """Where the program would take too long, that is said, and the reasons are found by rule."""
-        with mock.patch.object(lists, "PATIENCE", 0.0):
-            told = call("lists")
-        self.assertEqual(told.status, 0)
-        self.assertIn("found by rule", told.err)
+    def test_a_budget_that_no_roll_has(self) -> None:
+        """Where a drawn budget is above the greatest base of a roll, the whole market is asked."""
+        with mock.patch.object(alone, "MOST_BASE", 0):
+            self.test_texts()
 
     def test_a_text_that_does_not_hold(self) -> None:
         """No lists come of it."""
@@ -171,7 +167,7 @@ class Figures(unittest.TestCase):
 
 @needs_program
 class Reasons(InFolder):
-    """The first line of each reason by rule, against the program's `explain`, in a drawn market with few seats."""
+    """The program's `explain` in a market of one student, against that in the whole one: a drawn market with few seats."""
 
     STUDENTS = 10
     SECTIONS = 8
@@ -194,17 +190,19 @@ class Reasons(InFolder):
         self.put("a.session", "\n".join(wishes) + "\n")
         self.put("settings.json", SCARCE["settings.json"].replace('"accept": 0', '"accept": 1000'))
 
-    def test_by_rule(self) -> None:
-        """Each student with each section."""
+    def test_alone(self) -> None:
+        """Each student with each section: the same bytes."""
         self.draw()
         self.assertEqual(call("run", "catalogue.csv", "roll.csv", "settings.json", "a.session").status, 0)
         found = manifest.read()
         market = explain.market_of(found)
+        os.mkdir("room")
+        room = alone.room("room", market, streams.in_order(market.text.order, found.sessions))
         kinds = set()
         for name in market.students:
+            alone.enter(room, name)
             for section in market.sections:
                 answer = program.call(manifest.explain_words(found, name, section))
-                words = reasons.read_reason(answer.lines).words
-                self.assertEqual(words, reasons.plain_reason(market, name, section).words, f"{name} {section}")
-                kinds.add(words[0])
+                self.assertEqual(alone.explain(room, name, section).output, answer.output, f"{name} {section}")
+                kinds.add(reasons.read_reason(answer.lines).words[0])
         self.assertLessEqual({"held", "unrated", "alone", "clash", "beside"}, kinds)
