@@ -14,6 +14,8 @@ EXPORTS = os.path.join(program.TOP, "examples", "exports")
 
 
 class Imports(WithSchool):
+    """A made school of sixty students."""
+
     def commands(self, survey: str) -> set[str]:
         """The commands of a session that was written."""
         lines = self.read(f"out/{survey}.session").splitlines()
@@ -227,6 +229,8 @@ class Examples(InFolder):
 
 
 class Many(InFolder):
+    """Small exports of one trait each."""
+
     def test_300_bad_rows_take_one_run(self) -> None:
         self.write("mapping.ini", "[catalogue]\nfile = c.csv\nsection = s\ncourse = c\nseats = n\ncredits default = 1\nmeetings default = TBA\n"
                    "[roll]\nfile = r.csv\nstudent = id\nbudget = b\ncredits default = 9\ncourses default = 5\n"
@@ -345,6 +349,8 @@ class Many(InFolder):
 
 @unittest.skipUnless(sheet.has_xlsx(), "openpyxl is not installed")
 class Books(WithSchool):
+    """Exports as .xlsx."""
+
     def test_a_register_as_a_book(self) -> None:
         rows: list[list[object]] = [list(row) for row in school.roll_rows(self.school)]
         sheet.write_book("register.xlsx", {"notes": [["nothing"]], "roll": rows})
