@@ -62,6 +62,7 @@ def run(arguments: argparse.Namespace) -> int:
         return tell_faults(faults, arguments.faults, arguments.mapping)
     folder = arguments.into or os.path.dirname(arguments.mapping) or "."
     files = made.files()
+    refuse_exports(folder, files, made.mapping)
     write_all(folder, files, arguments.replace)
     for line in [*made.lines(), *strange_sessions(folder, files)]:
         tell.say(line)
@@ -75,6 +76,14 @@ def tell_faults(faults: Faults, table: str | None, mapping: str) -> int:
         tables.write_whole(table, tables.csv_text(faults.rows()).encode("utf-8-sig"))
     tell.say(f"nothing is written; correct the exports, or {mapping}, and run again")
     return tell.FAULTS
+
+
+def refuse_exports(folder: str, files: dict[str, bytes], mapping: Mapping) -> None:
+    """Refuses where a file would be written over one of the exports that it is made of."""
+    exports = {os.path.abspath(source.path) for source in mapping.sources}
+    over = [name for name in files if os.path.abspath(os.path.join(folder, name)) in exports]
+    if over:
+        raise tell.Trouble(f"{', '.join(over)} would be written over an export of that name: `--into` names another folder")
 
 
 def strange_sessions(folder: str, written: dict[str, bytes]) -> list[str]:
@@ -129,9 +138,9 @@ class Made:
                 faults.add(source, None, what, grouped(count), f"at most {grouped(most)} {what}, the limit of the program")
         for what, count, _ in counts[:2]:
             if not count and not faults:
-                faults.add(source, None, what, "", f"{what}: the export has none below its header")
+                faults.add(source, None, "", "", f"there are no {what} below the header of the export")
         if not self.mapping.of_kind("survey"):
-            faults.add(source, None, "", "", "a survey at least: [survey NAME]")
+            faults.add(source, None, "", "", "there is no section [survey NAME]")
         for name, content in self.files().items():
             if len(content) > MOST_BYTES and name != own_names.FILE:
                 faults.add(name, None, "", f"{grouped(len(content))} bytes", f"at most {grouped(MOST_BYTES)} bytes")
@@ -186,7 +195,7 @@ class Importer:
             if sources:
                 take(Export(sources[0], self.faults))
             else:
-                self.faults.add(self.mapping.path, None, f"[{kind}]", "", "this section of the mapping")
+                self.faults.add(self.mapping.path, None, "", "", f"there is no section [{kind}]")
         for source in self.mapping.of_kind("survey"):
             self.result.surveys.append(self.survey(source))
         self.result.names = [*self.sections.rows(), *self.courses.rows(), *self.students.rows()]
@@ -341,7 +350,7 @@ def write_all(folder: str, files: dict[str, bytes], replace: bool) -> None:
 
     Each is written under another name first; they take their names when all are whole.
     """
-    paths = {os.path.join(folder, name): content for name, content in files.items()}
+    paths = {os.path.normpath(os.path.join(folder, name)): content for name, content in files.items()}
     if not replace:
         refuse_standing(paths)
     written: list[str] = []

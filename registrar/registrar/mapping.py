@@ -231,7 +231,7 @@ class MappingReader:
         except SheetFault as fault:
             self.faults.add(self.path, fault.row, "", fault.value, fault.expected)
         except configparser.Error as error:
-            self.faults.add(self.path, getattr(error, "lineno", None), "", "", f"a mapping: {error.message}")
+            self.faults.add(self.path, getattr(error, "lineno", None), "", "", f"this is no mapping: {error.message}")
         else:
             for title in self.parsed.sections():
                 self.take(title)

@@ -151,7 +151,7 @@ class Hall(InFolder):
         self.write("mapping.ini", "[numbers]\n")
         status, told = say("hall")
         self.assertEqual(status, tell.FAULTS)
-        self.assertIn("a section [requests NAME]", told)
+        self.assertIn("there is no section [requests NAME]", told)
         os.remove("mapping.ini")
         self.assertEqual(say("hall")[0], tell.NO_FILE)
 

@@ -186,7 +186,7 @@ class Imports(WithSchool):
         self.settle("header row", "70", "roll")
         status, told = self.imported()
         self.assertEqual(status, tell.FAULTS)
-        self.assertIn("register.csv row 70: blank where this was expected: the columns' names", told)
+        self.assertIn("register.csv row 70: there are no columns' names", told)
         self.write("empty.csv", "SECTION CODE,Course,Max Enrollment,Credits,Meeting Times,Length\n")
         self.settle("file", "empty.csv", "catalogue")
         self.settle("header row", "1", "roll")
@@ -305,6 +305,12 @@ class Many(InFolder):
         status, told = say("import")
         self.assertEqual(status, 0, told)
         self.assertIn("rate a1 ECON-1-A 5\nrate a1 ECON-1-B 7\n", self.read("w.session"))
+        os.rename("r.csv", "roll.csv")
+        self.settle("file", "roll.csv", "roll")
+        status, told = say("import", "--replace")
+        self.assertEqual(status, tell.FAULTS)
+        self.assertIn("roll.csv would be written over an export of that name", told)
+        self.assertEqual(self.read("roll.csv"), "student,budget,credits,courses\na1,5,9,5\nb1,5,9,5\n")
         self.assertIn("rate b1 ECON-1-B 100\nrate b1 ECON-1-A 95\n", self.read("w-2.session"))
 
     def test_a_column_that_is_no_section_is_not_passed_over_in_silence(self) -> None:
@@ -345,6 +351,58 @@ class Many(InFolder):
         self.assertEqual(say("import", "a.csv")[0], tell.FAULTS)
         self.assertEqual(say("import", "a.csv")[0], tell.FAULTS)
         self.assertIn("stands already", say("import", "a.csv")[1])
+
+
+class Guesses(InFolder):
+    """What a first mapping has of other exports."""
+
+    def guessed(self, **exports: str) -> str:
+        """The mapping that is guessed of these exports."""
+        for name, text in exports.items():
+            self.write(f"{name}.csv", text)
+        say("import", *(f"{name}.csv" for name in exports))
+        return self.read("mapping.ini")
+
+    def test_subject_number_and_letter(self) -> None:
+        text = self.guessed(
+            sections="Spring\n\nSubject,Catalog Number,Section,Cap,Units,Days,Start Time,End Time\n"
+            "FNCE,601,A,30,1.5,MW,9:00,10:15\nFNCE,601,B,30,1.5,TuTh,13:30,14:45\nMGMT,690,A,25,3,TBA,,\n",
+            survey="Student ID,Code,Priority\na,FNCE-601-A,1\na,MGMT-690-A,2\n",
+            register="Student ID,Tokens,Max Credits,Max Courses\na,5000,15,5\n",
+        )
+        for line in (
+            "section = Subject + Catalog Number + Section", "course = Subject + Catalog Number", "header row = 3",
+            "start = Start Time", "section = Code", "value = Priority", "says = rank", "credit unit = 0.5",
+        ):  # fmt: skip
+            with self.subTest(line=line):
+                self.assertIn(f"\n{line}\n", text)
+        self.assertEqual(say("import")[0], 0)
+        catalogue = self.read("catalogue.csv").splitlines()
+        self.assertEqual(catalogue[1], "FNCE-601-A,FNCE-601,30,3,M0900-1015;W0900-1015")
+
+    def test_columns_with_codes_alone_and_a_decimal_comma(self) -> None:
+        text = self.guessed(
+            sections="Section;Course;Seats;Credits;Time\nA-1;A;30;1,5;Mo 9:00-10:00\nB-1;B;30;2;Di 9:00-10:00\n",
+            register="E-mail;Credits;Tokens;Max Courses\na@b.edu;10;5000;5\n",
+            survey="Timestamp;E-mail;A-1;B-1;Comments\n1;a@b.edu;5;7;none\n",
+        )
+        for line in ("decimal = ,", "columns = *", "extra = Timestamp | Comments", "student = E-mail"):
+            with self.subTest(line=line):
+                self.assertIn(f"\n{line}\n", text)
+        status, told = say("import")
+        self.assertEqual((status, told.splitlines()[0].split(":")[0]), (tell.FAULTS, "sections.csv row 3, column Time"))
+        self.write("mapping.ini", text.replace("[days]", "[days]\nDi = T"))
+        self.assertEqual(say("import")[0], 0)
+        self.assertIn("rate a-b.edu A-1 5\nrate a-b.edu B-1 7\n", self.read("survey.session"))
+
+    def test_a_file_in_another_encoding(self) -> None:
+        self.write("sections.csv", "Section,Course,Seats,Credits,Times\nG\u00c9NI 1 A,G\u00c9NI 1,5,1,TBA\n", "cp1252")
+        status, told = say("import", "sections.csv")
+        self.assertEqual(status, tell.FAULTS)
+        self.assertIn("sections.csv row 2: ", told)
+        self.assertIn("encoding = cp1252", told)
+        say("import", "sections.csv", "--encoding", "cp1252")
+        self.assertIn("\nencoding = cp1252\n", self.read("mapping.ini"))
 
 
 @unittest.skipUnless(sheet.has_xlsx(), "openpyxl is not installed")
