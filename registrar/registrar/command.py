@@ -4,6 +4,8 @@ from __future__ import annotations
 
 import argparse
 import importlib
+import os
+import sys
 from typing import List, Optional, Sequence
 
 from registrar import tell
@@ -74,6 +76,9 @@ def main(words: Optional[Sequence[str]] = None) -> int:
     except tell.Trouble as trouble:
         tell.warn(str(trouble))
         return trouble.status
+    except BrokenPipeError:
+        os.dup2(os.open(os.devnull, os.O_WRONLY), sys.stdout.fileno())
+        return 141
     except KeyboardInterrupt:
         tell.warn("stopped by the keyboard; what stood before still stands")
         return 130

@@ -66,10 +66,10 @@ class Export:
             self.faults.add(self.file, fault.row, "", fault.value, fault.expected)
             return
         except OSError as error:
-            self.faults.add(self.file, None, "", self.source.path, f"a file that can be read ({error.strerror})")
+            self.faults.add(self.file, None, "", "", f"{self.source.path} can not be read ({error.strerror})")
             return
         if not any(cell.strip() for cell in self.header):
-            self.faults.add(self.file, header_row, "", "", "the columns' names (`header row` says where they stand)")
+            self.faults.add(self.file, header_row, "", "", "there are no columns' names (`header row` says where they stand)")
             return
         self.is_read = True
 

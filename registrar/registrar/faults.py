@@ -35,6 +35,8 @@ class Fault:
             place += f" row {self.row}"
         if self.column:
             place += f", column {self.column}"
+        if not self.column and self.value in ("", self.file):
+            return f"{place}: {self.expected}"
         return f"{place}: {shown(self.value)} where this was expected: {self.expected}"
 
 

@@ -152,7 +152,10 @@ class Guesser:
         return ["-".join(row[at] for at in places if at < len(row) and row[at]) for row in seen.rows]
 
     def split_codes(self, seen: Seen) -> None:
-        """Where the section's column has a letter alone (`A`), the code is the course's and it; likewise subject and number."""
+        """Where two courses have a section of one code (`A`), a section's code is the course's and that one.
+
+        Likewise a course's code may be the subject's and a number; and a column for times may have no days.
+        """
         section, course = seen.values["section"], seen.values["course"]
         subject = next((title for title in seen.header if plain(title) in ("subject", "dept", "department")), "")
         number = next(
@@ -162,7 +165,10 @@ class Guesser:
         if subject and number:
             course = f"{subject} + {number}"
             seen.values["course"] = course
-        if course and len(set(seen.column(section))) * 2 < len(seen.rows):
+        courses: dict[str, set[str]] = {}
+        for code, of in zip(self.joined(seen, section), self.joined(seen, course) if course else []):
+            courses.setdefault(code, set()).add(of)
+        if any(len(several) > 1 for several in courses.values()):
             seen.values["section"] = f"{course} + {section}"
         if seen.values["meetings"] and seen.values["days"]:
             clocks = seen.column(seen.values["meetings"])
@@ -246,7 +252,7 @@ class Guesser:
 
     def keep(self, seen: Seen) -> None:
         """Keeps a file's section of the mapping, and what is open in it."""
-        stem = spelt(os.path.splitext(os.path.basename(seen.path))[0])[:32] or "one"
+        stem = spelt(os.path.splitext(os.path.basename(seen.path))[0])[:28] or "one"
         title = seen.kind if seen.kind in SOUGHT else f"{seen.kind} {stem}"
         while title in self.sections:
             title += "-2"

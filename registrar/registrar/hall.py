@@ -113,7 +113,7 @@ class Gatherer:
         """The requests of all exports, in the mapping's order."""
         sources = self.mapping.of_kind("requests")
         if not sources:
-            self.faults.add(self.mapping.path, None, "", "", "a section [requests NAME]")
+            self.faults.add(self.mapping.path, None, "", "", "there is no section [requests NAME]")
         return [request for source in sources for request in self.of_source(source)]
 
     def of_source(self, source: Source) -> Iterator[Request]:
@@ -151,7 +151,7 @@ class Gatherer:
             )
             return []
         if not filled:
-            self.faults.add(export.file, row.number, "", "", "a request")
+            self.faults.add(export.file, row.number, "", "", "this row asks for nothing")
         return [(word, word) for word in sorted(filled, key=lambda word: order.index(word) if word in order else 0)]
 
     def name(self, names: Names, export: Export, row: Row, option: str) -> str:

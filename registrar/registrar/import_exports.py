@@ -57,12 +57,12 @@ def run(arguments: argparse.Namespace) -> int:
         )
     faults = Faults()
     made = Importer(arguments.mapping, faults).made()
-    if not faults:
-        made.limits(faults)
+    made.limits(faults)
     if faults:
         return tell_faults(faults, arguments.faults, arguments.mapping)
     folder = arguments.into or os.path.dirname(arguments.mapping) or "."
     files = made.files()
+    refuse_exports(folder, files, made.mapping)
     write_all(folder, files, arguments.replace)
     for line in [*made.lines(), *strange_sessions(folder, files)]:
         tell.say(line)
@@ -76,6 +76,14 @@ def tell_faults(faults: Faults, table: str | None, mapping: str) -> int:
         tables.write_whole(table, tables.csv_text(faults.rows()).encode("utf-8-sig"))
     tell.say(f"nothing is written; correct the exports, or {mapping}, and run again")
     return tell.FAULTS
+
+
+def refuse_exports(folder: str, files: dict[str, bytes], mapping: Mapping) -> None:
+    """Refuses where a file would be written over one of the exports that it is made of."""
+    exports = {os.path.abspath(source.path) for source in mapping.sources}
+    over = [name for name in files if os.path.abspath(os.path.join(folder, name)) in exports]
+    if over:
+        raise tell.Trouble(f"{', '.join(over)} would be written over an export of that name: `--into` names another folder")
 
 
 def strange_sessions(folder: str, written: dict[str, bytes]) -> list[str]:
@@ -129,10 +137,10 @@ class Made:
             if count > most:
                 faults.add(source, None, what, grouped(count), f"at most {grouped(most)} {what}, the limit of the program")
         for what, count, _ in counts[:2]:
-            if not count:
-                faults.add(source, None, what, "", f"{what}: the export has none below its header")
-        if not self.surveys:
-            faults.add(source, None, "", "", "a survey at least: [survey NAME]")
+            if not count and not faults:
+                faults.add(source, None, "", "", f"there are no {what} below the header of the export")
+        if not self.mapping.of_kind("survey"):
+            faults.add(source, None, "", "", "there is no section [survey NAME]")
         for name, content in self.files().items():
             if len(content) > MOST_BYTES and name != own_names.FILE:
                 faults.add(name, None, "", f"{grouped(len(content))} bytes", f"at most {grouped(MOST_BYTES)} bytes")
@@ -187,7 +195,7 @@ class Importer:
             if sources:
                 take(Export(sources[0], self.faults))
             else:
-                self.faults.add(self.mapping.path, None, f"[{kind}]", "", "this section of the mapping")
+                self.faults.add(self.mapping.path, None, "", "", f"there is no section [{kind}]")
         for source in self.mapping.of_kind("survey"):
             self.result.surveys.append(self.survey(source))
         self.result.names = [*self.sections.rows(), *self.courses.rows(), *self.students.rows()]
@@ -211,15 +219,14 @@ class Importer:
 
     def take_catalogue(self, export: Export) -> None:
         """The catalogue, a section's rows together."""
-        self.sections.is_whole = export.is_read
-        for option in ("section", "course"):
-            export.column(option, needed=True)
+        self.sections.is_whole = bool(export.column("section", needed=True))
+        export.column("course", needed=True)
         for option in ("seats", "credits"):
             export.column(option, needed=not export.source.get(f"{option} default"))
         if not any(export.column(option) for option in ("meetings", "days")):
             export.column("meetings", needed=not export.source.get("meetings default"))
         drafts: dict[str, Draft] = {}
-        for row in export.rows if export.column("section") else []:
+        for row in export.rows if self.sections.is_whole else []:
             text = export.cell(row, "section")
             try:
                 name = self.sections.define(text)
@@ -244,25 +251,21 @@ class Importer:
         draft.meetings += self.meetings(export, row)
 
     def meetings(self, export: Export, row: Row) -> list[str]:
-        """The meetings that a row says."""
+        """The meetings that a row says, in one cell or in cells for days and times."""
         option = "meetings" if export.column("meetings") else "days"
+        start = export.cell(row, "start") if option == "days" else ""
         text = export.cell(row, option)
-        if option == "days" and not export.cell(row, "start"):
-            text = text or export.source.get("meetings default")
-        rules = self.mapping.meetings
+        if not text and not start:
+            text = export.source.get("meetings default")
         try:
+            if not text and not start:
+                raise MeetingFault("days and times; `meetings default = TBA` states that a blank is no meeting")
             length = self.length(export, row)
-            if not text and not (option == "days" and export.cell(row, "start")):
-                text = export.source.get("meetings default")
-                if not text:
-                    raise MeetingFault("days and times; `meetings default = TBA` states that a blank is no meeting")
-                option = "meetings"
-            if option == "meetings":
-                return meetings_of(text, length, rules)
-            return meetings_by_columns(text, export.cell(row, "start"), export.cell(row, "end"), length, rules)
+            if start:
+                return meetings_by_columns(text, start, export.cell(row, "end"), length, self.mapping.meetings)
+            return meetings_of(text, length, self.mapping.meetings)
         except MeetingFault as fault:
-            parts = [export.cell(row, part) for part in (option, "start", "end")] if option == "days" else [text]
-            export.fault(row, option, " ".join(parts), str(fault))
+            export.fault(row, option, f"{text} {start}".strip(), str(fault))
             return []
 
     def length(self, export: Export, row: Row) -> int:
@@ -310,26 +313,22 @@ class Importer:
     def parts(self, export: Export, row: Row) -> str:
         """The half of the term, or both."""
         text = export.cell(row, "parts")
-        plain = re.sub(r"\.0+$", "", text)
+        plain = self.mapping.parts.get(text.casefold(), re.sub(r"\.0+$", "", text))
         if plain not in ("1", "2", "12"):
             export.fault(
-                row,
-                "parts",
-                text,
-                "1 for the first half of the term, 2 for the second, 12 for both (`parts default` for a blank)",
+                row, "parts", text, "1 for the first half of the term, 2 for the second, 12 for both, or a word of [parts]"
             )
         return plain
 
     def take_roll(self, export: Export) -> None:
         """The roll."""
-        self.students.is_whole = export.is_read
+        self.students.is_whole = bool(export.column("student", needed=True))
         has_carry = bool(export.column("carry"))
         self.result.roll = [["student", "budget", "credits", "courses"] + ["carry"] * has_carry]
-        column = export.column("student", needed=True)
         for option in ("budget", "credits", "courses"):
             export.column(option, needed=not export.source.get(f"{option} default"))
         rows: dict[str, int] = {}
-        for row in export.rows if column else []:
+        for row in export.rows if self.students.is_whole else []:
             text = export.cell(row, "student")
             try:
                 name = self.students.define(text)
@@ -351,7 +350,7 @@ def write_all(folder: str, files: dict[str, bytes], replace: bool) -> None:
 
     Each is written under another name first; they take their names when all are whole.
     """
-    paths = {os.path.join(folder, name): content for name, content in files.items()}
+    paths = {os.path.normpath(os.path.join(folder, name)): content for name, content in files.items()}
     if not replace:
         refuse_standing(paths)
     written: list[str] = []

@@ -134,6 +134,7 @@ DEFAULTS: typing.Mapping[str, typing.Mapping[str, str]] = {
 
 #: Sections whose options are the registrar's own words.
 FREE: typing.Mapping[str, str] = {
+    "parts": "words for the halves of the term, as `Q1 = 1`, `Q2 = 2`, `Full = 12`",
     "days": "words for days and the program's letters (M T W R F S U), as `Di = T`",
     "same students": "what stands in an export = the student that is meant",
     "same sections": "what stands in an export = the section that is meant",
@@ -193,6 +194,7 @@ class Mapping:
     students: NameRules = field(default_factory=NameRules)
     sections: NameRules = field(default_factory=NameRules)
     courses: NameRules = field(default_factory=NameRules)
+    parts: dict[str, str] = field(default_factory=dict)
 
     def of_kind(self, kind: str) -> list[Source]:
         """The exports of a kind, in the mapping's order."""
@@ -229,7 +231,7 @@ class MappingReader:
         except SheetFault as fault:
             self.faults.add(self.path, fault.row, "", fault.value, fault.expected)
         except configparser.Error as error:
-            self.faults.add(self.path, getattr(error, "lineno", None), "", "", f"a mapping: {error.message}")
+            self.faults.add(self.path, getattr(error, "lineno", None), "", "", f"this is no mapping: {error.message}")
         else:
             for title in self.parsed.sections():
                 self.take(title)
@@ -308,6 +310,10 @@ class MappingReader:
             self.fault("numbers", "credit unit", unit, "a number above 0, as 1 or 0.5")
             mapping.unit = Decimal(1)
         mapping.meetings = self.meeting_rules()
+        mapping.parts = {word.casefold(): part for word, part in self.free("parts").items()}
+        for word, part in mapping.parts.items():
+            if part not in ("1", "2", "12"):
+                self.fault("parts", word, part, "1, 2 or 12")
         mapping.students = self.name_rules("students")
         mapping.sections = self.name_rules("sections")
         mapping.courses = self.name_rules("courses")

@@ -61,7 +61,7 @@ def read_rows(path: str | os.PathLike[str], encoding: str = "", sheet: str = "")
     with open(path, "rb") as file:
         data = file.read()
     if data.startswith(OLD_BOOK):
-        raise SheetFault(None, name, "an old .xls book: save it as .xlsx or as CSV")
+        raise SheetFault(None, name, "this is an old .xls book: save it as .xlsx or as CSV")
     if data.startswith(b"PK\x03\x04"):
         return book_rows(data, name, sheet)
     return text_rows(decoded(data, encoding))
@@ -80,7 +80,7 @@ def decoded(data: bytes, encoding: str) -> str:
     if encoding:
         return decoded_as(data, encoding)
     if b"\0" in data:
-        raise SheetFault(1, "", "a text: this looks like UTF-16 without a mark; state `encoding = utf-16-le` or `utf-16-be`")
+        raise SheetFault(1, "", "this looks like UTF-16 without a mark: state `encoding = utf-16-le` or `utf-16-be`")
     return decoded_as(data, "utf-8")
 
 
@@ -94,7 +94,7 @@ def decoded_as(data: bytes, encoding: str) -> str:
         before = data[: error.start].decode(encoding, "replace")
         row = before.count("\n") + 1
         value = data[error.start : error.start + 4].hex(" ")
-        expected = f"text in {encoding} (bytes {value}): save as UTF-8, or state the encoding, for instance `encoding = cp1252`"
+        expected = f"text in {encoding}; bytes {value} are none. Save as UTF-8, or state the encoding, for instance `encoding = cp1252`"
         raise SheetFault(row, before.splitlines()[-1] if before else "", expected) from None
 
 
@@ -113,9 +113,7 @@ def text_rows(text: str) -> Iterator[list[str]]:
         except StopIteration:
             return
         except csv.Error as error:
-            raise SheetFault(
-                number, "", f"a row: {error}; a quote that is not closed, or text behind a closing quote"
-            ) from None
+            raise SheetFault(number, "", f"a quote is not closed, or text stands behind a closing quote ({error})") from None
         yield row
         number += 1
 
@@ -153,15 +151,13 @@ def widths_of(text: str, separator: str) -> list[int]:
 def book_rows(data: bytes, name: str, sheet: str) -> Iterator[list[str]]:
     """The rows of a sheet of an .xlsx book."""
     if not has_xlsx():
-        raise SheetFault(
-            None, name, "CSV: reading .xlsx needs the Python package openpyxl; install it, or save the sheet as CSV"
-        )
+        raise SheetFault(None, name, "reading .xlsx needs the Python package openpyxl: install it, or save the sheet as CSV")
     import openpyxl
 
     try:
         book = openpyxl.load_workbook(io.BytesIO(data), read_only=True, data_only=True)
     except (KeyError, ValueError, OSError, zipfile.BadZipFile) as error:
-        raise SheetFault(None, name, f"an .xlsx book ({error})") from None
+        raise SheetFault(None, name, f"this is no .xlsx book ({error})") from None
     if sheet and sheet not in book.sheetnames:
         raise SheetFault(None, sheet, "one of the book's sheets: " + ", ".join(book.sheetnames))
     page = book[sheet] if sheet else book[book.sheetnames[0]]

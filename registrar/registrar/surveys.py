@@ -146,6 +146,7 @@ class SurveyReader:
         section = self.export.column("section", needed=True)
         value = self.export.column("value", needed=True)
         second = self.export.column("second")
+        self.pass_over(self.titles("student", "section", "second", "value"))
         if not section or not value:
             return
         for row, student in self.students():
@@ -159,8 +160,7 @@ class SurveyReader:
 
     def section_columns(self) -> list[tuple[Column, str]]:
         """The columns that stand for sections, with the section of each. One that should and does not is a fault."""
-        used = {self.source.get("student"), self.source.get("pairs")}
-        extra = {plain(name) for name in self.source.get("extra").split("|")} | {plain(name) for name in used}
+        extra = {plain(name) for name in [*self.source.get("extra").split("|"), *self.titles("student", "pairs")]}
         found: list[tuple[Column, str]] = []
         for column, text in self.matching():
             if plain(column.title) in extra:
@@ -171,9 +171,17 @@ class SurveyReader:
                 hint = "; a column that is none goes under `extra`" if self.source.get("columns") in ("", "*") else ""
                 header_row = int(self.source.get("header row"))
                 self.faults.add(self.export.file, header_row, column.title, text, f"{fault}{hint}")
-        taken = {column.title for column, _ in found} | used
-        self.survey.passed_over = [title for title in self.export.header if title and title not in taken]
+        self.pass_over([column.title for column, _ in found] + self.titles("student", "pairs"))
         return found
+
+    def titles(self, *options: str) -> list[str]:
+        """The names of the columns of these options, where the mapping names any."""
+        columns = [self.export.column(option) for option in options]
+        return [self.export.header[place] for column in columns if column for place in column.places]
+
+    def pass_over(self, taken: list[str]) -> None:
+        """Keeps the columns from which nothing was taken."""
+        self.survey.passed_over = [title for title in self.export.header if title and title not in taken]
 
     def matching(self) -> list[tuple[Column, str]]:
         """The columns whose name is like `columns`, with what stands there for the `*`."""
@@ -227,8 +235,7 @@ class SurveyReader:
                 )
             elif rank:
                 ranks[rank] = column
-        taken = {column.title for column in ranks.values()} | {self.source.get("student"), self.source.get("pairs")}
-        self.survey.passed_over = [title for title in self.export.header if title and title not in taken]
+        self.pass_over([column.title for column in ranks.values()] + self.titles("student", "pairs"))
         return [(column, rank) for rank, column in ranks.items()]
 
     def pairs(self, row: Row, student: str) -> Iterator[Wish]:

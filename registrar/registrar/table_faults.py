@@ -29,7 +29,8 @@ def add_faults(kind: str, path: str, faults: Faults) -> None:
     records = list(tables.records(path))
     header = ",".join(records[0].fields) if records else ""
     if header not in HEADERS[kind]:
-        faults.add(file, 1, "", header, " or ".join(HEADERS[kind]))
+        missing = "" if header else "the header is missing: "
+        faults.add(file, 1, "", header, missing + " or ".join(HEADERS[kind]))
         return
     if len(records) - 1 > MOST[kind]:
         faults.add(file, MOST[kind] + 2, "", f"{len(records) - 1} rows", f"at most {MOST[kind]} rows behind the header")

@@ -29,6 +29,13 @@ class InFolder(support.InFolder):
         with open(name, encoding=encoding, newline="") as file:
             return file.read()
 
+    def settle(self, option: str, value: str, section: str = "") -> None:
+        """Writes an option of the mapping: the first one of that name, or that of a section."""
+        text = self.read("mapping.ini")
+        begin = text.index(f"[{section}]") if section else 0
+        head, rest = text[:begin], text[begin:]
+        self.write("mapping.ini", head + re.sub(rf"(?m)^{option} =.*$", f"{option} = {value}", rest, count=1))
+
 
 class WithSchool(InFolder):
     """A test with the exports of a made school, and the mapping that was guessed and then corrected in one line."""
@@ -41,13 +48,6 @@ class WithSchool(InFolder):
         self.school = school.write_school(".", 7, self.STUDENTS, self.SECTIONS)
         self.guessed = say("import", *sorted(school.exports(self.school)))
         self.settle("courses default", "5")
-
-    def settle(self, option: str, value: str, section: str = "") -> None:
-        """Writes an option of the mapping: the first one of that name, or that of a section."""
-        text = self.read("mapping.ini")
-        begin = text.index(f"[{section}]") if section else 0
-        head, rest = text[:begin], text[begin:]
-        self.write("mapping.ini", head + re.sub(rf"(?m)^{option} =.*$", f"{option} = {value}", rest, count=1))
 
     def spoil(self, name: str, old: str, new: str, count: int = -1) -> None:
         """Replaces a text in an export, in its own encoding."""

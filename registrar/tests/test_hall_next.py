@@ -12,6 +12,8 @@ from tests.term import InFolder, WithSchool, say
 
 
 class Next(InFolder):
+    """The roll of the next term, of examples/term."""
+
     def setUp(self) -> None:
         super().setUp()
         for name in ("roll.csv", "published.txt"):
@@ -87,6 +89,8 @@ MAPPING = "[requests form]\nfile = form.csv\nstudent = Who\nrequest = What\nsect
 
 @needs_program
 class Hall(InFolder):
+    """Requests of a form, of examples/term."""
+
     def setUp(self) -> None:
         super().setUp()
         for name in ("catalogue.csv", "roll.csv", "settings.json", "desk.session", "web.session", "published.txt"):
@@ -147,13 +151,15 @@ class Hall(InFolder):
         self.write("mapping.ini", "[numbers]\n")
         status, told = say("hall")
         self.assertEqual(status, tell.FAULTS)
-        self.assertIn("a section [requests NAME]", told)
+        self.assertIn("there is no section [requests NAME]", told)
         os.remove("mapping.ini")
         self.assertEqual(say("hall")[0], tell.NO_FILE)
 
 
 @needs_program
 class WholeTerm(WithSchool):
+    """The made school, from exports to the next roll."""
+
     def test_from_exports_to_rosters_after_the_hall(self) -> None:
         self.assertEqual(self.imported()[0], 0)
         self.write(

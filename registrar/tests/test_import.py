@@ -14,6 +14,8 @@ EXPORTS = os.path.join(program.TOP, "examples", "exports")
 
 
 class Imports(WithSchool):
+    """A made school of sixty students."""
+
     def commands(self, survey: str) -> set[str]:
         """The commands of a session that was written."""
         lines = self.read(f"out/{survey}.session").splitlines()
@@ -184,7 +186,7 @@ class Imports(WithSchool):
         self.settle("header row", "70", "roll")
         status, told = self.imported()
         self.assertEqual(status, tell.FAULTS)
-        self.assertIn("register.csv row 70: blank where this was expected: the columns' names", told)
+        self.assertIn("register.csv row 70: there are no columns' names", told)
         self.write("empty.csv", "SECTION CODE,Course,Max Enrollment,Credits,Meeting Times,Length\n")
         self.settle("file", "empty.csv", "catalogue")
         self.settle("header row", "1", "roll")
@@ -227,6 +229,8 @@ class Examples(InFolder):
 
 
 class Many(InFolder):
+    """Small exports of one trait each."""
+
     def test_300_bad_rows_take_one_run(self) -> None:
         self.write("mapping.ini", "[catalogue]\nfile = c.csv\nsection = s\ncourse = c\nseats = n\ncredits default = 1\nmeetings default = TBA\n"
                    "[roll]\nfile = r.csv\nstudent = id\nbudget = b\ncredits default = 9\ncourses default = 5\n"
@@ -265,8 +269,8 @@ class Many(InFolder):
         self.write("mapping.ini", "[catalogue]\nfile = c.csv\nsection = Subject + No + Sec\ncourse = Subject + No\nseats = cap\ncredits = cr\n"
                    "days = Days\nstart = Begin\nend = End\nparts = Half\nparts default = 12\n[numbers]\ndecimal = ,\ncredit unit = 0.5\n"
                    "[roll]\nfile = r.csv\nheader row = 3\nstudent = @2\nbudget default = 5\ncredits default = 9,5\ncourses default = 5\n"
-                   "[survey w]\nfile = w.csv\nshape = students\nstudent = id\nextra = name\n")  # fmt: skip
-        self.write("c.csv", "SUBJECT;no;sec;CAP;cr;days;begin;end;half\nACCT;101;A;1.200;1,5;MW;9:00;10:15;1\nACCT;101;A;;;F;1:00 PM;2:00 PM;\n"
+                   "[survey w]\nfile = w.csv\nshape = students\nstudent = id\nextra = name\n[parts]\nQ1 = 1\n")  # fmt: skip
+        self.write("c.csv", "SUBJECT;no;sec;CAP;cr;days;begin;end;half\nACCT;101;A;1.200;1,5;MW;9:00;10:15;Q1\nACCT;101;A;;;F;1:00 PM;2:00 PM;\n"
                    ";;;;;;;;\nACCT;101;B;20,0;1;TBA;;;\n")  # fmt: skip
         self.write("r.csv", "The register\n\nname,number\nAnn,a1\nBen,b1\n")
         self.write("w.csv", "id,name,ACCT-101-A,acct 101 b\na1,Ann,5,7\n")
@@ -301,6 +305,12 @@ class Many(InFolder):
         status, told = say("import")
         self.assertEqual(status, 0, told)
         self.assertIn("rate a1 ECON-1-A 5\nrate a1 ECON-1-B 7\n", self.read("w.session"))
+        os.rename("r.csv", "roll.csv")
+        self.settle("file", "roll.csv", "roll")
+        status, told = say("import", "--replace")
+        self.assertEqual(status, tell.FAULTS)
+        self.assertIn("roll.csv would be written over an export of that name", told)
+        self.assertEqual(self.read("roll.csv"), "student,budget,credits,courses\na1,5,9,5\nb1,5,9,5\n")
         self.assertIn("rate b1 ECON-1-B 100\nrate b1 ECON-1-A 95\n", self.read("w-2.session"))
 
     def test_a_column_that_is_no_section_is_not_passed_over_in_silence(self) -> None:
@@ -343,8 +353,62 @@ class Many(InFolder):
         self.assertIn("stands already", say("import", "a.csv")[1])
 
 
+class Guesses(InFolder):
+    """What a first mapping has of other exports."""
+
+    def guessed(self, **exports: str) -> str:
+        """The mapping that is guessed of these exports."""
+        for name, text in exports.items():
+            self.write(f"{name}.csv", text)
+        say("import", *(f"{name}.csv" for name in exports))
+        return self.read("mapping.ini")
+
+    def test_subject_number_and_letter(self) -> None:
+        text = self.guessed(
+            sections="Spring\n\nSubject,Catalog Number,Section,Cap,Units,Days,Start Time,End Time\n"
+            "FNCE,601,A,30,1.5,MW,9:00,10:15\nFNCE,601,B,30,1.5,TuTh,13:30,14:45\nMGMT,690,A,25,3,TBA,,\n",
+            survey="Student ID,Code,Priority\na,FNCE-601-A,1\na,MGMT-690-A,2\n",
+            register="Student ID,Tokens,Max Credits,Max Courses\na,5000,15,5\n",
+        )
+        for line in (
+            "section = Subject + Catalog Number + Section", "course = Subject + Catalog Number", "header row = 3",
+            "start = Start Time", "section = Code", "value = Priority", "says = rank", "credit unit = 0.5",
+        ):  # fmt: skip
+            with self.subTest(line=line):
+                self.assertIn(f"\n{line}\n", text)
+        self.assertEqual(say("import")[0], 0)
+        catalogue = self.read("catalogue.csv").splitlines()
+        self.assertEqual(catalogue[1], "FNCE-601-A,FNCE-601,30,3,M0900-1015;W0900-1015")
+
+    def test_columns_with_codes_alone_and_a_decimal_comma(self) -> None:
+        text = self.guessed(
+            sections="Section;Course;Seats;Credits;Time\nA-1;A;30;1,5;Mo 9:00-10:00\nB-1;B;30;2;Di 9:00-10:00\n",
+            register="E-mail;Credits;Tokens;Max Courses\na@b.edu;10;5000;5\n",
+            survey="Timestamp;E-mail;A-1;B-1;Comments\n1;a@b.edu;5;7;none\n",
+        )
+        for line in ("decimal = ,", "columns = *", "extra = Timestamp | Comments", "student = E-mail"):
+            with self.subTest(line=line):
+                self.assertIn(f"\n{line}\n", text)
+        status, told = say("import")
+        self.assertEqual((status, told.splitlines()[0].split(":")[0]), (tell.FAULTS, "sections.csv row 3, column Time"))
+        self.write("mapping.ini", text.replace("[days]", "[days]\nDi = T"))
+        self.assertEqual(say("import")[0], 0)
+        self.assertIn("rate a-b.edu A-1 5\nrate a-b.edu B-1 7\n", self.read("survey.session"))
+
+    def test_a_file_in_another_encoding(self) -> None:
+        self.write("sections.csv", "Section,Course,Seats,Credits,Times\nG\u00c9NI 1 A,G\u00c9NI 1,5,1,TBA\n", "cp1252")
+        status, told = say("import", "sections.csv")
+        self.assertEqual(status, tell.FAULTS)
+        self.assertIn("sections.csv row 2: ", told)
+        self.assertIn("encoding = cp1252", told)
+        say("import", "sections.csv", "--encoding", "cp1252")
+        self.assertIn("\nencoding = cp1252\n", self.read("mapping.ini"))
+
+
 @unittest.skipUnless(sheet.has_xlsx(), "openpyxl is not installed")
 class Books(WithSchool):
+    """Exports as .xlsx."""
+
     def test_a_register_as_a_book(self) -> None:
         rows: list[list[object]] = [list(row) for row in school.roll_rows(self.school)]
         sheet.write_book("register.xlsx", {"notes": [["nothing"]], "roll": rows})

@@ -18,6 +18,8 @@ ALL = "rate 00123 FNCE-601-A 5\nrate 00123 MGMT-690-A 5\nrate t.jain FNCE-601-B 
 
 @needs_program
 class Looks(InFolder):
+    """A small market with one strange thing each."""
+
     def look(self, *sessions: str, words: tuple[str, ...] = ()) -> tuple[int, list[str]]:
         """What is found in these sessions, without the table of seats."""
         self.write("catalogue.csv", CATALOGUE)
@@ -157,6 +159,8 @@ class Looks(InFolder):
 
 @needs_program
 class LooksAtSchool(WithSchool):
+    """The made school."""
+
     def test_a_raw_export_given_as_a_session(self) -> None:
         self.assertEqual(self.imported()[0], 0)
         for name in ("web.csv", "desk.tsv", "timetable.csv"):

@@ -11,6 +11,8 @@ from registrar.spelling import NameFault, NameRules, Names
 
 
 class Meetings(unittest.TestCase):
+    """Meetings in the forms that schools export."""
+
     def test_what_is_read(self) -> None:
         cases = [
             ("MWF 9:00-10:15", 0, "M0900-1015 W0900-1015 F0900-1015"),
@@ -101,6 +103,8 @@ class Meetings(unittest.TestCase):
 
 
 class Amounts(unittest.TestCase):
+    """Numbers in the forms that schools export."""
+
     def test_numbers(self) -> None:
         cases = [
             ("30", ".", "30"),
@@ -137,6 +141,8 @@ class Amounts(unittest.TestCase):
 
 
 class Spelling(unittest.TestCase):
+    """Codes as names, and finding them again."""
+
     def test_the_rule(self) -> None:
         cases = [
             ("FNCE-601-A", "FNCE-601-A"),

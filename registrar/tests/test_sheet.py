@@ -12,6 +12,8 @@ from registrar import sheet
 
 
 class Sheets(unittest.TestCase):
+    """Reading and writing sheets."""
+
     def setUp(self) -> None:
         self.folder = tempfile.TemporaryDirectory()
         self.addCleanup(self.folder.cleanup)
