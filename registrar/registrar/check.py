@@ -7,7 +7,7 @@ import itertools
 import os
 import tempfile
 from dataclasses import replace
-from typing import Iterator, List, Optional, Sequence, Tuple
+from typing import Dict, Iterator, List, Optional, Sequence, Tuple
 
 from registrar import findings, manifest, program, tables, tell
 
@@ -125,7 +125,7 @@ def orders(found: manifest.Manifest) -> Iterator[Tuple[str, ...]]:
             yield sessions
 
 
-def candidates(left: Sequence[str], counts: dict, wanted: Sequence[int]) -> Iterator[Tuple[str, ...]]:
+def candidates(left: Sequence[str], counts: Dict[str, int], wanted: Sequence[int]) -> Iterator[Tuple[str, ...]]:
     """The orders of these sessions whose counts are the wanted ones."""
     if not left:
         yield ()

@@ -6,8 +6,10 @@ import argparse
 import importlib
 import os
 import sys
-from typing import List, Optional, Sequence
+import types
+from typing import List, NoReturn, Optional, Sequence
 
+import registrar
 from registrar import tell
 
 # The command modules in the order of a term. Each has NAME, HELP, add_arguments(parser) and run(arguments) -> exit status.
@@ -35,27 +37,20 @@ STATUSES = (
 class Parser(argparse.ArgumentParser):
     """A parser whose refusals have a status of their own, since 2 is a status of the program."""
 
-    def error(self, message: str) -> None:
+    def error(self, message: str) -> NoReturn:
         """Tells the usage and the fault, and ends."""
         self.print_usage(tell.errors())
         self.exit(tell.USAGE, f"{self.prog}: {message}\n")
 
 
-def command_modules() -> List[object]:
-    """The command modules that are there."""
-    found = []
-    for name in MODULES:
-        try:
-            found.append(importlib.import_module("registrar." + name))
-        except ModuleNotFoundError as missing:
-            if missing.name != "registrar." + name:
-                raise
-    return found
+def command_modules() -> List[types.ModuleType]:
+    """The command modules."""
+    return [importlib.import_module("registrar." + name) for name in MODULES]
 
 
 def parser() -> argparse.ArgumentParser:
     """The parser of all commands."""
-    top = Parser(prog="registrar", description=__import__("registrar").__doc__.strip().splitlines()[0], epilog=STATUSES)
+    top = Parser(prog="registrar", description=registrar.__doc__.strip().splitlines()[0], epilog=STATUSES)
     commands = top.add_subparsers(dest="command", metavar="COMMAND", parser_class=Parser)
     for module in command_modules():
         one = commands.add_parser(module.NAME, help=module.HELP, description=module.HELP, epilog=STATUSES)
@@ -72,7 +67,7 @@ def main(words: Optional[Sequence[str]] = None) -> int:
         reader.print_help()
         return tell.USAGE
     try:
-        return arguments.run(arguments)
+        return int(arguments.run(arguments))
     except tell.Trouble as trouble:
         tell.warn(str(trouble))
         return trouble.status

@@ -80,7 +80,7 @@ def fill(text: published.Published) -> List[Tuple[str, float]]:
 
 def prices(text: published.Published) -> List[Tuple[str, float]]:
     """The prices, dearest section first."""
-    return sorted(text.prices.items(), key=lambda item: -item[1])
+    return sorted(((section, float(price)) for section, price in text.prices.items()), key=lambda item: -item[1])
 
 
 def median(values: Sequence[float]) -> float:

@@ -4,13 +4,12 @@ from __future__ import annotations
 
 import argparse
 import concurrent.futures
-import importlib
 import os
 import tempfile
 from dataclasses import dataclass
 from typing import Dict, List, Optional, Sequence
 
-from registrar import alone, explain, manifest, own_names, program, published, reasons, run_market, streams, tables, tell
+from registrar import alone, explain, manifest, own_names, program, published, reasons, run_market, sheet, streams, tables, tell
 
 NAME = "lists"
 HELP = (
@@ -114,10 +113,6 @@ def section_rows(market: reasons.Market, own: own_names.Own) -> List[Sequence[ob
 
 def write_book(path: str, books: Dict[str, List[Sequence[object]]]) -> None:
     """Writes the tables as one .xlsx too, where that can be done."""
-    try:
-        sheet = importlib.import_module("registrar.sheet")
-    except ModuleNotFoundError:
-        return
     if sheet.has_xlsx():
         sheet.write_book(path, {name: [list(row) for row in rows] for name, rows in books.items()})
 

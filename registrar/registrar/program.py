@@ -9,7 +9,7 @@ import subprocess
 import tempfile
 import time
 from dataclasses import dataclass
-from typing import BinaryIO, Dict, List, Optional, Sequence, Tuple
+from typing import BinaryIO, Callable, Dict, List, Optional, Sequence, Tuple
 
 from registrar import tables
 from registrar.tell import NO_PROGRAM, Life, Trouble
@@ -109,7 +109,7 @@ def call(words: Sequence[str], life: Optional[Life] = None, output: Optional[Bin
     return Answer(tuple(words), status, found, elapsed)
 
 
-def wait(process: subprocess.Popen, life: Optional[Life]) -> int:
+def wait(process: subprocess.Popen[bytes], life: Optional[Life]) -> int:
     """Waits for the program, and tells the line of life meanwhile."""
     try:
         while True:
@@ -168,7 +168,7 @@ def retell(answer: Answer, lines: Optional[Sequence[str]] = None) -> List[str]:
     """
     lines = answer.lines if lines is None else lines
     last = lines[-1] if lines else ""
-    told = {
+    told: Dict[int, Callable[[], List[str]]] = {
         1: lambda: retell_usage(answer.words),
         2: lambda: retell_unread(answer.words, last),
         3: lambda: retell_refusal(answer.words, last),
@@ -179,7 +179,8 @@ def retell(answer: Answer, lines: Optional[Sequence[str]] = None) -> List[str]:
         8: lambda: [f"The text does not hold. {last}"],
         9: lambda: retell_no_name(answer.words, last),
     }
-    return told[answer.status]() if answer.status in told else []
+    teller = told.get(answer.status)
+    return teller() if teller else []
 
 
 def retell_usage(words: Sequence[str]) -> List[str]:

@@ -4,7 +4,7 @@ from __future__ import annotations
 
 import argparse
 import os
-from typing import Dict, List, Sequence
+from typing import Dict, List, Sequence, Set
 
 from registrar import manifest, program, published, tables, tell
 
@@ -140,7 +140,7 @@ def warn_of_sessions(arguments: argparse.Namespace) -> None:
             )
 
 
-def is_known(command: tables.Command, students: set, sections: set) -> bool:
+def is_known(command: tables.Command, students: Set[str], sections: Set[str]) -> bool:
     """Whether a command can be read and names students and sections that there are."""
     kind = command.kind
     if kind in ("unreadable", "close"):

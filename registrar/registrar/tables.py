@@ -276,7 +276,7 @@ def ratings_of(commands: Iterable[Command], sections: Iterable[str]) -> Dict[str
     return ratings
 
 
-def set_or_drop(kept: dict, key: object, value: int) -> None:
+def set_or_drop(kept: Dict[str, int], key: str, value: int) -> None:
     """Keeps the value under the key; 0 takes the key away."""
     if value:
         kept[key] = value

@@ -6,7 +6,7 @@ import json
 import os
 import sys
 import time
-from typing import Dict, List, Optional, Sequence, TextIO
+from typing import Any, Dict, List, Optional, Sequence, TextIO
 
 # The tool's own exit statuses (those of sysexits.h), apart from 1 to 9, which are the program's.
 USAGE = 64
@@ -126,7 +126,7 @@ def is_like(one: object, other: Size) -> bool:
     return all(isinstance(one[name], int) and abs(one[name] - other[name]) * 10 <= other[name] for name in other)
 
 
-def read_times(folder: str) -> List[dict]:
+def read_times(folder: str) -> List[Dict[str, Any]]:
     """All that the file of times keeps."""
     try:
         with open(os.path.join(folder, TIMES), encoding="utf-8") as file:

@@ -72,7 +72,7 @@ def run(arguments: argparse.Namespace) -> int:
     return choose(arguments, settings, trials)
 
 
-def try_turns(arguments: argparse.Namespace, settings: dict, turns: int, trials: List[Trial]) -> int:
+def try_turns(arguments: argparse.Namespace, settings: Dict[str, object], turns: int, trials: List[Trial]) -> int:
     """The trials with this number of turns: accept 0 first, then the least error that it saw, then the given ones."""
     first, status = attempt(arguments, settings, turns, 0)
     if status not in (0, 5):
@@ -87,7 +87,7 @@ def try_turns(arguments: argparse.Namespace, settings: dict, turns: int, trials:
     return 0
 
 
-def attempt(arguments: argparse.Namespace, settings: dict, turns: int, accept: int) -> Tuple[Trial, int]:
+def attempt(arguments: argparse.Namespace, settings: Dict[str, object], turns: int, accept: int) -> Tuple[Trial, int]:
     """A run with these values. A status other than 0 and 5 is told."""
     with tempfile.TemporaryDirectory() as folder:
         path = os.path.join(folder, "settings.json")
@@ -125,7 +125,7 @@ def row_of(number: int, trial: Trial) -> Sequence[object]:
     return (*begin, str(trial.error), str(trial.filled), str(trial.seats), str(trial.without))
 
 
-def choose(arguments: argparse.Namespace, settings: dict, trials: Sequence[Trial]) -> int:
+def choose(arguments: argparse.Namespace, settings: Dict[str, object], trials: Sequence[Trial]) -> int:
     """Writes the settings of the row of least error, or says how to."""
     with_prices = [one for one in trials if one.error is not None]
     if not with_prices:
@@ -147,6 +147,6 @@ def write(path: str, settings: Dict[str, object], turns: int, accept: int) -> No
 
 def write_settings(path: str, settings: Dict[str, object], turns: int, accept: int) -> None:
     """Writes settings, one a line, in the order in which they stood."""
-    values = {**settings, "turns": turns, "accept": accept}
+    values: Dict[str, object] = {**settings, "turns": turns, "accept": accept}
     lines = [f"  {json.dumps(name)}: {json.dumps(value)}" for name, value in values.items()]
     tables.write_whole(path, ("{\n" + ",\n".join(lines) + "\n}\n").encode("utf-8"))

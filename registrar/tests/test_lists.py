@@ -7,7 +7,7 @@ import unittest
 import xml.etree.ElementTree
 from unittest import mock
 
-from registrar import alone, explain, figures, manifest, plots, program, published, reasons, streams, tell
+from registrar import alone, explain, figures, manifest, plots, program, published, reasons, sheet, streams, tell
 from tests.support import SCARCE, SCARCE_WORDS, TERM, InFolder, call, needs_program
 
 TERM_FILES = [
@@ -43,6 +43,11 @@ class Lists(InFolder):
         self.assertEqual(rows[0], "student,sections,credits,spent,left")
         self.assertIn(f"{self.winner},X; Y,2,{price},{110 - price}", rows)
         self.assertIn(f"{self.loser},Y,1,0,100", rows)
+
+    def test_a_book(self) -> None:
+        """Where .xlsx can be written, the three tables are one book too."""
+        self.assertEqual(call("lists", "--no-reasons").status, 0)
+        self.assertEqual(os.path.exists("lists/lists.xlsx"), sheet.has_xlsx())
 
     def test_own_spelling(self) -> None:
         """Where `import` left names.csv, the tables have the school's own codes."""
