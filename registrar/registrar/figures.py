@@ -69,7 +69,7 @@ def choices(market: reasons.Market) -> List[Tuple[str, float]]:
         held = {min(place, CHOICES) for place, section in enumerate(ranked) if section in final.sections}
         for place in held:
             found[place] += 1
-    return [(str(place + 1), number) for place, number in enumerate(found[:-1])] + [("a later one", found[-1])]
+    return [(str(place + 1), float(number)) for place, number in enumerate(found[:-1])] + [("a later one", float(found[-1]))]
 
 
 def fill(text: published.Published) -> List[Tuple[str, float]]:
