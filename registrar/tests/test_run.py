@@ -56,6 +56,14 @@ class Refused(InFolder):
         self.assertFalse(os.path.exists("published.txt.part"))
         self.assertFalse(os.path.exists("manifest.json"))
 
+    def test_no_input_is_written_over(self) -> None:
+        """A text that would take an input's place is refused before the program is called."""
+        self.scarce()
+        told = call("run", *SCARCE_WORDS, "--text", "./roll.csv")
+        self.assertEqual(told.status, tell.USAGE)
+        self.assertIn("./roll.csv is the roll of this run", told.err)
+        self.assertEqual(self.read("roll.csv"), SCARCE["roll.csv"])
+
     def test_a_missing_file(self) -> None:
         """Status 2 names the file."""
         self.scarce()
