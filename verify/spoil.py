@@ -205,7 +205,7 @@ def compare(program, files, folder):
     write(files, folder)
     words = INPUTS + sorted(name for name in files if name.startswith("session"))
     told, status = run_program(program, ["check", *words], folder)
-    own_status, lines, _ = verify.verdict([os.path.join(folder, word) for word in words])
+    own_status, lines = verify.verdict([os.path.join(folder, word) for word in words])
     return (told, status), ((lines[0] + "\n").encode("latin-1"), own_status)
 
 

@@ -29,7 +29,7 @@ SETTINGS = {"seed": (0, ANY_64_BITS), "spread": (0, 49), "accept": (0, 10**12), 
 FIRST_HALF, SECOND_HALF = 1, 1 << 7 * 24 * 60  # times a week's minutes, a bit for each: those of half a term
 Section = collections.namedtuple("Section", "name course seats credits meetings parts", defaults=[1 + SECOND_HALF])
 Student = collections.namedtuple("Student", "name base credit_cap course_cap carry", defaults=[0])
-progress = {"done": 0, "all": 0, "due": time.monotonic() + 5}
+progress = {}  # of the walk of the trees, in bytes: what is done, of how many; and when to tell it next
 
 class Ended(Exception):
     """The check ends: status, line, and the number of the line of the text that it speaks of, if any."""
@@ -355,7 +355,7 @@ def check_certificate(market, text, menus):
         for i, owner in enumerate(owners):
             if printed[i] != due[i]:
                 raise Ended(8, f"finding: {kind} {owner.name}", text.first[kind] + i)
-    progress["all"] = sum(len(proved[-1]) for proved in text.bundles + text.turns)
+    progress.update(done=0, all=sum(len(proved[-1]) for proved in text.bundles + text.turns), due=time.monotonic() + 5)
     compare("budget", market.students, text.budgets, drawn_budgets(market))
     for i, (bundle, tree) in enumerate(text.bundles):
         fault = bundle_fault(menus[i], text.prices, text.budgets[i], set(market.section_of.values()), bundle, tree)
