@@ -175,8 +175,8 @@ class Text:
         return values
 
     def read_order(self, entries):
-        order = bytes(int(entry[1]) for entry in re.finditer(" ([1-5][0-9]|6[0-4]|[1-9])", entries))
-        return order if len(entries) == sum(2 if session < 10 else 3 for session in order) else None
+        sessions, known = entries.split(" "), {str(session): session for session in range(1, 65)}
+        return bytes(map(known.get, sessions)) if sessions.pop(0) == "" and known.keys() >= set(sessions) else None
 
     def read_bundle(self, written):
         """The sections of a written bundle: at most 8, in the order of the catalogue, none twice. Each is read once."""
@@ -390,7 +390,7 @@ def verdict(words):  # the exit status and the lines that are printed
         return 0, check(own, before, *words)
     except Ended as ended:
         status, line, place = ended.args
-    at = "".join(read_input(4, words[3], TEXT_LIMIT).split("\n")[place - 1:place]) if place else ""
+    at = "".join(read_input(4, words[3], TEXT_LIMIT).split("\n", place)[place - 1:place]) if place else ""
     where = f"at line {place} of the text: {re.sub('[^ -~]', '?', at[:100]) or '(nothing)'}"
     return status, [line, where] if place else [line]
 
