@@ -55,9 +55,9 @@ function studentTable(market) {
     { head: 'Budget', of: it => it.budget },
     { head: 'Spent', of: it => it.spent },
     { head: 'Rated', of: it => it.rated },
-    { head: 'Second stage', of: it => it.second.join(', ') || 'nothing', isText: true },
+    { head: 'Second stage', of: it => it.second.join(', ') || 'nothing', show: it => namesCell(it.second), isText: true },
     { head: 'Worth', of: it => it.worth },
-    { head: 'In the end', of: it => it.end.join(', ') || 'nothing', isText: true },
+    { head: 'In the end', of: it => it.end.join(', ') || 'nothing', show: it => namesCell(it.end), isText: true },
     { head: 'Worth in the end', of: it => it.endWorth },
   ], rows);
 }
@@ -91,8 +91,8 @@ function changesTable(market) {
     { head: 'Turn', of: it => it.number + 1 },
     { head: 'Pass', of: it => it.pass },
     { head: 'Student', of: it => market.roll[it.student].name, isText: true },
-    { head: 'Took', of: it => it.took.join(', ') || 'nothing', isText: true },
-    { head: 'Gave up', of: it => it.gave.join(', ') || 'nothing', isText: true },
+    { head: 'Took', of: it => it.took.join(', ') || 'nothing', show: it => namesCell(it.took), isText: true },
+    { head: 'Gave up', of: it => it.gave.join(', ') || 'nothing', show: it => namesCell(it.gave), isText: true },
   ], changesOf(market));
 }
 

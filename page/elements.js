@@ -22,6 +22,12 @@ function listed(names) {
   return names.length === 1 ? names[0] : `${names.slice(0, -1).join(', ')} and ${names.at(-1)}`;
 }
 
+// Names in a cell of a table: none is broken at a dash.
+function namesCell(names) {
+  if (!names.length) return 'nothing';
+  return el('span', { class: 'names' }, names.flatMap((it, at) => [at ? ', ' : '', el('span', {}, it)]));
+}
+
 // A time in words: `12 ms`, `3.4 s`.
 const timed = ms => ms < 1000 ? `${Math.max(1, Math.round(ms))} ms` : `${(ms / 1000).toFixed(1)} s`;
 
@@ -64,7 +70,7 @@ function compare(one, other) {
 
 // A table of rows. A column is { head, of, show, isText }: `of` gives the value by which a row sorts and which is copied,
 // `show` what stands in the cell, if that is another thing.
-function tableOf(caption, columns, rows, { filterAt = 8, note } = {}) {
+function tableOf(caption, columns, rows, { filterAt = 8 } = {}) {
   let shown = rows, by = null, isFalling = false;
   const body = el('tbody'), said = el('span', { role: 'status', class: 'quiet' });
   const heads = columns.map((column, at) => el('th', { scope: 'col', class: column.isText ? '' : 'number' },
@@ -89,8 +95,8 @@ function tableOf(caption, columns, rows, { filterAt = 8, note } = {}) {
     said.textContent = await copied(text) ? `${plural(shown.length, 'row')} copied` : 'this browser did not let the page copy';
   } }, 'Copy');
   draw();
-  const tools = el('div', { class: 'tools' }, rows.length >= filterAt && filter, copy, said);
-  return el('div', { class: 'table' }, el('table', {}, el('caption', {}, caption, note && el('span', { class: 'note' }, ' ', note)), el('thead', {}, el('tr', {}, heads)), body), tools);
+  const scrolls = el('div', { class: 'scrolls', role: 'region', 'aria-label': caption, tabindex: '0' }, el('table', {}, el('caption', { class: 'aside' }, caption), el('thead', {}, el('tr', {}, heads)), body));
+  return el('div', { class: 'table' }, el('div', { class: 'tools' }, el('b', {}, caption), rows.length >= filterAt && filter, copy, said), scrolls);
 }
 
 // Copies a text, also from a page on a disk, where the clipboard may be closed to scripts.

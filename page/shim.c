@@ -183,10 +183,12 @@ int close(int handle) {
     return 0;
 }
 
-// Standard output, which the host reads when the run is over.
+// Standard output, which the host reads when the run is over. It begins with room of its own, so that a line that tells
+// of want of memory needs none.
 
-static byte *output;
-static size output_length, output_room;
+static byte first_room[PAGE];
+static byte *output = first_room;
+static size output_length, output_room = PAGE;
 
 EXPORT(output_at) byte *output_at(void) { return output; }
 EXPORT(output_size) size output_size(void) { return output_length; }
@@ -198,7 +200,7 @@ long write(int handle, const byte *from, size length) {
         byte *more = malloc(room);
         if (!more) return fail(NO_SPACE);
         __builtin_memcpy(more, output, output_length);
-        free(output);
+        if (output != first_room) free(output);
         output = more;
         output_room = room;
     }

@@ -38,13 +38,16 @@ function bestWords(market, student, section, told) {
     + `What ${name} has in the second stage is worth ${worth}, ${more}.`;
 }
 
-// What became of a section at each turn of the student in the aftermarket, where it was not held.
+// What became of a section at the turns of the student in the aftermarket, where it was not held.
 function laterWords(market, student, section) {
   const turns = turnsOf(market, student).filter(it => !it.names.includes(section)), { name } = market.roll[student];
-  const free = turns.filter(it => it.allowed.has(section)).map(it => it.pass), raised = raisedBudget(market, student);
+  const passes = turns.filter(it => it.allowed.has(section)).map(it => it.pass), { seats } = market.sectionOf.get(section), free = seats - market.counts.get(section);
   if (!turns.length) return null;
-  if (!free.length) return `In the aftermarket no seat of ${section} was free at any turn of ${name}.`;
-  return `In the aftermarket a seat of ${section} was free at the turn of ${name} in pass ${listed(free)}, and the bundle that was taken there is the best that the raised budget of ${raised} buys of what was held and free: its tree proves it.`;
+  if (passes.length) {
+    return `In the aftermarket a seat of ${section} was free at the turn of ${name} in pass ${listed(passes)}. The bundle that was taken there is the best that the raised budget of `
+      + `${raisedBudget(market, student)} buys of what was held and free: its tree proves it.`;
+  }
+  return `${free ? `After the second stage ${free} of its ${seats} seats ${free === 1 ? 'was' : 'were'} free. ` : ''}In the aftermarket turns go by budget, the greatest first, and at no turn of ${name} was a seat of ${section} free.`;
 }
 
 const raisedBudget = (market, student) => market.text.budgets[student] + Math.floor(market.text.budgets[student] * market.settings.raise / 100);
@@ -122,7 +125,7 @@ function changeWords(before, after) {
 function stageTable(market, student) {
   return tableOf('Each stage', [
     { head: 'Stage', of: it => it.stage, isText: true },
-    { head: 'Bundle', of: it => it.names.join(', ') || 'nothing', isText: true },
+    { head: 'Bundle', of: it => it.names.join(', ') || 'nothing', show: it => namesCell(it.names), isText: true },
     { head: 'Costs', of: it => it.cost },
     { head: 'Budget', of: it => it.of },
     { head: 'Worth', of: it => it.worth },
@@ -187,11 +190,11 @@ function envyWords(market, student, part, when) {
   const { name } = market.roll[student], { counts: [lower, higher, beyond], sees } = market.envy[part].get(name);
   if (!lower && !higher) return p(`${when} ${name} would not rather have what any other student has.`);
   const of = [lower && `${plural(lower, 'student')} whose budget is no greater`, higher && `${plural(higher, 'student')} whose budget is greater`].filter(Boolean);
-  const other = market.roll.findIndex(it => it.name === sees.other);
-  const end = sees.but ? `But for ${sees.but} it would be no better.` : 'More than one section makes it better.';
-  const more = beyond && sees.but ? ` (With ${plural(beyond, 'student')} more than one section makes it better.)` : '';
-  return p(`${when} ${name} would rather have what ${listed(of)} has or have: first of them ${sees.other}, who has ${market.text.budgets[other]} tokens, `
-    + `and of whose sections ${name} could use ${listed(sees.names)}. ${end}${more}`);
+  const first = lower + higher > 1 ? 'The first of them is' : 'It is', tokens = market.text.budgets[market.roll.findIndex(it => it.name === sees.other)];
+  const end = sees.but ? `But for ${sees.but} it would be no better.` : 'Leaving out one section does not end that.';
+  const more = beyond && sees.but ? ` (With ${beyond} of them leaving out one section does not end it.)` : '';
+  return p(`${when} ${name} would rather have what ${listed(of)} got. ${first} ${sees.other} with ${tokens} tokens: of those sections ${name} could use ${listed(sees.names)}, `
+    + `which are worth more to ${name} than the own ones. ${end}${more}`);
 }
 
 async function showEnvy(market, student, to) {
@@ -221,8 +224,8 @@ function studentView(market, student) {
     el('p', { class: 'lead' }, end.length ? `${name} holds ${listed(end)} in the end.` : `${name} holds nothing in the end.`),
     part('Budget', p(budgetWords(market, student)), p(`By the roll at most ${plural(credits, 'credit')} and ${plural(courses, 'section')}.`)),
     part('Stage by stage', stageTable(market, student)),
-    part('Ratings and prices', ratedTable(market, student), adjustmentWords(market, student)),
     part('Why not?', ...whyPart(market, student)),
+    part('Ratings and prices', ratedTable(market, student), adjustmentWords(market, student)),
     part('The proof that nothing better was to be had',
       p('Beside each bundle a tree is published. It goes through all bundles that the budget buys, and shows that none is better.'), treesPart(market, student)),
     part('What others have', envyPart(market, student)),
