@@ -23,7 +23,7 @@ app.work = async (title, call) => {
 
 function verdict(kind, title, ...children) {
   $('verdict').className = kind;
-  $('verdict').replaceChildren(el('h2', {}, title), ...children);
+  $('verdict').replaceChildren(el('h2', {}, title), ...children.flat());
 }
 
 // Takes files beside those that are there; one of the same name takes the other's place.

@@ -36,10 +36,19 @@ def worked_calls() -> list[tuple[list[str], dict[str, bytes], list[bytes]]]:
     for folder in sorted(it.parent for it in VECTORS.glob("*/*/words")):
         names = {it.name: it.read_bytes() for it in folder.iterdir() if it.is_file()}
         words = names.pop("words").decode().splitlines()
-        lawful = [names.pop(it) for it in sorted(names) if it.startswith("stdout")]
-        status = names.pop("status").split()[0]
-        found.append((words, {name: it for name, it in names.items() if name in words}, [(int(status), it) for it in lawful]))
+        files = {name: it for name, it in names.items() if name in words}
+        if "cuts.tsv" in names:
+            found += cut_calls(words, files, names)
+        else:
+            found.append((words, files, [(int(names["status"]), names[it]) for it in sorted(names) if it.startswith("stdout")]))
     return found
+
+
+def cut_calls(words: list[str], files: dict[str, bytes], names: dict[str, bytes]) -> list[tuple[list[str], dict[str, bytes], list[bytes]]]:
+    """The example whose catalogue is cut after each of its bytes."""
+    rows = [it.split("\t") for it in names["cuts.tsv"].decode().splitlines() if it[0].isdigit()]
+    return [(words, {**files, "catalogue.csv": files["catalogue.csv"][:int(kept)]}, [(int(status), names[line[0]] if any(line) else f"{told}\n".encode())])
+            for kept, status, told, *line in rows]
 
 
 def edits(text: bytes, count: int) -> list[tuple[int, int, str]]:
