@@ -43,14 +43,15 @@ function boundWords(walk, chosen, from, node) {
 
 function leafLine(walk, chosen, from, node) {
   const sign = el('span', { class: 'sign' }, node.symbol + (node.number ?? ''));
-  const rest = from === walk.menu.places.length ? 'This bundle' : chosen.length ? 'What else begins so' : 'All other bundles';
-  if (node.symbol === '*') return el('li', { class: 'champion' }, sign, ` This is the bundle: ${listed(chosen.map(it => walk.menu.places[it].name))}, worth ${walk.worth}.`);
+  const names = listed(chosen.map(it => walk.menu.places[it].name));
+  if (node.symbol === '*') return el('li', { class: 'champion' }, sign, ` This is the bundle: ${names}, worth ${walk.worth}.`);
   if (node.symbol === 'x') {
     const why = closedBy(walk, chosen, walk.forced);
     return el('li', { class: 'leaf' }, sign, ` ${walk.menu.places[walk.forced].name} can no more be taken: it ${why}.`);
   }
-  const most = Math.floor(boundOf(walk, chosen, from, node).bound / 1000);
-  return el('li', { class: 'leaf' }, opening([sign, ` ${rest}: worth ${most} at most, and the bundle is worth ${walk.worth}`], () => boundWords(walk, chosen, from, node)));
+  const most = Math.floor(boundOf(walk, chosen, from, node).bound / 1000), worth = `worth ${most} at most, and the bundle is worth ${walk.worth}`;
+  const rest = chosen.length ? `${names}, with what else may come to ${chosen.length === 1 ? 'it' : 'them'}` : 'All that is left';
+  return el('li', { class: 'leaf' }, opening([sign, ` ${rest}: ${worth}`], () => boundWords(walk, chosen, from, node)));
 }
 
 // The line of a section that is taken, with what follows below it. It is open where it leads to the bundle.

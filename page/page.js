@@ -74,11 +74,11 @@ async function checkedIn(parts, isOrdered) {
 app.check = async () => {
   const number = ++app.checks, { parts, faults, lacks, isOrdered } = await partsOf(app.files);
   if (number !== app.checks) return;
-  app.market = null;
+  app.market = app.finding = null;
   $('file-list').replaceChildren(...app.files.map(fileRow));
   $('files-count').textContent = app.files.length ? `: ${app.files.length}` : '';
   if (!app.files.length || lacks.length || faults.length) {
-    verdict('open', app.files.length ? 'Not all files are there yet' : '', ...faults.map(it => p(it)), lacks.length && app.files.length ? p(`Missing: ${listed(lacks)}.`) : '');
+    verdict('open', app.files.length ? 'Not all files are there yet' : '', ...faults.map(it => p(it)), lacks.length && app.files.length ? p(`Missing: ${listed(lacks)}. ${lacks.every(it => [NEEDED.text, NEEDED.settings].includes(it)) ? '“Run a market” makes it of the others.' : ''}`) : '');
     return app.draw();
   }
   const checked = await checkedIn(parts, isOrdered);
@@ -138,11 +138,12 @@ app.showStudent = (typed, focuses = true) => {
 };
 
 const GIVE = 'Give the published files above first: when the text holds, what it says stands here.';
+const NOTHING = 'The text does not hold, so nothing of it is shown here.';
 
 app.draw = async () => {
   const { market } = app;
-  $('student').replaceChildren(...market ? [chooser(market), el('div', { id: 'student-answer' })] : [p(GIVE)]);
-  $('auditor').replaceChildren(...market ? auditorView(market) : [p(GIVE)]);
+  $('student').replaceChildren(...market ? [chooser(market), el('div', { id: 'student-answer' })] : [p(app.finding ? NOTHING : GIVE)]);
+  $('auditor').replaceChildren(...market ? auditorView(market) : [p(app.finding ? NOTHING : GIVE)]);
   $('registrar').replaceChildren(...await registrarView());
 };
 

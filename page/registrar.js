@@ -27,7 +27,7 @@ const settingsFile = values => ({
 });
 
 function settingsForm(values) {
-  return el('fieldset', { class: 'settings' }, el('legend', {}, 'Settings'), SETTINGS.map(([name, range, words]) => el('div', { class: 'setting' },
+  return el('fieldset', { class: 'settings-form' }, el('legend', {}, 'Settings'), SETTINGS.map(([name, range, words]) => el('div', { class: 'setting' },
     el('label', { for: `setting-${name}` }, name),
     el('input', { id: `setting-${name}`, name, value: values[name] ?? USUAL[name], inputmode: name === 'steps' ? 'text' : 'numeric', autocomplete: 'off', 'aria-describedby': `about-${name}` }),
     el('p', { id: `about-${name}`, class: 'quiet' }, `${words} (${range})`))));

@@ -170,7 +170,7 @@ function whyPart(market, student) {
     higher.length ? p(`${name} rated ${plural(higher.length, 'section')} higher than one that is held in the end:`) : p(`${name} rated no section higher than those that are held in the end.`),
     higher.map(it => question(market, student, it, isQuick)),
     others.length ? opening(`${plural(others.length, 'section')} rated no higher`, () => others.map(it => question(market, student, it))) : null,
-    p(el('label', { for: 'other-section' }, 'Ask about another section: '), chooser), other,
+    el('p', { class: 'ask' }, el('label', { for: 'other-section' }, 'Ask about another section: '), chooser), other,
   ];
 }
 

@@ -103,7 +103,7 @@ class Ways(unittest.TestCase):
     def test_auditor(self) -> None:
         self.give(FILES)
         self.verdict("This text holds")
-        self.click("The whole text")
+        self.click("Whole text")
         self.assertIn("59 (the settings accept 60)", self.words("#auditor"))
         sections = "document.querySelector('[aria-label=\"Sections: prices and seats\"]')"
         for _ in range(2):
