@@ -216,6 +216,9 @@ function envyPart(market, student) {
 
 const part = (title, ...children) => el('section', {}, el('h3', {}, title), ...children);
 
+const STAGES = 'First prices are found, and raised until no section has more students than seats: at these prices each student buys the best bundle that the own budget of tokens affords. '
+  + 'That is the second stage. Then the seats that are left go by turns, the greatest budget first, until a whole pass changes nothing: that is the aftermarket. A bundle is worth the sum of its ratings and adjustments.';
+
 // All of one student.
 function studentView(market, student) {
   const { name, credits, courses } = market.roll[student], end = market.text.finals[student];
@@ -223,7 +226,7 @@ function studentView(market, student) {
     el('h2', { tabindex: '-1' }, name),
     el('p', { class: 'lead' }, end.length ? `${name} holds ${listed(end)} in the end.` : `${name} holds nothing in the end.`),
     part('Budget', p(budgetWords(market, student)), p(`By the roll at most ${plural(credits, 'credit')} and ${plural(courses, 'section')}.`)),
-    part('Stage by stage', stageTable(market, student)),
+    part('Stage by stage', p(STAGES), stageTable(market, student)),
     part('Why not?', ...whyPart(market, student)),
     part('Ratings and prices', ratedTable(market, student), adjustmentWords(market, student)),
     part('The proof that nothing better was to be had',
