@@ -8,14 +8,15 @@ function findingPart(finding, parts) {
   const from = Math.max(0, Math.min(start - 60, text.length)), shown = byte === null
     ? [shortenedLine(text)]
     : [from ? '.. ' : '', text.slice(from, start), el('mark', {}, text[start] ?? ' '), text.slice(start + 1, start + 80)];
-  return [p(`It is line ${line} of the published text (the program's words: `, code(`finding: ${finding}`), '):'), el('pre', { class: 'place', tabindex: '0' }, shown)];
+  const said = p(`It is line ${line} of the published text (the program's words: `, code(`finding: ${finding}`), '):');
+  return [said, el('pre', { class: 'place', tabindex: '0' }, shown)];
 }
 
 const shortenedLine = it => it.length > 300 ? it.slice(0, 297) + '..' : it;
 
 function figuresPart(market) {
   const { text, catalogue, roll, counts, endCounts } = market, seats = catalogue.reduce((sum, it) => sum + it.seats, 0);
-  const sum = of => [...of.values()].reduce((total, it) => total + it, 0), changes = changesOf(market);
+  const sum = of => [...of.values()].reduce((total, it) => total + it, 0), changes = changesOf(market), passes = plural(text.turns.at(-1)?.pass ?? 0, 'pass', 'passes');
   const lines = [
     ['Checked in', timed(market.ms)],
     ['Students, sections, sessions', `${roll.length}, ${catalogue.length}, ${market.parts.sessions.length}`],
@@ -23,7 +24,7 @@ function figuresPart(market) {
     ['Error of the second stage', String(errorOf(counts, catalogue, text.prices))],
     ['Seats taken, second stage and end', `${sum(counts)} and ${sum(endCounts)} of ${seats}`],
     ['Students without a section, second stage and end', `${text.bundles.filter(it => !it.names.length).length} and ${text.finals.filter(it => !it.length).length}`],
-    ['Turns of the aftermarket, and those that changed something', `${text.turns.length} in ${plural(text.turns.at(-1)?.pass ?? 0, 'pass', 'passes')}, ${changes.length}`],
+    ['Turns of the aftermarket, and those that changed something', `${text.turns.length} in ${passes}, ${changes.length}`],
   ];
   return el('dl', { class: 'figures' }, lines.map(([name, value]) => el('div', {}, el('dt', {}, name), el('dd', {}, value))));
 }
@@ -48,10 +49,11 @@ function studentTable(market) {
   const { text, roll } = market;
   const rows = roll.map((it, at) => {
     const menu = menuOf(market, at), worth = names => worthOf(menu, names.map(name => menu.of.get(name)));
-    return { name: it.name, budget: text.budgets[at], spent: priceOf(market, text.bundles[at].names), second: text.bundles[at].names, end: text.finals[at], rated: menu.places.length, worth: worth(text.bundles[at].names), endWorth: worth(text.finals[at]) };
+    const second = text.bundles[at].names, end = text.finals[at];
+    return { name: it.name, budget: text.budgets[at], spent: priceOf(market, second), rated: menu.places.length, second, worth: worth(second), end, endWorth: worth(end) };
   });
   return tableOf('Students: budgets and bundles', [
-    { head: 'Student', of: it => it.name, isText: true, show: it => el('button', { type: 'button', class: 'link', onclick: () => app.showStudent(it.name) }, it.name) },
+    { head: 'Student', of: it => it.name, isText: true, show: it => button(it.name, () => app.showStudent(it.name), { class: 'link' }) },
     { head: 'Budget', of: it => it.budget },
     { head: 'Spent', of: it => it.spent },
     { head: 'Rated', of: it => it.rated },
@@ -77,7 +79,8 @@ function budgetsPart(market) {
   const [wide, high, side] = [640, 200, 60], across = at => side + (wide - side - 10) * (budgets.length > 1 ? at / (budgets.length - 1) : 0.5);
   const up = it => high - 25 - (high - 40) * (most > least ? (it - least) / (most - least) : 0.5);
   const label = (x, y, text, anchor) => drawn('text', { x, y, 'text-anchor': anchor }, text);
-  const words = budgets.length ? `Budgets from the least, ${least}, to the greatest, ${most}; the middle one is ${budgets[Math.floor(budgets.length / 2)]}.` : 'No students.';
+  const middle = budgets[Math.floor(budgets.length / 2)];
+  const words = budgets.length ? `Budgets from the least, ${least}, to the greatest, ${most}; the middle one is ${middle}.` : 'No students.';
   const picture = drawn('svg', { viewBox: `0 0 ${wide} ${high}`, class: 'chart', role: 'img', 'aria-label': words },
     drawn('line', { x1: side, y1: high - 25, x2: wide - 5, y2: high - 25 }), drawn('line', { x1: side, y1: 10, x2: side, y2: high - 25 }),
     ...budgets.map((it, at) => drawn('circle', { cx: across(at), cy: up(it), r: budgets.length > 300 ? 1.2 : 2.5 })),
@@ -108,7 +111,8 @@ const MEANING = [
 function meaningPart() {
   return [
     el('ul', {}, MEANING.map(it => el('li', {}, it))),
-    p('It does not mean that the prices came from the search, that they are the fairest, or that the sessions came in that order: the lines “start” and “error” are read and not judged.'),
+    p('It does not mean that the prices came from the search, that they are the fairest, or that the sessions came in that order: '
+      + 'the lines “start” and “error” are read and not judged.'),
   ];
 }
 

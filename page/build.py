@@ -19,7 +19,21 @@ import module
 
 HERE = Path(__file__).resolve().parent
 TOP = HERE.parent
-SCRIPTS = ("elements", "tables", "texts", "wishes", "trees", "drawing", "program", "files", "words", "student", "auditor", "registrar", "page")
+SCRIPTS = (
+    "elements",
+    "tables",
+    "texts",
+    "wishes",
+    "trees",
+    "drawing",
+    "program",
+    "files",
+    "words",
+    "student",
+    "auditor",
+    "registrar",
+    "page",
+)
 EXAMPLE = ("catalogue.csv", "roll.csv", "settings.json", "published.txt", "desk.session", "web.session")
 UNPROVED = "This page was built without proofs, for work on the page alone. Trust nothing that it says."
 PROVED = "The program in this page is compiled from the LLVM module of the proved program for Linux. What is proved of that, and what is trusted beside it, the README of Course Match says."
@@ -58,12 +72,18 @@ def page_of(wasm: bytes, is_proved: bool) -> str:
     policy = f"default-src 'none'; script-src {source_of(script)} 'wasm-unsafe-eval'; worker-src blob:; style-src {source_of(style)}; base-uri 'none'; form-action 'none'"
     about = {"version": commit, "kit": of_kit, "module": sum_of_module, "proved": is_proved}
     parts = {
-        "policy": policy, "style": style, "script": script,
+        "policy": policy,
+        "style": style,
+        "script": script,
         "worker": (HERE / "host.js").read_text() + (HERE / "worker.js").read_text(),
-        "module": packed(wasm), "example": packed(example()), "about": json.dumps(about),
+        "module": packed(wasm),
+        "example": packed(example()),
+        "about": json.dumps(about),
         "unproved": "" if is_proved else f'<p class="unproved" role="alert">{UNPROVED}</p>',
         "origin": PROVED if is_proved else UNPROVED,
-        "commit": html.escape(commit), "kit": html.escape(of_kit), "sum": sum_of_module,
+        "commit": html.escape(commit),
+        "kit": html.escape(of_kit),
+        "sum": sum_of_module,
     }
     text = (HERE / "course-match.html").read_text()
     return re.sub(r"\{\{(\w+)\}\}", lambda it: parts[it[1]], text)
@@ -99,9 +119,17 @@ def main() -> None:
     text = page_of(wasm, not arguments.unproved)
     (out / "course-match.html").write_text(text)
     (out / "course-match.wasm").write_bytes(wasm)
-    origin = {"commit": version(), "kit": said("rt", "version"), "proved": not arguments.unproved, "module": hashlib.sha256(wasm).hexdigest(), "page": hashlib.sha256(text.encode()).hexdigest()}
+    origin = {
+        "commit": version(),
+        "kit": said("rt", "version"),
+        "proved": not arguments.unproved,
+        "module": hashlib.sha256(wasm).hexdigest(),
+        "page": hashlib.sha256(text.encode()).hexdigest(),
+    }
     (out / "course-match.json").write_text(json.dumps(origin, indent=2) + "\n")
-    print(f"page/out/course-match.html: {len(text.encode())} bytes, module {len(wasm)} bytes, {'proved' if origin['proved'] else 'UNPROVED'}, commit {origin['commit']}")
+    print(
+        f"page/out/course-match.html: {len(text.encode())} bytes, module {len(wasm)} bytes, {'proved' if origin['proved'] else 'UNPROVED'}, commit {origin['commit']}"
+    )
 
 
 if __name__ == "__main__":

@@ -22,18 +22,19 @@ const RESOURCES = { b: ['token', 'tokens'], c: ['credit', 'credits'], m: ['secti
 // The words of a leaf that a bound closes.
 function boundWords(walk, chosen, from, node) {
   const it = boundOf(walk, chosen, from, node), most = Math.floor(it.bound / 1000), isTie = most === walk.worth && losesTies(walk, chosen, from);
-  const end = isTie
-    ? `So at most ${most}, no more than the ${walk.worth} of the bundle; of two of equal worth the one with the earlier section is preferred, and that is the bundle.`
-    : `So at most ${most}, less than the ${walk.worth} of the bundle: no more need be looked at.`;
+  const tie = 'of two of equal worth the one with the earlier section is preferred, and that is the bundle.';
+  const end = `So at most ${most}, ${isTie ? `no more than the ${walk.worth} of the bundle; ${tie}` : `less than the ${walk.worth} of the bundle: no more need be looked at.`}`;
   if (node.symbol === 'n') {
     const more = it.brought.map(that => `${that.worth} (${that.name})`).join(' + ');
-    return [p(`What is chosen is worth ${it.value}. ${more ? `The rest can bring ${more} at most, in all ${points(it.bound)}.` : 'Nothing else can come to it.'}`), p(end)];
+    const rest = more ? `The rest can bring ${more} at most, in all ${points(it.bound)}.` : 'Nothing else can come to it.';
+    return [p(`What is chosen is worth ${it.value}. ${rest}`), p(end)];
   }
   const [one, many] = RESOURCES[node.symbol], by = walk.menu.places[node.number];
   const takes = TAKES[node.symbol](by);
   return [
     p(`What is chosen is worth ${it.value}, and ${plural(it.left, `${one} is`, `${many} are`)} left. Say that a ${one} is worth what it is worth at ${by.name}: `
-      + `${it.by?.worth ?? 0} for ${plural(takes, one, many)}, ${points(it.rate)} a ${one}. Who could spend all that is left at that rate, and besides got what each course brings above it, would have at most`),
+      + `${it.by?.worth ?? 0} for ${plural(takes, one, many)}, ${points(it.rate)} a ${one}. `
+      + 'Who could spend all that is left at that rate, and besides got what each course brings above it, would have at most'),
     el('ul', { class: 'plain' },
       el('li', {}, `${it.value} (chosen) + ${points(it.rate)} · ${it.left} (left) = ${points(1000 * it.value + it.rate * it.left)}`),
       it.brought.map(that => el('li', {}, `+ ${points(that.brings)} (${that.name}: ${that.worth} less ${points(it.rate)} · ${that.takes})`)),
@@ -58,8 +59,8 @@ function leafLine(walk, chosen, from, node) {
 function takenLine(walk, chosen, node, place) {
   const now = [...chosen, place], it = walk.menu.places[place];
   const isOnTheWay = now.every(that => walk.champion.includes(that)) && walk.champion.every(that => that > place || now.includes(that));
-  const must = node.symbol === '!' ? ' has to be taken' : '';
-  const summary = [el('span', { class: 'sign' }, node.symbol), ' with ', el('b', {}, it.name), `${must} (rated ${it.rating}, costs ${it.price}): ${leftWords(walk, now)}`];
+  const must = node.symbol === '!' ? ' has to be taken' : '', rest = `${must} (rated ${it.rating}, costs ${it.price}): ${leftWords(walk, now)}`;
+  const summary = [el('span', { class: 'sign' }, node.symbol), ' with ', el('b', {}, it.name), rest];
   return el('li', { class: isOnTheWay ? 'way' : '' }, opening(summary, () => levelOf(walk, now, place + 1, node.with), isOnTheWay));
 }
 
@@ -85,7 +86,8 @@ function drawingOf(walk, text) {
     { head: 'Price', of: it => it.price },
   ], walk.menu.places, { filterAt: 20 });
   return [
-    p(`From the top down each line takes a section or does without it: a line that opens shows what follows when the section is taken, the next line what follows without it. ${leftWords(walk, [])} at first.`),
+    p('From the top down each line takes a section or does without it: a line that opens shows what follows when the section is taken, '
+      + `the next line what follows without it. ${leftWords(walk, [])} at first.`),
     levelOf(walk, [], 0, nodesOf(text)),
     opening('The tree as it is published, and its places', () => [el('p', { class: 'tree-text' }, code(text)), places]),
   ];

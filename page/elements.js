@@ -14,6 +14,7 @@ function el(tag, properties, ...children) {
 
 const p = (...children) => el('p', {}, ...children);
 const code = it => el('code', {}, it);
+const button = (words, onclick, properties) => el('button', { type: 'button', onclick, ...properties }, words);
 const plural = (count, one, more = one + 's') => `${count} ${count === 1 ? one : more}`;
 
 // Names in a sentence: `A`, `A and B`, `A, B and C`.
@@ -73,13 +74,14 @@ function compare(one, other) {
 function tableOf(caption, columns, rows, { filterAt = 8 } = {}) {
   let shown = rows, by = null, isFalling = false;
   const body = el('tbody'), said = el('span', { role: 'status', class: 'quiet' });
-  const heads = columns.map((column, at) => el('th', { scope: 'col', class: column.isText ? '' : 'number' },
-    el('button', { type: 'button', class: 'head', onclick: () => sortBy(at) }, column.head)));
-  const draw = () => body.replaceChildren(...shown.map(row => el('tr', {}, columns.map((column, at) =>
-    el(at ? 'td' : 'th', { scope: at ? null : 'row', class: column.isText ? '' : 'number' }, column.show ? column.show(row) : String(column.of(row)))))));
+  const classOf = column => column.isText ? '' : 'number';
+  const heads = columns.map((column, at) => el('th', { scope: 'col', class: classOf(column) }, button(column.head, () => sortBy(at), { class: 'head' })));
+  const cell = (row, column, at) => el(at ? 'td' : 'th', { scope: at ? null : 'row', class: classOf(column) }, column.show ? column.show(row) : String(column.of(row)));
+  const draw = () => body.replaceChildren(...shown.map(row => el('tr', {}, columns.map((column, at) => cell(row, column, at)))));
   const sortBy = at => {
     [by, isFalling] = [at, by === at && !isFalling];
-    heads.forEach((head, other) => other === at ? head.setAttribute('aria-sort', isFalling ? 'descending' : 'ascending') : head.removeAttribute('aria-sort'));
+    heads.forEach(head => head.removeAttribute('aria-sort'));
+    heads[at].setAttribute('aria-sort', isFalling ? 'descending' : 'ascending');
     arrange();
   };
   const filter = el('input', { type: 'search', placeholder: 'filter', 'aria-label': `Filter: ${caption}`, oninput: () => arrange() });
@@ -90,13 +92,14 @@ function tableOf(caption, columns, rows, { filterAt = 8 } = {}) {
     said.textContent = wanted ? `${shown.length} of ${rows.length}` : '';
     draw();
   };
-  const copy = el('button', { type: 'button', class: 'small', onclick: async () => {
+  const copy = button('Copy', async () => {
     const text = [columns.map(it => it.head), ...shown.map(row => columns.map(it => it.of(row)))].map(it => it.join('\t')).join('\n');
     said.textContent = await copied(text) ? `${plural(shown.length, 'row')} copied` : 'this browser did not let the page copy';
-  } }, 'Copy');
+  }, { class: 'small' });
   draw();
-  const scrolls = el('div', { class: 'scrolls', role: 'region', 'aria-label': caption, tabindex: '0' }, el('table', {}, el('caption', { class: 'aside' }, caption), el('thead', {}, el('tr', {}, heads)), body));
-  return el('div', { class: 'table' }, el('div', { class: 'tools' }, el('b', {}, caption), rows.length >= filterAt && filter, copy, said), scrolls);
+  const table = el('table', {}, el('caption', { class: 'aside' }, caption), el('thead', {}, el('tr', {}, heads)), body);
+  return el('div', { class: 'table' }, el('div', { class: 'tools' }, el('b', {}, caption), rows.length >= filterAt && filter, copy, said),
+    el('div', { class: 'scrolls', role: 'region', 'aria-label': caption, tabindex: '0' }, table));
 }
 
 // Copies a text, also from a page on a disk, where the clipboard may be closed to scripts.

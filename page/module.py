@@ -48,7 +48,21 @@ def retargeted(line: str, layout: str) -> str:
 def retarget(clang: Path, module: Path, text: Path) -> None:
     """Writes the LLVM text of the module, for WebAssembly."""
     layout, printed = data_layout(clang), text.with_suffix(".x86.ll")
-    run([clang, "--target=x86_64-unknown-linux-gnu", "-x", "ir", module, "-S", "-emit-llvm", "-Xclang", "-disable-llvm-passes", "-o", printed])
+    run(
+        [
+            clang,
+            "--target=x86_64-unknown-linux-gnu",
+            "-x",
+            "ir",
+            module,
+            "-S",
+            "-emit-llvm",
+            "-Xclang",
+            "-disable-llvm-passes",
+            "-o",
+            printed,
+        ]
+    )
     with open(printed) as lines, open(text, "w") as to:
         for number, line in enumerate(lines, 1):
             line = retargeted(line.rstrip("\n"), layout)

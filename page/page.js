@@ -46,9 +46,14 @@ function fileRow(file) {
   const at = app.files.indexOf(file), isSecond = file.kind === 'session' && app.files.slice(0, at).some(it => it.kind === 'session');
   const kind = el('select', { 'aria-label': `What ${file.name} is`, onchange: event => { file.kind = event.target.value; app.check(); } },
     Object.entries(KINDS).map(([value, words]) => el('option', { value, selected: value === file.kind }, words)));
-  const up = isSecond && el('button', { type: 'button', class: 'small', 'aria-label': `Move ${file.name} before the session above it`, onclick: () => moveUp(at) }, 'Up');
-  const remove = el('button', { type: 'button', class: 'small', 'aria-label': `Remove ${file.name}`, onclick: () => { app.files.splice(at, 1); app.check(); } }, 'Remove');
+  const up = isSecond && button('Up', () => moveUp(at), { class: 'small', 'aria-label': `Move ${file.name} before the session above it` });
+  const remove = button('Remove', () => removeFile(at), { class: 'small', 'aria-label': `Remove ${file.name}` });
   return el('li', { class: file.kind }, el('span', { class: 'name' }, file.name), kind, up, remove);
+}
+
+function removeFile(at) {
+  app.files.splice(at, 1);
+  app.check();
 }
 
 function moveUp(at) {
@@ -71,6 +76,11 @@ async function checkedIn(parts, isOrdered) {
   return first;
 }
 
+function lacksWords(lacks) {
+  const canRun = lacks.every(it => it === NEEDED.text || it === NEEDED.settings);
+  return p(`Missing: ${listed(lacks)}. ${canRun ? '“Run a market” makes it of the others.' : ''}`);
+}
+
 app.check = async () => {
   const number = ++app.checks, { parts, faults, lacks, isOrdered } = await partsOf(app.files);
   if (number !== app.checks) return;
@@ -78,7 +88,7 @@ app.check = async () => {
   $('file-list').replaceChildren(...app.files.map(fileRow));
   $('files-count').textContent = app.files.length ? `: ${app.files.length}` : '';
   if (!app.files.length || lacks.length || faults.length) {
-    verdict('open', app.files.length ? 'Not all files are there yet' : '', ...faults.map(it => p(it)), lacks.length && app.files.length ? p(`Missing: ${listed(lacks)}. ${lacks.every(it => [NEEDED.text, NEEDED.settings].includes(it)) ? '“Run a market” makes it of the others.' : ''}`) : '');
+    verdict('open', app.files.length ? 'Not all files are there yet' : '', ...faults.map(it => p(it)), app.files.length && lacks.length ? lacksWords(lacks) : '');
     return app.draw();
   }
   const checked = await checkedIn(parts, isOrdered);
@@ -91,13 +101,14 @@ app.check = async () => {
 function refused({ answer, call, parts }) {
   const told = answerWords(answer, call);
   app.finding = told.finding;
-  verdict('wrong', told.title, p(told.words), told.finding ? findingPart(told.finding, parts) : '', told.help ? p(told.help) : '');
+  const again = answer.status === 'stopped' && button('Check again', () => app.check());
+  verdict('wrong', told.title, p(told.words), told.finding ? findingPart(told.finding, parts) : '', told.help ? p(told.help) : '', again || '');
   app.draw();
 }
 
 // Puts together what the views need; what the students want comes from the program, by the order of the text.
 async function accepted({ answer, parts }) {
-  const catalogue = catalogueOf(decoded(parts.catalogue.bytes)), roll = rollOf(decoded(parts.roll.bytes)), text = publishedOf(decoded(parts.text.bytes), catalogue, roll);
+  const catalogue = catalogueIn(parts), roll = rollIn(parts), text = publishedOf(decoded(parts.text.bytes), catalogue, roll);
   const session = { name: 'all sessions in the order of the text', kind: 'session', bytes: merged(text.order, parts.sessions) };
   const preferred = await app.work('Asking the desk', callOf('prefer', { ...parts, sessions: [session] }));
   const files = [parts.catalogue, parts.roll, parts.settings, parts.text, ...parts.sessions];
@@ -110,17 +121,17 @@ async function accepted({ answer, parts }) {
   };
   $('files').open = false;
   verdict('right', 'This text holds', p(`${parts.text.name} was checked in ${timed(answer.ms)}: ${plural(roll.length, 'student')}, ${plural(catalogue.length, 'section')}. `
-    + 'Each student has the best bundle that the budget buys at the printed prices, no section has more students than seats, and each turn of the aftermarket is as it has to be.'));
+    + 'Each student has the best bundle that the budget buys at the printed prices, no section has more students than seats, '
+    + 'and each turn of the aftermarket is as it has to be.'));
 }
 
 // Student's view: the name is chosen by typing.
 function chooser(market) {
-  const input = el('input', { id: 'student-name', list: 'student-names', autocomplete: 'off', autocapitalize: 'off', spellcheck: 'false', onchange: () => app.showStudent(input.value), oninput: () => {
-    if (market.roll.some(it => it.name === input.value)) app.showStudent(input.value, false);
-  } });
-  const form = el('form', { class: 'chooser', onsubmit: event => { event.preventDefault(); app.showStudent(input.value); } },
-    el('label', { for: 'student-name' }, 'Name of the student'), input, el('datalist', { id: 'student-names' }, market.roll.map(it => el('option', { value: it.name }))), el('button', { class: 'main' }, 'Show'));
-  return form;
+  const input = el('input', { id: 'student-name', list: 'student-names', autocomplete: 'off', autocapitalize: 'off', spellcheck: 'false' });
+  const names = el('datalist', { id: 'student-names' }, market.roll.map(it => el('option', { value: it.name })));
+  input.addEventListener('input', () => { if (market.roll.some(it => it.name === input.value)) app.showStudent(input.value, false); });
+  return el('form', { class: 'chooser', onsubmit: event => { event.preventDefault(); app.showStudent(input.value); } },
+    el('label', { for: 'student-name' }, 'Name of the student'), input, names, el('button', { class: 'main' }, 'Show'));
 }
 
 app.showStudent = (typed, focuses = true) => {

@@ -23,13 +23,14 @@ function settingsIn(text) {
 
 const settingsFile = values => ({
   name: 'settings.json', kind: 'settings',
-  bytes: new TextEncoder().encode(`{\n${SETTINGS.map(([name]) => `  "${name}": ${name === 'steps' ? `[${values[name]}]` : values[name] || 'null'}`).join(',\n')}\n}\n`),
+  bytes: new TextEncoder().encode(`{\n${SETTINGS.map(([name]) => `  "${name}": ${valueText(name, values[name])}`).join(',\n')}\n}\n`),
 });
+const valueText = (name, value) => name === 'steps' ? `[${value}]` : value || 'null';
 
 function settingsForm(values) {
   return el('fieldset', { class: 'settings-form' }, el('legend', {}, 'Settings'), SETTINGS.map(([name, range, words]) => el('div', { class: 'setting' },
     el('label', { for: `setting-${name}` }, name),
-    el('input', { id: `setting-${name}`, name, value: values[name] ?? USUAL[name], inputmode: name === 'steps' ? 'text' : 'numeric', autocomplete: 'off', 'aria-describedby': `about-${name}` }),
+    el('input', { id: `setting-${name}`, name, value: values[name] ?? USUAL[name], autocomplete: 'off', 'aria-describedby': `about-${name}` }),
     el('p', { id: `about-${name}`, class: 'quiet' }, `${words} (${range})`))));
 }
 
@@ -37,23 +38,23 @@ const formValues = form => Object.fromEntries(SETTINGS.map(([name]) => [name, fo
 
 const REPLIES = {
   unreadable: 'the line is no command', closed: 'a session has closed the desk', 'no-student': 'the student is not on the roll',
-  'no-section': 'the section is not in the catalogue', 'same-pair': 'the two sections are the same', 'out-of-range': 'a rating is 0 to 100, an adjustment -200 to 200',
-  'too-many': 'a student has at most 60 ratings and 200 adjustments',
+  'no-section': 'the section is not in the catalogue', 'same-pair': 'the two sections are the same',
+  'out-of-range': 'a rating is 0 to 100, an adjustment -200 to 200', 'too-many': 'a student has at most 60 ratings and 200 adjustments',
 };
 
 // What the desk replies to the wishes, before a run.
 function lookPart(answer, parts) {
-  const replies = repliesOf(answer, parts.sessions), wishes = preferencesOf(answer), roll = rollOf(decoded(parts.roll.bytes)), catalogue = catalogueOf(decoded(parts.catalogue.bytes));
+  const replies = repliesOf(answer, parts.sessions), wishes = preferencesOf(answer), roll = rollIn(parts), catalogue = catalogueIn(parts);
   const has = name => [...wishes.get(name)?.ratings.values() ?? []].some(it => it > 0), silent = roll.filter(it => !has(it.name)).map(it => it.name);
   const wanted = new Set([...wishes.values()].flatMap(it => [...it.ratings.keys()])), unwanted = catalogue.filter(it => !wanted.has(it.name)).map(it => it.name);
   const several = inSeveral(parts.sessions);
   const all = parts.sessions.reduce((sum, it) => sum + commandsOf(it.bytes).length, 0);
   const lines = [
     `The desk carried out ${all - replies.length} of ${all} commands.`,
-    silent.length ? `${plural(silent.length, 'student')} wants nothing: ${shortList(silent)}.`.replace(/(\d+ students) wants/, '$1 want') : 'Each student wants something.',
+    silent.length ? `${plural(silent.length, 'student wants', 'students want')} nothing: ${shortList(silent)}.` : 'Each student wants something.',
     unwanted.length ? `Nobody wants ${shortList(unwanted)}.` : 'Each section is wanted by somebody.',
-    ...several.length ? [`${plural(several.length, 'student is', 'students are')} named in more than one session (${shortList(several)}): the end may depend on who came first.`] : [],
   ];
+  if (several.length) lines.push(`${plural(several.length, 'student is', 'students are')} named in more than one session (${shortList(several)}): the end may depend on who came first.`);
   const table = replies.length ? tableOf('Commands that the desk did not carry out', [
     { head: 'File', of: it => it.file, isText: true },
     { head: 'Line', of: it => it.row },
@@ -87,17 +88,18 @@ async function runMarket(parts, settings, to) {
   const call = callOf('run', { ...parts, settings }), answer = await app.work('Running the market', call);
   if (answer.status !== 0) {
     const told = answerWords(answer, call), [, least] = /least error (\d+)\n$/.exec(answer.text ?? '') ?? [];
-    const take = least && el('button', { type: 'button', onclick: () => { $('setting-accept').value = least; $('setting-accept').focus(); } }, `Set “accept” to ${least}`);
+    const set = () => { $('setting-accept').value = least; $('setting-accept').focus(); }, take = least && button(`Set “accept” to ${least}`, set);
     return to.replaceChildren(el('h3', {}, told.title), p(told.words), told.help ? p(told.help) : '', take ?? '');
   }
   const text = { name: 'published.txt', kind: 'text', bytes: answer.out }, all = { ...parts, settings };
   const manifest = await manifestOf(all, text);
-  to.replaceChildren(el('h3', {}, 'The market has prices'), p(`The run took ${timed(answer.ms)}. Publish the text with the catalogue, the roll, the settings and the sessions; whoever has them can check it.`),
+  to.replaceChildren(el('h3', {}, 'The market has prices'),
+    p(`The run took ${timed(answer.ms)}. Publish the text with the catalogue, the roll, the settings and the sessions; whoever has them can check it.`),
     el('p', { class: 'buttons' },
-      el('button', { type: 'button', onclick: () => save('published.txt', text.bytes) }, 'Save the published text'),
-      el('button', { type: 'button', onclick: () => save('settings.json', settings.bytes) }, 'Save the settings'),
-      el('button', { type: 'button', onclick: () => save('manifest.json', manifest) }, 'Save the manifest'),
-      el('button', { type: 'button', class: 'main', onclick: () => app.takeRun(text, settings) }, 'Check it and look at it')));
+      button('Save the published text', () => save('published.txt', text.bytes)),
+      button('Save the settings', () => save('settings.json', settings.bytes)),
+      button('Save the manifest', () => save('manifest.json', manifest)),
+      button('Check it and look at it', () => app.takeRun(text, settings), { class: 'main' })));
 }
 
 async function lookAtWishes(parts, to) {
@@ -109,12 +111,13 @@ async function lookAtWishes(parts, to) {
 
 async function registrarView() {
   const { parts, faults, lacks } = await partsOf(app.files, ['catalogue', 'roll']), to = el('div', { class: 'answer', id: 'run-answer', 'aria-live': 'polite' });
-  const head = [el('h2', { tabindex: '-1' }, 'Run a market'), p('From the catalogue, the roll, the settings and the sessions to the text that is published. The files stay on this machine.')];
+  const about = 'From the catalogue, the roll, the settings and the sessions to the text that is published. The files stay on this machine.';
+  const head = [el('h2', { tabindex: '-1' }, 'Run a market'), p(about)];
   if (lacks.length || faults.length) return [...head, p(faults.join(' ') || `Give the files above first; missing: ${listed(lacks)}.`)];
   const values = parts.settings ? settingsIn(decoded(parts.settings.bytes)) : {};
   const form = el('form', { onsubmit: event => { event.preventDefault(); runMarket(parts, settingsFile(formValues(form)), to); } }, settingsForm(values),
     el('p', { class: 'buttons' },
-      el('button', { type: 'button', onclick: () => lookAtWishes(parts, to) }, 'Look at the wishes'),
+      button('Look at the wishes', () => lookAtWishes(parts, to)),
       el('button', { class: 'main' }, 'Run the market')));
   const used = `${parts.catalogue.name}, ${parts.roll.name} and ${listed(parts.sessions.map(it => it.name))}`;
   return [...head, p(`It takes ${used}. Sessions are heard one after the other here, in the order of the list above.`), form, to];

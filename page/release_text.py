@@ -39,7 +39,15 @@ def main() -> None:
         sys.exit("release: the page in page/out is not of the proved program")
     there = [name for name in TOOLS if (TOP / name).is_dir()]
     proof = PROVED.format(**origin) if is_proved else UNPROVED
-    print(TEXT.format(commit=origin["commit"], proof=proof, tools="".join(TOOLS[it] for it in there), python=", but Python 3 for what is written in it" if there else ""), end="")
+    print(
+        TEXT.format(
+            commit=origin["commit"],
+            proof=proof,
+            tools="".join(TOOLS[it] for it in there),
+            python=", but Python 3 for what is written in it" if there else "",
+        ),
+        end="",
+    )
 
 
 if __name__ == "__main__":

@@ -12,6 +12,9 @@ const REASONS = {
   less: it => `${it.student} could have had ${it.section} besides all else, and did not want to: the given adjustments make the bundle worth less with it.`,
 };
 
+// Whether each question is answered at once; of a larger market it is, each, when it is asked.
+const isSmall = market => market.parts.text.bytes.length < 1e6;
+
 // What `explain` answered: { reason, other?, best?, worth?, lost?, tree? }.
 function explanationOf(answer) {
   const [first, best, lost, tree] = answer.trimEnd().split('\n'), [, , ...words] = first.split(' ');
@@ -41,13 +44,15 @@ function bestWords(market, student, section, told) {
 // What became of a section at the turns of the student in the aftermarket, where it was not held.
 function laterWords(market, student, section) {
   const turns = turnsOf(market, student).filter(it => !it.names.includes(section)), { name } = market.roll[student];
-  const passes = turns.filter(it => it.allowed.has(section)).map(it => it.pass), { seats } = market.sectionOf.get(section), free = seats - market.counts.get(section);
+  const { seats } = market.sectionOf.get(section), free = seats - market.counts.get(section);
+  const passes = turns.filter(it => it.allowed.has(section)).map(it => it.pass);
   if (!turns.length) return null;
   if (passes.length) {
     return `In the aftermarket a seat of ${section} was free at the turn of ${name} in pass ${listed(passes)}. The bundle that was taken there is the best that the raised budget of `
       + `${raisedBudget(market, student)} buys of what was held and free: its tree proves it.`;
   }
-  return `${free ? `After the second stage ${free} of its ${seats} seats ${free === 1 ? 'was' : 'were'} free. ` : ''}In the aftermarket turns go by budget, the greatest first, and at no turn of ${name} was a seat of ${section} free.`;
+  const left = free ? `After the second stage ${free} of its ${seats} seats ${free === 1 ? 'was' : 'were'} free. ` : '';
+  return `${left}In the aftermarket turns go by budget, the greatest first, and at no turn of ${name} was a seat of ${section} free.`;
 }
 
 const raisedBudget = (market, student) => market.text.budgets[student] + Math.floor(market.text.budgets[student] * market.settings.raise / 100);
@@ -69,16 +74,14 @@ async function explained(market, student, section) {
 function budgetWords(market, student) {
   const { name, base, carry } = market.roll[student], budget = market.text.budgets[student], { spread } = market.settings;
   const drawn = budget - base - carry, rank = spread ? ` (${spread} tokens for each of the ${drawn / spread} students that the draw ranks below)` : '';
-  return `${budget} tokens: ${base} by the roll${carry ? `, ${carry} carried over` : ''}, and ${drawn} by the draw${rank}. In the aftermarket it is raised by ${market.settings.raise} percent to ${raisedBudget(market, student)}.`;
+  return `${budget} tokens: ${base} by the roll${carry ? `, ${carry} carried over` : ''}, and ${drawn} by the draw${rank}. `
+    + `In the aftermarket it is raised by ${market.settings.raise} percent to ${raisedBudget(market, student)}.`;
 }
 
 // The rows of what the student rated or holds, in the order of the catalogue.
 function ratedRows(market, student) {
   const menu = menuOf(market, student), second = market.text.bundles[student].names, end = market.text.finals[student];
-  return menu.places.map(it => ({
-    ...it, isSecond: second.includes(it.name), isEnd: end.includes(it.name), seats: it.section.seats,
-    wanted: market.counts.get(it.name),
-  }));
+  return menu.places.map(it => ({ ...it, isSecond: second.includes(it.name), isEnd: end.includes(it.name) }));
 }
 
 const yes = (is, words) => is ? el('span', { class: 'yes' }, words) : '';
@@ -105,20 +108,32 @@ function adjustmentWords(market, student) {
 function stageRows(market, student) {
   const menu = menuOf(market, student), { text } = market, budget = text.budgets[student];
   const row = (stage, names, of) => ({ stage, names, cost: priceOf(market, names), of, worth: worthOf(menu, names.map(it => menu.of.get(it))) });
-  const turns = turnsOf(market, student);
   return [
     { ...row('Second stage', text.bundles[student].names, budget), change: 'bought at the prices' },
-    ...turns.map(turn => ({
-      ...row(`Aftermarket, pass ${turn.pass}`, turn.names, raisedBudget(market, student)),
+    ...passesOf(market, student).map(({ first, last, turn }) => ({
+      ...row(`Aftermarket, ${first === last ? `pass ${first}` : `passes ${first} to ${last}`}`, turn.names, raisedBudget(market, student)),
       change: changeWords(turn.before, turn.names),
     })),
     { ...row('In the end', text.finals[student], raisedBudget(market, student)), change: '' },
   ];
 }
 
+// The passes of the aftermarket, those that follow each other without a change as one.
+function passesOf(market, student) {
+  const found = [];
+  for (const turn of turnsOf(market, student)) {
+    const isQuiet = changeWords(turn.before, turn.names) === NO_CHANGE, before = found.at(-1);
+    if (isQuiet && before?.isQuiet) before.last = turn.pass;
+    else found.push({ first: turn.pass, last: turn.pass, turn, isQuiet });
+  }
+  return found;
+}
+
+const NO_CHANGE = 'no change';
+
 function changeWords(before, after) {
   const gave = before.filter(it => !after.includes(it)), took = after.filter(it => !before.includes(it));
-  if (!gave.length && !took.length) return 'no change';
+  if (!gave.length && !took.length) return NO_CHANGE;
   return [took.length ? `took ${listed(took)}` : '', gave.length ? `gave up ${listed(gave)}` : ''].filter(Boolean).join(', ');
 }
 
@@ -158,7 +173,7 @@ function question(market, student, it, isOpen = false) {
 }
 
 function whyPart(market, student) {
-  const { higher, others } = missedSections(market, student), { name } = market.roll[student], isQuick = market.ms < 700;
+  const { higher, others } = missedSections(market, student), { name } = market.roll[student], isQuick = isSmall(market);
   const other = el('div');
   const chooser = el('select', { id: 'other-section', onchange: event => {
     const section = market.sectionOf.get(event.target.value);
@@ -167,7 +182,7 @@ function whyPart(market, student) {
   } }, el('option', { value: '', disabled: true, selected: true }, 'choose a section'),
   market.catalogue.filter(it => !market.text.finals[student].includes(it.name)).map(it => el('option', { value: it.name }, it.name)));
   return [
-    higher.length ? p(`${name} rated ${plural(higher.length, 'section')} higher than one that is held in the end:`) : p(`${name} rated no section higher than those that are held in the end.`),
+    p(higher.length ? `${name} rated ${plural(higher.length, 'section')} higher than one that is held in the end:` : `${name} rated no section higher than those that are held in the end.`),
     higher.map(it => question(market, student, it, isQuick)),
     others.length ? opening(`${plural(others.length, 'section')} rated no higher`, () => others.map(it => question(market, student, it))) : null,
     el('p', { class: 'ask' }, el('label', { for: 'other-section' }, 'Ask about another section: '), chooser), other,
@@ -204,13 +219,14 @@ async function showEnvy(market, student, to) {
     market.envy = envyOf(answer.text);
   }
   to.replaceChildren(envyWords(market, student, 'settled', 'In the second stage'), envyWords(market, student, 'final', 'In the end'),
-    el('p', { class: 'quiet' }, 'By the own ratings, timetable and caps. In the second stage nobody would rather have what a student has whose budget is no greater; in the end that may be, since free seats go by turns.'));
+    el('p', { class: 'quiet' }, 'By the own ratings, timetable and caps. In the second stage nobody would rather have what a student has whose budget is no greater; '
+      + 'in the end that may be, since free seats go by turns.'));
 }
 
 function envyPart(market, student) {
   const to = el('div', { 'aria-live': 'polite' });
-  if (market.envy || market.ms < 700) showEnvy(market, student, to);
-  else to.append(el('button', { type: 'button', onclick: () => showEnvy(market, student, to) }, 'Look whom each student envies (this may take minutes)'));
+  if (market.envy || isSmall(market)) showEnvy(market, student, to);
+  else to.append(button('Look whom each student envies (this may take minutes)', () => showEnvy(market, student, to)));
   return to;
 }
 

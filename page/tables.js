@@ -52,6 +52,9 @@ function rollOf(text) {
     ({ at, name, base: Number(base), credits: Number(credits), courses: Number(courses), carry: Number(carry) }));
 }
 
+const catalogueIn = parts => catalogueOf(new TextDecoder().decode(parts.catalogue.bytes));
+const rollIn = parts => rollOf(new TextDecoder().decode(parts.roll.bytes));
+
 function overlaps(one, other) {
   return one.day === other.day && one.from < other.to && other.from < one.to;
 }

@@ -16,7 +16,8 @@ function menuOf(market, student) {
 
 // What a bundle is worth to the student.
 function worthOf(menu, chosen) {
-  return chosen.reduce((sum, it, at) => sum + menu.places[it].rating + chosen.slice(0, at).reduce((more, other) => more + (menu.together[it].get(other) ?? 0), 0), 0);
+  const beside = (it, others) => others.reduce((sum, other) => sum + (menu.together[it].get(other) ?? 0), 0);
+  return chosen.reduce((sum, it, at) => sum + menu.places[it].rating + beside(it, chosen.slice(0, at)), 0);
 }
 
 const priceOf = (market, names) => names.reduce((sum, name) => sum + market.text.prices[market.sectionOf.get(name).at], 0);

@@ -27,7 +27,9 @@ function recordWords(kind, row, cause, text) {
     const semicolons = record.join().includes(';') ? ' The file has semicolons in place of commas: save it with commas.' : '';
     return `The header is ${quoted(record.join(','))}. Expected: ${HEADERS[kind]}, letter by letter.${semicolons}`;
   }
-  if (cause === 'fields') return `The record has ${plural(record.length, 'field')}, and the header ${records(text)[0].length}: a comma too many or too few, or a quote that is not closed.`;
+  if (cause === 'fields') {
+    return `The record has ${plural(record.length, 'field')}, and the header ${records(text)[0].length}: a comma too many or too few, or a quote that is not closed.`;
+  }
   if (cause === 'too many rows') return kind === 'roll' ? 'A roll has at most 2,000 students.' : 'A catalogue has at most 400 sections.';
   if (cause.startsWith('name')) return `${at(number)}. ${NAME}`;
   if (cause.startsWith('number')) return `${at(number)}, without sign, point or leading zeros.`;
@@ -40,7 +42,8 @@ function settingsWords(cause) {
   if (cause === 'not json') return 'It is not JSON (a comma, a quote or a bracket too many or too few).';
   if (cause === 'not an object') return 'It is JSON, but no object: the settings stand between { and }.';
   if (cause === 'unknown key') return `It has a setting that is none. There are these: ${listed(Object.keys(RANGES))}.`;
-  return cause.startsWith('missing') ? `The setting ${key} is missing.` : `The setting ${key} is out of its range: a whole number, ${RANGES[key]}. Expected without point, exponent or sign.`.replace('a whole number, a list', 'a list');
+  if (cause.startsWith('missing')) return `The setting ${key} is missing.`;
+  return `The setting ${key} is out of its range: ${key === 'steps' ? '' : 'a whole number, '}${RANGES[key]}. Expected without point, exponent or sign.`;
 }
 
 function refusalWords(line, call) {
@@ -83,7 +86,7 @@ function findingWords(words) {
 
 // The line of the text that a finding names, and the byte of its tree, if it names one.
 function placeOf(words, parts) {
-  const catalogue = catalogueOf(decoded(parts.catalogue.bytes)), roll = rollOf(decoded(parts.roll.bytes)), lines = decoded(parts.text.bytes).split('\n');
+  const catalogue = catalogueIn(parts), roll = rollIn(parts), lines = decoded(parts.text.bytes).split('\n');
   const none = linesOf(roll.length, catalogue.length, 0), at = linesOf(roll.length, catalogue.length, turnCount(lines, none.turns));
   const [word, second] = words.split(' '), student = roll.findIndex(it => it.name === second), section = catalogue.findIndex(it => it.name === second);
   const [, byte] = /tree \w+ at (\d+)$/.exec(words) ?? [];
@@ -94,21 +97,35 @@ function placeOf(words, parts) {
   return { line, text: lines[line - 1] ?? '', byte: byte === undefined ? null : Number(byte) };
 }
 
-const USELESS = 'Nothing is lost: correct it and give the files again. The first fault alone is told.';
+const AGAIN = 'Nothing is lost: correct it and give the files again. The first fault alone is told.';
 
-// What an answer says: { title, words, help }, for each status but 0.
+// What an answer says, by its status: { title, words, help?, finding? }. `line` is its last line, `name` the file that it names.
+const TOLD = {
+  2: ({ name }) => ({ title: 'A file can not be read', words: `${name} can not be read.`, help: AGAIN }),
+  3: ({ line, call }) => ({ title: 'A file is refused', words: refusalWords(line, call), help: AGAIN }),
+  4: ({ name }) => ({
+    title: 'A file is too long', help: AGAIN,
+    words: `${name} is too long: a file has at most 16,777,216 bytes (a published text 67,108,864), and all sessions together at most 200,000 commands.`,
+  }),
+  5: ({ line }) => ({
+    title: 'No prices were found', help: 'Set “accept” to that number, or give it more “turns”, and run again with the same files.',
+    words: `The search found no prices whose error the settings accept. The least error that it saw is ${/\d+$/.exec(line)[0]}.`,
+  }),
+  6: () => ({ title: 'There is no room for the answer', words: 'The answer did not fit into the memory that the browser gives to this page.', help: 'Close other tabs and try again.' }),
+  7: () => ({
+    title: 'There is not enough memory', help: 'Close other tabs and programs and try again; nothing is lost.',
+    words: 'The browser did not give this page the memory that the work needs (status 7, out of memory).',
+  }),
+  8: ({ line }) => {
+    const finding = line.replace('finding: ', '');
+    return { title: 'This text does not hold', words: findingWords(finding), finding, help: 'Do not trust it: compare the line that is named.' };
+  },
+  9: ({ line }) => ({ title: 'There is no such name', words: `No ${line.endsWith('6') ? 'student of the roll' : 'section of the catalogue'} has this name. Capital letters count.` }),
+  stopped: () => ({ title: 'Stopped', words: 'The work was stopped before its end. Nothing is lost.' }),
+};
+
 function answerWords(answer, call) {
-  const line = answer.text.trimEnd().split('\n').at(-1), [, number] = /^input (\d+)/.exec(line) ?? [], name = call.inputs[number - 1]?.name;
-  switch (answer.status) {
-    case 2: return { title: 'A file can not be read', words: `${name} can not be read.`, help: USELESS };
-    case 3: return { title: 'A file is refused', words: refusalWords(line, call), help: USELESS };
-    case 4: return { title: 'A file is too long', words: `${name} is too long: a file has at most 16,777,216 bytes (a published text 67,108,864), and all sessions together at most 200,000 commands.`, help: USELESS };
-    case 5: return { title: 'No prices were found', words: `The search found no prices whose error the settings accept. The least error that it saw is ${/\d+$/.exec(line)[0]}.`, help: 'Set “accept” to that number, or give it more “turns”, and run again with the same files.' };
-    case 6: return { title: 'There is no room for the answer', words: 'The answer did not fit into the memory that the browser gives to this page.', help: 'Close other tabs and try again.' };
-    case 7: return { title: 'There is not enough memory', words: 'The browser did not give this page the memory that the work needs (status 7, out of memory).', help: 'Close other tabs and programs and try again; nothing is lost.' };
-    case 8: return { title: 'This text does not hold', words: findingWords(line.replace('finding: ', '')), finding: line.replace('finding: ', ''), help: 'Do not trust it: compare the line that is named.' };
-    case 9: return { title: 'There is no such name', words: line.endsWith('6') ? 'No student of the roll has this name. Capital letters count.' : 'No section of the catalogue has this name. Capital letters count.' };
-    case 'stopped': return { title: 'Stopped', words: 'The work was stopped before its end. Nothing is lost.' };
-    default: return { title: 'The page failed', words: `The program did not end as it should (${answer.fault ?? answer.status}). Please keep the files and tell whoever gave you this page.` };
-  }
+  const line = (answer.text ?? '').trimEnd().split('\n').at(-1), [, number] = /^input (\d+)/.exec(line) ?? [];
+  const failed = () => ({ title: 'The page failed', words: `The program did not end as it should (${answer.fault ?? answer.status}). Please keep the files and tell whoever gave you this page.` });
+  return (TOLD[answer.status] ?? failed)({ line, call, name: call.inputs[number - 1]?.name });
 }

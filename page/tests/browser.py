@@ -11,7 +11,17 @@ import time
 from collections.abc import Iterator
 from pathlib import Path
 
-FLAGS = ("--headless", "--no-sandbox", "--disable-gpu", "--disable-dev-shm-usage", "--no-first-run", "--disable-background-networking", "--disable-component-update", "--disable-sync", "--remote-debugging-pipe")
+FLAGS = (
+    "--headless",
+    "--no-sandbox",
+    "--disable-gpu",
+    "--disable-dev-shm-usage",
+    "--no-first-run",
+    "--disable-background-networking",
+    "--disable-component-update",
+    "--disable-sync",
+    "--remote-debugging-pipe",
+)
 
 
 def chromium() -> str | None:
@@ -49,7 +59,7 @@ class Browser:
             message["sessionId"] = self.session
         data = json.dumps(message).encode() + b"\0"
         while data:
-            data = data[os.write(self.to, data):]
+            data = data[os.write(self.to, data) :]
         for answer in self.messages():
             if answer.get("id") == self.count:
                 if "error" in answer:
@@ -133,7 +143,15 @@ def browser() -> Iterator[Browser]:
         shell = f'exec "$@" 3<&{words_in} 4>&{words_out}'
         words = ["sh", "-c", shell, "", chromium(), *FLAGS, f"--user-data-dir={folder}", "about:blank"]
         environment = {**os.environ, "HOME": folder}
-        process = subprocess.Popen(words, stdin=subprocess.DEVNULL, stdout=subprocess.DEVNULL, stderr=subprocess.DEVNULL, pass_fds=(words_in, words_out), env=environment, start_new_session=True)
+        process = subprocess.Popen(
+            words,
+            stdin=subprocess.DEVNULL,
+            stdout=subprocess.DEVNULL,
+            stderr=subprocess.DEVNULL,
+            pass_fds=(words_in, words_out),
+            env=environment,
+            start_new_session=True,
+        )
         os.close(words_in)
         os.close(words_out)
         try:

@@ -32,7 +32,14 @@ def native(words: list[str], files: dict[str, bytes], room: Path, refuse: Path) 
         it.unlink()
     for name, content in files.items():
         (folder / name).write_bytes(content)
-    ran = subprocess.run([PROGRAM.resolve(), *words], cwd=folder, stdin=subprocess.DEVNULL, stdout=subprocess.PIPE, env={"LD_PRELOAD": str(refuse)}, timeout=300)
+    ran = subprocess.run(
+        [PROGRAM.resolve(), *words],
+        cwd=folder,
+        stdin=subprocess.DEVNULL,
+        stdout=subprocess.PIPE,
+        env={"LD_PRELOAD": str(refuse)},
+        timeout=300,
+    )
     return ran.returncode, ran.stdout
 
 

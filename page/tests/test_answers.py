@@ -14,19 +14,35 @@ TABLES = ["catalogue.csv", "roll.csv", "settings.json"]
 SESSIONS = ["desk.session", "web.session"]
 SCHOOL = ["ann.session", "bob.session", "cleo.session"]
 OF_TERM = [
-    ["check", *TABLES, "published.txt", *SESSIONS], ["check", *TABLES, "published.txt", *SESSIONS[::-1]], ["check", *TABLES, "published.txt", SESSIONS[0]],
-    ["explain", *TABLES, "published.txt", "n.jones", "FNCE-717-A", *SESSIONS], ["explain", *TABLES, "published.txt", "nobody", "FNCE-717-A", *SESSIONS],
-    ["run", "1", *TABLES, *SESSIONS], ["run", "16", *TABLES, *SESSIONS], ["audit", "2", *TABLES, "published.txt", *SESSIONS],
-    ["hall", *TABLES[:2], "published.txt", "desk.requests"], ["prefer", *TABLES[:2], *SESSIONS], ["check", *TABLES, "nothing.txt", *SESSIONS],
-    ["make", "4", "7", "300", "60", "1000000000000"], ["make", "2", "7", "40", "15", "0"], ["help"],
+    ["check", *TABLES, "published.txt", *SESSIONS],
+    ["check", *TABLES, "published.txt", *SESSIONS[::-1]],
+    ["check", *TABLES, "published.txt", SESSIONS[0]],
+    ["explain", *TABLES, "published.txt", "n.jones", "FNCE-717-A", *SESSIONS],
+    ["explain", *TABLES, "published.txt", "nobody", "FNCE-717-A", *SESSIONS],
+    ["run", "1", *TABLES, *SESSIONS],
+    ["run", "16", *TABLES, *SESSIONS],
+    ["audit", "2", *TABLES, "published.txt", *SESSIONS],
+    ["hall", *TABLES[:2], "published.txt", "desk.requests"],
+    ["prefer", *TABLES[:2], *SESSIONS],
+    ["check", *TABLES, "nothing.txt", *SESSIONS],
+    ["make", "4", "7", "300", "60", "1000000000000"],
+    ["make", "2", "7", "40", "15", "0"],
+    ["help"],
 ]
-OF_MARKET = [["prefer", *TABLES[:2], *SCHOOL], ["demand", "3", *TABLES, "prices.csv", *SCHOOL], ["quote", "catalogue.csv", "ann.session", "ann", "12", "4"], ["run", "2", *TABLES, *SCHOOL]]
+OF_MARKET = [
+    ["prefer", *TABLES[:2], *SCHOOL],
+    ["demand", "3", *TABLES, "prices.csv", *SCHOOL],
+    ["quote", "catalogue.csv", "ann.session", "ann", "12", "4"],
+    ["run", "2", *TABLES, *SCHOOL],
+]
 
 
 def example_calls() -> list[tuple[list[str], dict[str, bytes], list[bytes]]]:
     """The calls on the repository's examples: words, files, and no answers that are known beforehand."""
+
     def calls(folder: Path, words: list[list[str]]):
         return [(it, {name: (folder / name).read_bytes() for name in it if (folder / name).is_file()}, []) for it in words]
+
     return calls(TERM, OF_TERM) + calls(MARKET, OF_MARKET)
 
 
@@ -47,8 +63,14 @@ def worked_calls() -> list[tuple[list[str], dict[str, bytes], list[bytes]]]:
 def cut_calls(words: list[str], files: dict[str, bytes], names: dict[str, bytes]) -> list[tuple[list[str], dict[str, bytes], list[bytes]]]:
     """The example whose catalogue is cut after each of its bytes."""
     rows = [it.split("\t") for it in names["cuts.tsv"].decode().splitlines() if it[0].isdigit()]
-    return [(words, {**files, "catalogue.csv": files["catalogue.csv"][:int(kept)]}, [(int(status), names[line[0]] if any(line) else f"{told}\n".encode())])
-            for kept, status, told, *line in rows]
+    return [
+        (
+            words,
+            {**files, "catalogue.csv": files["catalogue.csv"][: int(kept)]},
+            [(int(status), names[line[0]] if any(line) else f"{told}\n".encode())],
+        )
+        for kept, status, told, *line in rows
+    ]
 
 
 def edits(text: bytes, count: int) -> list[tuple[int, int, str]]:
@@ -59,10 +81,18 @@ def edits(text: bytes, count: int) -> list[tuple[int, int, str]]:
         line = draw.randrange(len(starts) - 1)
         at, end = starts[line], starts[line + 1]
         byte = draw.randrange(at, end)
-        made.append(draw.choice([
-            (at, end - at, ""), (at, 0, text[at:end].decode()), (byte, 1, ""), (byte, 0, chr(draw.randrange(32, 127))),
-            (byte, 1, draw.choice("0123456789+-*nbcm[], \n\r")), (byte, min(8, end - byte), text[byte:byte + 8][::-1].decode()),
-        ]))
+        made.append(
+            draw.choice(
+                [
+                    (at, end - at, ""),
+                    (at, 0, text[at:end].decode()),
+                    (byte, 1, ""),
+                    (byte, 0, chr(draw.randrange(32, 127))),
+                    (byte, 1, draw.choice("0123456789+-*nbcm[], \n\r")),
+                    (byte, min(8, end - byte), text[byte : byte + 8][::-1].decode()),
+                ]
+            )
+        )
     return made
 
 
@@ -109,15 +139,16 @@ class Answers(unittest.TestCase):
     @unittest.skipUnless(PROGRAM.is_file(), "no native program to compare with")
     def test_spoiled_texts(self) -> None:
         import base64
+
         files = {name: (TERM / name).read_bytes() for name in [*TABLES, *SESSIONS]}
         text, words, counts = (TERM / "published.txt").read_bytes(), ["check", *TABLES, "published.txt", *SESSIONS], {}
         given = [words, base64.b64encode(text).decode(), [[name, base64.b64encode(it).decode()] for name, it in files.items()]]
         self.tab.evaluate(f"{GIVE}({json.dumps(given)})")
         all_edits = edits(text, SPOILED)
         for first in range(0, SPOILED, 100):
-            some = all_edits[first:first + 100]
+            some = all_edits[first : first + 100]
             for (at, gone, come), answer in zip(some, self.tab.evaluate(f"{CHECK}({json.dumps(some)})"), strict=True):
-                spoilt = {**files, "published.txt": text[:at] + come.encode() + text[at + gone:]}
+                spoilt = {**files, "published.txt": text[:at] + come.encode() + text[at + gone :]}
                 status, out = native(words, spoilt, self.room, self.refuse)
                 self.assertEqual([status, out.decode()], answer, (at, gone, come))
                 counts[status] = counts.get(status, 0) + 1

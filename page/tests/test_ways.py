@@ -14,6 +14,30 @@ FILES = ["catalogue.csv", "roll.csv", "settings.json", "published.txt", "desk.se
 BESIDE = ["dropadd.txt", "envy.txt", "reason.txt", "desk.requests"]
 SIZES = {"desktop": (1200, 900), "phone": (390, 844)}
 NO_MEMORY64 = "WebAssembly.validate = () => false"
+# Walks each tree of the text as the drawing does; answers how many nodes there are, and those of which the page would say what
+# the symbol does not.
+WALKS = """(market => {
+  let count = 0;
+  const wrong = [];
+  const go = (walk, chosen, from, node, label) => {
+    for (let place = from; node; place++, node = node.without) {
+      const { symbol } = node, why = place < walk.menu.places.length ? closedBy(walk, chosen, place) : 'the end';
+      const holds = { '-': () => why !== null, '+': () => why === null, '*': () => why === 'the end' && chosen.join() === walk.champion.join() }[symbol]
+        ?? (() => boundOf(walk, chosen, place, node).bound < 1000 * (walk.worth + (losesTies(walk, chosen, place) ? 1 : 0)));
+      count++;
+      if (!holds()) wrong.push(`${label} at ${node.at}`);
+      if (node.with) go(walk, [...chosen, place], place + 1, node.with, label);
+    }
+  };
+  for (const { at: student, name } of market.roll) {
+    const { names, tree } = market.text.bundles[student];
+    go(walkOf(market, student, { budget: market.text.budgets[student], champion: names }), [], 0, nodesOf(tree), name);
+    for (const turn of turnsOf(market, student)) {
+      go(walkOf(market, student, { budget: raisedBudget(market, student), allowed: turn.allowed, champion: turn.names }), [], 0, nodesOf(turn.tree), `${name} pass ${turn.pass}`);
+    }
+  }
+  return [count, wrong.slice(0, 5)];
+})(app.market)"""
 
 
 @unittest.skipUnless(chromium() and PAGE.is_file(), "no Chromium, or no page is built")
@@ -53,12 +77,16 @@ class Ways(unittest.TestCase):
 
     def click(self, words: str) -> None:
         """Clicks the button that has these words."""
-        self.tab.evaluate(f"[...document.querySelectorAll('button, summary')].find(it => it.checkVisibility() && it.textContent.includes({json.dumps(words)})).click()")
+        self.tab.evaluate(
+            f"[...document.querySelectorAll('button, summary')].find(it => it.checkVisibility() && it.textContent.includes({json.dumps(words)})).click()"
+        )
 
     def open_all(self, selector: str) -> None:
         """Opens all parts below an element, and what stands in them."""
         for _ in range(9):
-            self.tab.evaluate(f"document.querySelectorAll('{selector} details').forEach(it => it.open = true); new Promise(done => setTimeout(done, 50))")
+            self.tab.evaluate(
+                f"document.querySelectorAll('{selector} details').forEach(it => it.open = true); new Promise(done => setTimeout(done, 50))"
+            )
 
     def pictures(self, name: str) -> None:
         """Keeps the page light and dark, on a desktop and on a phone."""
@@ -80,10 +108,15 @@ class Ways(unittest.TestCase):
         self.verdict("This text holds")
         self.show("n.jones")
         told = self.words("#student-answer")
-        for words in ("n.jones holds ACCT-611-B, FNCE-601-A and MGMT-691-B in the end", "4542 tokens: 4500 by the roll, and 42 by the draw",
-                      "FNCE-717-A costs 3252. Beside what n.jones has in the second stage (ACCT-611-B, FNCE-601-A and HCMG-841-A, together 3914) it passes the budget of 4542.",
-                      "ACCT-611-B and FNCE-717-A, worth 188 by the own ratings, for 4103 of the 4542 tokens", "worth 260, 72 more",
-                      "s.adler with 5018 tokens", "ACCT-611-B, FNCE-601-A and MGMT-691-B, which are worth more"):
+        for words in (
+            "n.jones holds ACCT-611-B, FNCE-601-A and MGMT-691-B in the end",
+            "4542 tokens: 4500 by the roll, and 42 by the draw",
+            "FNCE-717-A costs 3252. Beside what n.jones has in the second stage (ACCT-611-B, FNCE-601-A and HCMG-841-A, together 3914) it passes the budget of 4542.",
+            "ACCT-611-B and FNCE-717-A, worth 188 by the own ratings, for 4103 of the 4542 tokens",
+            "worth 260, 72 more",
+            "s.adler with 5018 tokens",
+            "ACCT-611-B, FNCE-601-A and MGMT-691-B, which are worth more",
+        ):
             self.assertIn(words, told)
         self.pictures("student")
 
@@ -94,11 +127,32 @@ class Ways(unittest.TestCase):
         self.click("Second stage")
         self.open_all("#student-answer")
         told = self.words("#student-answer")
-        for words in ("3691 tokens are left of 4542", "1749 tokens are left of 4542", "FNCE-601-B is of the same course as FNCE-601-A", "What is chosen is worth 188. Nothing else can come to it.",
-                      "109 for 2989 tokens, 0.036 a token", "+ 31.644 (HCMG-841-A: 72 less 0.036 · 1121)", "+ 6.592 (FNCE-601-B", "+ 1.396 (MGMT-690-A", "= 260.508", "So at most 260, no more than the 260 of the bundle",
-                      "= 247.429", "439 tokens are left", "FNCE-717-A can no more be taken: it costs 3252, and 1749 tokens are left", "72 (HCMG-841-A)", "So at most 172, less than the 188 of the bundle"):
+        for words in (
+            "3691 tokens are left of 4542",
+            "1749 tokens are left of 4542",
+            "FNCE-601-B is of the same course as FNCE-601-A",
+            "What is chosen is worth 188. Nothing else can come to it.",
+            "109 for 2989 tokens, 0.036 a token",
+            "+ 31.644 (HCMG-841-A: 72 less 0.036 · 1121)",
+            "+ 6.592 (FNCE-601-B",
+            "+ 1.396 (MGMT-690-A",
+            "= 260.508",
+            "So at most 260, no more than the 260 of the bundle",
+            "= 247.429",
+            "439 tokens are left",
+            "FNCE-717-A can no more be taken: it costs 3252, and 1749 tokens are left",
+            "72 (HCMG-841-A)",
+            "So at most 172, less than the 188 of the bundle",
+        ):
             self.assertIn(words, told)
         self.pictures("trees")
+
+    def test_each_tree_is_walked_as_it_stands(self) -> None:
+        self.click("Take the example term")
+        self.verdict("This text holds")
+        count, wrong = self.tab.evaluate(WALKS)
+        self.assertEqual([], wrong)
+        self.assertGreater(count, 5000)
 
     def test_auditor(self) -> None:
         self.give(FILES)
@@ -108,18 +162,33 @@ class Ways(unittest.TestCase):
         sections = "document.querySelector('[aria-label=\"Sections: prices and seats\"]')"
         for _ in range(2):
             self.tab.evaluate(f"[...{sections}.querySelectorAll('button')].find(it => it.textContent === 'Price').click()")
-        self.assertEqual("FNCE-717-A3252", self.tab.evaluate(f"[...{sections}.querySelector('tbody tr').children].slice(0, 2).map(it => it.textContent).join('')"))
+        self.assertEqual(
+            "FNCE-717-A3252",
+            self.tab.evaluate(f"[...{sections}.querySelector('tbody tr').children].slice(0, 2).map(it => it.textContent).join('')"),
+        )
         self.assertEqual("descending", self.tab.evaluate(f"{sections}.querySelector('[aria-sort]').getAttribute('aria-sort')"))
-        self.tab.evaluate("{ const filter = document.querySelector('[aria-label=\"Filter: Students: budgets and bundles\"]'); filter.value = 'n.jones'; filter.dispatchEvent(new Event('input')); }")
-        self.assertEqual(1, self.tab.evaluate("document.querySelectorAll('[aria-label=\"Students: budgets and bundles\"] tbody tr').length"))
+        self.tab.evaluate(
+            "{ const filter = document.querySelector('[aria-label=\"Filter: Students: budgets and bundles\"]'); filter.value = 'n.jones'; filter.dispatchEvent(new Event('input')); }"
+        )
+        self.assertEqual(
+            1, self.tab.evaluate("document.querySelectorAll('[aria-label=\"Students: budgets and bundles\"] tbody tr').length")
+        )
         self.pictures("auditor")
 
     def test_finding_has_its_place(self) -> None:
-        spoilt = (TERM / "published.txt").read_bytes().replace(b"bundle n.jones [ACCT-611-B,FNCE-601-A,HCMG-841-A]", b"bundle n.jones [ACCT-611-B,FNCE-601-A]")
+        spoilt = (
+            (TERM / "published.txt")
+            .read_bytes()
+            .replace(b"bundle n.jones [ACCT-611-B,FNCE-601-A,HCMG-841-A]", b"bundle n.jones [ACCT-611-B,FNCE-601-A]")
+        )
         self.give(FILES, {"published.txt": spoilt})
         told = self.verdict("This text does not hold")
-        line = spoilt[:spoilt.index(b"bundle n.jones")].count(b"\n") + 1
-        for words in ("finding: student n.jones tree open at 11", f"It is line {line} of the published text", "The tree of n.jones does not prove"):
+        line = spoilt[: spoilt.index(b"bundle n.jones")].count(b"\n") + 1
+        for words in (
+            "finding: student n.jones tree open at 11",
+            f"It is line {line} of the published text",
+            "The tree of n.jones does not prove",
+        ):
             self.assertIn(words, told)
         self.assertEqual("*", self.words("#verdict mark"))
         self.pictures("finding")
@@ -157,11 +226,23 @@ class Ways(unittest.TestCase):
     def test_bad_files_are_refused_in_words(self) -> None:
         roll, settings, catalogue = ((TERM / it).read_bytes() for it in ("roll.csv", "settings.json", "catalogue.csv"))
         for changed, words in (
-            ({"roll.csv": roll.replace(b"n.jones,4500,8", b"n.jones,4500,8.5")}, "column 3 (credits): “8.5” stands there. Expected: a whole number from 0 to 800"),
+            (
+                {"roll.csv": roll.replace(b"n.jones,4500,8", b"n.jones,4500,8.5")},
+                "column 3 (credits): “8.5” stands there. Expected: a whole number from 0 to 800",
+            ),
             ({"roll.csv": roll.replace(b",", b";")}, "semicolons in place of commas"),
-            ({"roll.csv": roll.replace(b"n.jones,", b"s.adler,")}, "column 1 (student): “s.adler” stands there. Expected: a name that no earlier row has, and row 3 has it already"),
-            ({"catalogue.csv": catalogue.replace(b"M1030-1200", b"M1030-2560", 1)}, "catalogue.csv, row 4 (the header is row 1): column 5 (meetings)"),
-            ({"settings.json": settings.replace(b'"spread": 7', b'"spread": 70')}, "settings.json: The setting spread is out of its range: a whole number, 0 to 49"),
+            (
+                {"roll.csv": roll.replace(b"n.jones,", b"s.adler,")},
+                "column 1 (student): “s.adler” stands there. Expected: a name that no earlier row has, and row 3 has it already",
+            ),
+            (
+                {"catalogue.csv": catalogue.replace(b"M1030-1200", b"M1030-2560", 1)},
+                "catalogue.csv, row 4 (the header is row 1): column 5 (meetings)",
+            ),
+            (
+                {"settings.json": settings.replace(b'"spread": 7', b'"spread": 70')},
+                "settings.json: The setting spread is out of its range: a whole number, 0 to 49",
+            ),
             ({"settings.json": settings.replace(b"7,", b"7")}, "settings.json: It is not JSON"),
         ):
             with self.subTest(words=words):
@@ -177,8 +258,13 @@ class Ways(unittest.TestCase):
     def test_manifest_gives_the_order(self) -> None:
         sessions = [(TERM / it).read_bytes() for it in ("desk.session", "web.session")]
         names = {"catalogue": "catalogue.csv", "roll": "roll.csv", "settings": "settings.json"}
-        inputs = [{"role": role, "file": name, "sha256": hashlib.sha256((TERM / name).read_bytes()).hexdigest()} for role, name in names.items()]
-        inputs += [{"role": "session", "file": name, "sha256": hashlib.sha256(it).hexdigest()} for name, it in zip(("z.session", "a.session"), sessions)]
+        inputs = [
+            {"role": role, "file": name, "sha256": hashlib.sha256((TERM / name).read_bytes()).hexdigest()} for role, name in names.items()
+        ]
+        inputs += [
+            {"role": "session", "file": name, "sha256": hashlib.sha256(it).hexdigest()}
+            for name, it in zip(("z.session", "a.session"), sessions)
+        ]
         text = {"file": "published.txt", "sha256": hashlib.sha256((TERM / "published.txt").read_bytes()).hexdigest()}
         for name, it in zip(("z.session", "a.session"), sessions):
             (self.room / name).write_bytes(it)
@@ -217,7 +303,12 @@ class Ways(unittest.TestCase):
         nameless = """[...document.querySelectorAll('button, input, select, [role=region], [role=img]')].filter(it =>
           !it.textContent.trim() && !it.getAttribute('aria-label') && !it.labels?.length).map(it => it.outerHTML.slice(0, 120))"""
         self.assertEqual([], self.tab.evaluate(nameless))
-        self.assertEqual([], self.tab.evaluate("(all => all.filter((it, at) => all.indexOf(it) !== at))([...document.querySelectorAll('[id]')].map(it => it.id))"))
+        self.assertEqual(
+            [],
+            self.tab.evaluate(
+                "(all => all.filter((it, at) => all.indexOf(it) !== at))([...document.querySelectorAll('[id]')].map(it => it.id))"
+            ),
+        )
 
     def test_prints(self) -> None:
         self.click("Take the example term")
