@@ -69,21 +69,16 @@ async function byManifest(manifest, files) {
   return { found, faults };
 }
 
-// The parts of the market among the files: { parts, faults, isOrdered }, the faults in words.
+// The parts of the market among the files: { parts, faults, lacks, isOrdered }, faults and lacks in words. What a manifest
+// names goes before what the files' content tells.
 async function partsOf(files, wanted = Object.keys(NEEDED)) {
   const of = kind => files.filter(it => it.kind === kind), [manifest] = of('manifest');
-  const parts = { sessions: of('session') }, faults = [];
+  const { found, faults } = manifest ? await byManifest(manifest, files) : { found: { sessions: [] }, faults: [] };
+  const isOrdered = found.sessions.length > 0 || of('session').length < 2;
+  const parts = { ...found, sessions: found.sessions.length ? found.sessions : of('session') };
   for (const kind of Object.keys(NEEDED)) {
-    parts[kind] = of(kind).at(-1);
-    if (of(kind).length > 1) faults.push(`Several files are taken for ${NEEDED[kind]} (${listed(of(kind).map(it => it.name))}): remove all but one.`);
-  }
-  let isOrdered = parts.sessions.length < 2;
-  if (manifest) {
-    const told = await byManifest(manifest, files);
-    if (told.found.sessions.length) isOrdered = true;
-    else delete told.found.sessions;
-    Object.assign(parts, told.found);
-    faults.push(...told.faults);
+    parts[kind] ??= of(kind).at(-1);
+    if (!found[kind] && of(kind).length > 1) faults.push(`Several files are taken for ${NEEDED[kind]} (${listed(of(kind).map(it => it.name))}): remove all but one.`);
   }
   const lacks = wanted.filter(kind => !parts[kind]).map(kind => NEEDED[kind]);
   if (!parts.sessions.length) lacks.push('the sessions (what the students said)');

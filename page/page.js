@@ -5,7 +5,7 @@ const app = { files: [], market: null, about: null, program: null, view: 'studen
 app.work = async (title, call) => {
   app.works++;
   $('working-words').textContent = `${title} ..`;
-  const begun = app.begun ??= performance.now();
+  app.begun ??= performance.now();
   app.clock ??= setInterval(() => {
     const ms = performance.now() - app.begun;
     if (ms > 300) $('working').hidden = false;
@@ -85,6 +85,7 @@ app.check = async () => {
   const number = ++app.checks, { parts, faults, lacks, isOrdered } = await partsOf(app.files);
   if (number !== app.checks) return;
   app.market = app.finding = null;
+  $('verdict').replaceChildren();
   $('file-list').replaceChildren(...app.files.map(fileRow));
   $('files-count').textContent = app.files.length ? `: ${app.files.length}` : '';
   if (!app.files.length || lacks.length || faults.length) {
@@ -110,7 +111,8 @@ function refused({ answer, call, parts }) {
 async function accepted({ answer, parts }) {
   const catalogue = catalogueIn(parts), roll = rollIn(parts), text = publishedOf(decoded(parts.text.bytes), catalogue, roll);
   const session = { name: 'all sessions in the order of the text', kind: 'session', bytes: merged(text.order, parts.sessions) };
-  const preferred = await app.work('Asking the desk', callOf('prefer', { ...parts, sessions: [session] }));
+  const call = callOf('prefer', { ...parts, sessions: [session] }), preferred = await app.work('Asking the desk', call);
+  if (preferred.status !== 0) return refused({ answer: preferred, call, parts });
   const files = [parts.catalogue, parts.roll, parts.settings, parts.text, ...parts.sessions];
   for (const it of files) it.sum ??= await hashOf(it.bytes);
   app.market = {
@@ -139,6 +141,7 @@ app.showStudent = (typed, focuses = true) => {
   const found = roll.find(it => it.name === name) ?? (near.length === 1 ? near[0] : null);
   if (app.view !== 'student') app.show('student');
   if (!found) {
+    delete $('student-answer').dataset.name;
     $('student-answer').replaceChildren(p(near.length && name ? `Which of them: ${shortList(near.map(it => it.name))}?` : 'No student of the roll has this name.'));
     return;
   }

@@ -8,7 +8,7 @@ import shutil
 import subprocess
 import tempfile
 import time
-from collections.abc import Iterator
+from collections.abc import Callable, Iterator
 from pathlib import Path
 
 FLAGS = (
@@ -86,12 +86,17 @@ class Browser:
             raise RuntimeError(answer["exceptionDetails"].get("exception", {}).get("description", "failed"))
         return answer["result"].get("value")
 
-    def wait(self, expression: str, seconds: float = 60) -> None:
+    def wait(self, expression: str, seconds: float = 180) -> None:
         """Waits till an expression holds."""
+        self.until(lambda: self.evaluate(f"!!({expression})"), expression, seconds)
+
+    @staticmethod
+    def until(holds: Callable[[], bool], words: str, seconds: float = 180) -> None:
+        """Waits till something holds, which these words say."""
         end = time.monotonic() + seconds
-        while not self.evaluate(f"!!({expression})"):
+        while not holds():
             if time.monotonic() > end:
-                raise RuntimeError(f"this did not come within {seconds} seconds: {expression}")
+                raise RuntimeError(f"this did not come within {seconds} seconds: {words}")
             time.sleep(0.05)
 
     def go(self, address: str) -> None:

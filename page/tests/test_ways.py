@@ -207,6 +207,13 @@ class Ways(unittest.TestCase):
         self.tab.evaluate("document.querySelector('#registrar form').requestSubmit()")
         self.tab.wait("document.querySelector('#run-answer h3')?.textContent === 'The market has prices'")
         self.pictures("registrar")
+        self.tab.call("Page.setDownloadBehavior", behavior="allow", downloadPath=str(self.room))
+        for name, words in (("published.txt", "Save the published text"), ("manifest.json", "Save the manifest")):
+            self.click(words)
+            self.tab.until(lambda saved=self.room / name: saved.is_file() and saved.stat().st_size > 0, f"{name} is saved")
+        manifest = json.loads((self.room / "manifest.json").read_text())
+        self.assertEqual(["catalogue", "roll", "settings", "session", "session"], [it["role"] for it in manifest["inputs"]])
+        self.assertEqual(hashlib.sha256((self.room / "published.txt").read_bytes()).hexdigest(), manifest["text"]["sha256"])
         self.click("Check it and look at it")
         self.verdict("This text holds")
 
