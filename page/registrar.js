@@ -119,6 +119,6 @@ async function registrarView() {
     el('p', { class: 'buttons' },
       button('Look at the wishes', () => lookAtWishes(parts, to)),
       el('button', { class: 'main' }, 'Run the market')));
-  const used = `${parts.catalogue.name}, ${parts.roll.name} and ${listed(parts.sessions.map(it => it.name))}`;
+  const used = listed([parts.catalogue, parts.roll, ...parts.sessions].map(it => it.name));
   return [...head, p(`It takes ${used}. Sessions are heard one after the other here, in the order of the list above.`), form, to];
 }
