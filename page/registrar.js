@@ -77,11 +77,13 @@ function inSeveral(sessions) {
 }
 
 // What the registrar's tools read to check a text without naming its files again.
-async function manifestOf(parts, text) {
+async function manifestOf(parts, text, ms) {
   const kinds = [['catalogue', parts.catalogue], ['roll', parts.roll], ['settings', parts.settings], ...parts.sessions.map(it => ['session', it])];
   const inputs = await Promise.all(kinds.map(async ([role, it]) => ({ role, file: it.name, sha256: await hashOf(it.bytes) })));
-  const words = ['run', '1', ...inputs.map(it => it.file)];
-  return JSON.stringify({ inputs, words, program: app.about.version, text: { file: text.name, sha256: await hashOf(text.bytes) } }, null, 2) + '\n';
+  return JSON.stringify({
+    inputs, words: ['run', '1', ...inputs.map(it => it.file)], program: app.about.version,
+    text: { file: text.name, sha256: await hashOf(text.bytes) }, elapsed: Math.round(ms / 100) / 10, made: new Date().toISOString(),
+  }, null, 2) + '\n';
 }
 
 async function runMarket(parts, settings, to) {
@@ -92,7 +94,7 @@ async function runMarket(parts, settings, to) {
     return to.replaceChildren(el('h3', {}, told.title), p(told.words), told.help ? p(told.help) : '', take ?? '');
   }
   const text = { name: 'published.txt', kind: 'text', bytes: answer.out }, all = { ...parts, settings };
-  const manifest = await manifestOf(all, text);
+  const manifest = await manifestOf(all, text, answer.ms);
   to.replaceChildren(el('h3', {}, 'The market has prices'),
     p(`The run took ${timed(answer.ms)}. Publish the text with the catalogue, the roll, the settings and the sessions; whoever has them can check it.`),
     el('p', { class: 'buttons' },

@@ -212,6 +212,7 @@ class Ways(unittest.TestCase):
             self.click(words)
             self.tab.until(lambda saved=self.room / name: saved.is_file() and saved.stat().st_size > 0, f"{name} is saved")
         manifest = json.loads((self.room / "manifest.json").read_text())
+        self.assertEqual({"inputs", "words", "program", "text", "elapsed", "made"}, set(manifest))
         self.assertEqual(["catalogue", "roll", "settings", "session", "session"], [it["role"] for it in manifest["inputs"]])
         self.assertEqual(hashlib.sha256((self.room / "published.txt").read_bytes()).hexdigest(), manifest["text"]["sha256"])
         self.click("Check it and look at it")
