@@ -1,0 +1,137 @@
+// What an auditor sees: the check, prices and seats, budgets, errors, the aftermarket, and all sections and students.
+
+// Where a finding stands in the text: its line, with the symbol of the tree marked.
+function findingPart(finding, parts) {
+  const { line, text, byte } = placeOf(finding, parts);
+  if (!line) return p(code(finding));
+  const start = byte === null ? -1 : text.lastIndexOf(' ') + 1 + byte;
+  const from = Math.max(0, Math.min(start - 60, text.length)), shown = byte === null
+    ? [shortenedLine(text)]
+    : [from ? '.. ' : '', text.slice(from, start), el('mark', {}, text[start] ?? ' '), text.slice(start + 1, start + 80)];
+  const said = p(`It is line ${line} of the published text (the program's words: `, code(`finding: ${finding}`), '):');
+  return [said, el('pre', { class: 'place', tabindex: '0' }, shown)];
+}
+
+const shortenedLine = it => it.length > 300 ? it.slice(0, 297) + '..' : it;
+
+function figuresPart(market) {
+  const { text, catalogue, roll, counts, endCounts } = market, seats = catalogue.reduce((sum, it) => sum + it.seats, 0);
+  const sum = of => [...of.values()].reduce((total, it) => total + it, 0), changes = changesOf(market), passes = plural(text.turns.at(-1)?.pass ?? 0, 'pass', 'passes');
+  const lines = [
+    ['Checked in', timed(market.ms)],
+    ['Students, sections, sessions', `${roll.length}, ${catalogue.length}, ${market.parts.sessions.length}`],
+    ['Error at the prices of the search', `${text.error} (the settings accept ${market.settings.accept})`],
+    ['Error of the second stage', String(errorOf(counts, catalogue, text.prices))],
+    ['Seats taken, second stage and end', `${sum(counts)} and ${sum(endCounts)} of ${seats}`],
+    ['Students without a section, second stage and end', `${text.bundles.filter(it => !it.names.length).length} and ${text.finals.filter(it => !it.length).length}`],
+    ['Turns of the aftermarket, and those that changed something', `${text.turns.length} in ${passes}, ${changes.length}`],
+  ];
+  return el('dl', { class: 'figures' }, lines.map(([name, value]) => el('div', {}, el('dt', {}, name), el('dd', {}, value))));
+}
+
+function sectionTable(market) {
+  const { text, catalogue, counts, endCounts } = market, top = Math.max(1, ...text.prices);
+  const rows = catalogue.map(it => ({ ...it, start: text.starts[it.at], price: text.prices[it.at], second: counts.get(it.name), end: endCounts.get(it.name) }));
+  const taken = (of, it) => el('span', { class: 'with-bar' }, `${of} of ${it.seats}`, bar(it.seats ? of / it.seats : 0, of >= it.seats ? 'full' : ''));
+  return tableOf('Sections: prices and seats', [
+    { head: 'Section', of: it => it.name, isText: true },
+    { head: 'Price', of: it => it.price, show: it => el('span', { class: 'with-bar' }, String(it.price), bar(it.price / top)) },
+    { head: 'Price of the search', of: it => it.start },
+    { head: 'Second stage', of: it => it.second, show: it => taken(it.second, it) },
+    { head: 'In the end', of: it => it.end, show: it => taken(it.end, it) },
+    { head: 'Seats', of: it => it.seats },
+    { head: 'Credits', of: it => it.credits },
+    { head: 'Meets', of: it => meetingWords(it), isText: true },
+  ], rows);
+}
+
+function studentTable(market) {
+  const { text, roll } = market;
+  const rows = roll.map((it, at) => {
+    const menu = menuOf(market, at), worth = names => worthOf(menu, names.map(name => menu.of.get(name)));
+    const second = text.bundles[at].names, end = text.finals[at];
+    return { name: it.name, budget: text.budgets[at], spent: priceOf(market, second), rated: menu.places.length, second, worth: worth(second), end, endWorth: worth(end) };
+  });
+  return tableOf('Students: budgets and bundles', [
+    { head: 'Student', of: it => it.name, isText: true, show: it => button(it.name, () => app.showStudent(it.name), { class: 'link' }) },
+    { head: 'Budget', of: it => it.budget },
+    { head: 'Spent', of: it => it.spent },
+    { head: 'Rated', of: it => it.rated },
+    { head: 'Second stage', of: it => it.second.join(', ') || 'nothing', show: it => namesCell(it.second), isText: true },
+    { head: 'Worth', of: it => it.worth },
+    { head: 'In the end', of: it => it.end.join(', ') || 'nothing', show: it => namesCell(it.end), isText: true },
+    { head: 'Worth in the end', of: it => it.endWorth },
+  ], rows);
+}
+
+const SVG = 'http://www.w3.org/2000/svg';
+
+function drawn(tag, properties, ...children) {
+  const made = document.createElementNS(SVG, tag);
+  for (const [name, value] of Object.entries(properties)) made.setAttribute(name, value);
+  made.append(...children);
+  return made;
+}
+
+// The budgets from the least to the greatest, a dot for each student.
+function budgetsPart(market) {
+  const budgets = [...market.text.budgets].sort((one, other) => one - other), [least, most] = [budgets[0] ?? 0, budgets.at(-1) ?? 0];
+  const [wide, high, side] = [640, 200, 60], across = at => side + (wide - side - 10) * (budgets.length > 1 ? at / (budgets.length - 1) : 0.5);
+  const up = it => high - 25 - (high - 40) * (most > least ? (it - least) / (most - least) : 0.5);
+  const label = (x, y, text, anchor) => drawn('text', { x, y, 'text-anchor': anchor }, text);
+  const middle = budgets[Math.floor(budgets.length / 2)];
+  const words = budgets.length ? `Budgets from the least, ${least}, to the greatest, ${most}; the middle one is ${middle}.` : 'No students.';
+  const picture = drawn('svg', { viewBox: `0 0 ${wide} ${high}`, class: 'chart', role: 'img', 'aria-label': words },
+    drawn('line', { x1: side, y1: high - 25, x2: wide - 5, y2: high - 25 }), drawn('line', { x1: side, y1: 10, x2: side, y2: high - 25 }),
+    ...budgets.map((it, at) => drawn('circle', { cx: across(at), cy: up(it), r: budgets.length > 300 ? 1.2 : 2.5 })),
+    label(side - 6, up(least), String(least), 'end'), label(side - 6, up(most) + 8, String(most), 'end'),
+    label(side, high - 6, 'least budget', 'start'), label(wide - 8, high - 6, 'greatest budget', 'end'));
+  return [p(words), picture];
+}
+
+function changesTable(market) {
+  return tableOf('What the aftermarket changed', [
+    { head: 'Turn', of: it => it.number + 1 },
+    { head: 'Pass', of: it => it.pass },
+    { head: 'Student', of: it => market.roll[it.student].name, isText: true },
+    { head: 'Took', of: it => it.took.join(', ') || 'nothing', show: it => namesCell(it.took), isText: true },
+    { head: 'Gave up', of: it => it.gave.join(', ') || 'nothing', show: it => namesCell(it.gave), isText: true },
+  ], changesOf(market));
+}
+
+const MEANING = [
+  'The printed order takes each session\'s commands in its own order, and all of them.',
+  'The budgets are the ones that the seed draws.',
+  'At the printed prices each student has the best bundle that the budget buys, and the tree beside it proves so.',
+  'No section has more students than seats, at any time.',
+  'Each turn of the aftermarket is the due one and goes to the best of what is held and free; the last pass changes nothing.',
+  'The final bundles and the used seats are those that follow.',
+];
+
+function meaningPart() {
+  return [
+    el('ul', {}, MEANING.map(it => el('li', {}, it))),
+    p('It does not mean that the prices came from the search, that they are the fairest, or that the sessions came in that order: '
+      + 'the lines “start” and “error” are read and not judged.'),
+  ];
+}
+
+function hashesTable(market) {
+  return tableOf('The files, by their SHA-256', [
+    { head: 'File', of: it => it.name, isText: true },
+    { head: 'Taken for', of: it => KINDS[it.kind], isText: true },
+    { head: 'Bytes', of: it => it.bytes.length },
+    { head: 'SHA-256', of: it => it.sum ?? 'not computed', show: it => el('span', { class: 'sum' }, it.sum ?? 'not computed by this browser'), isText: true },
+  ], market.files, { filterAt: 20 });
+}
+
+function auditorView(market) {
+  return [
+    el('h2', { tabindex: '-1' }, 'The whole text'),
+    part('The check', figuresPart(market), opening('What “this text holds” means', meaningPart), opening('Which files were checked', () => hashesTable(market))),
+    part('Prices and seats', sectionTable(market)),
+    part('Budgets', ...budgetsPart(market)),
+    part('The aftermarket', changesTable(market)),
+    part('All students', studentTable(market)),
+  ];
+}

@@ -1,0 +1,136 @@
+"""Puts the page together: one file with the module, the example term, and all scripts and styles in it.
+
+The default is the module of the proved program. `--unproved` takes the one that `rt try` builds without proofs, and the page
+then says so in plain sight; it is for whoever works on the page."""
+
+import argparse
+import base64
+import gzip
+import hashlib
+import html
+import json
+import re
+import shutil
+import subprocess
+from pathlib import Path
+
+import kit
+import module
+
+HERE = Path(__file__).resolve().parent
+TOP = HERE.parent
+SCRIPTS = (
+    "elements",
+    "tables",
+    "texts",
+    "wishes",
+    "trees",
+    "drawing",
+    "program",
+    "files",
+    "words",
+    "student",
+    "auditor",
+    "registrar",
+    "page",
+)
+EXAMPLE = ("catalogue.csv", "roll.csv", "settings.json", "published.txt", "desk.session", "web.session")
+UNPROVED = "This page was built without proofs, for work on the page alone. Trust nothing that it says."
+PROVED = "The program in this page is compiled from the LLVM module of the proved program for Linux. What is proved of that, and what is trusted beside it, the README of Course Match says."
+
+
+def packed(data: bytes) -> str:
+    """Bytes as the page holds them."""
+    return base64.b64encode(gzip.compress(data, 9, mtime=0)).decode()
+
+
+def source_of(text: str) -> str:
+    """The policy's word for an inline script or style: its hash."""
+    return f"'sha256-{base64.b64encode(hashlib.sha256(text.encode()).digest()).decode()}'"
+
+
+def said(*words: str) -> str:
+    """What a command prints, at the top of the repository."""
+    return subprocess.run(words, cwd=TOP, check=True, capture_output=True, text=True).stdout.strip()
+
+
+def version() -> str:
+    """The commit, and the tag if there is one; it says where files of the repository differ from it."""
+    return said("git", "describe", "--always", "--dirty")
+
+
+def example() -> bytes:
+    """The files of the example term, each with its name."""
+    return json.dumps([[name, (TOP / "examples/term" / name).read_text()] for name in EXAMPLE]).encode()
+
+
+def page_of(wasm: bytes, is_proved: bool) -> str:
+    """The whole page."""
+    script = "'use strict';\n" + "\n".join((HERE / f"{name}.js").read_text() for name in SCRIPTS)
+    style = (HERE / "course-match.css").read_text()
+    sum_of_module, commit, of_kit = hashlib.sha256(wasm).hexdigest(), version(), said("rt", "version")
+    policy = f"default-src 'none'; script-src {source_of(script)} 'wasm-unsafe-eval'; worker-src blob:; style-src {source_of(style)}; base-uri 'none'; form-action 'none'"
+    about = {"version": commit, "kit": of_kit, "module": sum_of_module, "proved": is_proved}
+    parts = {
+        "policy": policy,
+        "style": style,
+        "script": script,
+        "worker": (HERE / "host.js").read_text() + (HERE / "worker.js").read_text(),
+        "module": packed(wasm),
+        "example": packed(example()),
+        "about": json.dumps(about),
+        "unproved": "" if is_proved else f'<p class="unproved" role="alert">{UNPROVED}</p>',
+        "origin": PROVED if is_proved else UNPROVED,
+        "commit": html.escape(commit),
+        "kit": html.escape(of_kit),
+        "sum": sum_of_module,
+    }
+    text = (HERE / "course-match.html").read_text()
+    return re.sub(r"\{\{(\w+)\}\}", lambda it: parts[it[1]], text)
+
+
+def module_for(arguments: argparse.Namespace, room: Path) -> Path:
+    """The WebAssembly module that the arguments ask for; it is kept by what it is made of, since compiling takes minutes."""
+    crate = TOP / "crates/market_program"
+    if arguments.bitcode:
+        bitcode = arguments.bitcode.resolve()
+    else:
+        bitcode = (kit.unproved_module if arguments.unproved else kit.proved_module)(crate, room)
+    made_of = hashlib.sha256()
+    for file in (bitcode, HERE / "shim.c", HERE / "module.py"):
+        made_of.update(hashlib.sha256(file.read_bytes()).digest())
+    kept = room / f"{made_of.hexdigest()[:16]}.wasm"
+    if not kept.is_file():
+        clang = kit.kit_folder() / "toolchain/bin/clang"
+        shutil.move(module.make_module(clang, bitcode, HERE / "shim.c", room), kept)
+    return kept
+
+
+def main() -> None:
+    parser = argparse.ArgumentParser(prog="scripts/page", description=__doc__)
+    parser.add_argument("--unproved", action="store_true", help="build from what `rt try` compiles, without proofs")
+    parser.add_argument("--bitcode", type=Path, help="with --unproved: take this module of LLVM")
+    arguments = parser.parse_args()
+    if arguments.bitcode and not arguments.unproved:
+        parser.error("--bitcode is for --unproved: a given file is tied to no proof")
+    out, room = HERE / "out", HERE / "out/module"
+    room.mkdir(parents=True, exist_ok=True)
+    wasm = module_for(arguments, room).read_bytes()
+    text = page_of(wasm, not arguments.unproved)
+    (out / "course-match.html").write_text(text)
+    (out / "course-match.wasm").write_bytes(wasm)
+    origin = {
+        "commit": version(),
+        "kit": said("rt", "version"),
+        "proved": not arguments.unproved,
+        "module": hashlib.sha256(wasm).hexdigest(),
+        "page": hashlib.sha256(text.encode()).hexdigest(),
+    }
+    (out / "course-match.json").write_text(json.dumps(origin, indent=2) + "\n")
+    print(
+        f"page/out/course-match.html: {len(text.encode())} bytes, module {len(wasm)} bytes, {'proved' if origin['proved'] else 'UNPROVED'}, commit {origin['commit']}"
+    )
+
+
+if __name__ == "__main__":
+    main()

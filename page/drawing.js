@@ -1,0 +1,94 @@
+// Draws a tree that opens node by node. At one level stand the sections that may be taken next, one below the other, each
+// with what follows when it is taken; the last line of a level closes it.
+
+const points = thousandths => (thousandths / 1000).toFixed(3).replace(/\.?0+$/, '');
+
+function leftWords(walk, chosen) {
+  const left = leftOf(walk, chosen);
+  return `${plural(left.b, 'token is', 'tokens are')} left of ${walk.budget}, ${plural(left.c, 'credit')} and ${plural(left.m, 'section')}`;
+}
+
+// The line of one section that may not be taken, or of several.
+function closedLine(walk, chosen, places) {
+  const words = it => el('span', {}, el('b', {}, walk.menu.places[it].name), ` ${closedBy(walk, chosen, it) ?? 'may not be taken'}`);
+  if (places.length === 1) return el('li', { class: 'closed' }, el('span', { class: 'sign' }, '-'), ' ', words(places[0]), '.');
+  const summary = `${places.length} sections may not be taken: ${listed(places.map(it => walk.menu.places[it].name))}`;
+  return el('li', { class: 'closed' }, opening([el('span', { class: 'sign' }, '-'.repeat(places.length)), ' ', summary],
+    () => el('ul', { class: 'plain' }, places.map(it => el('li', {}, words(it), '.')))));
+}
+
+const RESOURCES = { b: ['token', 'tokens'], c: ['credit', 'credits'], m: ['section', 'sections'] };
+
+// The words of a leaf that a bound closes.
+function boundWords(walk, chosen, from, node) {
+  const it = boundOf(walk, chosen, from, node), most = Math.floor(it.bound / 1000), isTie = most === walk.worth && losesTies(walk, chosen, from);
+  const tie = 'of two of equal worth the one with the earlier section is preferred, and that is the bundle.';
+  const end = `So at most ${most}, ${isTie ? `no more than the ${walk.worth} of the bundle; ${tie}` : `less than the ${walk.worth} of the bundle: no more need be looked at.`}`;
+  if (node.symbol === 'n') {
+    const more = it.brought.map(that => `${that.worth} (${that.name})`).join(' + ');
+    const rest = more ? `The rest can bring ${more} at most, in all ${points(it.bound)}.` : 'Nothing else can come to it.';
+    return [p(`What is chosen is worth ${it.value}. ${rest}`), p(end)];
+  }
+  const [one, many] = RESOURCES[node.symbol], by = walk.menu.places[node.number];
+  const takes = TAKES[node.symbol](by);
+  return [
+    p(`What is chosen is worth ${it.value}, and ${plural(it.left, `${one} is`, `${many} are`)} left. Say that a ${one} is worth what it is worth at ${by.name}: `
+      + `${it.by?.worth ?? 0} for ${plural(takes, one, many)}, ${points(it.rate)} a ${one}. `
+      + 'Who could spend all that is left at that rate, and besides got what each course brings above it, would have at most'),
+    el('ul', { class: 'plain' },
+      el('li', {}, `${it.value} (chosen) + ${points(it.rate)} · ${it.left} (left) = ${points(1000 * it.value + it.rate * it.left)}`),
+      it.brought.map(that => el('li', {}, `+ ${points(that.brings)} (${that.name}: ${that.worth} less ${points(it.rate)} · ${that.takes})`)),
+      el('li', {}, `= ${points(it.bound)}`)),
+    p(end)];
+}
+
+function leafLine(walk, chosen, from, node) {
+  const sign = el('span', { class: 'sign' }, node.symbol + (node.number ?? ''));
+  const names = listed(chosen.map(it => walk.menu.places[it].name));
+  if (node.symbol === '*') return el('li', { class: 'champion' }, sign, ` This is the bundle: ${names}, worth ${walk.worth}.`);
+  if (node.symbol === 'x') {
+    const why = closedBy(walk, chosen, walk.forced);
+    return el('li', { class: 'leaf' }, sign, ` ${walk.menu.places[walk.forced].name} can no more be taken: it ${why}.`);
+  }
+  const most = Math.floor(boundOf(walk, chosen, from, node).bound / 1000), worth = `worth ${most} at most, and the bundle is worth ${walk.worth}`;
+  const rest = chosen.length ? `${names}, with what else may come to ${chosen.length === 1 ? 'it' : 'them'}` : 'All that is left';
+  return el('li', { class: 'leaf' }, opening([sign, ` ${rest}: ${worth}`], () => boundWords(walk, chosen, from, node)));
+}
+
+// The line of a section that is taken, with what follows below it. It is open where it leads to the bundle.
+function takenLine(walk, chosen, node, place) {
+  const now = [...chosen, place], it = walk.menu.places[place];
+  const isOnTheWay = now.every(that => walk.champion.includes(that)) && walk.champion.every(that => that > place || now.includes(that));
+  const must = node.symbol === '!' ? ' has to be taken' : '', rest = `${must} (rated ${it.rating}, costs ${it.price}): ${leftWords(walk, now)}`;
+  const summary = [el('span', { class: 'sign' }, node.symbol), ' with ', el('b', {}, it.name), rest];
+  return el('li', { class: isOnTheWay ? 'way' : '' }, opening(summary, () => levelOf(walk, now, place + 1, node.with), isOnTheWay));
+}
+
+function levelOf(walk, chosen, from, node) {
+  const lines = [];
+  let closed = [];
+  const flush = () => { if (closed.length) lines.push(closedLine(walk, chosen, closed)); closed = []; };
+  for (let place = from; node; place++, node = node.without) {
+    if (node.symbol === '-') { closed.push(place); continue; }
+    flush();
+    lines.push('+!'.includes(node.symbol) ? takenLine(walk, chosen, node, place) : leafLine(walk, chosen, place, node));
+    if (!node.without) break;
+  }
+  return el('ul', { class: 'tree' }, lines);
+}
+
+// The whole drawing, with the tree's text and the table of its places.
+function drawingOf(walk, text) {
+  const places = tableOf('The places of the tree', [
+    { head: 'Place', of: it => it.place },
+    { head: 'Section', of: it => it.name, isText: true },
+    { head: 'Rating', of: it => it.rating },
+    { head: 'Price', of: it => it.price },
+  ], walk.menu.places, { filterAt: 20 });
+  return [
+    p('From the top down each line takes a section or does without it: a line that opens shows what follows when the section is taken, '
+      + `the next line what follows without it. ${leftWords(walk, [])} at first.`),
+    levelOf(walk, [], 0, nodesOf(text)),
+    opening('The tree as it is published, and its places', () => [el('p', { class: 'tree-text' }, code(text)), places]),
+  ];
+}

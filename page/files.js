@@ -1,0 +1,86 @@
+// Tells files by what stands in them, and puts those of one market together.
+const KINDS = {
+  catalogue: 'catalogue', roll: 'roll', settings: 'settings', text: 'published text', session: 'session',
+  manifest: 'manifest', other: 'not needed here', unknown: 'not known',
+};
+const NEEDED = { catalogue: 'the catalogue', roll: 'the roll', settings: 'the settings', text: 'the published text' };
+const BY_NAME = [[/catalog/i, 'catalogue'], [/roll|student/i, 'roll'], [/setting/i, 'settings'], [/publish/i, 'text'], [/session/i, 'session']];
+
+function kindOfJson(text) {
+  try {
+    return Array.isArray(JSON.parse(text).inputs) ? 'manifest' : 'settings';
+  } catch {
+    return 'settings';
+  }
+}
+
+// The kind of a file, by its first lines, and where these tell nothing by its name.
+function kindOf(name, bytes) {
+  const head = decoded(bytes.subarray(0, 65536)), first = head.split(/\r\n|\r|\n/, 1)[0];
+  if (head.startsWith('course-match ')) return 'text';
+  if (/^\s*\{/.test(head)) return kindOfJson(decoded(bytes));
+  if (/section.*course/i.test(first)) return 'catalogue';
+  if (/student.*budget/i.test(first)) return 'roll';
+  if (/^section.*price/i.test(first)) return 'other';
+  const word = /^[ \t]*([a-z]+)[ \t\r\n]/m.exec(head.replace(/^[ \t]*#.*$/gm, ''))?.[1];
+  if (['rate', 'pair', 'clear', 'close'].includes(word)) return 'session';
+  if (['add', 'drop', 'leave', 'entry', 'settled', 'order', 'final', 'bundle', 'finding'].includes(word)) return 'other';
+  if (/^\S+ \S+ (held|unrated|alone|clash|beside|less)\b/.test(first)) return 'other';
+  return BY_NAME.find(([pattern]) => pattern.test(name))?.[1] ?? 'unknown';
+}
+
+// All files below what was dropped, also those in folders.
+async function filesDropped(transfer) {
+  const entries = [...transfer.items].map(it => it.webkitGetAsEntry?.()).filter(Boolean);
+  if (!entries.length) return [...transfer.files];
+  const found = [];
+  const go = async entry => {
+    if (entry.isFile) return found.push(await new Promise((done, fail) => entry.file(done, fail)));
+    const reader = entry.createReader();
+    for (let more; (more = await new Promise((done, fail) => reader.readEntries(done, fail))).length;) for (const it of more) await go(it);
+  };
+  for (const it of entries) await go(it);
+  return found.sort((one, other) => one.name.localeCompare(other.name, 'en', { numeric: true }));
+}
+
+async function loaded(file) {
+  const bytes = new Uint8Array(await file.arrayBuffer());
+  return { name: file.name, bytes, kind: kindOf(file.name, bytes) };
+}
+
+async function hashOf(bytes) {
+  if (!globalThis.crypto?.subtle) return null;
+  return [...new Uint8Array(await crypto.subtle.digest('SHA-256', bytes))].map(it => it.toString(16).padStart(2, '0')).join('');
+}
+
+const baseName = path => String(path).split(/[\\/]/).at(-1);
+
+// The files that a manifest names, in its order; the faults are in words.
+async function byManifest(manifest, files) {
+  const { inputs, text } = JSON.parse(decoded(manifest.bytes)), found = { sessions: [] }, faults = [];
+  for (const { role, file, sha256 } of [...inputs, ...(text ? [{ role: 'text', ...text }] : [])]) {
+    const named = files.find(it => it.name === baseName(file));
+    if (!named) { faults.push(`${manifest.name} names ${baseName(file)}, which is not among the files.`); continue; }
+    const sum = await hashOf(named.bytes);
+    if (sum && sha256 && sum !== String(sha256).toLowerCase()) faults.push(`${named.name} is not the file that ${manifest.name} tells of: its SHA-256 is another.`);
+    if (role === 'session') found.sessions.push(named);
+    else found[role] = named;
+  }
+  return { found, faults };
+}
+
+// The parts of the market among the files: { parts, faults, lacks, isOrdered }, faults and lacks in words. What a manifest
+// names goes before what the files' content tells.
+async function partsOf(files, wanted = Object.keys(NEEDED)) {
+  const of = kind => files.filter(it => it.kind === kind), [manifest] = of('manifest');
+  const { found, faults } = manifest ? await byManifest(manifest, files) : { found: { sessions: [] }, faults: [] };
+  const isOrdered = found.sessions.length > 0 || of('session').length < 2;
+  const parts = { ...found, sessions: found.sessions.length ? found.sessions : of('session') };
+  for (const kind of Object.keys(NEEDED)) {
+    parts[kind] ??= of(kind).at(-1);
+    if (!found[kind] && of(kind).length > 1) faults.push(`Several files are taken for ${NEEDED[kind]} (${listed(of(kind).map(it => it.name))}): remove all but one.`);
+  }
+  const lacks = wanted.filter(kind => !parts[kind]).map(kind => NEEDED[kind]);
+  if (!parts.sessions.length) lacks.push('the sessions (what the students said)');
+  return { parts, faults, lacks, isOrdered };
+}

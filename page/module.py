@@ -1,0 +1,87 @@
+"""Makes the WebAssembly module out of the LLVM module of the program.
+
+No line of the program is changed. Of its LLVM text only the target's triple and data layout, attributes of functions that
+speak of x86-64, and the name `main` are; `shim.c` is all that is linked to it."""
+
+import re
+import subprocess
+import sys
+from pathlib import Path
+
+TARGET = ["--target=wasm64-unknown-unknown", "--no-default-config", "-fno-crash-diagnostics", "-ffunction-sections", "-fdata-sections"]
+# The processor and the passes of LLVM are those with which the kit compiles for this target and for x86-64.
+PROGRAM = "-mcpu=lime1 -mllvm -expand-div-rem-bits=64 -mllvm -expand-fp-convert-bits=64 -mllvm -trap-unreachable"
+PROGRAM += " -mllvm -disable-machine-licm -mllvm -disable-postra-machine-licm -mllvm -sink-common-insts=false -O3"
+SHIM = "-mcpu=lime1 -O2 -ffreestanding -nostdinc -fno-builtin -Wall -Werror -Wno-incompatible-library-redeclaration"
+LINK = "-mwasm64 --no-entry --gc-sections --stack-first -z stack-size=8388608 --max-memory=8589934592 --strip-all"
+OF_X86 = re.compile(r' sanitize_address|"frame-pointer"="all" ?|"probe-stack"="[^"]*" ?|"stack-probe-size"="[^"]*" ?')
+PROCESSOR = re.compile(r'"target-cpu"="[^"]*"')
+NO_ATTRIBUTE = re.compile(r"\{ +\}")
+
+
+def run(words: list[str], **how) -> subprocess.CompletedProcess:
+    """Runs a command and stops where it fails."""
+    ran = subprocess.run(words, text=True, stdout=subprocess.PIPE, **how)
+    if ran.returncode:
+        sys.exit(f"page: this failed: {' '.join(map(str, words))}")
+    return ran
+
+
+def data_layout(clang: Path) -> str:
+    """The line of the target's data layout, as the kit's clang writes it."""
+    text = run([clang, *TARGET, "-S", "-emit-llvm", "-x", "c", "-", "-o", "-"], input="int x;").stdout
+    return next(line for line in text.splitlines() if line.startswith("target datalayout"))
+
+
+def retargeted(line: str, layout: str) -> str:
+    """A line of the program's LLVM text, for WebAssembly."""
+    if line.startswith("target datalayout"):
+        return layout
+    if line.startswith("target triple"):
+        return 'target triple = "wasm64-unknown-unknown"'
+    if line.startswith("attributes "):
+        line = PROCESSOR.sub('"target-cpu"="lime1" "target-features"="+simd128"', OF_X86.sub("", line))
+        return NO_ATTRIBUTE.sub("{ nounwind }", line)
+    return line.replace("@main(", "@program_main(")
+
+
+def retarget(clang: Path, module: Path, text: Path) -> None:
+    """Writes the LLVM text of the module, for WebAssembly."""
+    layout, printed = data_layout(clang), text.with_suffix(".x86.ll")
+    run(
+        [
+            clang,
+            "--target=x86_64-unknown-linux-gnu",
+            "-x",
+            "ir",
+            module,
+            "-S",
+            "-emit-llvm",
+            "-Xclang",
+            "-disable-llvm-passes",
+            "-o",
+            printed,
+        ]
+    )
+    with open(printed) as lines, open(text, "w") as to:
+        for number, line in enumerate(lines, 1):
+            line = retargeted(line.rstrip("\n"), layout)
+            if "x86" in line:
+                sys.exit(f"page: {printed}:{number} asks for x86: {line[:120]}")
+            to.write(line + "\n")
+    printed.unlink()
+
+
+def make_module(clang: Path, module: Path, shim: Path, room: Path) -> Path:
+    """Makes the WebAssembly module in the folder `room`; what it is made of goes again."""
+    text, program, of_shim, wasm = (room / it for it in ("program.ll", "program.o", "shim.o", "course-match.wasm"))
+    retarget(clang, module, text)
+    run([clang, *TARGET, *PROGRAM.split(), "-c", "-x", "ir", text, "-o", program])
+    run([clang, *TARGET, *SHIM.split(), "-c", shim, "-o", of_shim])
+    linker = room / "wasm-ld"  # (the kit's linker goes by the name that it is called)
+    linker.unlink(missing_ok=True)
+    linker.symlink_to(clang)
+    run([linker, *LINK.split(), "-o", wasm, program, of_shim])
+    for it in (text, program, of_shim, linker):
+        it.unlink()
+    return wasm

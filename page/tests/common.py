@@ -1,0 +1,66 @@
+"""What the tests of the page share: the files, the native program without threads, and the page's own program."""
+
+import base64
+import json
+import os
+import subprocess
+from pathlib import Path
+
+from browser import Browser
+
+HERE = Path(__file__).resolve().parent
+TOP = HERE.parents[1]
+TERM, MARKET = TOP / "examples/term", TOP / "examples/market"
+PAGE = TOP / "page/out/course-match.html"
+PICTURES = TOP / "page/out/pictures"
+PROGRAM = Path(os.environ.get("PROGRAM", TOP / "crates/market_program/out/market_program"))
+VECTORS = Path(os.environ.get("VECTORS", TOP.parent / "shared/vectors"))
+
+
+def refuser(room: Path) -> Path:
+    """A shared object that refuses each thread."""
+    made = room / "refuse.so"
+    subprocess.run(["gcc", "-shared", "-fPIC", "-o", made, HERE / "refuse.c"], check=True)
+    return made
+
+
+def native(words: list[str], files: dict[str, bytes], room: Path, refuse: Path) -> tuple[int, bytes]:
+    """The native program's status and output, with every thread refused; the files lie in a folder of their own."""
+    folder = room / "files"
+    folder.mkdir(exist_ok=True)
+    for it in folder.iterdir():
+        it.unlink()
+    for name, content in files.items():
+        (folder / name).write_bytes(content)
+    ran = subprocess.run(
+        [PROGRAM.resolve(), *words],
+        cwd=folder,
+        stdin=subprocess.DEVNULL,
+        stdout=subprocess.PIPE,
+        env={"LD_PRELOAD": str(refuse)},
+        timeout=300,
+    )
+    return ran.returncode, ran.stdout
+
+
+# The page's own program, called from outside: files come in base64, answers go so.
+ASK = """(async ([words, files, limit]) => {
+  const bytes = files.map(([name, text]) => [name, Uint8Array.from(atob(text), it => it.charCodeAt(0))]);
+  const { status, out, ms } = await app.program.ask({ words, files: bytes }, limit);
+  let text = '';
+  for (let at = 0; at < out.length; at += 32768) text += String.fromCharCode(...out.subarray(at, at + 32768));
+  return [status, btoa(text), ms];
+})"""
+
+
+def in_page(tab: Browser, words: list[str], files: dict[str, bytes], limit: int = 0) -> tuple[int | str, bytes]:
+    """The status and output of the page's module."""
+    given = [words, [[name, base64.b64encode(content).decode()] for name, content in files.items()], limit]
+    status, out, _ = tab.evaluate(f"{ASK}({json.dumps(given)})")
+    return status, base64.b64decode(out)
+
+
+def open_page(tab: Browser) -> None:
+    """Opens the page and waits till it can be used."""
+    tab.go(PAGE.as_uri())
+    tab.wait("document.body.dataset.ready")

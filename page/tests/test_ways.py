@@ -1,0 +1,331 @@
+"""Clicks through the page as its three readers do, by the browser's remote protocol, and keeps pictures for the eye."""
+
+import hashlib
+import json
+import shutil
+import tempfile
+import unittest
+from pathlib import Path
+
+from browser import browser, chromium
+from common import PAGE, PICTURES, TERM, open_page
+
+FILES = ["catalogue.csv", "roll.csv", "settings.json", "published.txt", "desk.session", "web.session"]
+BESIDE = ["dropadd.txt", "envy.txt", "reason.txt", "desk.requests"]
+SIZES = {"desktop": (1200, 900), "phone": (390, 844)}
+NO_MEMORY64 = "WebAssembly.validate = () => false"
+# Walks each tree of the text as the drawing does; answers how many nodes there are, and those of which the page would say what
+# the symbol does not.
+WALKS = """(market => {
+  let count = 0;
+  const wrong = [];
+  const go = (walk, chosen, from, node, label) => {
+    for (let place = from; node; place++, node = node.without) {
+      const { symbol } = node, why = place < walk.menu.places.length ? closedBy(walk, chosen, place) : 'the end';
+      const holds = { '-': () => why !== null, '+': () => why === null, '*': () => why === 'the end' && chosen.join() === walk.champion.join() }[symbol]
+        ?? (() => boundOf(walk, chosen, place, node).bound < 1000 * (walk.worth + (losesTies(walk, chosen, place) ? 1 : 0)));
+      count++;
+      if (!holds()) wrong.push(`${label} at ${node.at}`);
+      if (node.with) go(walk, [...chosen, place], place + 1, node.with, label);
+    }
+  };
+  for (const { at: student, name } of market.roll) {
+    const { names, tree } = market.text.bundles[student];
+    go(walkOf(market, student, { budget: market.text.budgets[student], champion: names }), [], 0, nodesOf(tree), name);
+    for (const turn of turnsOf(market, student)) {
+      go(walkOf(market, student, { budget: raisedBudget(market, student), allowed: turn.allowed, champion: turn.names }), [], 0, nodesOf(turn.tree), `${name} pass ${turn.pass}`);
+    }
+  }
+  return [count, wrong.slice(0, 5)];
+})(app.market)"""
+
+
+@unittest.skipUnless(chromium() and PAGE.is_file(), "no Chromium, or no page is built")
+class Ways(unittest.TestCase):
+    """Each test opens the page anew."""
+
+    @classmethod
+    def setUpClass(cls) -> None:
+        cls.tab = cls.enterClassContext(browser())
+        PICTURES.mkdir(parents=True, exist_ok=True)
+
+    def setUp(self) -> None:
+        self.room = Path(self.enterContext(tempfile.TemporaryDirectory(prefix="course-match-")))
+        self.tab.look(*SIZES["desktop"])
+        open_page(self.tab)
+
+    def tearDown(self) -> None:
+        asked = [it for what, it in self.tab.seen if what == "asks" and not it.startswith(("blob:", PAGE.as_uri()))]
+        failed = [it for what, it in self.tab.seen if what == "fails"]
+        self.tab.seen.clear()
+        self.assertEqual(([], []), (asked, failed))
+
+    def give(self, names: list[str], changed: dict[str, bytes] | None = None) -> None:
+        """Chooses files of the example term, some of them with another content."""
+        for name in names:
+            content = (changed or {}).get(name)
+            (self.room / name).write_bytes(content if content is not None else (TERM / name).read_bytes())
+        self.tab.choose("#choose", [self.room / it for it in names])
+
+    def verdict(self, title: str) -> str:
+        """Waits for the verdict; answers all its words."""
+        self.tab.wait(f"document.querySelector('#verdict h2')?.textContent === {json.dumps(title)} && !app.works")
+        return self.words("#verdict")
+
+    def words(self, selector: str) -> str:
+        return self.tab.evaluate(f"document.querySelector({json.dumps(selector)}).textContent")
+
+    def click(self, words: str) -> None:
+        """Clicks the button that has these words."""
+        self.tab.evaluate(
+            f"[...document.querySelectorAll('button, summary')].find(it => it.checkVisibility() && it.textContent.includes({json.dumps(words)})).click()"
+        )
+
+    def open_all(self, selector: str) -> None:
+        """Opens all parts below an element, and what stands in them."""
+        for _ in range(9):
+            self.tab.evaluate(
+                f"document.querySelectorAll('{selector} details').forEach(it => it.open = true); new Promise(done => setTimeout(done, 50))"
+            )
+
+    def pictures(self, name: str) -> None:
+        """Keeps the page light and dark, on a desktop and on a phone."""
+        for size, (width, height) in SIZES.items():
+            for dark in (False, True):
+                self.tab.look(width, height, dark)
+                self.tab.picture(PICTURES / f"{name}-{size}-{'dark' if dark else 'light'}.png")
+        self.tab.look(*SIZES["desktop"])
+
+    def show(self, name: str) -> None:
+        """Types a student's name and presses Enter."""
+        self.tab.evaluate("$('student-name').focus()")
+        self.tab.type(name)
+        self.tab.press("Enter", "\r")
+        self.tab.wait(f"$('student-answer').querySelector('h2')?.textContent === {json.dumps(name)} && !app.works")
+
+    def test_student(self) -> None:
+        self.give(["web.session", "published.txt", *BESIDE, "settings.json", "roll.csv", "desk.session", "catalogue.csv"])
+        self.verdict("This text holds")
+        self.show("n.jones")
+        told = self.words("#student-answer")
+        for words in (
+            "n.jones holds ACCT-611-B, FNCE-601-A and MGMT-691-B in the end",
+            "4542 tokens: 4500 by the roll, and 42 by the draw",
+            "FNCE-717-A costs 3252. Beside what n.jones has in the second stage (ACCT-611-B, FNCE-601-A and HCMG-841-A, together 3914) it passes the budget of 4542.",
+            "ACCT-611-B and FNCE-717-A, worth 188 by the own ratings, for 4103 of the 4542 tokens",
+            "worth 260, 72 more",
+            "s.adler with 5018 tokens",
+            "ACCT-611-B, FNCE-601-A and MGMT-691-B, which are worth more",
+        ):
+            self.assertIn(words, told)
+        self.pictures("student")
+
+    def test_trees_are_read_as_the_guide_reads_them(self) -> None:
+        self.click("Take the example term")
+        self.verdict("This text holds")
+        self.show("n.jones")
+        self.click("Second stage")
+        self.open_all("#student-answer")
+        told = self.words("#student-answer")
+        for words in (
+            "3691 tokens are left of 4542",
+            "1749 tokens are left of 4542",
+            "FNCE-601-B is of the same course as FNCE-601-A",
+            "What is chosen is worth 188. Nothing else can come to it.",
+            "109 for 2989 tokens, 0.036 a token",
+            "+ 31.644 (HCMG-841-A: 72 less 0.036 · 1121)",
+            "+ 6.592 (FNCE-601-B",
+            "+ 1.396 (MGMT-690-A",
+            "= 260.508",
+            "So at most 260, no more than the 260 of the bundle",
+            "= 247.429",
+            "439 tokens are left",
+            "FNCE-717-A can no more be taken: it costs 3252, and 1749 tokens are left",
+            "72 (HCMG-841-A)",
+            "So at most 172, less than the 188 of the bundle",
+        ):
+            self.assertIn(words, told)
+        self.pictures("trees")
+
+    def test_each_tree_is_walked_as_it_stands(self) -> None:
+        self.click("Take the example term")
+        self.verdict("This text holds")
+        count, wrong = self.tab.evaluate(WALKS)
+        self.assertEqual([], wrong)
+        self.assertGreater(count, 5000)
+
+    def test_auditor(self) -> None:
+        self.give(FILES)
+        self.verdict("This text holds")
+        self.click("Whole text")
+        self.assertIn("59 (the settings accept 60)", self.words("#auditor"))
+        sections = "document.querySelector('[aria-label=\"Sections: prices and seats\"]')"
+        for _ in range(2):
+            self.tab.evaluate(f"[...{sections}.querySelectorAll('button')].find(it => it.textContent === 'Price').click()")
+        self.assertEqual(
+            "FNCE-717-A3252",
+            self.tab.evaluate(f"[...{sections}.querySelector('tbody tr').children].slice(0, 2).map(it => it.textContent).join('')"),
+        )
+        self.assertEqual("descending", self.tab.evaluate(f"{sections}.querySelector('[aria-sort]').getAttribute('aria-sort')"))
+        self.tab.evaluate(
+            "{ const filter = document.querySelector('[aria-label=\"Filter: Students: budgets and bundles\"]'); filter.value = 'n.jones'; filter.dispatchEvent(new Event('input')); }"
+        )
+        self.assertEqual(
+            1, self.tab.evaluate("document.querySelectorAll('[aria-label=\"Students: budgets and bundles\"] tbody tr').length")
+        )
+        self.pictures("auditor")
+
+    def test_finding_has_its_place(self) -> None:
+        spoilt = (
+            (TERM / "published.txt")
+            .read_bytes()
+            .replace(b"bundle n.jones [ACCT-611-B,FNCE-601-A,HCMG-841-A]", b"bundle n.jones [ACCT-611-B,FNCE-601-A]")
+        )
+        self.give(FILES, {"published.txt": spoilt})
+        told = self.verdict("This text does not hold")
+        line = spoilt[: spoilt.index(b"bundle n.jones")].count(b"\n") + 1
+        for words in (
+            "finding: student n.jones tree open at 11",
+            f"It is line {line} of the published text",
+            "The tree of n.jones does not prove",
+        ):
+            self.assertIn(words, told)
+        self.assertEqual("*", self.words("#verdict mark"))
+        self.pictures("finding")
+
+    def test_registrar(self) -> None:
+        self.give([it for it in FILES if it != "published.txt"])
+        self.click("Run a market")
+        self.tab.wait("document.querySelector('#registrar form')")
+        self.click("Look at the wishes")
+        self.tab.wait("document.querySelector('#run-answer h3')")
+        self.assertIn("The desk carried out", self.words("#run-answer"))
+        self.tab.evaluate("$('setting-accept').value = '0'; $('setting-turns').value = '0'")
+        self.tab.evaluate("document.querySelector('#registrar form').requestSubmit()")
+        self.tab.wait("document.querySelector('#run-answer h3')?.textContent === 'No prices were found'")
+        self.click("Set “accept” to")
+        self.tab.evaluate("document.querySelector('#registrar form').requestSubmit()")
+        self.tab.wait("document.querySelector('#run-answer h3')?.textContent === 'The market has prices'")
+        self.pictures("registrar")
+        self.tab.call("Page.setDownloadBehavior", behavior="allow", downloadPath=str(self.room))
+        for name, words in (("published.txt", "Save the published text"), ("manifest.json", "Save the manifest")):
+            self.click(words)
+            self.tab.until(lambda saved=self.room / name: saved.is_file() and saved.stat().st_size > 0, f"{name} is saved")
+        manifest = json.loads((self.room / "manifest.json").read_text())
+        self.assertEqual({"inputs", "words", "program", "text", "elapsed", "made"}, set(manifest))
+        self.assertEqual(["catalogue", "roll", "settings", "session", "session"], [it["role"] for it in manifest["inputs"]])
+        self.assertEqual(hashlib.sha256((self.room / "published.txt").read_bytes()).hexdigest(), manifest["text"]["sha256"])
+        self.click("Check it and look at it")
+        self.verdict("This text holds")
+
+    def test_work_can_be_stopped(self) -> None:
+        self.click("Take the example term")
+        self.verdict("This text holds")
+        self.click("Run a market")
+        self.tab.evaluate("$('setting-accept').value = '0'; $('setting-turns').value = '10000'")
+        self.tab.evaluate("document.querySelector('#registrar form').requestSubmit()")
+        self.tab.wait("!$('working').hidden && $('working-time').textContent !== ''")
+        self.assertIn("Running the market", self.words("#working"))
+        self.click("Stop")
+        self.tab.wait("document.querySelector('#run-answer h3')?.textContent === 'Stopped' && $('working').hidden")
+        self.click("One student")
+        self.show("k.abara")
+
+    def test_bad_files_are_refused_in_words(self) -> None:
+        roll, settings, catalogue = ((TERM / it).read_bytes() for it in ("roll.csv", "settings.json", "catalogue.csv"))
+        for changed, words in (
+            (
+                {"roll.csv": roll.replace(b"n.jones,4500,8", b"n.jones,4500,8.5")},
+                "column 3 (credits): “8.5” stands there. Expected: a whole number from 0 to 800",
+            ),
+            ({"roll.csv": roll.replace(b",", b";")}, "semicolons in place of commas"),
+            (
+                {"roll.csv": roll.replace(b"n.jones,", b"s.adler,")},
+                "column 1 (student): “s.adler” stands there. Expected: a name that no earlier row has, and row 3 has it already",
+            ),
+            (
+                {"catalogue.csv": catalogue.replace(b"M1030-1200", b"M1030-2560", 1)},
+                "catalogue.csv, row 4 (the header is row 1): column 5 (meetings)",
+            ),
+            (
+                {"settings.json": settings.replace(b'"spread": 7', b'"spread": 70')},
+                "settings.json: The setting spread is out of its range: a whole number, 0 to 49",
+            ),
+            ({"settings.json": settings.replace(b"7,", b"7")}, "settings.json: It is not JSON"),
+        ):
+            with self.subTest(words=words):
+                self.give(FILES, changed)
+                self.assertIn(words, self.verdict("A file is refused"))
+                self.tab.evaluate("verdict('open', '')")
+
+    def test_want_of_memory_is_told(self) -> None:
+        self.tab.evaluate("app.limit = 9.2e6")
+        self.click("Take the example term")
+        self.assertIn("status 7", self.verdict("There is not enough memory"))
+
+    def test_manifest_gives_the_order(self) -> None:
+        sessions = [(TERM / it).read_bytes() for it in ("desk.session", "web.session")]
+        names = {"catalogue": "catalogue.csv", "roll": "roll.csv", "settings": "settings.json"}
+        inputs = [
+            {"role": role, "file": name, "sha256": hashlib.sha256((TERM / name).read_bytes()).hexdigest()} for role, name in names.items()
+        ]
+        inputs += [
+            {"role": "session", "file": name, "sha256": hashlib.sha256(it).hexdigest()}
+            for name, it in zip(("z.session", "a.session"), sessions)
+        ]
+        text = {"file": "published.txt", "sha256": hashlib.sha256((TERM / "published.txt").read_bytes()).hexdigest()}
+        for name, it in zip(("z.session", "a.session"), sessions):
+            (self.room / name).write_bytes(it)
+        (self.room / "manifest.json").write_text(json.dumps({"inputs": inputs, "words": [], "program": "", "text": text}))
+        for name in FILES[:4]:
+            shutil.copy(TERM / name, self.room / name)
+        self.tab.choose("#choose", sorted(self.room.iterdir()))
+        self.verdict("This text holds")
+        self.tab.evaluate("app.files = []; app.check()")
+        (self.room / "z.session").write_bytes(sessions[0] + b"# changed\n")
+        self.tab.choose("#choose", sorted(self.room.iterdir()))
+        self.assertIn("z.session is not the file that manifest.json tells of", self.verdict("Not all files are there yet"))
+
+    def test_old_browser_is_told_which_ones_can(self) -> None:
+        script = self.tab.call("Page.addScriptToEvaluateOnNewDocument", source=NO_MEMORY64)["identifier"]
+        self.tab.go(PAGE.as_uri())
+        self.tab.wait("!$('old-browser').hidden")
+        self.assertIn("Firefox from 134 on", self.words("#old-browser"))
+        self.tab.call("Page.removeScriptToEvaluateOnNewDocument", identifier=script)
+
+    def test_keyboard_reaches_everything(self) -> None:
+        self.click("Take the example term")
+        self.verdict("This text holds")
+        self.tab.evaluate("document.activeElement.blur(); scrollTo(0, 0)")
+        reached = set()
+        for _ in range(40):
+            self.tab.press("Tab")
+            reached.add(self.tab.evaluate("document.activeElement.id || document.activeElement.textContent.trim().slice(0, 20)"))
+        for name in ("to-student", "to-auditor", "to-registrar", "student-name", "The files: 6"):
+            self.assertIn(name, reached)
+
+    def test_everything_has_a_name(self) -> None:
+        self.click("Take the example term")
+        self.verdict("This text holds")
+        self.show("n.jones")
+        nameless = """[...document.querySelectorAll('button, input, select, [role=region], [role=img]')].filter(it =>
+          !it.textContent.trim() && !it.getAttribute('aria-label') && !it.labels?.length).map(it => it.outerHTML.slice(0, 120))"""
+        self.assertEqual([], self.tab.evaluate(nameless))
+        self.assertEqual(
+            [],
+            self.tab.evaluate(
+                "(all => all.filter((it, at) => all.indexOf(it) !== at))([...document.querySelectorAll('[id]')].map(it => it.id))"
+            ),
+        )
+
+    def test_prints(self) -> None:
+        self.click("Take the example term")
+        self.verdict("This text holds")
+        self.show("n.jones")
+        self.tab.look(*SIZES["desktop"], medium="print")
+        self.tab.picture(PICTURES / "student-print.png")
+        self.assertFalse(self.tab.evaluate("document.querySelector('nav').checkVisibility()"))
+
+
+if __name__ == "__main__":
+    unittest.main()

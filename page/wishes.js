@@ -1,0 +1,70 @@
+// What the students said. The desk itself is the program's: what all have said, in the text's order, is put into one
+// session, and `prefer` tells how it ends.
+
+const decoded = bytes => new TextDecoder().decode(bytes);
+
+// The lines of a session that are commands, with their numbers (FORMATS, "Sessions").
+function commandsOf(bytes) {
+  const lines = decoded(bytes).split('\n').map(it => it.endsWith('\r') ? it.slice(0, -1) : it);
+  return lines.map((line, at) => ({ line, number: at + 1 })).filter(({ line }) => /^[ \t]*[^ \t#]/.test(line));
+}
+
+// How often each session stands in an order: { 1: 606, 2: 992 }.
+function countsIn(order) {
+  const counts = new Map();
+  for (const it of order) counts.set(it, (counts.get(it) ?? 0) + 1);
+  return counts;
+}
+
+// The orders of the given sessions in which each has as many commands as the text says, at most `most`.
+function possibleOrders(sessions, order, most = 24) {
+  const counts = countsIn(order), sizes = sessions.map(it => commandsOf(it.bytes).length), found = [];
+  const go = chosen => {
+    if (found.length === most) return;
+    if (chosen.length === sessions.length) { found.push(chosen.map(it => sessions[it])); return; }
+    const wanted = counts.get(chosen.length + 1) ?? 0;
+    sizes.forEach((size, at) => { if (size === wanted && !chosen.includes(at)) go([...chosen, at]); });
+  };
+  go([]);
+  return found;
+}
+
+// The order line of a text, without reading the rest of it.
+function orderOf(bytes) {
+  const from = bytes.indexOf(10) + 1, to = bytes.indexOf(10, from);
+  const line = decoded(bytes.subarray(from, to < 0 ? bytes.length : to));
+  return line.startsWith('order') ? line.split(' ').slice(1).map(Number) : [];
+}
+
+// All commands in one session, in the order of the text.
+function merged(order, sessions) {
+  const left = sessions.map(it => commandsOf(it.bytes)), at = sessions.map(() => 0);
+  return new TextEncoder().encode(order.map(it => left[it - 1][at[it - 1]++].line + '\n').join(''));
+}
+
+// The closed preferences that `prefer` prints: of each student the ratings and the adjustments.
+function preferencesOf(answer) {
+  const found = new Map();
+  const of = name => {
+    if (!found.has(name)) found.set(name, { ratings: new Map(), pairs: [] });
+    return found.get(name);
+  };
+  for (const line of answer.split('\n')) {
+    const [word, student, ...rest] = line.split(' ');
+    if (word === 'rate') of(student).ratings.set(rest[0], Number(rest[1]));
+    else if (word === 'pair') of(student).pairs.push([rest[0], rest[1], Number(rest[2])]);
+  }
+  return found;
+}
+
+// The desk's replies other than `done`, each with the file and line of its command.
+function repliesOf(answer, sessions) {
+  const left = sessions.map(it => commandsOf(it.bytes)), at = sessions.map(() => 0), found = [];
+  for (const line of answer.split('\n')) {
+    const [word, session, reply, ...command] = line.split(' ');
+    if (word !== 'entry') continue;
+    const number = Number(session) - 1, { number: row, line: said } = left[number][at[number]++];
+    if (reply !== 'done') found.push({ file: sessions[number].name, row, reply, command: command[0] === 'unreadable' ? said.trim() : command.join(' ') });
+  }
+  return found;
+}

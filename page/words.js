@@ -1,0 +1,131 @@
+// Says in words what the program answers by a status and a line (FORMATS, "Statuses", "Refusals of a table", "Findings").
+const COLUMNS = {
+  catalogue: [['section', 'a name'], ['course', 'a name'], ['seats', 'a whole number from 0 to 9999'], ['credits', 'a whole number from 0 to 100'],
+    ['meetings', 'meetings as M0900-1020;W0900-1020, or nothing'], ['parts', '1 for the first half of the term, 2 for the second, 12 for both']],
+  roll: [['student', 'a name'], ['budget', 'a whole number from 0 to 900000'], ['credits', 'a whole number from 0 to 800'],
+    ['courses', 'a whole number from 0 to 8'], ['carry', 'a whole number, at most 900000 less the budget']],
+};
+const HEADERS = {
+  catalogue: 'section,course,seats,credits,meetings or section,course,seats,credits,meetings,parts',
+  roll: 'student,budget,credits,courses or student,budget,credits,courses,carry',
+};
+const NAME = 'A name is 1 to 32 letters (A to Z, a to z), digits, dashes, underscores and dots.';
+const RANGES = {
+  seed: '0 to 18446744073709551615', spread: '0 to 49', accept: '0 to 1000000000000', turns: '0 to 10000', tabu: '1 to 1000',
+  patience: '1 to 10000', steps: 'a list of 1 to 16 numbers, each 1 to 100000', raise: '0 to 50',
+};
+
+const shortened = it => it.length > 80 ? it.slice(0, 77) + '..' : it;
+const quoted = it => `“${shortened(it)}”`;
+
+// The cause of a refused record of a table, with what stands there and what is expected.
+function recordWords(kind, row, cause, text) {
+  const record = records(text)[row - 1] ?? [], columns = COLUMNS[kind];
+  const at = column => `column ${column} (${columns[column - 1][0]}): ${quoted(record[column - 1] ?? '')} stands there. Expected: ${columns[column - 1][1]}`;
+  const [, number] = /column (\d+)$/.exec(cause) ?? [];
+  if (cause === 'header') {
+    const semicolons = record.join().includes(';') ? ' The file has semicolons in place of commas: save it with commas.' : '';
+    return `The header is ${quoted(record.join(','))}. Expected: ${HEADERS[kind]}, letter by letter.${semicolons}`;
+  }
+  if (cause === 'fields') {
+    return `The record has ${plural(record.length, 'field')}, and the header ${records(text)[0].length}: a comma too many or too few, or a quote that is not closed.`;
+  }
+  if (cause === 'too many rows') return kind === 'roll' ? 'A roll has at most 2,000 students.' : 'A catalogue has at most 400 sections.';
+  if (cause.startsWith('name')) return `${at(number)}. ${NAME}`;
+  if (cause.startsWith('number')) return `${at(number)}, without sign, point or leading zeros.`;
+  if (cause.startsWith('repeats')) return `${at(1)} that no earlier row has, and row ${/\d+/.exec(cause)[0]} has it already. Rename one of the two, or remove it.`;
+  return at(cause === 'meetings' ? 5 : 6) + '.';
+}
+
+function settingsWords(cause) {
+  const [, key] = /(?:missing|range of) (\w+)$/.exec(cause) ?? [];
+  if (cause === 'not json') return 'It is not JSON (a comma, a quote or a bracket too many or too few).';
+  if (cause === 'not an object') return 'It is JSON, but no object: the settings stand between { and }.';
+  if (cause === 'unknown key') return `It has a setting that is none. There are these: ${listed(Object.keys(RANGES))}.`;
+  if (cause.startsWith('missing')) return `The setting ${key} is missing.`;
+  return `The setting ${key} is out of its range: ${key === 'steps' ? '' : 'a whole number, '}${RANGES[key]}. Expected without point, exponent or sign.`;
+}
+
+function refusalWords(line, call) {
+  const [, number, row, cause] = /^input (\d+) row (\d+): (.*)$/.exec(line), file = call.inputs[number - 1];
+  if (row === '0') return `${file.name}: ${settingsWords(cause)}`;
+  return `${file.name}, row ${row} (the header is row 1): ${recordWords(file.kind, Number(row), cause, decoded(file.bytes))}`;
+}
+
+const DEFECTS = {
+  syntax: 'no symbol stands there', open: 'the tree stops where it has to go on, or a better bundle was found', redundant: 'the tree goes on where it has to stop',
+  leaf: 'another bound closes it', branch: 'another of the symbols * + - has to stand there', rest: 'the tree is at its end, and more follows',
+};
+const FINDINGS = [
+  [/^line (\d+) missing$/, 'A line is missing.'],
+  [/^line (\d+) form$/, 'The line has not the form that is due there. (A text that a spreadsheet or an editor saved with other line ends is another text.)'],
+  [/^line (\d+) rest$/, 'There is more behind the end.'],
+  [/^journal at (\d+)$/, it => `The order line does not take each session's commands in their order, and all of them: entry ${it} is wrong. A session may be missing, be another file, or stand in another place.`],
+  [/^budget (\S+)$/, it => `The budget of ${it} is not what the roll, the settings and the draw give.`],
+  [/^student (\S+) unaffordable$/, it => `The bundle of ${it} costs more than the budget.`],
+  [/^student (\S+) infeasible$/, it => `${it} can not have this bundle: two sections clash, a cap is passed, or a section is not rated.`],
+  [/^student (\S+) tree (\w+) at (\d+)$/, (it, defect, at) => `The tree of ${it} does not prove that the bundle is the best one: at its symbol ${at} (counted from 0) ${DEFECTS[defect]}.`],
+  [/^seats (\S+) (\d+) of (\d+)$/, (it, used, seats) => `${it} has ${used} students in the second stage, and ${seats} seats.`],
+  [/^turn (\d+) order$/, it => `Turn ${it} is not the one that is due.`],
+  [/^turn (\d+) unaffordable$/, it => `The bundle of turn ${it} costs more than the raised budget.`],
+  [/^turn (\d+) infeasible$/, it => `The student of turn ${it} can not have this bundle: two sections clash, a cap is passed, or a section is not rated.`],
+  [/^turn (\d+) taken$/, it => `At turn ${it} one of the sections is neither held nor free.`],
+  [/^turn (\d+) tree (\w+) at (\d+)$/, (it, defect, at) => `The tree of turn ${it} does not prove that the bundle is the best one: at its symbol ${at} (counted from 0) ${DEFECTS[defect]}.`],
+  [/^not quiet after (\d+) turns$/, it => `The turns end after ${it}, before a whole pass without a change.`],
+  [/^final (\S+)$/, it => `The last bundle of ${it} is not the one after the last turn.`],
+  [/^used (\S+)$/, it => `The used seats of ${it} are not those that the last bundles take, or the seats are not the catalogue's.`],
+];
+
+function findingWords(words) {
+  for (const [pattern, told] of FINDINGS) {
+    const found = pattern.exec(words);
+    if (found) return typeof told === 'string' ? told : told(...found.slice(1));
+  }
+  return words;
+}
+
+// The line of the text that a finding names, and the byte of its tree, if it names one.
+function placeOf(words, parts) {
+  const catalogue = catalogueIn(parts), roll = rollIn(parts), lines = decoded(parts.text.bytes).split('\n');
+  const none = linesOf(roll.length, catalogue.length, 0), at = linesOf(roll.length, catalogue.length, turnCount(lines, none.turns));
+  const [word, second] = words.split(' '), student = roll.findIndex(it => it.name === second), section = catalogue.findIndex(it => it.name === second);
+  const [, byte] = /tree \w+ at (\d+)$/.exec(words) ?? [];
+  const line = {
+    line: Number(second), journal: at.order, budget: at.budgets + student, student: at.bundles + student, seats: at.prices + section,
+    turn: at.turns + Number(second) - 1, not: at.finals, final: at.finals + student, used: at.used + section,
+  }[word];
+  return { line, text: lines[line - 1] ?? '', byte: byte === undefined ? null : Number(byte) };
+}
+
+const AGAIN = 'Nothing is lost: correct it and give the files again. The first fault alone is told.';
+
+// What an answer says, by its status: { title, words, help?, finding? }. `line` is its last line, `name` the file that it names.
+const TOLD = {
+  2: ({ name }) => ({ title: 'A file can not be read', words: `${name} can not be read.`, help: AGAIN }),
+  3: ({ line, call }) => ({ title: 'A file is refused', words: refusalWords(line, call), help: AGAIN }),
+  4: ({ name }) => ({
+    title: 'A file is too long', help: AGAIN,
+    words: `${name} is too long: a file has at most 16,777,216 bytes (a published text 67,108,864), and all sessions together at most 200,000 commands.`,
+  }),
+  5: ({ line }) => ({
+    title: 'No prices were found', help: 'Set “accept” to that number, or give it more “turns”, and run again with the same files.',
+    words: `The search found no prices whose error the settings accept. The least error that it saw is ${/\d+$/.exec(line)[0]}.`,
+  }),
+  6: () => ({ title: 'There is no room for the answer', words: 'The answer did not fit into the memory that the browser gives to this page.', help: 'Close other tabs and try again.' }),
+  7: () => ({
+    title: 'There is not enough memory', help: 'Close other tabs and programs and try again; nothing is lost.',
+    words: 'The browser did not give this page the memory that the work needs (status 7, out of memory).',
+  }),
+  8: ({ line }) => {
+    const finding = line.replace('finding: ', '');
+    return { title: 'This text does not hold', words: findingWords(finding), finding, help: 'Do not trust it: compare the line that is named.' };
+  },
+  9: ({ line }) => ({ title: 'There is no such name', words: `No ${line.endsWith('6') ? 'student of the roll' : 'section of the catalogue'} has this name. Capital letters count.` }),
+  stopped: () => ({ title: 'Stopped', words: 'The work was stopped before its end. Nothing is lost.' }),
+};
+
+function answerWords(answer, call) {
+  const line = (answer.text ?? '').trimEnd().split('\n').at(-1), [, number] = /^input (\d+)/.exec(line) ?? [];
+  const failed = () => ({ title: 'The page failed', words: `The program did not end as it should (${answer.fault ?? answer.status}). Please keep the files and tell whoever gave you this page.` });
+  return (TOLD[answer.status] ?? failed)({ line, call, name: call.inputs[number - 1]?.name });
+}
