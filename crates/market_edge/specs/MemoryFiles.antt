@@ -65,7 +65,3 @@ count_of files counts others name = option_map_or (λ file. slice_index_or count
 -- one more fault of each of these names, and of no other
 abbrev pub Raises : (List ℕ → Bool) → (List ℕ → ℕ) → (List ℕ → ℕ) → Type 0
 Raises is_raised before after = (name : List ℕ) → after name ≡ (if is_raised name then raised (before name) else before name)
-
--- no count changes
-abbrev pub Same : (List ℕ → ℕ) → (List ℕ → ℕ) → Type 0
-Same before after = (name : List ℕ) → after name ≡ before name

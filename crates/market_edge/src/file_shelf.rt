@@ -33,6 +33,8 @@ impl<'r, R: Files> FileShelf<'r, R> {
 }
 
 impl<'r, R: Files> Shelf for FileShelf<'r, R> {
+    ghost use Rattle.market_edge.specs.FileShelves.{file_of, known_rest};
+
     ghost holds = { λ _. None };
 
     ghost left = { λ _. None };
@@ -50,11 +52,11 @@ impl<'r, R: Files> Shelf for FileShelf<'r, R> {
         ensures serves { OnOk result (IsTrue (⟦<FileShelf<'r, R> as Shelf>⟧.serves self.new name.now)) }
         ensures none { OnErr result (⟦<FileShelf<'r, R> as Shelf>⟧.is_begun self.new ≡ false) }
         ensures cause { OnErr result (Rose (⟦<FileShelf<'r, R> as Shelf>⟧.faults self.old name.now) (⟦<FileShelf<'r, R> as Shelf>⟧.faults self.new name.now)) }
+        ensures uncounted { OnOk result (⟦<FileShelf<'r, R> as Shelf>⟧.faults self.new ≡ ⟦<FileShelf<'r, R> as Shelf>⟧.faults self.old) }
         ensures later { (other : List ℕ) → ⟦<FileShelf<'r, R> as Shelf>⟧.faults self.old other ≤ ⟦<FileShelf<'r, R> as Shelf>⟧.faults self.new other }
 
-        // Each failure is counted for every name, and nothing else is counted.
+        // Each failure is counted for every name.
         ensures counted { OnErr result ((other : List ℕ) → ⟦<FileShelf<'r, R> as Shelf>⟧.faults self.new other ≡ raised (⟦<FileShelf<'r, R> as Shelf>⟧.faults self.old other)) }
-        ensures uncounted { OnOk result ((other : List ℕ) → ⟦<FileShelf<'r, R> as Shelf>⟧.faults self.new other ≡ ⟦<FileShelf<'r, R> as Shelf>⟧.faults self.old other) }
     {
         self.file = None;
         match fs::open(self.rt, name) {
@@ -79,11 +81,14 @@ impl<'r, R: Files> Shelf for FileShelf<'r, R> {
         ensures bytes { ReadConsumes (⟦<FileShelf<'r, R> as Shelf>⟧.left self.old) (⟦<FileShelf<'r, R> as Shelf>⟧.left self.new) result room.new }
         ensures serves { (other : List ℕ) → ⟦<FileShelf<'r, R> as Shelf>⟧.serves self.new other ≡ ⟦<FileShelf<'r, R> as Shelf>⟧.serves self.old other }
         ensures cause { OnErr result ((other : List ℕ) → IsTrue (⟦<FileShelf<'r, R> as Shelf>⟧.serves self.old other) → Rose (⟦<FileShelf<'r, R> as Shelf>⟧.faults self.old other) (⟦<FileShelf<'r, R> as Shelf>⟧.faults self.new other)) }
+        ensures uncounted { OnOk result (⟦<FileShelf<'r, R> as Shelf>⟧.faults self.new ≡ ⟦<FileShelf<'r, R> as Shelf>⟧.faults self.old) }
         ensures later { (other : List ℕ) → ⟦<FileShelf<'r, R> as Shelf>⟧.faults self.old other ≤ ⟦<FileShelf<'r, R> as Shelf>⟧.faults self.new other }
 
-        // Each failure is counted for every name, and nothing else is counted.
+        // The room is passed on to the open file once: what was read of the file is what is answered, and after a failed call nothing.
+        ensures passed { ReadConsumes (known_rest R.File.remaining (file_of self.old)) (known_rest R.File.remaining (file_of self.new)) result room.new }
+
+        // Each failure is counted for every name.
         ensures counted { OnErr result ((other : List ℕ) → ⟦<FileShelf<'r, R> as Shelf>⟧.faults self.new other ≡ raised (⟦<FileShelf<'r, R> as Shelf>⟧.faults self.old other)) }
-        ensures uncounted { OnOk result ((other : List ℕ) → ⟦<FileShelf<'r, R> as Shelf>⟧.faults self.new other ≡ ⟦<FileShelf<'r, R> as Shelf>⟧.faults self.old other) }
     {
         let Some(file) = &mut self.file else {
             unreachable!()

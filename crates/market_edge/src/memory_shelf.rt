@@ -4,7 +4,7 @@ ghost use Rattle.std.specs.Io.KnownBytes.{ReadConsumes};
 ghost use Rattle.std.specs.Option.{ForSome};
 ghost use Rattle.market_edge.specs.Faults.{Rose, raised};
 ghost use Rattle.market_edge.specs.Holdings.{Begins};
-ghost use Rattle.market_edge.specs.MemoryFiles.{IsPlace, Raises, Same, count_of, has_place_of, holding_of, left_of, place_of, serves_name};
+ghost use Rattle.market_edge.specs.MemoryFiles.{IsPlace, Raises, count_of, has_place_of, holding_of, left_of, place_of, serves_name};
 
 use crate::memory_files::{Place, find, put_rest};
 use crate::{Failed, Shelf};
@@ -73,6 +73,7 @@ impl Shelf for MemoryShelf {
         ensures serves { OnOk result (IsTrue (serves_of self.new name.now)) }
         ensures none { OnErr result (has_begun self.new ≡ false) }
         ensures cause { OnErr result (Rose (faults_of self.old name.now) (faults_of self.new name.now)) }
+        ensures uncounted { OnOk result (faults_of self.new ≡ faults_of self.old) }
         ensures later { (other : List ℕ) → faults_of self.old other ≤ faults_of self.new other }
 
         // It serves the name of the begun file alone.
@@ -81,7 +82,6 @@ impl Shelf for MemoryShelf {
         // It fails exactly at the calls of these numbers, and where no file has the name; each failure is counted.
         ensures fails { IsErr result ↔ (IsNone (place_of (files_of self.old) name.now) ⊎ FailsNext self.old) }
         ensures counted { OnErr result (Raises (has_place_of (files_of self.old) name.now) (faults_of self.old) (faults_of self.new)) }
-        ensures uncounted { OnOk result (Same (faults_of self.old) (faults_of self.new)) }
 
         ensures calls { calls_of self.new ≡ raised (calls_of self.old) }
         ensures files { files_of self.new ≡ files_of self.old }
@@ -111,12 +111,12 @@ impl Shelf for MemoryShelf {
         ensures bytes { ReadConsumes (rest_of self.old) (rest_of self.new) result room.new }
         ensures serves { (other : List ℕ) → serves_of self.new other ≡ serves_of self.old other }
         ensures cause { OnErr result ((other : List ℕ) → IsTrue (serves_of self.old other) → Rose (faults_of self.old other) (faults_of self.new other)) }
+        ensures uncounted { OnOk result (faults_of self.new ≡ faults_of self.old) }
         ensures later { (other : List ℕ) → faults_of self.old other ≤ faults_of self.new other }
 
         // It fails exactly at the calls of these numbers; each failure is counted.
         ensures fails { IsErr result ↔ FailsNext self.old }
         ensures counted { OnErr result (Raises (serves_of self.old) (faults_of self.old) (faults_of self.new)) }
-        ensures uncounted { OnOk result (Same (faults_of self.old) (faults_of self.new)) }
 
         ensures calls { calls_of self.new ≡ raised (calls_of self.old) }
         ensures files { files_of self.new ≡ files_of self.old }

@@ -8,7 +8,7 @@ ghost use Rattle.market_edge.specs.Holdings.{Holding, Begins};
 #[derive(Clone, Copy, Debug, PartialEq, Eq)]
 pub struct Failed;
 
-/// Where texts are read from. A call that fails is counted, by the names that it may be about.
+/// Where texts are read from. A call that fails is counted, by the names that it may be about, and no other call is.
 pub trait Shelf {
     /// What it holds, where it tells. No call changes it.
     ghost holds: { Self → Option Holding };
@@ -33,6 +33,7 @@ pub trait Shelf {
         ensures serves { OnOk result (IsTrue (serves self.new name.now)) }
         ensures none { OnErr result (is_begun self.new ≡ false) }
         ensures cause { OnErr result (Rose (faults self.old name.now) (faults self.new name.now)) }
+        ensures uncounted { OnOk result (faults self.new ≡ faults self.old) }
         ensures later { (other : List ℕ) → faults self.old other ≤ faults self.new other };
 
     /// Puts the next bytes of the begun text at the front of the room, and answers how many: 0 at the end of the text
@@ -46,5 +47,6 @@ pub trait Shelf {
         ensures bytes { ReadConsumes (left self.old) (left self.new) result room.new }
         ensures serves { (other : List ℕ) → serves self.new other ≡ serves self.old other }
         ensures cause { OnErr result ((other : List ℕ) → IsTrue (serves self.old other) → Rose (faults self.old other) (faults self.new other)) }
+        ensures uncounted { OnOk result (faults self.new ≡ faults self.old) }
         ensures later { (other : List ℕ) → faults self.old other ≤ faults self.new other };
 }

@@ -65,6 +65,7 @@ impl Shelf for SureShelf {
         ensures serves { OnOk result (IsTrue (serves_of self.new name.now)) }
         ensures none { OnErr result (has_begun self.new ≡ false) }
         ensures cause { OnErr result (Rose 0 0) }
+        ensures uncounted { OnOk result (⟦<SureShelf as Shelf>⟧.faults self.new ≡ ⟦<SureShelf as Shelf>⟧.faults self.old) }
         ensures later { List ℕ → 0 ≤ 0 }
 
         // It never fails, and serves the name of the begun text alone.
@@ -90,6 +91,7 @@ impl Shelf for SureShelf {
         ensures bytes { ReadConsumes (rest_of self.old) (rest_of self.new) result room.new }
         ensures serves { (other : List ℕ) → serves_of self.new other ≡ serves_of self.old other }
         ensures cause { OnErr result ((other : List ℕ) → IsTrue (serves_of self.old other) → Rose 0 0) }
+        ensures uncounted { OnOk result (⟦<SureShelf as Shelf>⟧.faults self.new ≡ ⟦<SureShelf as Shelf>⟧.faults self.old) }
         ensures later { List ℕ → 0 ≤ 0 }
 
         // It never fails.

@@ -61,7 +61,9 @@ pub fn read_whole<H: Shelf>(
     ensures too_long { IsErrOf result Taking.TooLong → TakesExactly (limit + 1) (H.holds shelf.old) name.now (H.left shelf.new) }
     ensures at_most { ¬ IsErrOf result Taking.TooLong → IsTrue (H.is_begun shelf.new) → TakesAtMost limit (H.holds shelf.old) name.now (H.left shelf.new) }
 
+    // A fault is counted exactly where the shelf is at fault.
     ensures shelf_fault { IsErrOf result Taking.ShelfFault → Rose (H.faults shelf.old name.now) (H.faults shelf.new name.now) }
+    ensures uncounted { ¬ IsErrOf result Taking.ShelfFault → H.faults shelf.new ≡ H.faults shelf.old }
 
     ensures holds { H.holds shelf.new ≡ H.holds shelf.old }
     ensures later { (other : List ℕ) → H.faults shelf.old other ≤ H.faults shelf.new other }
@@ -87,6 +89,7 @@ pub fn write_whole<K: Sink>(sink: &mut K, text: &[u8]) -> Result<(), SinkFault>
     ensures whole { OnOk result (Takes (K.taken sink.old) (K.taken sink.new) text.now) }
     ensures front { OnErr result (TakesFront (K.taken sink.old) (K.taken sink.new) text.now) }
     ensures cause { OnErr result (Rose (K.faults sink.old) (K.faults sink.new)) }
+    ensures uncounted { OnOk result (K.faults sink.new ≡ K.faults sink.old) }
     ensures later { K.faults sink.old ≤ K.faults sink.new }
 {
     let mut done = 0;

@@ -9,7 +9,7 @@ invariant-pieces g l = record {
   holds : g.H.Shelf.holds l.shelf ≡ g.H.Shelf.holds l.fn.shelf;
   within : length l.text.items ≤ l.limit;
   so_far : IsReadTo (g.H.Shelf.holds l.fn.shelf) l.name l.text.items (g.H.Shelf.left l.shelf);
-  later : (other : List ℕ) → g.H.Shelf.faults l.fn.shelf other ≤ g.H.Shelf.faults l.shelf other;
+  uncounted : g.H.Shelf.faults l.shelf ≡ g.H.Shelf.faults l.fn.shelf;
 }
 
 -- each turn takes at least one byte
