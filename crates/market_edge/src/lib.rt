@@ -2,6 +2,7 @@
 //! sessions and workers pass. Whatever the outside does, a text is had whole or a counted fault says why not.
 #![tactic(auto)]
 
+mod begun_list;
 mod file_shelf;
 mod gate;
 mod meeting_gate;

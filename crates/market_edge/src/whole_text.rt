@@ -1,8 +1,9 @@
 // Whole texts, in and out.
-ghost use Rattle.std.specs.Prelude.{◌≡◌, ◌+◌, ◌<◌, ◌≤◌, List, ℕ, length, IsTrue, IfOk, OnOk, OnErr, IsErrOf};
+ghost use Rattle.std.specs.Prelude.{◌≡◌, ◌+◌, ◌<◌, ◌≤◌, [], ◌∷◌, List, ℕ, length, IsTrue, IfOk, OnOk, OnErr, IsErrOf};
 ghost use Rattle.market_edge.specs.declared.whole_text.Taking.TheVariants.{ShelfFault, NoMemory};
 ghost use Rattle.market_edge.specs.Faults.{Rose};
 ghost use Rattle.market_edge.specs.Holdings.{IsReadOut, IsTextOf, TakesAtMost, TakesExactly};
+ghost use Rattle.market_edge.specs.Openings.{BeginsAtMost, Changes, with_read_out};
 ghost use Rattle.market_edge.specs.Sinks.{Takes, TakesFront};
 
 use crate::{Failed, Shelf, Sink};
@@ -54,6 +55,10 @@ pub fn read_whole<H: Shelf>(
 
     ensures whole { IfOk result (λ text. IsTextOf (H.holds shelf.old) name.now text.items) }
     ensures end { OnOk result (IsReadOut (H.holds shelf.old) (H.left shelf.new)) }
+    // The text is begun and read to its end, or begun at most; nothing else is begun.
+    ensures read_out { OnOk result (Changes (H.openings shelf.old) (H.openings shelf.new) (with_read_out (name.now ∷ []))) }
+    ensures begun_at_most { OnErr result (BeginsAtMost (H.openings shelf.old) (H.openings shelf.new) name.now (H.is_begun shelf.new)) }
+
     ensures served { OnOk result (IsTrue (H.serves shelf.new name.now)) }
     ensures within { IfOk result (λ text. length text.items ≤ limit) }
 
