@@ -27,6 +27,3 @@ pub use stdout_sink::StdoutSink;
 pub use sure_shelf::SureShelf;
 pub use sure_sink::SureSink;
 pub use whole_text::{SinkFault, Taking, read_whole, write_whole};
-
-#[cfg(test)]
-mod tests;
