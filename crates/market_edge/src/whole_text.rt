@@ -57,6 +57,7 @@ pub fn read_whole<H: Shelf>(
     ensures end { OnOk result (IsReadOut (H.holds shelf.old) (H.left shelf.new)) }
     // The text is begun and read to its end, or begun at most; nothing else is begun.
     ensures read_out { OnOk result (Changes (H.openings shelf.old) (H.openings shelf.new) (with_read_out (name.now ∷ []))) }
+    ensures begun { ¬ IsErrOf result Taking.ShelfFault → IsTrue (H.is_begun shelf.new) }
     ensures begun_at_most { OnErr result (BeginsAtMost (H.openings shelf.old) (H.openings shelf.new) name.now (H.is_begun shelf.new)) }
 
     ensures served { OnOk result (IsTrue (H.serves shelf.new name.now)) }

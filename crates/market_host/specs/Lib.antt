@@ -23,4 +23,5 @@ pub mod Runs
 pub mod Sessions
 pub mod Sights
 pub mod Statuses
+pub mod Traces
 pub mod Troubles
