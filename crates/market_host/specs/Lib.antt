@@ -15,6 +15,7 @@ pub mod Markets
 pub mod Marks
 pub mod Outcomes
 pub mod Preferences
+pub mod Programs
 pub mod Quotes
 pub mod Reading
 pub mod Refusals

@@ -1,5 +1,5 @@
 -- How a call uses its inputs: which of them it begins, how far it reads them, and whether it counts a fault.
-use Rattle.std.specs.Prelude.{ℕ, ◌≡◌, ◌+◌, ◌≤◌, List, [], ◌++◌, length, map, Option, Result, MatchResult, ⊤}
+use Rattle.std.specs.Prelude.{ℕ, ◌≡◌, ◌+◌, ◌≤◌, false, List, [], ◌++◌, length, map, Option, Result, MatchResult, ⊤}
 use Rattle.market_edge.specs.declared.shelf.Shelf as Shelf
 use Rattle.market_edge.specs.Openings.{Opening, Changes, read_out, with_read_out}
 use Rattle.market_words.specs.declared.words.Form.{Form}
@@ -38,11 +38,11 @@ abbrev pub AreReadOut : Trace → List (List ℕ) → Type 0
 AreReadOut seen names = (seen.after ≡ seen.before) × Changes seen.earlier seen.openings (with_read_out names)
 
 -- no count of faults rose, where it is not a fault of the shelf that stops the call
-abbrev pub CountsStand : Trouble → Trace → Type 0
-CountsStand (trouble.ShelfFault n) seen = ⊤
-CountsStand (trouble.Refused n row cause) seen = seen.after ≡ seen.before
-CountsStand (trouble.TooLong n) seen = seen.after ≡ seen.before
-CountsStand trouble.OutOfMemory seen = seen.after ≡ seen.before
+abbrev pub CountsStand : Trouble → (List ℕ → ℕ) → (List ℕ → ℕ) → Type 0
+CountsStand (trouble.ShelfFault n) before after = ⊤
+CountsStand (trouble.Refused n row cause) before after = after ≡ before
+CountsStand (trouble.TooLong n) before after = after ≡ before
+CountsStand trouble.OutOfMemory before after = after ≡ before
 
 -- What stops the call is told of the input that was begun last, where the number of the next input is this one once all that are read to
 -- their ends are counted, and so many others are begun. An input that can't be begun is the next one. Want of memory is told of no input.
@@ -56,7 +56,7 @@ IsLastBegun trouble.OutOfMemory next begun = begun ≤ 1
 -- ends; the last is the one of which it is told what stops the call, and no count of faults rose but for a fault of the shelf.
 abbrev pub AreReadUntil : Trace → List (List ℕ) → ℕ → Trouble → Type 0
 AreReadUntil seen names first stop =
-    CountsStand stop seen
+    CountsStand stop seen.before seen.after
     × (ended : List (List ℕ)) × (begun : List (List ℕ)) × (later : List (List ℕ))
     × (names ≡ ended ++ (begun ++ later)) × IsLastBegun stop (first + length ended) (length begun) × Changes seen.earlier seen.openings (with_begun_too ended begun)
 
