@@ -102,7 +102,7 @@ module _ {H : Type 0} (shelf : Shelf.Ghosts H) where
   pub until_too_long : (a b : H) (name : List ℕ) (number : ℕ) (begun : Bool) → shelf.faults b ≡ shelf.faults a → IsTrue begun → BeginsAtMost (shelf.openings a) (shelf.openings b) name begun
       → AreReadUntil (trace shelf a b) (name ∷ []) number (TooLong number)
   until_too_long a b name number true same is begins = until_begun a b name number true (TooLong number) same (refl, omega arith) begins
-  until_too_long a b name number false same is begins = absurd is
+  until_too_long a b name number false same is begins = absurd cc
 
   -- there is no memory for an input
   pub until_no_room : (a b : H) (name : List ℕ) (number : ℕ) (begun : Bool) → shelf.faults b ≡ shelf.faults a → BeginsAtMost (shelf.openings a) (shelf.openings b) name begun → AreReadUntil (trace shelf a b) (name ∷ []) number OutOfMemory
