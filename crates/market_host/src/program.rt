@@ -21,7 +21,7 @@ use std::thread::Threads;
 
 /// Does what the arguments of the process ask for, the first of which is the program's name, and answers the number of
 /// how it went. Arguments that are no text are no words, which is no form.
-pub fn program<R: Threads + Wait + Sync, H: Shelf, K: Sink>(
+pub fn exit_code<R: Threads + Wait + Sync, H: Shelf, K: Sink>(
     rt: &R,
     alloc: Global,
     args: io::Result<Args>,

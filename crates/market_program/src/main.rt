@@ -3,7 +3,7 @@
 #![tactic(auto)]
 
 use market_edge::{FileShelf, OpenGate, StdoutSink};
-use market_host::program;
+use market_host::exit_code;
 use std::env;
 use std::process::ExitCode;
 
@@ -13,7 +13,7 @@ mod tests;
 fn main(rt: HostRuntime) -> ExitCode {
     let mut shelf = FileShelf::new(&rt);
     let mut sink = StdoutSink::new(rt.stdout());
-    program(
+    exit_code(
         &rt,
         rt.alloc(),
         env::args(&rt),

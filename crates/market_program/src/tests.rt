@@ -1,7 +1,7 @@
 // The program over texts in memory. The cases named for what they show are worked examples that were computed apart
 // from this program.
 use market_edge::{Gate, MemoryShelf, MemorySink, OpenGate};
-use market_host::{Cause, Finding, Status, course_match, no_memory_for_words, program};
+use market_host::{Cause, Finding, Status, course_match, exit_code, no_memory_for_words};
 use std::alloc::Global;
 use std::io;
 use std::io::ErrorKind;
@@ -170,7 +170,7 @@ fn the_process_ends_with_the_number(rt: HostRuntime) -> Result<(), Fail> {
             Ok(line) => Ok(words_of(alloc, line)?.into_iter()),
             Err(kind) => Err(io::Error::from(kind)),
         };
-        let code = program(&rt, alloc, args, &mut shelf, &mut sink, &OpenGate);
+        let code = exit_code(&rt, alloc, args, &mut shelf, &mut sink, &OpenGate);
         assert_eq!(rt; code, ExitCode::from(number), "{text}");
         assert_eq!(rt; sink.taken(), text.as_bytes());
     }
