@@ -1,9 +1,13 @@
+pub mod BegunLists
 pub mod Faults
+pub mod FileShelves
 pub mod Holdings
 pub mod MemoryFiles
 pub mod MemoryShelves
 pub mod MemorySinks
+pub mod Openings
 pub mod Sinks
+pub mod StdoutSinks
 pub mod SureFiles
 pub mod SureShelves
 pub mod SureSinks

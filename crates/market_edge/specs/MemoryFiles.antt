@@ -1,5 +1,5 @@
 -- The files of a shelf in memory.
-use Rattle.std.specs.Prelude.{ℕ, ◌≡◌, zero, suc, [], ◌∷◌, ◌==◌, ◌<◌, ◌≤◌, Bool, true, false, if◌then◌else◌, List, Option, Some, None, String, Vec, map, length, position, drop}
+use Rattle.std.specs.Prelude.{ℕ, ◌≡◌, zero, suc, [], ◌∷◌, ◌==◌, ◌<◌, ◌≤◌, Bool, true, false, if◌then◌else◌, List, Option, Some, None, String, Vec, map, length, position, drop, ◌++◌, ⊤}
 use Rattle.std.proofs.Common.{Global}
 use Rattle.std.specs.List.{slice_index_or}
 use Rattle.std.specs.Option.{option_map_or}
@@ -9,6 +9,7 @@ use Rattle.std.specs.FinMap.{from_entries}
 use Rattle.market_edge.specs.declared.memory_files.Place.{Place}
 use Rattle.market_edge.specs.Faults.{raised}
 use Rattle.market_edge.specs.Holdings.{Holding}
+use Rattle.market_edge.specs.Openings.{Opening}
 
 -- a name, and a text
 abbrev pub File : Type 0
@@ -66,6 +67,28 @@ count_of files counts others name = option_map_or (λ file. slice_index_or count
 abbrev pub Raises : (List ℕ → Bool) → (List ℕ → ℕ) → (List ℕ → ℕ) → Type 0
 Raises is_raised before after = (name : List ℕ) → after name ≡ (if is_raised name then raised (before name) else before name)
 
--- no count changes
-abbrev pub Same : (List ℕ → ℕ) → (List ℕ → ℕ) → Type 0
-Same before after = (name : List ℕ) → after name ≡ before name
+-- the name of the file at a place
+abbrev pub name_at : List File → ℕ → List ℕ
+name_at [] place = []
+name_at (file ∷ files) zero = string_bytes file.0
+name_at (file ∷ files) (suc place) = name_at files place
+
+-- a begun text, as the list of those that were begun before has it
+abbrev pub earlier_of : Option Place → Bool → List (ℕ × Bool)
+earlier_of None is_ended = []
+earlier_of (Some place) is_ended = (place.file, is_ended) ∷ []
+
+-- such a list has grown by these texts; its telling may end
+abbrev pub Lists : Option (List (ℕ × Bool)) → Option (List (ℕ × Bool)) → List (ℕ × Bool) → Type 0
+Lists old None texts = ⊤
+Lists None (Some new) texts = ⊥
+Lists (Some old) (Some new) texts = new ≡ old ++ texts
+
+-- a begun text by its name
+abbrev pub opening_of : List File → ℕ × Bool → Opening
+opening_of files text = (name_at files text.0, text.1)
+
+-- the texts that were begun, the one that is begun last among them
+abbrev pub openings_of : List File → Option (List (ℕ × Bool)) → Option Place → Bool → Option (List Opening)
+openings_of files None begun is_ended = None
+openings_of files (Some earlier) begun is_ended = Some (map (opening_of files) (earlier ++ earlier_of begun is_ended))

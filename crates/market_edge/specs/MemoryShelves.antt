@@ -3,7 +3,9 @@ use Rattle.std.specs.Prelude.{ℕ, Bool, List, Option, Some, Contains, is_some}
 use Rattle.market_edge.specs.declared.memory_shelf.MemoryShelf.{MemoryShelf}
 use Rattle.market_edge.specs.Faults.{raised}
 use Rattle.market_edge.specs.Holdings.{Holding}
-use Rattle.market_edge.specs.MemoryFiles.{File, count_of, holding_of, left_of, serves_name}
+use Rattle.market_edge.specs.BegunLists.{told_texts}
+use Rattle.market_edge.specs.MemoryFiles.{File, count_of, holding_of, left_of, openings_of, serves_name}
+use Rattle.market_edge.specs.Openings.{Opening}
 
 -- its names and texts
 abbrev pub files_of : MemoryShelf → List File
@@ -39,3 +41,7 @@ serves_of shelf = serves_name shelf.files.items shelf.begun
 -- how many calls have failed, by name
 abbrev pub faults_of : MemoryShelf → List ℕ → ℕ
 faults_of shelf = count_of shelf.files.items shelf.counts.items shelf.others
+
+-- the texts that were begun, while there is room for them
+abbrev pub told_openings : MemoryShelf → Option (List Opening)
+told_openings shelf = openings_of shelf.files.items (told_texts shelf.earlier) shelf.begun shelf.is_ended

@@ -2,6 +2,7 @@
 //! sessions and workers pass. Whatever the outside does, a text is had whole or a counted fault says why not.
 #![tactic(auto)]
 
+mod begun_list;
 mod file_shelf;
 mod gate;
 mod meeting_gate;
@@ -26,6 +27,3 @@ pub use stdout_sink::StdoutSink;
 pub use sure_shelf::SureShelf;
 pub use sure_sink::SureSink;
 pub use whole_text::{SinkFault, Taking, read_whole, write_whole};
-
-#[cfg(test)]
-mod tests;

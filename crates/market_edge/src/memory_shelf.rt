@@ -1,18 +1,20 @@
 // A shelf in memory, for tests.
-ghost use Rattle.std.specs.Prelude.{◌≡◌, ◌<◌, ◌≤◌, ◌+◌, ◌⊎◌, ◌++◌, ◌↔◌, Some, List, ℕ, Bool, false, length, take, drop, min, is_some, IsTrue, IsNone, IsErr, Contains, IfOk, OnOk, OnErr};
+ghost use Rattle.std.specs.Prelude.{◌≡◌, ◌<◌, ◌≤◌, ◌+◌, ◌⊎◌, ◌++◌, ◌↔◌, [], Some, List, ℕ, Bool, false, length, take, drop, min, is_some, IsTrue, IsNone, IsErr, Contains, IfOk, OnOk, OnErr};
 ghost use Rattle.std.specs.Io.KnownBytes.{ReadConsumes};
 ghost use Rattle.std.specs.Option.{ForSome};
+ghost use Rattle.market_edge.specs.Openings.{Changes, as_before, with_begun, with_end};
 ghost use Rattle.market_edge.specs.Faults.{Rose, raised};
 ghost use Rattle.market_edge.specs.Holdings.{Begins};
-ghost use Rattle.market_edge.specs.MemoryFiles.{IsPlace, Raises, Same, count_of, has_place_of, holding_of, left_of, place_of, serves_name};
+ghost use Rattle.market_edge.specs.MemoryFiles.{IsPlace, Raises, count_of, has_place_of, holding_of, left_of, place_of, serves_name};
 
+use crate::begun_list::BegunList;
 use crate::memory_files::{Place, find, put_rest};
 use crate::{Failed, Shelf};
 use market_units::NoMemory;
 use std::alloc::Global;
 
 /// A shelf of files in memory, whose calls of certain numbers fail. Begins and reads together are numbered from 1. Of
-/// two files of one name the first counts.
+/// two files of one name the first counts. It tells of the first 128 begun texts.
 #[derive(Drop)]
 pub struct MemoryShelf {
     files: Vec<(String, Vec<u8>)>,
@@ -20,13 +22,15 @@ pub struct MemoryShelf {
     calls: u64,
     counts: Vec<u64>,
     others: u64,
+    earlier: BegunList,
     begun: Option<Place>,
+    is_ended: bool,
     ghost counted: { length counts.items ≡ length files.items },
     ghost placed: { ForSome begun (IsPlace files.items) },
 }
 
 impl MemoryShelf {
-    ghost use Rattle.market_edge.specs.MemoryShelves.{calls_of, failing_of, faults_of, files_of, has_begun, told_holding};
+    ghost use Rattle.market_edge.specs.MemoryShelves.{calls_of, failing_of, faults_of, files_of, has_begun, told_holding, told_openings};
 
     /// A shelf of these files, with nothing begun and no call made.
     pub fn make(
@@ -39,6 +43,7 @@ impl MemoryShelf {
         ensures calls { IfOk result (λ shelf. calls_of shelf ≡ 0) }
         ensures holds { IfOk result (λ shelf. told_holding shelf ≡ Some (holding_of files.items)) }
         ensures begun { IfOk result (λ shelf. has_begun shelf ≡ false) }
+        ensures openings { IfOk result (λ shelf. told_openings shelf ≡ Some []) }
         ensures faults { IfOk result (λ shelf. (name : List ℕ) → faults_of shelf name ≡ 0) }
     {
         let counts = vec![in alloc; 0; files.len()]?;
@@ -48,13 +53,15 @@ impl MemoryShelf {
             calls: 0,
             counts,
             others: 0,
+            earlier: BegunList::make(alloc)?,
             begun: None,
+            is_ended: false,
         })
     }
 }
 
 impl Shelf for MemoryShelf {
-    ghost use Rattle.market_edge.specs.MemoryShelves.{FailsNext, calls_of, failing_of, faults_of, files_of, has_begun, rest_of, serves_of, told_holding};
+    ghost use Rattle.market_edge.specs.MemoryShelves.{FailsNext, calls_of, failing_of, faults_of, files_of, has_begun, rest_of, serves_of, told_holding, told_openings};
 
     ghost holds = { told_holding };
 
@@ -64,6 +71,8 @@ impl Shelf for MemoryShelf {
 
     ghost serves = { serves_of };
 
+    ghost openings = { told_openings };
+
     ghost faults = { faults_of };
 
     fn begin(&mut self, name: &str) -> Result<(), Failed>
@@ -72,7 +81,10 @@ impl Shelf for MemoryShelf {
         ensures text { OnOk result (Begins (told_holding self.old) name.now (rest_of self.new)) }
         ensures serves { OnOk result (IsTrue (serves_of self.new name.now)) }
         ensures none { OnErr result (has_begun self.new ≡ false) }
+        ensures opens { OnOk result (Changes (told_openings self.old) (told_openings self.new) (with_begun name.now)) }
+        ensures opens_none { OnErr result (Changes (told_openings self.old) (told_openings self.new) as_before) }
         ensures cause { OnErr result (Rose (faults_of self.old name.now) (faults_of self.new name.now)) }
+        ensures uncounted { OnOk result (faults_of self.new ≡ faults_of self.old) }
         ensures later { (other : List ℕ) → faults_of self.old other ≤ faults_of self.new other }
 
         // It serves the name of the begun file alone.
@@ -81,14 +93,15 @@ impl Shelf for MemoryShelf {
         // It fails exactly at the calls of these numbers, and where no file has the name; each failure is counted.
         ensures fails { IsErr result ↔ (IsNone (place_of (files_of self.old) name.now) ⊎ FailsNext self.old) }
         ensures counted { OnErr result (Raises (has_place_of (files_of self.old) name.now) (faults_of self.old) (faults_of self.new)) }
-        ensures uncounted { OnOk result (Same (faults_of self.old) (faults_of self.new)) }
 
         ensures calls { calls_of self.new ≡ raised (calls_of self.old) }
         ensures files { files_of self.new ≡ files_of self.old }
         ensures failing { failing_of self.new ≡ failing_of self.old }
     {
         let fails = next_fails(&mut self.calls, &self.failing);
+        self.earlier.put(self.begun, self.is_ended);
         self.begun = None;
+        self.is_ended = false;
         let Some(file) = find(&self.files, name) else {
             self.others = self.others.saturating_add(1);
             return Err(Failed);
@@ -109,14 +122,17 @@ impl Shelf for MemoryShelf {
         ensures begun { IsTrue (has_begun self.new) }
         ensures bound { IfOk result (λ n. n ≤ length room.new) }
         ensures bytes { ReadConsumes (rest_of self.old) (rest_of self.new) result room.new }
+        ensures ends { IfOk result (λ n. n ≡ 0 → Changes (told_openings self.old) (told_openings self.new) with_end) }
+        ensures goes_on { IfOk result (λ n. 0 < n → Changes (told_openings self.old) (told_openings self.new) as_before) }
+        ensures stays { OnErr result (Changes (told_openings self.old) (told_openings self.new) as_before) }
         ensures serves { (other : List ℕ) → serves_of self.new other ≡ serves_of self.old other }
         ensures cause { OnErr result ((other : List ℕ) → IsTrue (serves_of self.old other) → Rose (faults_of self.old other) (faults_of self.new other)) }
+        ensures uncounted { OnOk result (faults_of self.new ≡ faults_of self.old) }
         ensures later { (other : List ℕ) → faults_of self.old other ≤ faults_of self.new other }
 
         // It fails exactly at the calls of these numbers; each failure is counted.
         ensures fails { IsErr result ↔ FailsNext self.old }
         ensures counted { OnErr result (Raises (serves_of self.old) (faults_of self.old) (faults_of self.new)) }
-        ensures uncounted { OnOk result (Same (faults_of self.old) (faults_of self.new)) }
 
         ensures calls { calls_of self.new ≡ raised (calls_of self.old) }
         ensures files { files_of self.new ≡ files_of self.old }
@@ -130,6 +146,7 @@ impl Shelf for MemoryShelf {
             return Err(Failed);
         }
         let count = put_rest(&self.files[place.file].1, place.at, room);
+        self.is_ended |= count == 0;
         self.begun = Some(Place {
             file: place.file,
             at: place.at + count,

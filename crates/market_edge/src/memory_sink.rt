@@ -69,13 +69,13 @@ impl Sink for MemorySink {
         ensures bytes { IfOk result (λ n. Takes (Some (bytes_of self.old)) (Some (bytes_of self.new)) (take n piece.now)) }
         ensures none { OnErr result (Takes (Some (bytes_of self.old)) (Some (bytes_of self.new)) []) }
         ensures cause { OnErr result (Rose (faults_of self.old) (faults_of self.new)) }
+        ensures uncounted { OnOk result (faults_of self.new ≡ faults_of self.old) }
         ensures later { faults_of self.old ≤ faults_of self.new }
 
         // It fails exactly at the calls of these numbers, and where no room is left; each failure is counted.
         ensures fails { IsErr result ↔ IsRefused self.old }
         ensures most { IfOk result (λ n. n ≡ min (length piece.now) (size_of self.old - length (bytes_of self.old))) }
         ensures counted { OnErr result (faults_of self.new ≡ raised (faults_of self.old)) }
-        ensures uncounted { OnOk result (faults_of self.new ≡ faults_of self.old) }
 
         ensures writes { writes_of self.new ≡ raised (writes_of self.old) }
         ensures size { size_of self.new ≡ size_of self.old }

@@ -1,11 +1,11 @@
 // Where texts are written to.
-ghost use Rattle.std.specs.Prelude.{◌≡◌, ◌<◌, ◌≤◌, [], List, ℕ, Option, Result, length, take, IfOk, OnErr};
+ghost use Rattle.std.specs.Prelude.{◌≡◌, ◌<◌, ◌≤◌, [], List, ℕ, Option, Result, length, take, IfOk, OnOk, OnErr};
 ghost use Rattle.market_edge.specs.Faults.{Rose};
 ghost use Rattle.market_edge.specs.Sinks.{Takes};
 
 use crate::Failed;
 
-/// Where texts are written to. A write that fails is counted.
+/// Where texts are written to. A write that fails is counted, and nothing else is.
 pub trait Sink {
     /// The bytes that it has taken, where it tells. A write may end the telling, and none begins it.
     ghost taken: { Self → Option (List ℕ) };
@@ -21,5 +21,6 @@ pub trait Sink {
         ensures bytes { IfOk result (λ n. Takes (taken self.old) (taken self.new) (take n piece.now)) }
         ensures none { OnErr result (Takes (taken self.old) (taken self.new) []) }
         ensures cause { OnErr result (Rose (faults self.old) (faults self.new)) }
+        ensures uncounted { OnOk result (faults self.new ≡ faults self.old) }
         ensures later { faults self.old ≤ faults self.new };
 }

@@ -1,5 +1,6 @@
 // A writer of std, as standard output. What it takes is not told: this is the trusted edge.
 ghost use Rattle.std.specs.Prelude.{◌≡◌, ◌<◌, ◌≤◌, [], None, length, take, IfOk, OnOk, OnErr};
+ghost use Rattle.std.specs.Io.KnownBytes.{WriteAppends};
 ghost use Rattle.market_edge.specs.Faults.{Rose, raised};
 ghost use Rattle.market_edge.specs.Sinks.{Takes};
 
@@ -14,15 +15,20 @@ pub struct StdoutSink<W: Write + Drop> {
 }
 
 impl<W: Write + Drop> StdoutSink<W> {
+    ghost use Rattle.market_edge.specs.StdoutSinks.{writer_of};
+
     /// A sink over this writer.
     pub fn new(writer: W) -> Self
-        ensures { ⟦<StdoutSink<W> as Sink>⟧.faults result ≡ 0 }
+        ensures writer { writer_of result ≡ writer }
+        ensures faults { ⟦<StdoutSink<W> as Sink>⟧.faults result ≡ 0 }
     {
         StdoutSink { writer, faults: 0 }
     }
 }
 
 impl<W: Write + Drop> Sink for StdoutSink<W> {
+    ghost use Rattle.market_edge.specs.StdoutSinks.{writer_of};
+
     ghost taken = { λ _. None };
 
     ghost faults = { λ sink. sink.faults };
@@ -35,11 +41,14 @@ impl<W: Write + Drop> Sink for StdoutSink<W> {
         ensures bytes { IfOk result (λ n. Takes (⟦<StdoutSink<W> as Sink>⟧.taken self.old) (⟦<StdoutSink<W> as Sink>⟧.taken self.new) (take n piece.now)) }
         ensures none { OnErr result (Takes (⟦<StdoutSink<W> as Sink>⟧.taken self.old) (⟦<StdoutSink<W> as Sink>⟧.taken self.new) []) }
         ensures cause { OnErr result (Rose (⟦<StdoutSink<W> as Sink>⟧.faults self.old) (⟦<StdoutSink<W> as Sink>⟧.faults self.new)) }
+        ensures uncounted { OnOk result (⟦<StdoutSink<W> as Sink>⟧.faults self.new ≡ ⟦<StdoutSink<W> as Sink>⟧.faults self.old) }
         ensures later { ⟦<StdoutSink<W> as Sink>⟧.faults self.old ≤ ⟦<StdoutSink<W> as Sink>⟧.faults self.new }
 
-        // Each failure is counted, and nothing else.
+        // The piece is passed on to the writer once: what the writer took of it is what is answered, and after a failed call it took none.
+        ensures passed { WriteAppends (W.contents (writer_of self.old)) (W.contents (writer_of self.new)) result piece.now }
+
+        // Each failure is counted.
         ensures counted { OnErr result (⟦<StdoutSink<W> as Sink>⟧.faults self.new ≡ raised (⟦<StdoutSink<W> as Sink>⟧.faults self.old)) }
-        ensures uncounted { OnOk result (⟦<StdoutSink<W> as Sink>⟧.faults self.new ≡ ⟦<StdoutSink<W> as Sink>⟧.faults self.old) }
     {
         match self.writer.write(piece) {
             Ok(count) if count > 0 => Ok(count),

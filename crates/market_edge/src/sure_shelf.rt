@@ -1,7 +1,8 @@
 // A shelf in memory that never fails.
-ghost use Rattle.std.specs.Prelude.{◌≡◌, ◌<◌, ◌≤◌, Some, List, ℕ, false, length, IsTrue, IsOk, IfOk, OnOk, OnErr};
+ghost use Rattle.std.specs.Prelude.{◌≡◌, ◌<◌, ◌≤◌, Some, None, List, ℕ, false, length, IsTrue, IsOk, IfOk, OnOk, OnErr};
 ghost use Rattle.std.specs.Io.KnownBytes.{ReadConsumes};
 ghost use Rattle.std.specs.Option.{ForSome};
+ghost use Rattle.market_edge.specs.Openings.{Changes, as_before, with_begun, with_end};
 ghost use Rattle.market_edge.specs.Faults.{Rose};
 ghost use Rattle.market_edge.specs.Holdings.{Begins};
 ghost use Rattle.market_edge.specs.MemoryFiles.{IsPlace, has_place_of};
@@ -56,6 +57,8 @@ impl Shelf for SureShelf {
 
     ghost serves = { serves_of };
 
+    ghost openings = { λ _. None };
+
     ghost faults = { λ _ _. 0 };
 
     fn begin(&mut self, name: &str) -> Result<(), Failed>
@@ -64,7 +67,10 @@ impl Shelf for SureShelf {
         ensures text { OnOk result (Begins (held_by self.old) name.now (rest_of self.new)) }
         ensures serves { OnOk result (IsTrue (serves_of self.new name.now)) }
         ensures none { OnErr result (has_begun self.new ≡ false) }
+        ensures opens { OnOk result (Changes (⟦<SureShelf as Shelf>⟧.openings self.old) (⟦<SureShelf as Shelf>⟧.openings self.new) (with_begun name.now)) }
+        ensures opens_none { OnErr result (Changes (⟦<SureShelf as Shelf>⟧.openings self.old) (⟦<SureShelf as Shelf>⟧.openings self.new) as_before) }
         ensures cause { OnErr result (Rose 0 0) }
+        ensures uncounted { OnOk result (⟦<SureShelf as Shelf>⟧.faults self.new ≡ ⟦<SureShelf as Shelf>⟧.faults self.old) }
         ensures later { List ℕ → 0 ≤ 0 }
 
         // It never fails, and serves the name of the begun text alone.
@@ -88,8 +94,12 @@ impl Shelf for SureShelf {
         ensures begun { IsTrue (has_begun self.new) }
         ensures bound { IfOk result (λ n. n ≤ length room.new) }
         ensures bytes { ReadConsumes (rest_of self.old) (rest_of self.new) result room.new }
+        ensures ends { IfOk result (λ n. n ≡ 0 → Changes (⟦<SureShelf as Shelf>⟧.openings self.old) (⟦<SureShelf as Shelf>⟧.openings self.new) with_end) }
+        ensures goes_on { IfOk result (λ n. 0 < n → Changes (⟦<SureShelf as Shelf>⟧.openings self.old) (⟦<SureShelf as Shelf>⟧.openings self.new) as_before) }
+        ensures stays { OnErr result (Changes (⟦<SureShelf as Shelf>⟧.openings self.old) (⟦<SureShelf as Shelf>⟧.openings self.new) as_before) }
         ensures serves { (other : List ℕ) → serves_of self.new other ≡ serves_of self.old other }
         ensures cause { OnErr result ((other : List ℕ) → IsTrue (serves_of self.old other) → Rose 0 0) }
+        ensures uncounted { OnOk result (⟦<SureShelf as Shelf>⟧.faults self.new ≡ ⟦<SureShelf as Shelf>⟧.faults self.old) }
         ensures later { List ℕ → 0 ≤ 0 }
 
         // It never fails.

@@ -1,5 +1,5 @@
 // A sink in memory that never fails.
-ghost use Rattle.std.specs.Prelude.{◌≡◌, ◌<◌, ◌≤◌, ◌+◌, ◌^◌, ◌-◌, ◌↔◌, [], Some, None, length, take, min, IfOk, OnErr, IsOk, IsNone, IfSome, IfNone, vec_capacity};
+ghost use Rattle.std.specs.Prelude.{◌≡◌, ◌<◌, ◌≤◌, ◌+◌, ◌^◌, ◌-◌, ◌↔◌, [], Some, None, length, take, min, IfOk, OnOk, OnErr, IsOk, IsNone, IfSome, IfNone, vec_capacity};
 ghost use Rattle.market_edge.specs.Faults.{Rose};
 ghost use Rattle.market_edge.specs.Sinks.{Takes, told_within};
 
@@ -61,6 +61,7 @@ impl Sink for SureSink {
         ensures bytes { IfOk result (λ n. Takes (told_bytes self.old) (told_bytes self.new) (take n piece.now)) }
         ensures none { OnErr result (Takes (told_bytes self.old) (told_bytes self.new) []) }
         ensures cause { OnErr result (Rose 0 0) }
+        ensures uncounted { OnOk result (⟦<SureSink as Sink>⟧.faults self.new ≡ ⟦<SureSink as Sink>⟧.faults self.old) }
         ensures later { 0 ≤ 0 }
 
         // It never fails, and takes the whole piece.

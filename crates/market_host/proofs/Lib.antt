@@ -15,11 +15,14 @@ pub mod PublishedFacts
 pub mod QuoteFacts
 pub mod QuoteWords
 pub mod ReadOut
+pub mod ReasonTraces
 pub mod RunFacts
+pub mod SessionTraces
 pub mod SessionsRead
 pub mod Shelves
 pub mod Stops
 pub mod StreamFacts
 pub mod SureEnds
+pub mod TraceFacts
 pub mod WordFacts
 pub mod ZeroPrices

@@ -92,7 +92,8 @@ trouble_of_session form seen earlier texts later name text number room OutOfMemo
 trouble_of_session form seen earlier texts later name text number room (ShelfFault n) read is streams behind left ended whole within surplus = absurd surplus
 trouble_of_session form seen earlier texts later name text number room (Refused n row cause) read is streams behind left ended whole within surplus = absurd surplus
 
-names_split : (names : List (String Global)) (k : ℕ) (name : String Global) → k < length names → name ≡ get_or names k name
+-- the names behind which this one stands, and those behind it
+pub names_split : (names : List (String Global)) (k : ℕ) (name : String Global) → k < length names → name ≡ get_or names k name
     → map string_bytes names ≡ map string_bytes (take k names) ++ string_bytes name ∷ map string_bytes (drop (suc k) names)
 names_split names k name below is =
     ap (map string_bytes) (sym (take-append-drop k names) ∙ ap (λ rest. take k names ++ rest) (drop-cons names k name below))

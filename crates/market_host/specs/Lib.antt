@@ -15,6 +15,7 @@ pub mod Markets
 pub mod Marks
 pub mod Outcomes
 pub mod Preferences
+pub mod Programs
 pub mod Quotes
 pub mod Reading
 pub mod Refusals
@@ -23,4 +24,5 @@ pub mod Runs
 pub mod Sessions
 pub mod Sights
 pub mod Statuses
+pub mod Traces
 pub mod Troubles

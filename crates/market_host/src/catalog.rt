@@ -1,11 +1,12 @@
 // The catalogue of a call.
-ghost use Rattle.std.specs.Prelude.{◌≡◌, ◌<◌, ◌≤◌, ◌-◌, ◌^◌, List, ℕ, length, Ok, IfOk, IfErr};
+ghost use Rattle.std.specs.Prelude.{◌≡◌, ◌<◌, ◌≤◌, ◌-◌, ◌^◌, List, ℕ, length, Ok, IfOk, IfErr, [], ◌∷◌};
 ghost use Rattle.course_catalog.specs.Reading.{catalog_of};
 ghost use Rattle.course_catalog.specs.Refusal.{TellsRefusal};
 ghost use Rattle.market_host.specs.Kinds as kind;
 ghost use Rattle.market_host.specs.Reading.{IsRead, IsRefusal, IsTroubleOf};
 ghost use Rattle.market_host.specs.Refusals.{IsNoCatalog};
 ghost use Rattle.market_host.specs.Sights.{sight};
+ghost use Rattle.market_host.specs.Traces.{Uses, trace};
 
 use crate::Cause;
 use crate::inputs::read_input;
@@ -31,6 +32,7 @@ pub fn take_catalog<H: Shelf>(
     ensures trouble { IfErr result (IsTroubleOf (sight H.Shelf shelf.old shelf.new) kind.Catalog name.now input) }
     ensures holds { H.holds shelf.new ≡ H.holds shelf.old }
     ensures later { (other : List ℕ) → H.faults shelf.old other ≤ H.faults shelf.new other }
+    ensures used { Uses (trace H.Shelf shelf.old shelf.new) (name.now ∷ []) input result }
 {
     let bytes = read_input(alloc, shelf, name, input, MAX_INPUT_BYTES)?;
     catalog_in(alloc, &bytes, input)

@@ -4,6 +4,7 @@ ghost use Rattle.std.specs.String.{string_bytes};
 ghost use Rattle.market_host.specs.Lines.{line_of};
 ghost use Rattle.market_host.specs.Outcomes.{IsEnded, IsStopped};
 ghost use Rattle.market_host.specs.Sights.{sight};
+ghost use Rattle.market_host.specs.Traces.{AreReadTo, AreUsed, trace};
 ghost use Rattle.market_words.specs.Forms.{HasForm};
 
 use crate::Status;
@@ -24,6 +25,7 @@ pub fn check<H: Shelf>(alloc: Global, words: &[String], shelf: &mut H) -> Result
         (λ stop. IsStopped (map string_bytes words.now) (sight H.Shelf shelf.old shelf.new) stop (line_of stop)) }
     ensures holds { H.holds shelf.new ≡ H.holds shelf.old }
     ensures later { (other : List ℕ) → H.faults shelf.old other ≤ H.faults shelf.new other }
+    ensures used { MatchResult result (λ ended. AreUsed (map string_bytes words.now) (trace H.Shelf shelf.old shelf.new) ended.status) (AreReadTo (map string_bytes words.now) (trace H.Shelf shelf.old shelf.new)) }
 {
     let published = take_published(
         alloc,

@@ -8,6 +8,7 @@ ghost use Rattle.demand_text.specs.Texts as texts;
 ghost use Rattle.market_host.specs.Lines.{line_of};
 ghost use Rattle.market_host.specs.Outcomes.{IsEnded, IsStopped};
 ghost use Rattle.market_host.specs.Sights.{sight};
+ghost use Rattle.market_host.specs.Traces.{AreReadTo, AreUsed, trace};
 ghost use Rattle.market_settings.specs.Settings.{AreInRange};
 ghost use Rattle.market_words.specs.Forms.{AreWorkers, HasForm};
 ghost use Rattle.preference_desk.specs.Journals.{IsLegalJournal, MergesStreams};
@@ -50,6 +51,7 @@ pub fn demand<R: Threads + Wait + Sync, H: Shelf>(
         (λ stop. IsStopped (map string_bytes words.now) (sight H.Shelf shelf.old shelf.new) stop (line_of stop)) }
     ensures holds { H.holds shelf.new ≡ H.holds shelf.old }
     ensures later { (other : List ℕ) → H.faults shelf.old other ≤ H.faults shelf.new other }
+    ensures used { MatchResult result (λ ended. AreUsed (map string_bytes words.now) (trace H.Shelf shelf.old shelf.new) ended.status) (AreReadTo (map string_bytes words.now) (trace H.Shelf shelf.old shelf.new)) }
 {
     let market = take_market(
         alloc,

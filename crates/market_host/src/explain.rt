@@ -11,6 +11,7 @@ ghost use Rattle.market_host.specs.Explains.{IsReasonEnd};
 ghost use Rattle.market_host.specs.Lines.{line_of, unknown_line};
 ghost use Rattle.market_host.specs.Outcomes.{IsEnded, IsStopped};
 ghost use Rattle.market_host.specs.Sights.{sight};
+ghost use Rattle.market_host.specs.Traces.{AreReadTo, AreUsed, trace};
 
 use crate::Status;
 use crate::ended::{Ended, Output};
@@ -38,6 +39,7 @@ pub fn explain<H: Shelf>(
         (λ stop. IsStopped (map string_bytes words.now) (sight H.Shelf shelf.old shelf.new) stop (line_of stop)) }
     ensures holds { H.holds shelf.new ≡ H.holds shelf.old }
     ensures later { (other : List ℕ) → H.faults shelf.old other ≤ H.faults shelf.new other }
+    ensures used { MatchResult result (λ ended. AreUsed (map string_bytes words.now) (trace H.Shelf shelf.old shelf.new) ended.status) (AreReadTo (map string_bytes words.now) (trace H.Shelf shelf.old shelf.new)) }
 {
     let published = take_published(
         alloc,

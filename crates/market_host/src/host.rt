@@ -9,6 +9,7 @@ ghost use Rattle.market_host.specs.Ends.{IsReadOutAt};
 ghost use Rattle.market_host.specs.Lines.{line_of};
 ghost use Rattle.market_host.specs.Outcomes.{IsEnded, IsOutcome, IsStopped};
 ghost use Rattle.market_host.specs.Sights.{sight};
+ghost use Rattle.market_host.specs.Traces.{AreReadTo, AreUsed, trace};
 ghost use Rattle.market_host.specs.declared.trouble.Trouble.TheVariants as trouble;
 
 use crate::Status;
@@ -48,13 +49,19 @@ pub fn course_match<R: Threads + Wait + Sync, H: Shelf, K: Sink>(
     // A sink fault stands for the outcome of the call, and some of its text was not taken.
     ensures sink_fault { result ≡ Status.SinkFault → Rose (K.faults sink.old) (K.faults sink.new) }
     ensures replaced { result ≡ Status.SinkFault → (instead : _) × (text : List ℕ)
-        × IsOutcome (map string_bytes words.now) (sight H.Shelf shelf.old shelf.new) instead text × TakesFront (K.taken sink.old) (K.taken sink.new) text }
+        × IsOutcome (map string_bytes words.now) (sight H.Shelf shelf.old shelf.new) instead text
+        × AreUsed (map string_bytes words.now) (trace H.Shelf shelf.old shelf.new) instead × TakesFront (K.taken sink.old) (K.taken sink.new) text }
 
     // Where every input is held and in order and no fault is counted, the work is ended, or memory is wanted.
     ensures complete { CanBeDone (map string_bytes words.now) (sight H.Shelf shelf.old shelf.new) → ¬ Rose (K.faults sink.old) (K.faults sink.new) → EndsWork result }
 
     // Where the work is ended, the last input was read to its end, and where an input is refused, that one.
     ensures read_out { IsReadOutAt (map string_bytes words.now) (sight H.Shelf shelf.old shelf.new) result }
+
+    // Each input is begun in its turn and read to its end, and so is each before the one that stops the call. Where neither the shelf nor the sink
+    // is at fault, no count of theirs rose.
+    ensures used { result ≢ Status.SinkFault → AreUsed (map string_bytes words.now) (trace H.Shelf shelf.old shelf.new) result }
+    ensures uncounted { result ≢ Status.SinkFault → K.faults sink.new ≡ K.faults sink.old }
 
     // What the shelf holds stays, and no count of faults falls.
     ensures holds { H.holds shelf.new ≡ H.holds shelf.old }
@@ -75,6 +82,7 @@ pub fn no_memory_for_words<K: Sink>(sink: &mut K) -> Status
     ensures written { result ≢ Status.SinkFault → (result ≡ Status.OutOfMemory) × Takes (K.taken sink.old) (K.taken sink.new) (line_of trouble.OutOfMemory) }
     ensures sink_fault { result ≡ Status.SinkFault → Rose (K.faults sink.old) (K.faults sink.new) }
     ensures replaced { result ≡ Status.SinkFault → TakesFront (K.taken sink.old) (K.taken sink.new) (line_of trouble.OutOfMemory) }
+    ensures uncounted { result ≢ Status.SinkFault → K.faults sink.new ≡ K.faults sink.old }
     ensures sink_later { K.faults sink.old ≤ K.faults sink.new }
 {
     finish(
@@ -91,6 +99,7 @@ fn finish<K: Sink>(sink: &mut K, text: &[u8], status: Status) -> Status
     ensures written { result ≢ Status.SinkFault → Takes (K.taken sink.old) (K.taken sink.new) text.now }
     ensures cause { result ≡ Status.SinkFault → Rose (K.faults sink.old) (K.faults sink.new) }
     ensures front { result ≡ Status.SinkFault → TakesFront (K.taken sink.old) (K.taken sink.new) text.now }
+    ensures uncounted { result ≢ Status.SinkFault → K.faults sink.new ≡ K.faults sink.old }
     ensures later { K.faults sink.old ≤ K.faults sink.new }
 {
     match write_whole(sink, text) {
@@ -111,6 +120,7 @@ fn answer<R: Threads + Wait + Sync, H: Shelf>(
     requires { HasForm (map string_bytes words.now) form }
     ensures answer { MatchResult result (IsEnded (map string_bytes words.now) (sight H.Shelf shelf.old shelf.new))
         (λ stop. IsStopped (map string_bytes words.now) (sight H.Shelf shelf.old shelf.new) stop (line_of stop)) }
+    ensures used { MatchResult result (λ ended. AreUsed (map string_bytes words.now) (trace H.Shelf shelf.old shelf.new) ended.status) (AreReadTo (map string_bytes words.now) (trace H.Shelf shelf.old shelf.new)) }
     ensures holds { H.holds shelf.new ≡ H.holds shelf.old }
     ensures later { (other : List ℕ) → H.faults shelf.old other ≤ H.faults shelf.new other }
 {

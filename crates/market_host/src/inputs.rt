@@ -1,9 +1,10 @@
 // The inputs of a call, each read whole.
-ghost use Rattle.std.specs.Prelude.{◌≡◌, ◌≤◌, List, ℕ, length, IfOk, OnOk, IfErr};
+ghost use Rattle.std.specs.Prelude.{◌≡◌, ◌≤◌, List, ℕ, length, IfOk, OnOk, IfErr, [], ◌∷◌};
 ghost use Rattle.market_edge.specs.Holdings.{IsTextOf};
 ghost use Rattle.market_host.specs.Marks.{without_mark};
 ghost use Rattle.market_host.specs.Reading.{IsUnread};
 ghost use Rattle.market_host.specs.Sights.{sight};
+ghost use Rattle.market_host.specs.Traces.{Uses, trace};
 ghost use Rattle.market_host.specs.Troubles.{IsAtEnd};
 
 use crate::trouble::Trouble;
@@ -26,6 +27,7 @@ pub fn read_input<H: Shelf>(
     ensures unread { IfErr result (IsUnread limit (sight H.Shelf shelf.old shelf.new) name.now input) }
     ensures holds { H.holds shelf.new ≡ H.holds shelf.old }
     ensures later { (other : List ℕ) → H.faults shelf.old other ≤ H.faults shelf.new other }
+    ensures used { Uses (trace H.Shelf shelf.old shelf.new) (name.now ∷ []) input result }
 {
     match read_whole(alloc, shelf, name, limit) {
         Ok(text) => Ok(text),

@@ -1,7 +1,8 @@
 // The summary of a made market.
-ghost use Rattle.std.specs.Prelude.{List, ℕ, IfOk};
+ghost use Rattle.std.specs.Prelude.{List, ℕ, [], IfOk};
 ghost use Rattle.market_host.specs.Outcomes.{IsEnded};
 ghost use Rattle.market_host.specs.Sights.{Sight};
+ghost use Rattle.market_host.specs.Traces.{AreReadOut, AreUsed, Trace};
 ghost use Rattle.market_words.specs.Forms.{HasForm};
 
 use crate::Status;
@@ -29,7 +30,8 @@ pub fn make<R: Threads + Wait + Sync>(
     gate: &(dyn Gate + Sync),
 ) -> Result<Ended, NoMemory>
     requires { (words : List (List ℕ)) × HasForm words (Form.Make workers seed students sections accept) }
-    ensures { IfOk result (λ ended. (words : List (List ℕ)) (seen : Sight) → HasForm words (Form.Make workers seed students sections accept) → IsEnded words seen ended) }
+    ensures ended { IfOk result (λ ended. (words : List (List ℕ)) (seen : Sight) → HasForm words (Form.Make workers seed students sections accept) → IsEnded words seen ended) }
+    ensures used { IfOk result (λ ended. (words : List (List ℕ)) (seen : Trace) → HasForm words (Form.Make workers seed students sections accept) → AreReadOut seen [] → AreUsed words seen ended.status) }
 {
     match made_summary(rt, alloc, workers, seed, students, sections, accept, gate) {
         Ok(text) => Ok(Ended {

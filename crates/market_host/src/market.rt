@@ -1,5 +1,5 @@
 // The first three inputs of a call that holds a market.
-ghost use Rattle.std.specs.Prelude.{◌≡◌, ◌≤◌, List, ℕ, Ok, IfOk, IfErr};
+ghost use Rattle.std.specs.Prelude.{◌≡◌, ◌≤◌, List, ℕ, Ok, IfOk, IfErr, [], ◌∷◌};
 ghost use Rattle.course_catalog.specs.Reading.{catalog_of};
 ghost use Rattle.market_settings.specs.Settings.{AreInRange, settings_of};
 ghost use Rattle.student_roll.specs.Rolls.{roll_of};
@@ -7,6 +7,7 @@ ghost use Rattle.market_host.specs.Kinds as kind;
 ghost use Rattle.market_host.specs.Marks.{without_mark};
 ghost use Rattle.market_host.specs.Reading.{IsRead, IsTroubleOfMarket};
 ghost use Rattle.market_host.specs.Sights.{sight};
+ghost use Rattle.market_host.specs.Traces.{Uses, trace};
 
 use crate::catalog::take_catalog;
 use crate::roll::take_roll;
@@ -41,6 +42,7 @@ pub fn take_market<H: Shelf>(
     ensures trouble { IfErr result (IsTroubleOfMarket (sight H.Shelf shelf.old shelf.new) catalog.now roll.now settings.now) }
     ensures holds { H.holds shelf.new ≡ H.holds shelf.old }
     ensures later { (other : List ℕ) → H.faults shelf.old other ≤ H.faults shelf.new other }
+    ensures used { Uses (trace H.Shelf shelf.old shelf.new) (catalog.now ∷ roll.now ∷ settings.now ∷ []) 1 result }
 {
     let catalog = take_catalog(alloc, shelf, catalog, 1)?;
     let roll = take_roll(alloc, shelf, roll, 2)?;

@@ -4,6 +4,7 @@ ghost use Rattle.std.specs.String.{string_bytes};
 ghost use Rattle.market_host.specs.Lines.{line_of};
 ghost use Rattle.market_host.specs.Outcomes.{IsEnded, IsStopped};
 ghost use Rattle.market_host.specs.Sights.{sight};
+ghost use Rattle.market_host.specs.Traces.{AreReadTo, AreUsed, trace};
 ghost use Rattle.market_host.specs.Sessions.{AreStreams};
 ghost use Rattle.market_words.specs.Forms.{HasForm};
 ghost use Rattle.preference_desk.specs.Journals.{IsLegalJournal, MergesStreams};
@@ -43,6 +44,7 @@ pub fn prefer<R: Threads + Wait + Sync, H: Shelf>(
         (λ stop. IsStopped (map string_bytes words.now) (sight H.Shelf shelf.old shelf.new) stop (line_of stop)) }
     ensures holds { H.holds shelf.new ≡ H.holds shelf.old }
     ensures later { (other : List ℕ) → H.faults shelf.old other ≤ H.faults shelf.new other }
+    ensures used { MatchResult result (λ ended. AreUsed (map string_bytes words.now) (trace H.Shelf shelf.old shelf.new) ended.status) (AreReadTo (map string_bytes words.now) (trace H.Shelf shelf.old shelf.new)) }
 {
     let catalog = take_catalog(alloc, shelf, words[1].as_str(), 1)?;
     let roll = take_roll(alloc, shelf, words[2].as_str(), 2)?;

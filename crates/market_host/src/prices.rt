@@ -1,10 +1,11 @@
 // The prices of a call.
-ghost use Rattle.std.specs.Prelude.{◌≡◌, ◌≢◌, ◌<◌, ◌≤◌, ◌-◌, ◌^◌, List, ℕ, Ok, Err, IfOk, IfErr, length, map};
+ghost use Rattle.std.specs.Prelude.{◌≡◌, ◌≢◌, ◌<◌, ◌≤◌, ◌-◌, ◌^◌, List, ℕ, Ok, Err, IfOk, IfErr, length, map, [], ◌∷◌};
 ghost use Rattle.price_sheet.specs.Sheets.{prices_of};
 ghost use Rattle.market_host.specs.Kinds as kind;
 ghost use Rattle.market_host.specs.Reading.{IsRead, IsRefusal, IsTroubleOfPrices};
 ghost use Rattle.market_host.specs.Refusals.{AreNoPrices};
 ghost use Rattle.market_host.specs.Sights.{sight};
+ghost use Rattle.market_host.specs.Traces.{Uses, trace};
 
 use crate::Cause;
 use crate::inputs::read_input;
@@ -30,6 +31,7 @@ pub fn take_prices<H: Shelf>(
     ensures trouble { IfErr result (IsTroubleOfPrices (sight H.Shelf shelf.old shelf.new) catalog.now name.now input) }
     ensures holds { H.holds shelf.new ≡ H.holds shelf.old }
     ensures later { (other : List ℕ) → H.faults shelf.old other ≤ H.faults shelf.new other }
+    ensures used { Uses (trace H.Shelf shelf.old shelf.new) (name.now ∷ []) input result }
 {
     let bytes = read_input(alloc, shelf, name, input, MAX_INPUT_BYTES)?;
     prices_in(alloc, catalog, &bytes, input)

@@ -1,5 +1,5 @@
 // A published text, with the market and the sessions for which it is looked at.
-ghost use Rattle.std.specs.Prelude.{◌≡◌, ◌≤◌, List, ℕ, Ok, IfOk, IfErr, OnOk, length, map};
+ghost use Rattle.std.specs.Prelude.{◌≡◌, ◌≤◌, List, ℕ, Ok, IfOk, IfErr, OnOk, length, map, [], ◌∷◌};
 ghost use Rattle.std.specs.String.{string_bytes};
 ghost use Rattle.course_catalog.specs.Reading.{catalog_of};
 ghost use Rattle.market_settings.specs.Settings.{AreInRange, settings_of};
@@ -9,6 +9,7 @@ ghost use Rattle.market_host.specs.Marks.{without_mark};
 ghost use Rattle.market_host.specs.Outcomes.{IsLastAtEnd};
 ghost use Rattle.market_host.specs.Reading.{AreReadSessions, IsRead, IsTroubleOf, IsTroubleOfPublished};
 ghost use Rattle.market_host.specs.Sights.{sight};
+ghost use Rattle.market_host.specs.Traces.{Uses, trace};
 ghost use Rattle.market_host.specs.Troubles.{IsAtEnd};
 
 use crate::inputs::read_input;
@@ -51,6 +52,7 @@ pub fn take_published<H: Shelf>(
     ensures end { OnOk result (IsLastAtEnd (sight H.Shelf shelf.old shelf.new) (map string_bytes sessions.now)) }
     ensures holds { H.holds shelf.new ≡ H.holds shelf.old }
     ensures later { (other : List ℕ) → H.faults shelf.old other ≤ H.faults shelf.new other }
+    ensures used { Uses (trace H.Shelf shelf.old shelf.new) (catalog.now ∷ roll.now ∷ settings.now ∷ text.now ∷ map string_bytes sessions.now) 1 result }
 {
     let market = take_market(alloc, shelf, catalog, roll, settings)?;
     let text = take_text(alloc, shelf, text, 4)?;
@@ -73,6 +75,7 @@ pub fn take_text<H: Shelf>(
     ensures trouble { IfErr result (IsTroubleOf (sight H.Shelf shelf.old shelf.new) kind.Published name.now input) }
     ensures holds { H.holds shelf.new ≡ H.holds shelf.old }
     ensures later { (other : List ℕ) → H.faults shelf.old other ≤ H.faults shelf.new other }
+    ensures used { Uses (trace H.Shelf shelf.old shelf.new) (name.now ∷ []) input result }
 {
     read_input(alloc, shelf, name, input, MAX_TEXT_BYTES)
 }

@@ -7,6 +7,7 @@ ghost use Rattle.bundle_rules.specs.Menus.{wishes_of};
 ghost use Rattle.market_host.specs.Lines.{line_of};
 ghost use Rattle.market_host.specs.Outcomes.{IsEnded, IsStopped};
 ghost use Rattle.market_host.specs.Sights.{sight};
+ghost use Rattle.market_host.specs.Traces.{AreReadTo, AreUsed, trace};
 ghost use Rattle.market_host.specs.Quotes.{IsQuote, state_of_new_desk};
 ghost use Rattle.market_units.specs.Name.{name_bytes};
 ghost use Rattle.market_words.specs.Forms.{HasForm};
@@ -46,6 +47,7 @@ pub fn quote<H: Shelf>(
         (λ stop. IsStopped (map string_bytes words.now) (sight H.Shelf shelf.old shelf.new) stop (line_of stop)) }
     ensures holds { H.holds shelf.new ≡ H.holds shelf.old }
     ensures later { (other : List ℕ) → H.faults shelf.old other ≤ H.faults shelf.new other }
+    ensures used { MatchResult result (λ ended. AreUsed (map string_bytes words.now) (trace H.Shelf shelf.old shelf.new) ended.status) (AreReadTo (map string_bytes words.now) (trace H.Shelf shelf.old shelf.new)) }
 {
     let catalog = take_catalog(alloc, shelf, words[1].as_str(), 1)?;
     let commands = take_session(alloc, shelf, words[2].as_str(), 2, MAX_COMMANDS)?;

@@ -1,10 +1,11 @@
 // One session of a call.
-ghost use Rattle.std.specs.Prelude.{◌≡◌, ◌≤◌, List, ℕ, length, IfOk, IfErr, OnOk};
+ghost use Rattle.std.specs.Prelude.{◌≡◌, ◌≤◌, List, ℕ, length, IfOk, IfErr, OnOk, [], ◌∷◌};
 ghost use Rattle.std.specs.List.{AllZip};
 ghost use Rattle.utility_language.specs.Commands.{command_lines};
 ghost use Rattle.market_host.specs.Kinds.{Session};
 ghost use Rattle.market_host.specs.Reading.{IsRead, IsSurplus, IsTroubleOfSession};
 ghost use Rattle.market_host.specs.Sights.{sight};
+ghost use Rattle.market_host.specs.Traces.{Uses, trace};
 ghost use Rattle.market_host.specs.Sessions.{command_count, session_text};
 ghost use Rattle.market_host.specs.Troubles.{IsAtEnd};
 
@@ -30,6 +31,7 @@ pub fn take_session<H: Shelf, S: StreamItem>(
     ensures end { OnOk result (IsAtEnd (sight H.Shelf shelf.old shelf.new) name.now) }
     ensures holds { H.holds shelf.new ≡ H.holds shelf.old }
     ensures later { (other : List ℕ) → H.faults shelf.old other ≤ H.faults shelf.new other }
+    ensures used { Uses (trace H.Shelf shelf.old shelf.new) (name.now ∷ []) input result }
 {
     let bytes = read_input(alloc, shelf, name, input, MAX_INPUT_BYTES)?;
     items_in(alloc, &bytes, input, room)

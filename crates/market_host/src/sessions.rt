@@ -4,6 +4,7 @@ ghost use Rattle.std.specs.String.{string_bytes};
 ghost use Rattle.market_host.specs.Outcomes.{IsLastAtEnd};
 ghost use Rattle.market_host.specs.Reading.{AreReadStreams, IsTroubleOfSessions};
 ghost use Rattle.market_host.specs.Sights.{sight};
+ghost use Rattle.market_host.specs.Traces.{Uses, trace};
 
 use crate::session::take_session;
 use crate::stream_item::StreamItem;
@@ -27,6 +28,7 @@ pub fn take_sessions<H: Shelf, S: StreamItem>(
     ensures end { OnOk result (IsLastAtEnd (sight H.Shelf shelf.old shelf.new) (map string_bytes names.now)) }
     ensures holds { H.holds shelf.new ≡ H.holds shelf.old }
     ensures later { (other : List ℕ) → H.faults shelf.old other ≤ H.faults shelf.new other }
+    ensures used { Uses (trace H.Shelf shelf.old shelf.new) (map string_bytes names.now) first result }
 {
     let mut streams = Vec::new(alloc);
     let mut room = MAX_COMMANDS;

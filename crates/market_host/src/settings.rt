@@ -1,11 +1,12 @@
 // The settings of a call.
-ghost use Rattle.std.specs.Prelude.{◌≡◌, ◌≢◌, ◌≤◌, List, ℕ, Ok, Err, IfOk, IfErr};
+ghost use Rattle.std.specs.Prelude.{◌≡◌, ◌≢◌, ◌≤◌, List, ℕ, Ok, Err, IfOk, IfErr, [], ◌∷◌};
 ghost use Rattle.market_settings.specs.Settings.{AreInRange, settings_of};
 ghost use Rattle.market_host.specs.Kinds as kind;
 ghost use Rattle.market_host.specs.Marks.{without_mark};
 ghost use Rattle.market_host.specs.Reading.{IsRead, IsRefusal, IsTroubleOf};
 ghost use Rattle.market_host.specs.Refusals.{AreNoSettings};
 ghost use Rattle.market_host.specs.Sights.{sight};
+ghost use Rattle.market_host.specs.Traces.{Uses, trace};
 
 use crate::Cause;
 use crate::inputs::{read_input, without_mark};
@@ -30,6 +31,7 @@ pub fn take_settings<H: Shelf>(
     ensures trouble { IfErr result (IsTroubleOf (sight H.Shelf shelf.old shelf.new) kind.Settings name.now input) }
     ensures holds { H.holds shelf.new ≡ H.holds shelf.old }
     ensures later { (other : List ℕ) → H.faults shelf.old other ≤ H.faults shelf.new other }
+    ensures used { Uses (trace H.Shelf shelf.old shelf.new) (name.now ∷ []) input result }
 {
     let bytes = read_input(alloc, shelf, name, input, MAX_INPUT_BYTES)?;
     settings_in(alloc, &bytes, input)

@@ -1,9 +1,10 @@
 // The program over texts in memory. The cases named for what they show are worked examples that were computed apart
 // from this program.
-use super::exit_code;
 use market_edge::{Gate, MemoryShelf, MemorySink, OpenGate};
-use market_host::{Cause, Finding, Status, course_match, no_memory_for_words};
+use market_host::{Cause, Finding, Status, course_match, exit_code, no_memory_for_words};
 use std::alloc::Global;
+use std::io;
+use std::io::ErrorKind;
 use std::process::{Abort, ExitCode};
 use std::sync::Wait;
 use std::test::Fail;
@@ -25,6 +26,9 @@ mod prefer;
 mod quote;
 mod runs;
 mod term;
+mod workers;
+
+const USAGE: &str = "usage: run, check, prefer, demand, quote, make, explain, hall, audit\n";
 
 const HEADER: &[u8] = b"section,course,seats,credits,meetings\n";
 
@@ -107,7 +111,7 @@ fn put_rows(
     Ok(())
 }
 
-// The process ends with each status's number.
+// Each status has its number.
 #[test]
 fn each_status_has_its_number(rt: HostRuntime) {
     let refused = Status::Refused {
@@ -131,15 +135,52 @@ fn each_status_has_its_number(rt: HostRuntime) {
         (Status::Unknown { word: 6 }, 9),
     ];
     for (status, number) in cases {
-        assert_eq!(rt; exit_code(status), ExitCode::from(number), "{status:?}");
+        assert_eq!(rt; status.number(), number, "{status:?}");
     }
+}
+
+// The process ends with the number of the status: for words behind the program's name, for none, and where the system has
+// none that are text or no memory for them.
+#[test]
+fn the_process_ends_with_the_number(rt: HostRuntime) -> Result<(), Fail> {
+    let alloc = rt.alloc();
+    let cases: [(Result<&str, ErrorKind>, u8, &str); 6] = [
+        (
+            Ok("course-match quote CAT S1 ann 10 1"),
+            0,
+            "bundle ann [A]\nutility 50\n",
+        ),
+        (
+            Ok("course-match quote CAT S2 ann 10 1"),
+            2,
+            "input 2 can not be read\n",
+        ),
+        (Ok("course-match make 2 7 40 15 0"), 5, "no prices: least error 3\n"),
+        (Ok("course-match"), 1, USAGE),
+        (Err(ErrorKind::InvalidData), 1, USAGE),
+        (Err(ErrorKind::OutOfMemory), 7, "out of memory\n"),
+    ];
+    for (given, number, text) in cases {
+        let mut files = Vec::new(alloc);
+        files.push((String::from_str(alloc, "CAT")?, TWO.to_vec(alloc)?))?;
+        files.push((String::from_str(alloc, "S1")?, TIE.to_vec(alloc)?))?;
+        let mut shelf = MemoryShelf::make(alloc, files, Vec::new(alloc)).expect(&rt, "room");
+        let mut sink = MemorySink::make(alloc, 100, Vec::new(alloc)).expect(&rt, "room");
+        let args = match given {
+            Ok(line) => Ok(words_of(alloc, line)?.into_iter()),
+            Err(kind) => Err(io::Error::from(kind)),
+        };
+        let code = exit_code(&rt, alloc, args, &mut shelf, &mut sink, &OpenGate);
+        assert_eq!(rt; code, ExitCode::from(number), "{text}");
+        assert_eq!(rt; sink.taken(), text.as_bytes());
+    }
+    Ok(())
 }
 
 // Words that are no form, and words for which there is no memory.
 #[test]
 fn no_form(rt: HostRuntime) -> Result<(), Fail> {
     let alloc = rt.alloc();
-    let usage = "usage: run, check, prefer, demand, quote, make, explain, hall, audit\n";
     for line in [
         "quote CAT S1 ann 010 1",
         "quote CAT S1 ann 10 9",
@@ -163,7 +204,7 @@ fn no_form(rt: HostRuntime) -> Result<(), Fail> {
         let files = [("CAT", TWO), ("STU", ANN), ("S1", TIE)];
         let (found, written) = run(&rt, alloc, line, &files)?;
         assert_eq!(rt; found, Status::Usage);
-        assert_eq!(rt; written.as_str(), usage);
+        assert_eq!(rt; written.as_str(), USAGE);
     }
     let mut sink = MemorySink::make(alloc, 14, Vec::new(alloc)).expect(&rt, "room");
     assert_eq!(rt; no_memory_for_words(&mut sink), Status::OutOfMemory);

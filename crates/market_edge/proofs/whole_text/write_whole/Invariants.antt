@@ -1,4 +1,4 @@
-use Rattle.std.proofs.Common.{◌≤◌, ◌-◌, length, take}
+use Rattle.std.proofs.Common.{◌≡◌, ◌≤◌, ◌-◌, length, take}
 use Rattle.market_edge.specs.Sinks.{Takes}
 use Rattle.market_edge.proofs.whole_text.write_whole.Given as goal
 
@@ -6,7 +6,7 @@ abbrev pub invariant-pieces : goal.invariant-pieces
 invariant-pieces g l = record {
   within : l.done ≤ length l.text;
   taken : Takes (g.K.Sink.taken l.fn.sink) (g.K.Sink.taken l.sink) (take l.done l.text);
-  later : g.K.Sink.faults l.fn.sink ≤ g.K.Sink.faults l.sink;
+  uncounted : g.K.Sink.faults l.sink ≡ g.K.Sink.faults l.fn.sink;
 }
 
 -- each turn takes at least one byte

@@ -1,4 +1,4 @@
-use Rattle.std.proofs.Common.{◌≡◌, ◌-◌, arith, drop, length, map, refl, take}
+use Rattle.std.proofs.Common.{◌≡◌, ◌-◌, arith, drop, length, map, refl, take, [], ◌∷◌}
 use Rattle.std.specs.String.{string_bytes}
 use Rattle.std.proofs.lemmas.Result.{err_from_is_err_and}
 use Rattle.market_words.specs.declared.words.Form.TheVariants.{Audit}
@@ -6,6 +6,7 @@ use Rattle.market_host.specs.Sights.{sight}
 use Rattle.market_host.proofs.AuditFacts.{audit_done, audit_found, inputs-audit, length-audit, opens_audit}
 use Rattle.market_host.proofs.PublishedFacts.{published_stops}
 use Rattle.market_host.proofs.WordFacts.{length-words}
+use Rattle.market_host.proofs.TraceFacts.{all_read_once, last_stops_once, memory_wanted}
 use Rattle.market_host.proofs.audit.audit.Goals as goal
 
 pub returns-in_err-published-clause-answer : goal.returns-in_err-published-clause-answer
@@ -51,3 +52,32 @@ returns-in-Err-Found-clause-answer g c =
 
 pub returns-clause-answer : goal.returns-clause-answer
 returns-clause-answer g c = (Audit c.args.workers, c.requires, tt, refl)
+
+pub returns-in_err-published-clause-used : goal.returns-in_err-published-clause-used
+returns-in_err-published-clause-used g c =
+    let p = err_from_is_err_and c.from_residual.result c.from_residual.ensures.1 in
+    let words = map string_bytes c.args.words.now in
+    let long = length-audit c.args.words.now c.args.workers c.requires in
+    let named = inputs-audit c.args.words.now c.args.workers c.index-words-2.result c.index-words-3.result c.index-words-4.result c.index-words-5.result long.0 c.index-words-2.is c.index-words-3.is c.index-words-4.is c.index-words-5.is in
+    rw (p.1, p.2) (last_stops_once g.H.Shelf words (Audit c.args.workers) c.requires c.args.shelf.now c.take_published.new.shelf (string_bytes c.index-words-2.result ∷ string_bytes c.index-words-3.result ∷ string_bytes c.index-words-4.result ∷ string_bytes c.index-words-5.result ∷ map string_bytes (take (length c.args.words.now - 6) (drop 6 c.args.words.now))) c.in_err-published.field-0.0 named (rw (c.as_str.ensures.value, c.as_str-2.ensures.value, c.as_str-3.ensures.value, c.as_str-4.ensures.value) at c.in_err-published.ensures.used))
+
+pub returns-in-Ok-clause-used : goal.returns-in-Ok-clause-used
+returns-in-Ok-clause-used g c =
+    let words = map string_bytes c.args.words.now in
+    let long = length-audit c.args.words.now c.args.workers c.requires in
+    let named = inputs-audit c.args.words.now c.args.workers c.index-words-2.result c.index-words-3.result c.index-words-4.result c.index-words-5.result long.0 c.index-words-2.is c.index-words-3.is c.index-words-4.is c.index-words-5.is in
+    all_read_once g.H.Shelf words (Audit c.args.workers) c.requires c.args.shelf.now c.take_published.new.shelf (string_bytes c.index-words-2.result ∷ string_bytes c.index-words-3.result ∷ string_bytes c.index-words-4.result ∷ string_bytes c.index-words-5.result ∷ map string_bytes (take (length c.args.words.now - 6) (drop 6 c.args.words.now))) named (rw (c.as_str.ensures.value, c.as_str-2.ensures.value, c.as_str-3.ensures.value, c.as_str-4.ensures.value) at c.in_ok-published.ensures.used)
+
+pub returns-in-Err-Found-clause-used : goal.returns-in-Err-Found-clause-used
+returns-in-Err-Found-clause-used g c =
+    let words = map string_bytes c.args.words.now in
+    let long = length-audit c.args.words.now c.args.workers c.requires in
+    let named = inputs-audit c.args.words.now c.args.workers c.index-words-2.result c.index-words-3.result c.index-words-4.result c.index-words-5.result long.0 c.index-words-2.is c.index-words-3.is c.index-words-4.is c.index-words-5.is in
+    all_read_once g.H.Shelf words (Audit c.args.workers) c.requires c.args.shelf.now c.take_published.new.shelf (string_bytes c.index-words-2.result ∷ string_bytes c.index-words-3.result ∷ string_bytes c.index-words-4.result ∷ string_bytes c.index-words-5.result ∷ map string_bytes (take (length c.args.words.now - 6) (drop 6 c.args.words.now))) named (rw (c.as_str.ensures.value, c.as_str-2.ensures.value, c.as_str-3.ensures.value, c.as_str-4.ensures.value) at c.in_ok-published.ensures.used)
+
+pub returns-clause-used : goal.returns-clause-used
+returns-clause-used g c =
+    let words = map string_bytes c.args.words.now in
+    let long = length-audit c.args.words.now c.args.workers c.requires in
+    let named = inputs-audit c.args.words.now c.args.workers c.index-words-2.result c.index-words-3.result c.index-words-4.result c.index-words-5.result long.0 c.index-words-2.is c.index-words-3.is c.index-words-4.is c.index-words-5.is in
+    memory_wanted g.H.Shelf words c.args.shelf.now c.take_published.new.shelf (all_read_once g.H.Shelf words (Audit c.args.workers) c.requires c.args.shelf.now c.take_published.new.shelf (string_bytes c.index-words-2.result ∷ string_bytes c.index-words-3.result ∷ string_bytes c.index-words-4.result ∷ string_bytes c.index-words-5.result ∷ map string_bytes (take (length c.args.words.now - 6) (drop 6 c.args.words.now))) named (rw (c.as_str.ensures.value, c.as_str-2.ensures.value, c.as_str-3.ensures.value, c.as_str-4.ensures.value) at c.in_ok-published.ensures.used))

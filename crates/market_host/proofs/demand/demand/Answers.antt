@@ -13,6 +13,7 @@ use Rattle.market_host.proofs.SessionsRead.{streams_of_names}
 use Rattle.market_host.proofs.Stops.{market_stops, prices_stop, sessions_stop}
 use Rattle.market_host.proofs.StreamFacts.{count_of_sessions}
 use Rattle.market_host.proofs.WordFacts.{length-words}
+use Rattle.market_host.proofs.TraceFacts.{all_read, front_stops, last_stops, memory_wanted, next_stops, read_behind}
 use Rattle.market_host.proofs.demand.demand.Goals as goal
 
 pub bounds-words-5 : goal.bounds-words-5
@@ -113,3 +114,45 @@ returns-clause-answer g c =
     (string_bytes c.index-words-2.result) (string_bytes c.index-words-3.result) (string_bytes c.index-words-4.result) (string_bytes c.index-words-5.result) names read.0 read.1
     c.in_ok-market.market.catalog c.in_ok-market.market.roll c.in_ok-market.market.settings c.in_ok-prices.prices.items c.in_ok-streams.streams.items _ c.requires named (omega (arith, count, long.0)) first second third fourth
     (c.in_ok-prices.ensures.holds ∙ said.holds) read.2 c.in_ok-streams.ensures.end (rw (c.deref.ensures.value, c.deref-2.ensures.value) at c.in_ok-text.ensures)
+
+pub returns-in_err-market-clause-used : goal.returns-in_err-market-clause-used
+returns-in_err-market-clause-used g c =
+    let words = map string_bytes c.args.words.now in
+    let p = err_from_is_err_and c.from_residual.result c.from_residual.ensures.1 in
+    let long = length-demand c.args.words.now c.args.workers c.requires in
+    let named = market-demand c.args.words.now c.args.workers c.index-words-2.result c.index-words-3.result c.index-words-4.result long.0 c.index-words-2.is c.index-words-3.is c.index-words-4.is in
+    rw (p.1, p.2) (front_stops g.H.Shelf words (Demand c.args.workers) c.requires c.args.shelf.now c.take_market.new.shelf (string_bytes c.index-words-2.result ∷ string_bytes c.index-words-3.result ∷ string_bytes c.index-words-4.result ∷ []) (drop 5 words) c.in_err-market.field-0.0 named (rw (c.as_str.ensures.value, c.as_str-2.ensures.value, c.as_str-3.ensures.value) at c.in_err-market.ensures.used))
+
+pub returns-in_err-prices-clause-used : goal.returns-in_err-prices-clause-used
+returns-in_err-prices-clause-used g c =
+    let words = map string_bytes c.args.words.now in
+    let p = err_from_is_err_and c.from_residual-in_err-prices.result c.from_residual-in_err-prices.ensures.1 in
+    let long = length-demand c.args.words.now c.args.workers c.requires in
+    let named = inputs-demand c.args.words.now c.args.workers c.index-words-2.result c.index-words-3.result c.index-words-4.result c.index-words-5.result long.0 c.index-words-2.is c.index-words-3.is c.index-words-4.is c.index-words-5.is in
+    rw (p.1, p.2) (next_stops g.H.Shelf words (Demand c.args.workers) c.requires c.args.shelf.now c.take_market.new.shelf c.take_prices.new.shelf (string_bytes c.index-words-2.result ∷ string_bytes c.index-words-3.result ∷ string_bytes c.index-words-4.result ∷ []) (string_bytes c.index-words-5.result ∷ []) (map string_bytes (take (length c.args.words.now - 6) (drop 6 c.args.words.now))) c.in_err-prices.field-0.0 named (rw (c.as_str.ensures.value, c.as_str-2.ensures.value, c.as_str-3.ensures.value) at c.in_ok-market.ensures.used) (rw c.as_str-4.ensures.value at c.in_err-prices.ensures.used))
+
+pub returns-in_err-streams-clause-used : goal.returns-in_err-streams-clause-used
+returns-in_err-streams-clause-used g c =
+    let words = map string_bytes c.args.words.now in
+    let p = err_from_is_err_and c.from_residual-in_err-streams.result c.from_residual-in_err-streams.ensures.1 in
+    let long = length-demand c.args.words.now c.args.workers c.requires in
+    let named = inputs-demand c.args.words.now c.args.workers c.index-words-2.result c.index-words-3.result c.index-words-4.result c.index-words-5.result long.0 c.index-words-2.is c.index-words-3.is c.index-words-4.is c.index-words-5.is in
+    let front1 = read_behind g.H.Shelf c.args.shelf.now c.take_market.new.shelf c.take_prices.new.shelf (string_bytes c.index-words-2.result ∷ string_bytes c.index-words-3.result ∷ string_bytes c.index-words-4.result ∷ []) (string_bytes c.index-words-5.result ∷ []) (rw (c.as_str.ensures.value, c.as_str-2.ensures.value, c.as_str-3.ensures.value) at c.in_ok-market.ensures.used) (rw c.as_str-4.ensures.value at c.in_ok-prices.ensures.used) in
+    rw (p.1, p.2) (last_stops g.H.Shelf words (Demand c.args.workers) c.requires c.args.shelf.now c.take_prices.new.shelf c.take_sessions.new.shelf (string_bytes c.index-words-2.result ∷ string_bytes c.index-words-3.result ∷ string_bytes c.index-words-4.result ∷ string_bytes c.index-words-5.result ∷ []) (map string_bytes (take (length c.args.words.now - 6) (drop 6 c.args.words.now))) c.in_err-streams.field-0.0 named front1 c.in_err-streams.ensures.used)
+
+pub returns-in_err-text-clause-used : goal.returns-in_err-text-clause-used
+returns-in_err-text-clause-used g c =
+    let words = map string_bytes c.args.words.now in
+    let p = err_from_is_err_and c.from_residual-in_err-text.result c.from_residual-in_err-text.ensures.1 in
+    let long = length-demand c.args.words.now c.args.workers c.requires in
+    let named = inputs-demand c.args.words.now c.args.workers c.index-words-2.result c.index-words-3.result c.index-words-4.result c.index-words-5.result long.0 c.index-words-2.is c.index-words-3.is c.index-words-4.is c.index-words-5.is in
+    let front1 = read_behind g.H.Shelf c.args.shelf.now c.take_market.new.shelf c.take_prices.new.shelf (string_bytes c.index-words-2.result ∷ string_bytes c.index-words-3.result ∷ string_bytes c.index-words-4.result ∷ []) (string_bytes c.index-words-5.result ∷ []) (rw (c.as_str.ensures.value, c.as_str-2.ensures.value, c.as_str-3.ensures.value) at c.in_ok-market.ensures.used) (rw c.as_str-4.ensures.value at c.in_ok-prices.ensures.used) in
+    rw (p.1, p.2) (memory_wanted g.H.Shelf words c.args.shelf.now c.take_sessions.new.shelf (all_read g.H.Shelf words (Demand c.args.workers) c.requires c.args.shelf.now c.take_prices.new.shelf c.take_sessions.new.shelf (string_bytes c.index-words-2.result ∷ string_bytes c.index-words-3.result ∷ string_bytes c.index-words-4.result ∷ string_bytes c.index-words-5.result ∷ []) (map string_bytes (take (length c.args.words.now - 6) (drop 6 c.args.words.now))) named front1 c.in_ok-streams.ensures.used))
+
+pub returns-clause-used : goal.returns-clause-used
+returns-clause-used g c =
+    let words = map string_bytes c.args.words.now in
+    let long = length-demand c.args.words.now c.args.workers c.requires in
+    let named = inputs-demand c.args.words.now c.args.workers c.index-words-2.result c.index-words-3.result c.index-words-4.result c.index-words-5.result long.0 c.index-words-2.is c.index-words-3.is c.index-words-4.is c.index-words-5.is in
+    let front1 = read_behind g.H.Shelf c.args.shelf.now c.take_market.new.shelf c.take_prices.new.shelf (string_bytes c.index-words-2.result ∷ string_bytes c.index-words-3.result ∷ string_bytes c.index-words-4.result ∷ []) (string_bytes c.index-words-5.result ∷ []) (rw (c.as_str.ensures.value, c.as_str-2.ensures.value, c.as_str-3.ensures.value) at c.in_ok-market.ensures.used) (rw c.as_str-4.ensures.value at c.in_ok-prices.ensures.used) in
+    all_read g.H.Shelf words (Demand c.args.workers) c.requires c.args.shelf.now c.take_prices.new.shelf c.take_sessions.new.shelf (string_bytes c.index-words-2.result ∷ string_bytes c.index-words-3.result ∷ string_bytes c.index-words-4.result ∷ string_bytes c.index-words-5.result ∷ []) (map string_bytes (take (length c.args.words.now - 6) (drop 6 c.args.words.now))) named front1 c.in_ok-streams.ensures.used

@@ -4,6 +4,7 @@ use Rattle.market_host.specs.Kinds.{Roll, Settings}
 use Rattle.market_host.specs.Sights.{sight}
 use Rattle.market_host.proofs.InputTroubles.{none_read}
 use Rattle.market_host.proofs.MarketFacts.{first_is_catalog, market_first, market_second, second_is_roll, third_is_settings, trouble_later}
+use Rattle.market_host.proofs.TraceFacts.{read_behind, until_before, until_behind}
 use Rattle.market_host.proofs.market.take_market.Goals as goal
 
 pub returns-in_err-catalog-clause-trouble : goal.returns-in_err-catalog-clause-trouble
@@ -36,3 +37,25 @@ returns-clause-roll g c = rw c.in_ok-catalog.ensures.holds at c.in_ok-roll.ensur
 
 pub returns-clause-settings : goal.returns-clause-settings
 returns-clause-settings g c = rw (c.in_ok-roll.ensures.holds, c.in_ok-catalog.ensures.holds) at c.in_ok-settings.ensures.read
+
+pub returns-in_err-catalog-clause-used : goal.returns-in_err-catalog-clause-used
+returns-in_err-catalog-clause-used g c =
+    let p = err_from_is_err_and c.from_residual.result c.from_residual.ensures.1 in
+    rw (p.1, p.2) (until_before g.H.Shelf c.args.shelf.now c.take_catalog.new.shelf (c.args.catalog.now ∷ []) (c.args.roll.now ∷ c.args.settings.now ∷ []) 1 c.in_err-catalog.field-0.0 c.in_err-catalog.ensures.used)
+
+pub returns-in_err-roll-clause-used : goal.returns-in_err-roll-clause-used
+returns-in_err-roll-clause-used g c =
+    let p = err_from_is_err_and c.from_residual-in_err-roll.result c.from_residual-in_err-roll.ensures.1 in
+    rw (p.1, p.2) (until_behind g.H.Shelf c.args.shelf.now c.take_catalog.new.shelf c.take_roll.new.shelf (c.args.catalog.now ∷ []) (c.args.roll.now ∷ c.args.settings.now ∷ []) 1 c.in_err-roll.field-0.0 c.in_ok-catalog.ensures.used
+    (until_before g.H.Shelf c.take_catalog.new.shelf c.take_roll.new.shelf (c.args.roll.now ∷ []) (c.args.settings.now ∷ []) 2 c.in_err-roll.field-0.0 c.in_err-roll.ensures.used))
+
+pub returns-in_err-settings-clause-used : goal.returns-in_err-settings-clause-used
+returns-in_err-settings-clause-used g c =
+    let p = err_from_is_err_and c.from_residual-in_err-settings.result c.from_residual-in_err-settings.ensures.1 in
+    let front = read_behind g.H.Shelf c.args.shelf.now c.take_catalog.new.shelf c.take_roll.new.shelf (c.args.catalog.now ∷ []) (c.args.roll.now ∷ []) c.in_ok-catalog.ensures.used c.in_ok-roll.ensures.used in
+    rw (p.1, p.2) (until_behind g.H.Shelf c.args.shelf.now c.take_roll.new.shelf c.take_settings.new.shelf (c.args.catalog.now ∷ c.args.roll.now ∷ []) (c.args.settings.now ∷ []) 1 c.in_err-settings.field-0.0 front c.in_err-settings.ensures.used)
+
+pub returns-clause-used : goal.returns-clause-used
+returns-clause-used g c =
+    let front = read_behind g.H.Shelf c.args.shelf.now c.take_catalog.new.shelf c.take_roll.new.shelf (c.args.catalog.now ∷ []) (c.args.roll.now ∷ []) c.in_ok-catalog.ensures.used c.in_ok-roll.ensures.used in
+    read_behind g.H.Shelf c.args.shelf.now c.take_roll.new.shelf c.take_settings.new.shelf (c.args.catalog.now ∷ c.args.roll.now ∷ []) (c.args.settings.now ∷ []) front c.in_ok-settings.ensures.used

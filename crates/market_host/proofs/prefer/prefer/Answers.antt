@@ -14,6 +14,7 @@ use Rattle.market_host.proofs.SessionsRead.{streams_of_names}
 use Rattle.market_host.proofs.Stops.{input_stops, sessions_stop}
 use Rattle.market_host.proofs.StreamFacts.{count_of_sessions}
 use Rattle.market_host.proofs.WordFacts.{length-words}
+use Rattle.market_host.proofs.TraceFacts.{all_read, front_stops, last_stops, memory_wanted, next_stops, read_behind}
 use Rattle.market_host.proofs.prefer.prefer.Goals as goal
 
 pub bounds-words-2 : goal.bounds-words-2
@@ -88,3 +89,45 @@ returns-clause-answer g c =
     prefer_done words (g.H.Shelf.faults c.args.shelf.now) (sight g.H.Shelf c.take_roll.new.shelf c.take_sessions.new.shelf) (g.H.Shelf.holds c.args.shelf.now) (string_bytes c.index-words-1.result)
     (string_bytes c.index-words-2.result) names read.0 read.1 _ _ c.in_ok-streams.streams.items _ c.requires named (omega (arith, count, long.0)) first second
     (c.in_ok-roll.ensures.holds ∙ c.in_ok-catalog.ensures.holds) read.2 c.in_ok-streams.ensures.end (rw c.deref.ensures.value at c.in_ok-text.ensures)
+
+pub returns-in_err-catalog-clause-used : goal.returns-in_err-catalog-clause-used
+returns-in_err-catalog-clause-used g c =
+    let words = map string_bytes c.args.words.now in
+    let p = err_from_is_err_and c.from_residual.result c.from_residual.ensures.1 in
+    let long = length-prefer c.args.words.now c.requires in
+    let named = first-prefer c.args.words.now c.index-words-1.result long.0 c.index-words-1.is in
+    rw (p.1, p.2) (front_stops g.H.Shelf words (Prefer) c.requires c.args.shelf.now c.take_catalog.new.shelf (string_bytes c.index-words-1.result ∷ []) (drop 2 words) c.in_err-catalog.field-0.0 named (rw c.as_str.ensures.value at c.in_err-catalog.ensures.used))
+
+pub returns-in_err-roll-clause-used : goal.returns-in_err-roll-clause-used
+returns-in_err-roll-clause-used g c =
+    let words = map string_bytes c.args.words.now in
+    let p = err_from_is_err_and c.from_residual-in_err-roll.result c.from_residual-in_err-roll.ensures.1 in
+    let long = length-prefer c.args.words.now c.requires in
+    let named = inputs-prefer c.args.words.now c.index-words-1.result c.index-words-2.result long.0 c.index-words-1.is c.index-words-2.is in
+    rw (p.1, p.2) (next_stops g.H.Shelf words (Prefer) c.requires c.args.shelf.now c.take_catalog.new.shelf c.take_roll.new.shelf (string_bytes c.index-words-1.result ∷ []) (string_bytes c.index-words-2.result ∷ []) (map string_bytes (take (length c.args.words.now - 3) (drop 3 c.args.words.now))) c.in_err-roll.field-0.0 named (rw c.as_str.ensures.value at c.in_ok-catalog.ensures.used) (rw c.as_str-2.ensures.value at c.in_err-roll.ensures.used))
+
+pub returns-in_err-streams-clause-used : goal.returns-in_err-streams-clause-used
+returns-in_err-streams-clause-used g c =
+    let words = map string_bytes c.args.words.now in
+    let p = err_from_is_err_and c.from_residual-in_err-streams.result c.from_residual-in_err-streams.ensures.1 in
+    let long = length-prefer c.args.words.now c.requires in
+    let named = inputs-prefer c.args.words.now c.index-words-1.result c.index-words-2.result long.0 c.index-words-1.is c.index-words-2.is in
+    let front1 = read_behind g.H.Shelf c.args.shelf.now c.take_catalog.new.shelf c.take_roll.new.shelf (string_bytes c.index-words-1.result ∷ []) (string_bytes c.index-words-2.result ∷ []) (rw c.as_str.ensures.value at c.in_ok-catalog.ensures.used) (rw c.as_str-2.ensures.value at c.in_ok-roll.ensures.used) in
+    rw (p.1, p.2) (last_stops g.H.Shelf words (Prefer) c.requires c.args.shelf.now c.take_roll.new.shelf c.take_sessions.new.shelf (string_bytes c.index-words-1.result ∷ string_bytes c.index-words-2.result ∷ []) (map string_bytes (take (length c.args.words.now - 3) (drop 3 c.args.words.now))) c.in_err-streams.field-0.0 named front1 c.in_err-streams.ensures.used)
+
+pub returns-in_err-text-clause-used : goal.returns-in_err-text-clause-used
+returns-in_err-text-clause-used g c =
+    let words = map string_bytes c.args.words.now in
+    let p = err_from_is_err_and c.from_residual-in_err-text.result c.from_residual-in_err-text.ensures.1 in
+    let long = length-prefer c.args.words.now c.requires in
+    let named = inputs-prefer c.args.words.now c.index-words-1.result c.index-words-2.result long.0 c.index-words-1.is c.index-words-2.is in
+    let front1 = read_behind g.H.Shelf c.args.shelf.now c.take_catalog.new.shelf c.take_roll.new.shelf (string_bytes c.index-words-1.result ∷ []) (string_bytes c.index-words-2.result ∷ []) (rw c.as_str.ensures.value at c.in_ok-catalog.ensures.used) (rw c.as_str-2.ensures.value at c.in_ok-roll.ensures.used) in
+    rw (p.1, p.2) (memory_wanted g.H.Shelf words c.args.shelf.now c.take_sessions.new.shelf (all_read g.H.Shelf words (Prefer) c.requires c.args.shelf.now c.take_roll.new.shelf c.take_sessions.new.shelf (string_bytes c.index-words-1.result ∷ string_bytes c.index-words-2.result ∷ []) (map string_bytes (take (length c.args.words.now - 3) (drop 3 c.args.words.now))) named front1 c.in_ok-streams.ensures.used))
+
+pub returns-clause-used : goal.returns-clause-used
+returns-clause-used g c =
+    let words = map string_bytes c.args.words.now in
+    let long = length-prefer c.args.words.now c.requires in
+    let named = inputs-prefer c.args.words.now c.index-words-1.result c.index-words-2.result long.0 c.index-words-1.is c.index-words-2.is in
+    let front1 = read_behind g.H.Shelf c.args.shelf.now c.take_catalog.new.shelf c.take_roll.new.shelf (string_bytes c.index-words-1.result ∷ []) (string_bytes c.index-words-2.result ∷ []) (rw c.as_str.ensures.value at c.in_ok-catalog.ensures.used) (rw c.as_str-2.ensures.value at c.in_ok-roll.ensures.used) in
+    all_read g.H.Shelf words (Prefer) c.requires c.args.shelf.now c.take_roll.new.shelf c.take_sessions.new.shelf (string_bytes c.index-words-1.result ∷ string_bytes c.index-words-2.result ∷ []) (map string_bytes (take (length c.args.words.now - 3) (drop 3 c.args.words.now))) named front1 c.in_ok-streams.ensures.used

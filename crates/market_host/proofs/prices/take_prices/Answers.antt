@@ -3,6 +3,7 @@ use Rattle.market_host.specs.Kinds.{Prices}
 use Rattle.market_host.specs.Refusals.{AreNoPrices}
 use Rattle.market_host.specs.Sights.{sight}
 use Rattle.market_host.proofs.InputTroubles.{trouble_of_refusal, trouble_of_unread}
+use Rattle.market_host.proofs.TraceFacts.{uses_refused}
 use Rattle.market_host.proofs.prices.take_prices.Goals as goal
 
 pub returns-in_err-bytes-clause-trouble : goal.returns-in_err-bytes-clause-trouble
@@ -22,3 +23,12 @@ returns-clause-trouble g c =
     (AreNoPrices c.args.catalog.now.sections c.in_ok-bytes.bytes.items) c.in_ok-bytes.bytes.items stop of c.in_ok-bytes.ensures.end c.in_ok-bytes.ensures.whole c.in_ok-bytes.ensures.within
     (λ row cause is. (c.args.catalog.now, begins, is)) (rw c.deref.ensures.value at refusal))
     c.prices_in.ensures.refused
+
+pub returns-in_err-bytes-clause-used : goal.returns-in_err-bytes-clause-used
+returns-in_err-bytes-clause-used g c =
+    let p = err_from_is_err_and c.from_residual.result c.from_residual.ensures.1 in
+    rw (p.1, p.2) c.in_err-bytes.ensures.used
+
+pub returns-clause-used : goal.returns-clause-used
+returns-clause-used g c =
+    uses_refused g.H.Shelf c.args.shelf.now c.read_input.new.shelf c.args.name.now c.args.input (AreNoPrices c.args.catalog.now.sections c.in_ok-bytes.bytes.items) c.prices_in.result c.in_ok-bytes.ensures.used (rw c.deref.ensures.value at c.prices_in.ensures.refused)

@@ -7,6 +7,7 @@ use Rattle.market_host.specs.Sights.{sight}
 use Rattle.market_host.proofs.MarketFacts.{market_third, trouble_later}
 use Rattle.market_host.proofs.PublishedFacts.{fourth_is_published, front_long, opens_market, published_fourth, sessions_trouble}
 use Rattle.market_host.proofs.Shelves.{seen_from}
+use Rattle.market_host.proofs.TraceFacts.{read_behind, until_before, until_behind}
 use Rattle.market_host.proofs.published.take_published.Goals as goal
 
 pub returns-in_err-market-clause-trouble : goal.returns-in_err-market-clause-trouble
@@ -45,3 +46,26 @@ returns-clause-sessions g c = rw (c.in_ok-text.ensures.holds, c.in_ok-market.ens
 pub returns-clause-end : goal.returns-clause-end
 returns-clause-end g c =
     subst (λ h. IsLastAtEnd (seen_from h (g.H.Shelf.faults c.args.shelf.now) (sight g.H.Shelf c.take_text.new.shelf c.take_sessions.new.shelf)) (map string_bytes c.args.sessions.now)) (c.in_ok-text.ensures.holds ∙ c.in_ok-market.ensures.holds) c.in_ok-streams.ensures.end
+
+pub returns-in_err-market-clause-used : goal.returns-in_err-market-clause-used
+returns-in_err-market-clause-used g c =
+    let p = err_from_is_err_and c.from_residual.result c.from_residual.ensures.1 in
+    rw (p.1, p.2) (until_before g.H.Shelf c.args.shelf.now c.take_market.new.shelf (c.args.catalog.now ∷ c.args.roll.now ∷ c.args.settings.now ∷ []) (c.args.text.now ∷ map string_bytes c.args.sessions.now) 1 c.in_err-market.field-0.0 c.in_err-market.ensures.used)
+
+pub returns-in_err-text-clause-used : goal.returns-in_err-text-clause-used
+returns-in_err-text-clause-used g c =
+    let p = err_from_is_err_and c.from_residual-in_err-text.result c.from_residual-in_err-text.ensures.1 in
+    rw (p.1, p.2) (until_behind g.H.Shelf c.args.shelf.now c.take_market.new.shelf c.take_text.new.shelf (c.args.catalog.now ∷ c.args.roll.now ∷ c.args.settings.now ∷ []) (c.args.text.now ∷ map string_bytes c.args.sessions.now) 1 c.in_err-text.field-0.0 c.in_ok-market.ensures.used
+    (until_before g.H.Shelf c.take_market.new.shelf c.take_text.new.shelf (c.args.text.now ∷ []) (map string_bytes c.args.sessions.now) 4 c.in_err-text.field-0.0 c.in_err-text.ensures.used))
+
+pub returns-in_err-streams-clause-used : goal.returns-in_err-streams-clause-used
+returns-in_err-streams-clause-used g c =
+    let p = err_from_is_err_and c.from_residual-in_err-streams.result c.from_residual-in_err-streams.ensures.1 in
+    let front = read_behind g.H.Shelf c.args.shelf.now c.take_market.new.shelf c.take_text.new.shelf (c.args.catalog.now ∷ c.args.roll.now ∷ c.args.settings.now ∷ []) (c.args.text.now ∷ []) c.in_ok-market.ensures.used c.in_ok-text.ensures.used in
+    rw (p.1, p.2) (until_behind g.H.Shelf c.args.shelf.now c.take_text.new.shelf c.take_sessions.new.shelf (c.args.catalog.now ∷ c.args.roll.now ∷ c.args.settings.now ∷ c.args.text.now ∷ []) (map string_bytes c.args.sessions.now) 1 c.in_err-streams.field-0.0 front
+    c.in_err-streams.ensures.used)
+
+pub returns-clause-used : goal.returns-clause-used
+returns-clause-used g c =
+    let front = read_behind g.H.Shelf c.args.shelf.now c.take_market.new.shelf c.take_text.new.shelf (c.args.catalog.now ∷ c.args.roll.now ∷ c.args.settings.now ∷ []) (c.args.text.now ∷ []) c.in_ok-market.ensures.used c.in_ok-text.ensures.used in
+    read_behind g.H.Shelf c.args.shelf.now c.take_text.new.shelf c.take_sessions.new.shelf (c.args.catalog.now ∷ c.args.roll.now ∷ c.args.settings.now ∷ c.args.text.now ∷ []) (map string_bytes c.args.sessions.now) front c.in_ok-streams.ensures.used

@@ -1,4 +1,4 @@
-use Rattle.std.proofs.Common.{◌≡◌, [], ◌∷◌, arith, length, map, refl, take, drop}
+use Rattle.std.proofs.Common.{◌≡◌, [], ◌∷◌, arith, length, map, refl, take, drop, ◌-◌}
 use Rattle.std.specs.String.{string_bytes}
 use Rattle.std.proofs.lemmas.Result.{err_from_is_err_and}
 use Rattle.market_words.specs.declared.words.Form.TheVariants.{Quote}
@@ -10,6 +10,7 @@ use Rattle.market_host.proofs.InputTroubles.{catalog_first, none_read}
 use Rattle.market_host.proofs.QuoteWords.{first-quote, inputs-quote, length-quote, quote_done}
 use Rattle.market_host.proofs.Stops.{input_stops, session_stops}
 use Rattle.market_host.proofs.StreamFacts.{count_of_session}
+use Rattle.market_host.proofs.TraceFacts.{all_read, front_stops, memory_wanted, next_stops}
 use Rattle.market_host.proofs.quote.quote.Goals as goal
 
 pub bounds-words-2 : goal.bounds-words-2
@@ -59,3 +60,34 @@ returns-clause-answer g c =
     quote_done (map string_bytes c.args.words.now) (g.H.Shelf.faults c.args.shelf.now) (sight g.H.Shelf c.take_catalog.new.shelf c.take_session.new.shelf) (g.H.Shelf.holds c.args.shelf.now)
     (string_bytes c.index-words-1.result) (string_bytes c.index-words-2.result) c.args.name c.args.credits c.args.courses _ c.in_ok-commands.commands.items _ c.requires named first c.in_ok-catalog.ensures.holds second ended
     (rw c.deref.ensures.value at c.in_ok-text.ensures)
+
+pub returns-in_err-catalog-clause-used : goal.returns-in_err-catalog-clause-used
+returns-in_err-catalog-clause-used g c =
+    let words = map string_bytes c.args.words.now in
+    let p = err_from_is_err_and c.from_residual.result c.from_residual.ensures.1 in
+    let long = length-quote c.args.words.now c.args.name c.args.credits c.args.courses c.requires in
+    let named = first-quote c.args.words.now c.args.name c.args.credits c.args.courses c.index-words-1.result long c.index-words-1.is in
+    rw (p.1, p.2) (front_stops g.H.Shelf words (Quote c.args.name c.args.credits c.args.courses) c.requires c.args.shelf.now c.take_catalog.new.shelf (string_bytes c.index-words-1.result ∷ []) (take 1 (drop 2 words)) c.in_err-catalog.field-0.0 named (rw c.as_str.ensures.value at c.in_err-catalog.ensures.used))
+
+pub returns-in_err-commands-clause-used : goal.returns-in_err-commands-clause-used
+returns-in_err-commands-clause-used g c =
+    let words = map string_bytes c.args.words.now in
+    let p = err_from_is_err_and c.from_residual-in_err-commands.result c.from_residual-in_err-commands.ensures.1 in
+    let long = length-quote c.args.words.now c.args.name c.args.credits c.args.courses c.requires in
+    let named = inputs-quote c.args.words.now c.args.name c.args.credits c.args.courses c.index-words-1.result c.index-words-2.result long c.index-words-1.is c.index-words-2.is in
+    rw (p.1, p.2) (next_stops g.H.Shelf words (Quote c.args.name c.args.credits c.args.courses) c.requires c.args.shelf.now c.take_catalog.new.shelf c.take_session.new.shelf (string_bytes c.index-words-1.result ∷ []) (string_bytes c.index-words-2.result ∷ []) ([]) c.in_err-commands.field-0.0 named (rw c.as_str.ensures.value at c.in_ok-catalog.ensures.used) (rw c.as_str-2.ensures.value at c.in_err-commands.ensures.used))
+
+pub returns-in_err-text-clause-used : goal.returns-in_err-text-clause-used
+returns-in_err-text-clause-used g c =
+    let words = map string_bytes c.args.words.now in
+    let p = err_from_is_err_and c.from_residual-in_err-text.result c.from_residual-in_err-text.ensures.1 in
+    let long = length-quote c.args.words.now c.args.name c.args.credits c.args.courses c.requires in
+    let named = inputs-quote c.args.words.now c.args.name c.args.credits c.args.courses c.index-words-1.result c.index-words-2.result long c.index-words-1.is c.index-words-2.is in
+    rw (p.1, p.2) (memory_wanted g.H.Shelf words c.args.shelf.now c.take_session.new.shelf (all_read g.H.Shelf words (Quote c.args.name c.args.credits c.args.courses) c.requires c.args.shelf.now c.take_catalog.new.shelf c.take_session.new.shelf (string_bytes c.index-words-1.result ∷ []) (string_bytes c.index-words-2.result ∷ []) named (rw c.as_str.ensures.value at c.in_ok-catalog.ensures.used) (rw c.as_str-2.ensures.value at c.in_ok-commands.ensures.used)))
+
+pub returns-clause-used : goal.returns-clause-used
+returns-clause-used g c =
+    let words = map string_bytes c.args.words.now in
+    let long = length-quote c.args.words.now c.args.name c.args.credits c.args.courses c.requires in
+    let named = inputs-quote c.args.words.now c.args.name c.args.credits c.args.courses c.index-words-1.result c.index-words-2.result long c.index-words-1.is c.index-words-2.is in
+    all_read g.H.Shelf words (Quote c.args.name c.args.credits c.args.courses) c.requires c.args.shelf.now c.take_catalog.new.shelf c.take_session.new.shelf (string_bytes c.index-words-1.result ∷ []) (string_bytes c.index-words-2.result ∷ []) named (rw c.as_str.ensures.value at c.in_ok-catalog.ensures.used) (rw c.as_str-2.ensures.value at c.in_ok-commands.ensures.used)

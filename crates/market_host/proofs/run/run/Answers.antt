@@ -14,6 +14,7 @@ use Rattle.market_host.proofs.SessionsRead.{streams_of_names}
 use Rattle.market_host.proofs.Stops.{market_stops, sessions_stop}
 use Rattle.market_host.proofs.StreamFacts.{count_of_sessions}
 use Rattle.market_host.proofs.WordFacts.{length-words}
+use Rattle.market_host.proofs.TraceFacts.{all_read, front_stops, last_stops, memory_wanted}
 use Rattle.market_host.proofs.run.run.Goals as goal
 
 pub bounds-words-4 : goal.bounds-words-4
@@ -115,3 +116,48 @@ returns-in-Err-NoPrices-clause-answer g c =
 
 pub returns-clause-answer : goal.returns-clause-answer
 returns-clause-answer g c = (Run c.args.workers, c.requires, tt, refl)
+
+pub returns-in_err-market-clause-used : goal.returns-in_err-market-clause-used
+returns-in_err-market-clause-used g c =
+    let words = map string_bytes c.args.words.now in
+    let p = err_from_is_err_and c.from_residual.result c.from_residual.ensures.1 in
+    let long = length-run c.args.words.now c.args.workers c.requires in
+    let named = market-run c.args.words.now c.args.workers c.index-words-2.result c.index-words-3.result c.index-words-4.result long.0 c.index-words-2.is c.index-words-3.is c.index-words-4.is in
+    rw (p.1, p.2) (front_stops g.H.Shelf words (Run c.args.workers) c.requires c.args.shelf.now c.take_market.new.shelf (string_bytes c.index-words-2.result ∷ string_bytes c.index-words-3.result ∷ string_bytes c.index-words-4.result ∷ []) (drop 5 words) c.in_err-market.field-0.0 named (rw (c.as_str.ensures.value, c.as_str-2.ensures.value, c.as_str-3.ensures.value) at c.in_err-market.ensures.used))
+
+pub returns-in_err-streams-clause-used : goal.returns-in_err-streams-clause-used
+returns-in_err-streams-clause-used g c =
+    let words = map string_bytes c.args.words.now in
+    let p = err_from_is_err_and c.from_residual-in_err-streams.result c.from_residual-in_err-streams.ensures.1 in
+    let long = length-run c.args.words.now c.args.workers c.requires in
+    let named = inputs-run c.args.words.now c.args.workers c.index-words-2.result c.index-words-3.result c.index-words-4.result long.0 c.index-words-2.is c.index-words-3.is c.index-words-4.is in
+    rw (p.1, p.2) (last_stops g.H.Shelf words (Run c.args.workers) c.requires c.args.shelf.now c.take_market.new.shelf c.take_sessions.new.shelf (string_bytes c.index-words-2.result ∷ string_bytes c.index-words-3.result ∷ string_bytes c.index-words-4.result ∷ []) (map string_bytes (take (length c.args.words.now - 5) (drop 5 c.args.words.now))) c.in_err-streams.field-0.0 named (rw (c.as_str.ensures.value, c.as_str-2.ensures.value, c.as_str-3.ensures.value) at c.in_ok-market.ensures.used) c.in_err-streams.ensures.used)
+
+pub returns-in-Ok-clause-used : goal.returns-in-Ok-clause-used
+returns-in-Ok-clause-used g c =
+    let words = map string_bytes c.args.words.now in
+    let long = length-run c.args.words.now c.args.workers c.requires in
+    let named = inputs-run c.args.words.now c.args.workers c.index-words-2.result c.index-words-3.result c.index-words-4.result long.0 c.index-words-2.is c.index-words-3.is c.index-words-4.is in
+    all_read g.H.Shelf words (Run c.args.workers) c.requires c.args.shelf.now c.take_market.new.shelf c.take_sessions.new.shelf (string_bytes c.index-words-2.result ∷ string_bytes c.index-words-3.result ∷ string_bytes c.index-words-4.result ∷ []) (map string_bytes (take (length c.args.words.now - 5) (drop 5 c.args.words.now))) named (rw (c.as_str.ensures.value, c.as_str-2.ensures.value, c.as_str-3.ensures.value) at c.in_ok-market.ensures.used) c.in_ok-streams.ensures.used
+
+pub returns-in_err-unpriced_text-in-Err-NoPrices-clause-used : goal.returns-in_err-unpriced_text-in-Err-NoPrices-clause-used
+returns-in_err-unpriced_text-in-Err-NoPrices-clause-used g c =
+    let words = map string_bytes c.args.words.now in
+    let p = err_from_is_err_and c.from_residual-in_err-unpriced_text-in-Err-NoPrices.result c.from_residual-in_err-unpriced_text-in-Err-NoPrices.ensures.1 in
+    let long = length-run c.args.words.now c.args.workers c.requires in
+    let named = inputs-run c.args.words.now c.args.workers c.index-words-2.result c.index-words-3.result c.index-words-4.result long.0 c.index-words-2.is c.index-words-3.is c.index-words-4.is in
+    rw (p.1, p.2) (memory_wanted g.H.Shelf words c.args.shelf.now c.take_sessions.new.shelf (all_read g.H.Shelf words (Run c.args.workers) c.requires c.args.shelf.now c.take_market.new.shelf c.take_sessions.new.shelf (string_bytes c.index-words-2.result ∷ string_bytes c.index-words-3.result ∷ string_bytes c.index-words-4.result ∷ []) (map string_bytes (take (length c.args.words.now - 5) (drop 5 c.args.words.now))) named (rw (c.as_str.ensures.value, c.as_str-2.ensures.value, c.as_str-3.ensures.value) at c.in_ok-market.ensures.used) c.in_ok-streams.ensures.used))
+
+pub returns-in-Err-NoPrices-clause-used : goal.returns-in-Err-NoPrices-clause-used
+returns-in-Err-NoPrices-clause-used g c =
+    let words = map string_bytes c.args.words.now in
+    let long = length-run c.args.words.now c.args.workers c.requires in
+    let named = inputs-run c.args.words.now c.args.workers c.index-words-2.result c.index-words-3.result c.index-words-4.result long.0 c.index-words-2.is c.index-words-3.is c.index-words-4.is in
+    all_read g.H.Shelf words (Run c.args.workers) c.requires c.args.shelf.now c.take_market.new.shelf c.take_sessions.new.shelf (string_bytes c.index-words-2.result ∷ string_bytes c.index-words-3.result ∷ string_bytes c.index-words-4.result ∷ []) (map string_bytes (take (length c.args.words.now - 5) (drop 5 c.args.words.now))) named (rw (c.as_str.ensures.value, c.as_str-2.ensures.value, c.as_str-3.ensures.value) at c.in_ok-market.ensures.used) c.in_ok-streams.ensures.used
+
+pub returns-clause-used : goal.returns-clause-used
+returns-clause-used g c =
+    let words = map string_bytes c.args.words.now in
+    let long = length-run c.args.words.now c.args.workers c.requires in
+    let named = inputs-run c.args.words.now c.args.workers c.index-words-2.result c.index-words-3.result c.index-words-4.result long.0 c.index-words-2.is c.index-words-3.is c.index-words-4.is in
+    memory_wanted g.H.Shelf words c.args.shelf.now c.take_sessions.new.shelf (all_read g.H.Shelf words (Run c.args.workers) c.requires c.args.shelf.now c.take_market.new.shelf c.take_sessions.new.shelf (string_bytes c.index-words-2.result ∷ string_bytes c.index-words-3.result ∷ string_bytes c.index-words-4.result ∷ []) (map string_bytes (take (length c.args.words.now - 5) (drop 5 c.args.words.now))) named (rw (c.as_str.ensures.value, c.as_str-2.ensures.value, c.as_str-3.ensures.value) at c.in_ok-market.ensures.used) c.in_ok-streams.ensures.used)

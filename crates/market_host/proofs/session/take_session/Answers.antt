@@ -4,6 +4,7 @@ use Rattle.market_host.specs.Kinds.{Session}
 use Rattle.market_host.specs.Sights.{sight}
 use Rattle.market_host.proofs.InputTroubles.{trouble_of_unread}
 use Rattle.market_host.proofs.SessionsRead.{is_session, trouble_of_session}
+use Rattle.market_host.proofs.TraceFacts.{uses_surplus}
 use Rattle.market_host.proofs.session.take_session.Goals as goal
 
 pub returns-in_err-bytes-clause-trouble : goal.returns-in_err-bytes-clause-trouble
@@ -26,3 +27,12 @@ returns-clause-trouble g c =
 
 pub returns-clause-end : goal.returns-clause-end
 returns-clause-end g c = IfOk-weaker c.items_in.result _ _ (λ _ _. c.in_ok-bytes.ensures.end) c.items_in.ensures.items
+
+pub returns-in_err-bytes-clause-used : goal.returns-in_err-bytes-clause-used
+returns-in_err-bytes-clause-used g c =
+    let p = err_from_is_err_and c.from_residual.result c.from_residual.ensures.1 in
+    rw (p.1, p.2) c.in_err-bytes.ensures.used
+
+pub returns-clause-used : goal.returns-clause-used
+returns-clause-used g c =
+    uses_surplus g.H.Shelf c.args.shelf.now c.read_input.new.shelf c.args.name.now c.in_ok-bytes.bytes.items c.args.room c.args.input c.items_in.result c.in_ok-bytes.ensures.used (rw c.deref.ensures.value at c.items_in.ensures.surplus)

@@ -1,11 +1,17 @@
 // What no clause says: that the calls succeed with ample memory, and what the real adapters do.
 
-use super::*;
+use market_edge::{
+    AnyGate, Failed, FileShelf, Gate, MemoryShelf, MemorySink, Passed, Shelf, Sink, SinkFault,
+    StdoutSink, Stop, SureShelf, SureSink, Taking, read_whole, write_whole,
+};
 use std::alloc::Global;
 use std::io::Write;
 use std::process::Abort;
+use std::sync::atomic::{AtomicU64, Ordering};
 use std::test::Fail;
 use std::{fs, io, process};
+
+mod files;
 
 // More than one read puts.
 const LONG: u16 = 8193;
@@ -133,6 +139,25 @@ fn files_are_read(rt: HostRuntime) -> Result<(), Fail> {
     Ok(())
 }
 
+// More than 64 KiB of a real file: each byte stands where it stood.
+#[test]
+fn a_long_file_is_read(rt: HostRuntime) -> Result<(), Fail> {
+    let alloc = rt.alloc();
+    let path = format!(in alloc; "/tmp/course_match_long_{}", process::id(rt.process()))?;
+    let mut bytes = Vec::new(alloc);
+    for at in 0..70_000_u32 {
+        bytes.push((at % 251) as u8)?;
+    }
+    fs::write(&rt, path.as_str(), bytes.as_slice())?;
+    let mut shelf = FileShelf::new(&rt);
+    let text = read_whole(alloc, &mut shelf, path.as_str(), 70_000);
+    let long = read_whole(alloc, &mut shelf, path.as_str(), 69_999);
+    fs::remove_file(&rt, path.as_str())?;
+    assert_eq!(rt; text.expect(&rt, "text").as_slice(), bytes.as_slice());
+    assert_eq!(rt; long.err(), Some(Taking::TooLong));
+    Ok(())
+}
+
 // A writer that takes one byte of each piece, then none, then fails, as a pipe that is closed.
 #[derive(Drop)]
 struct Pipe {
@@ -165,4 +190,85 @@ fn a_closed_pipe_is_a_fault(rt: HostRuntime) {
     assert_eq!(rt; write_whole(&mut sink, b"abc"), Ok(()));
     assert_eq!(rt; sink.write(b"takes none"), Err(Failed));
     assert_eq!(rt; write_whole(&mut sink, b"fails"), Err(SinkFault));
+}
+
+// A writer that takes two bytes of each piece and whose call of one number fails. It counts its calls, and the bytes that
+// it took.
+#[derive(Drop)]
+struct Failing<'a> {
+    failing_call: u64,
+    calls: &'a AtomicU64,
+    taken: &'a AtomicU64,
+}
+
+impl Write for Failing<'_> {
+    fn write(&mut self, piece: &[u8]) -> io::Result<usize> {
+        if self.calls.fetch_add(1, Ordering::SeqCst) == self.failing_call {
+            return Err(io::Error::from(io::ErrorKind::BrokenPipe));
+        }
+        let count = piece.len().min(2);
+        self.taken.fetch_add(count as u64, Ordering::SeqCst);
+        Ok(count)
+    }
+
+    fn flush(&mut self) -> io::Result<()> {
+        Ok(())
+    }
+}
+
+// A failed write of the writer is a failure at once: it is not tried again, and nothing is written behind it.
+#[test]
+fn a_failed_write_is_not_tried_again(rt: HostRuntime) {
+    // The call that fails, counted from 0; the answer; how many calls are made, and how many bytes are taken.
+    let cases: [(u64, Result<(), SinkFault>, u64, u64); 4] = [
+        (0, Err(SinkFault), 1, 0),
+        (1, Err(SinkFault), 2, 2),
+        (2, Err(SinkFault), 3, 4),
+        (3, Ok(()), 3, 5),
+    ];
+    for (failing_call, want, calls, taken) in cases {
+        let made = AtomicU64::new(0);
+        let had = AtomicU64::new(0);
+        let mut sink = StdoutSink::new(Failing {
+            failing_call,
+            calls: &made,
+            taken: &had,
+        });
+        assert_eq!(rt; write_whole(&mut sink, b"abcde"), want);
+        assert_eq!(rt;
+            made.load(Ordering::SeqCst),
+            calls,
+            "call {failing_call} fails"
+        );
+        assert_eq!(rt;
+            had.load(Ordering::SeqCst),
+            taken,
+            "call {failing_call} fails"
+        );
+    }
+}
+
+// A gate that counts its passes.
+#[derive(Drop)]
+struct CountingGate {
+    passes: AtomicU64,
+}
+
+impl Gate for CountingGate {
+    fn pass(&self, _stop: Stop) {
+        self.passes.fetch_add(1, Ordering::SeqCst);
+    }
+}
+
+// A gate that is passed on is passed itself.
+#[test]
+fn a_gate_that_is_passed_on_is_passed(rt: HostRuntime) {
+    let counting = CountingGate {
+        passes: AtomicU64::new(0),
+    };
+    let any: AnyGate<'_> = &counting;
+    let passed = Passed { gate: any };
+    passed.pass(Stop::SessionStart(1));
+    passed.pass(Stop::WorkerCall(2));
+    assert_eq!(rt; counting.passes.load(Ordering::SeqCst), 2);
 }

@@ -1,0 +1,161 @@
+// A shelf of files whose system fails at a call.
+
+use market_edge::{FileShelf, Taking, read_whole};
+use std::fs::{Files, Metadata, OpenFile, OpenOptions};
+use std::io;
+use std::io::{Read, Seek, SeekFrom, Write};
+use std::sync::atomic::{AtomicU64, Ordering};
+
+fn failure<T>() -> io::Result<T> {
+    Err(io::Error::from(io::ErrorKind::Other))
+}
+
+// Files of five bytes each, read two at a time. Opens and reads together are numbered from 1, and the call of one number
+// fails.
+#[derive(Drop)]
+struct Failing {
+    failing_call: u64,
+    calls: AtomicU64,
+}
+
+impl Failing {
+    fn fails(&self) -> bool {
+        self.calls.fetch_add(1, Ordering::SeqCst).wrapping_add(1) == self.failing_call
+    }
+}
+
+#[derive(Drop)]
+struct Five<'a> {
+    files: &'a Failing,
+    left: usize,
+}
+
+impl Read for Five<'_> {
+    fn read(&mut self, room: &mut [u8]) -> io::Result<usize> {
+        if self.files.fails() {
+            return failure();
+        }
+        let count = room.len().min(2).min(self.left);
+        room[..count].fill(b'x');
+        self.left -= count;
+        Ok(count)
+    }
+}
+
+impl Write for Five<'_> {
+    fn write(&mut self, _piece: &[u8]) -> io::Result<usize> {
+        failure()
+    }
+
+    fn flush(&mut self) -> io::Result<()> {
+        failure()
+    }
+}
+
+impl Seek for Five<'_> {
+    fn seek(&mut self, _to: SeekFrom) -> io::Result<u64> {
+        failure()
+    }
+}
+
+impl OpenFile for Five<'_> {
+    fn metadata(&self) -> io::Result<Metadata> {
+        failure()
+    }
+
+    fn set_len(&self, _size: u64) -> io::Result<()> {
+        failure()
+    }
+
+    fn sync_all(&self) -> io::Result<()> {
+        failure()
+    }
+
+    fn sync_data(&self) -> io::Result<()> {
+        failure()
+    }
+}
+
+impl<'a> Files for &'a Failing {
+    type File = Five<'a>;
+
+    type Dir = Five<'a>;
+
+    fn open_file(&self, _how: &OpenOptions, _path: &str) -> io::Result<Five<'a>> {
+        if self.fails() {
+            return failure();
+        }
+        Ok(Five {
+            files: *self,
+            left: 5,
+        })
+    }
+
+    fn open_dir(&self, _path: &str) -> io::Result<Five<'a>> {
+        failure()
+    }
+
+    fn metadata(&self, _path: &str) -> io::Result<Metadata> {
+        failure()
+    }
+
+    fn symlink_metadata(&self, _path: &str) -> io::Result<Metadata> {
+        failure()
+    }
+
+    fn copy(&self, _from: &str, _to: &str) -> io::Result<u64> {
+        failure()
+    }
+
+    fn rename(&self, _from: &str, _to: &str) -> io::Result<()> {
+        failure()
+    }
+
+    fn remove_file(&self, _path: &str) -> io::Result<()> {
+        failure()
+    }
+
+    fn create_dir(&self, _path: &str) -> io::Result<()> {
+        failure()
+    }
+
+    fn remove_dir(&self, _path: &str) -> io::Result<()> {
+        failure()
+    }
+
+    fn remove_dir_all<B: std::alloc::Allocator>(&self, _alloc: B, _path: &str) -> io::Result<()> {
+        failure()
+    }
+}
+
+// A failed open or read of the system is a failure at once: neither is tried again.
+#[test]
+fn a_failed_read_is_not_tried_again(rt: HostRuntime) {
+    // The call that fails, the answer, and how many calls are made.
+    let cases: [(u64, Result<usize, Taking>, u64); 6] = [
+        (1, Err(Taking::ShelfFault), 1),
+        (2, Err(Taking::ShelfFault), 2),
+        (3, Err(Taking::ShelfFault), 3),
+        (4, Err(Taking::ShelfFault), 4),
+        (5, Err(Taking::ShelfFault), 5),
+        (6, Ok(5), 5),
+    ];
+    for (failing_call, want, calls) in cases {
+        let files = Failing {
+            failing_call,
+            calls: AtomicU64::new(0),
+        };
+        let system = &files;
+        let mut shelf = FileShelf::new(&system);
+        let length = match read_whole(rt.alloc(), &mut shelf, "CAT", 5) {
+            Ok(text) => Ok(text.len()),
+            Err(taking) => Err(taking),
+        };
+        assert_eq!(rt; length, want, "call {failing_call} fails");
+        assert_eq!(rt;
+            files.calls.load(Ordering::SeqCst),
+            calls,
+            "call {failing_call} fails"
+        );
+    }
+}

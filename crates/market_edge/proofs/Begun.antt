@@ -1,0 +1,65 @@
+-- What was begun of a shelf, call by call.
+use Rattle.std.proofs.Common.{ℕ, zero, suc, ◌≡◌, ◌++◌, Bool, true, false, List, [], ◌∷◌, map, Some, None, ap, sym, ◌∙◌, refl, get_or, ◌<◌, length, arith, nat_eq}
+use Rattle.std.specs.Prelude.{Option, ◌||◌}
+use Rattle.std.specs.String.{string_bytes}
+use Rattle.std.proofs.lemmas.List.{map-append, append-nil}
+use Rattle.std.proofs.lemmas.List.Quantifiers.{position-Some}
+use Rattle.std.proofs.lemmas.Slice.Eq.{bytes_eq-Decides}
+use Rattle.market_edge.specs.declared.memory_files.Place.{Place}
+use Rattle.market_edge.specs.MemoryFiles.{File, Lists, earlier_of, has_name, name_at, opening_of, openings_of, place_of}
+use Rattle.market_edge.specs.Openings.{Opening, Changes, as_before, with_begun, with_end, with_read_out}
+
+-- a text that is begun last is ended
+ended : (openings : List Opening) (name : List ℕ) (b : Bool) → with_end (openings ++ (name, b) ∷ []) ≡ openings ++ (name, true) ∷ []
+ended [] name b = refl
+ended (one ∷ []) name b = refl
+ended (one ∷ next ∷ more) name b = ap (λ rest. one ∷ rest) (ended (next ∷ more) name b)
+
+-- a text that is begun and then read to its end
+pub begun_and_ended : (old mid new : Option (List Opening)) (name : List ℕ) → Changes old mid (with_begun name) → Changes mid new with_end → Changes old new (with_read_out (name ∷ []))
+begun_and_ended old mid None name p q = tt
+begun_and_ended old None (Some z) name p q = absurd q
+begun_and_ended None (Some y) (Some z) name p q = absurd p
+begun_and_ended (Some x) (Some y) (Some z) name p q = q ∙ ap with_end p ∙ ended x name false
+
+-- the begun text is put behind the others, and no text is begun
+pub closed : (files : List File) (old new : Option (List (ℕ × Bool))) (begun : Option Place) (was is : Bool) → Lists old new (earlier_of begun was) → Changes (openings_of files old begun was) (openings_of files new None is) as_before
+closed files old None begun was is p = tt
+closed files None (Some z) begun was is p = absurd p
+closed files (Some x) (Some z) begun was is p = ap (map (opening_of files)) (append-nil z ∙ p)
+
+-- the same, and a text is begun
+pub opened : (files : List File) (old new : Option (List (ℕ × Bool))) (begun : Option Place) (was : Bool) (place : Place) (name : List ℕ) → name_at files place.file ≡ name → Lists old new (earlier_of begun was)
+    → Changes (openings_of files old begun was) (openings_of files new (Some place) false) (with_begun name)
+opened files old None begun was place name named p = tt
+opened files None (Some z) begun was place name named p = absurd p
+opened files (Some x) (Some z) begun was place name named p =
+    map-append (opening_of files) z ((place.file, false) ∷ [])
+    ∙ ap (λ front. map (opening_of files) front ++ (name_at files place.file, false) ∷ []) p
+    ∙ ap (λ bytes. map (opening_of files) (x ++ earlier_of begun was) ++ (bytes, false) ∷ []) named
+
+is_over : (files : List File) (told : Option (List (ℕ × Bool))) (was now : Place) (b : Bool) → now.file ≡ was.file → Changes (openings_of files told (Some was) b) (openings_of files told (Some now) true) with_end
+is_over files None was now b same = tt
+is_over files (Some x) was now b same =
+    ap (λ file. map (opening_of files) (x ++ (file, true) ∷ [])) same
+    ∙ map-append (opening_of files) x ((was.file, true) ∷ [])
+    ∙ sym (ended (map (opening_of files) x) (name_at files was.file) b)
+    ∙ ap with_end (sym (map-append (opening_of files) x ((was.file, b) ∷ [])))
+
+-- the begun text is read to its end: no byte of it was left
+pub read_to_end : (files : List File) (told : Option (List (ℕ × Bool))) (was now : Place) (b : Bool) (n : ℕ) → now.file ≡ was.file → n ≡ 0
+    → Changes (openings_of files told (Some was) b) (openings_of files told (Some now) (b || nat_eq n 0)) with_end
+read_to_end files told was now true n same none = is_over files told was now true same
+read_to_end files told was now false n same none = rw none (is_over files told was now false same)
+
+named_at : (files : List File) (name : List ℕ) (i : ℕ) (d : File) → i < length files → has_name name (get_or files i d) ≡ true → name_at files i ≡ name
+named_at [] name i d below hit = absurd (omega arith)
+named_at (file ∷ files) name zero d below hit = grind (arith, hit, bytes_eq-Decides (string_bytes file.0) name)
+named_at (file ∷ files) name (suc i) d below hit = named_at files name i d (omega arith) hit
+
+-- the first file of a name has that name
+pub name_of_place : (files : List File) (name : List ℕ) (i : ℕ) → place_of files name ≡ Some i → name_at files i ≡ name
+name_of_place [] name i is = absurd cc
+name_of_place (file ∷ files) name i is =
+    let first = position-Some (has_name name) (file ∷ files) i file is in
+    named_at (file ∷ files) name i file first.0 first.1

@@ -1,0 +1,11 @@
+use Rattle.std.proofs.Common.{◌≡◌, ◌++◌, drop}
+use Rattle.std.specs.Vec.Iter.{into_iter_items, into_iter_len}
+use Rattle.market_host.proofs.program.words_behind_name.Given as goal
+
+abbrev pub invariant-words : goal.invariant-words
+invariant-words l = record {
+  so_far : drop 1 (into_iter_items l.fn.args) ≡ l.words.items ++ into_iter_items l.rest;
+}
+
+abbrev pub decreases-words : goal.decreases-words
+decreases-words l = into_iter_len l.rest

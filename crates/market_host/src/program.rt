@@ -1,0 +1,79 @@
+// The whole process, over whatever shelf, sink and gate it is given.
+ghost use Rattle.std.specs.Prelude.{◌≡◌, ◌≢◌, List, ℕ, drop, IfOk};
+ghost use Rattle.std.specs.Process.{exit_status};
+ghost use Rattle.std.specs.Vec.Iter.{into_iter_items};
+ghost use Rattle.market_edge.specs.Faults.{Rose};
+ghost use Rattle.market_edge.specs.Sinks.{Takes, TakesFront};
+ghost use Rattle.market_host.specs.Programs.{IsAnswer, words_given};
+ghost use Rattle.market_host.specs.Sights.{sight};
+ghost use Rattle.market_host.specs.Statuses.{number_of};
+
+use crate::Status;
+use crate::host::{course_match, no_memory_for_words};
+use market_edge::{Gate, Shelf, Sink};
+use std::alloc::{AllocError, Global};
+use std::env::Args;
+use std::io;
+use std::io::ErrorKind;
+use std::process::ExitCode;
+use std::sync::Wait;
+use std::thread::Threads;
+
+/// Does what the arguments of the process ask for, the first of which is the program's name, and answers the number of
+/// how it went. Arguments that are no text are no words, which is no form.
+pub fn exit_code<R: Threads + Wait + Sync, H: Shelf, K: Sink>(
+    rt: &R,
+    alloc: Global,
+    args: io::Result<Args>,
+    shelf: &mut H,
+    sink: &mut K,
+    gate: &(dyn Gate + Sync),
+) -> ExitCode
+    // The process ends with the number of a status. It is that of the answer, whose text the sink took, or that of a sink fault, which stands for
+    // an answer some of whose text was not taken.
+    ensures written { (status : Status) × (exit_status result ≡ number_of status)
+        × (status ≢ Status.SinkFault → (text : List ℕ) × IsAnswer (words_given args) (sight H.Shelf shelf.old shelf.new) status text × Takes (K.taken sink.old) (K.taken sink.new) text)
+        × (status ≡ Status.SinkFault → Rose (K.faults sink.old) (K.faults sink.new) × (instead : Status) × (text : List ℕ)
+            × IsAnswer (words_given args) (sight H.Shelf shelf.old shelf.new) instead text × TakesFront (K.taken sink.old) (K.taken sink.new) text) }
+{
+    let status = answered(rt, alloc, args, shelf, sink, gate);
+    ExitCode::from(status.number())
+}
+
+// How it went for these arguments.
+fn answered<R: Threads + Wait + Sync, H: Shelf, K: Sink>(
+    rt: &R,
+    alloc: Global,
+    args: io::Result<Args>,
+    shelf: &mut H,
+    sink: &mut K,
+    gate: &(dyn Gate + Sync),
+) -> Status
+    ensures written { result ≢ Status.SinkFault → (text : List ℕ)
+        × IsAnswer (words_given args) (sight H.Shelf shelf.old shelf.new) result text × Takes (K.taken sink.old) (K.taken sink.new) text }
+    ensures sink_fault { result ≡ Status.SinkFault → Rose (K.faults sink.old) (K.faults sink.new) }
+    ensures replaced { result ≡ Status.SinkFault → (status : Status) × (text : List ℕ)
+        × IsAnswer (words_given args) (sight H.Shelf shelf.old shelf.new) status text × TakesFront (K.taken sink.old) (K.taken sink.new) text }
+{
+    match args {
+        Ok(args) => match words_behind_name(alloc, args) {
+            Ok(words) => course_match(rt, alloc, &words, shelf, sink, gate),
+            Err(AllocError) => no_memory_for_words(sink),
+        },
+        Err(error) if error.kind() == ErrorKind::OutOfMemory => no_memory_for_words(sink),
+        Err(_) => course_match(rt, alloc, &[], shelf, sink, gate),
+    }
+}
+
+// All arguments behind the first, which is the program's name.
+fn words_behind_name(alloc: Global, args: Args) -> Result<Vec<String>, AllocError>
+    ensures { IfOk result (λ words. words.items ≡ drop 1 (into_iter_items args)) }
+{
+    let mut rest = args;
+    let mut words = Vec::new(alloc);
+    let _name = rest.next();
+    'words: while let Some(word) = rest.next() {
+        words.push(word)?;
+    }
+    Ok(words)
+}
