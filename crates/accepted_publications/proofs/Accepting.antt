@@ -14,19 +14,22 @@ use Rattle.budget_draw.specs.Budgets.{raised_by}
 use Rattle.demand_api.specs.Crowds.{CrowdData, Student, holders}
 use Rattle.aftermarket_stage.specs.Turns.{IsQuiet, IsTurn, TurnData, after_turns}
 use Rattle.market_certificate.specs.Publications.{Proved, Publication}
+use Rattle.market_certificate.specs.Texts.{text_of}
 use Rattle.market_settings.specs.declared.reader.Settings.{Settings}
+use Rattle.utility_language.specs.declared.commands.Command.{Command}
 use Rattle.published_parts.specs.Holdings.{demanded, tokens}
 use Rattle.held_seats.specs.Choices.{may_choose}
-use Rattle.published_parts.specs.Markets.{names_in, seats_in}
+use Rattle.published_parts.specs.Markets.{Market, names_in, seats_in, tables_in}
 use Rattle.published_parts.specs.Journals.{IsJournalOf}
 use Rattle.published_parts.specs.Offers.{IsProvedBest, IsProvedDemand, all_sections, offer_to}
 use Rattle.published_parts.proofs.Asked.{budget_at, nobody, zip_at}
-use Rattle.published_market.specs.Publishing.{IsOutcome, Lengths, terms_at}
+use Rattle.published_market.specs.Publishing.{IsOutcome, IsPublishedText, Lengths, terms_at}
 use Rattle.published_market.specs.Turns.{IsPublishedTurn, offer_at}
 use Rattle.published_market.proofs.Prices.{price_in_tokens}
+use Rattle.published_market.proofs.Publishable.{published_is_publication}
 use Rattle.published_market.proofs.Sentences.{stage_two_within}
 use Rattle.published_market.proofs.Turning.{made_each, same_held}
-use Rattle.certificate_checker.specs.Certificates.{HoldsOf, IsUseTold}
+use Rattle.certificate_checker.specs.Certificates.{HoldsOf, IsAccepted, IsUseTold}
 use Rattle.certificate_checker.specs.Firsts.{AllBelow}
 use Rattle.certificate_checker.specs.Students.{IsProvedBundle, offer_in, proved_in, student_in}
 use Rattle.certificate_checker.specs.Terms.{TermsData}
@@ -243,9 +246,14 @@ certificate_holds market streams order p is =
       printed = outcome_holds crowd (seats_in market) market.settings is.lengths p made.outcome seats;
     }
 
-pub published_accepted : PublishedIsAccepted
+-- a published text is accepted
+pub published_accepted : (market : Market) (streams : List (List Command)) (order text : List ℕ) → IsPublishedText market streams order text → IsAccepted market streams text
 published_accepted market streams order text (p, is, ranges, written) = record {
   publication = p;
   is_text = record { is_publication = ranges; written = written };
   holds = certificate_holds market streams order p is;
 }
+
+-- so it is where the inputs are in order, and it is not too long
+pub published_is_accepted : PublishedIsAccepted
+published_is_accepted market streams order p inputs is short = published_accepted market streams order (text_of (tables_in market) p) (p, is, published_is_publication market streams order p inputs is short, refl)

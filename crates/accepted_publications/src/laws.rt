@@ -6,7 +6,8 @@ pub fn certificate_of_published()
     ensures { CertificateOfPublished }
 {}
 
-/// So its text is accepted by whoever checks it for the same market and the same sessions.
+/// So its text is accepted by whoever checks it for the same market and the same sessions, where these are in order and the text is not
+/// of 2 ^ 64 bytes or more.
 pub fn published_is_accepted()
     ensures { PublishedIsAccepted }
 {}

@@ -21,7 +21,7 @@ use Rattle.published_parts.specs.Markets.{Market, tables_in}
 use Rattle.certificate_checker.specs.declared.findings.CheckEnd.{CheckEnd}
 use Rattle.certificate_checker.specs.declared.findings.CheckEnd.TheVariants as end
 use Rattle.certificate_checker.specs.declared.findings.Finding.{Finding}
-use Rattle.certificate_checker.specs.declared.findings.Finding.TheVariants.{Allocation, Budget, Infeasible, Journal, NotQuiet, Seats, Text, Tree, Turn, Unaffordable, Used}
+use Rattle.certificate_checker.specs.declared.findings.Finding.TheVariants.{Journal, Text}
 use Rattle.certificate_checker.specs.declared.terms.Terms.{Terms}
 use Rattle.certificate_checker.specs.Certificates.{IsAccepted, IsAllocated, IsTextOf}
 use Rattle.certificate_checker.specs.Findings.{IsFirstFinding, IsFirstIn, IsFirstOf, OnFound, end_of}

@@ -8,6 +8,7 @@ pub mod TurnReading
 pub mod Ranges
 pub mod Composing
 pub mod Refusing
+pub mod ByPass
 pub mod Optimal
 pub mod OneText
 pub mod Naming

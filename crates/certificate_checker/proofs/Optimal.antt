@@ -1,16 +1,18 @@
 -- What is accepted is optimal.
-use Rattle.std.proofs.Common.{ℕ, zero, suc, ◌≡◌, ◌<◌, ◌≤◌, ◌+◌, ◌-◌, ◌*◌, ◌∙◌, Bool, true, add-one, List, [], ◌∷◌, ◌++◌, length, map, take, get_or, refl, ap, sym, subst, inl, inr, arith}
-use Rattle.std.specs.Prelude.{None, nat_lt, slice_index, slice_index_or, slice_set}
+use Rattle.std.proofs.Common.{ℕ, zero, suc, ◌≡◌, ◌<◌, ◌≤◌, ◌+◌, ◌∙◌, Bool, true, add-one, List, [], ◌∷◌, ◌++◌, length, map, take, get_or, refl, ap, sym, subst, inl, inr, arith}
+use Rattle.std.specs.Prelude.{None, nat_lt, slice_index, slice_index_or, slice_set, zip}
 use Rattle.std.proofs.Math.Seq.{get_or-append_seam, take-append_seam}
 use Rattle.std.proofs.lemmas.Bool.{cases_Bool, cases_lt, lt-ltb}
 use Rattle.std.proofs.lemmas.Bool.Decides.{nat_tests}
 use Rattle.std.proofs.lemmas.Grind.{same_number_lists}
-use Rattle.std.proofs.lemmas.List.{append-nil, get_or-map, take_all}
+use Rattle.std.proofs.lemmas.List.{append-nil, get_or-map, same_lists, take_all}
 use Rattle.std.proofs.lemmas.Option.{slice_get-get_or}
+use Rattle.budget_draw.specs.AfterOrder.{after_order_of}
 use Rattle.budget_draw.specs.Budgets.{raised_by}
 use Rattle.bundle_bounds.specs.Offers.{Offer}
 use Rattle.bundle_rules.specs.Demand.{IsBest}
 use Rattle.bundle_rules.specs.Menus.{IsMenu, wishes_of}
+use Rattle.bundle_rules.specs.Places.{places_from}
 use Rattle.bundle_rules.specs.Sets.{has}
 use Rattle.bundle_rules.specs.Wishes.{Wishes}
 use Rattle.bundle_rules.proofs.Agreements.{best_agrees}
@@ -22,22 +24,26 @@ use Rattle.market_certificate.specs.Publications.{IsProved, Proved, ProvedTurn, 
 use Rattle.proof_tree.proofs.Complete.{trees_prove_the_best}
 use Rattle.proof_tree.specs.Texts.{IsTreeText}
 use Rattle.utility_language.specs.declared.commands.Command.{Command}
-use Rattle.published_parts.specs.Holdings.{AreWithinSeats, demanded, held_after}
+use Rattle.published_parts.specs.Allocations.{IsAllocation}
+use Rattle.published_parts.specs.Holdings.{AreWithinSeats, demanded, held_after, used_of}
+use Rattle.published_parts.specs.Passes.{ComeInPasses}
 use Rattle.held_seats.specs.Choices.{may_choose}
 use Rattle.published_parts.specs.Journals.{wishes_in}
 use Rattle.published_parts.specs.Markets.{Market, seats_in, tables_in}
 use Rattle.published_parts.specs.Offers.{all_sections}
 use Rattle.published_parts.proofs.Asked.{menu_says, nobody}
+use Rattle.published_parts.proofs.Passing.{come_in_passes}
+use Rattle.published_parts.proofs.Resting.{is_allocation}
 use Rattle.certificate_checker.specs.Certificates.{HoldsOf, IsAccepted}
-use Rattle.certificate_checker.specs.Laws.{AcceptedIsOptimal, EndsWithQuietPass}
+use Rattle.certificate_checker.specs.Laws.{AcceptedIsOptimal}
 use Rattle.certificate_checker.specs.Students.{IsAffordable, IsOffered, MayTake, offer_in, proved_in, student_in}
 use Rattle.certificate_checker.specs.Terms.{terms_in}
-use Rattle.certificate_checker.specs.Turns.{HasQuietPass, IsQuietTurn, held_before, turn_in, turn_offer}
+use Rattle.certificate_checker.specs.Turns.{held_before, order_in, turn_in, turn_offer}
 use Rattle.certificate_checker.proofs.Composing.{allocation_is, crowd_length}
-use Rattle.certificate_checker.proofs.Progressing.{next_pass}
+use Rattle.certificate_checker.proofs.ByPass.{any_default, due_in_passes}
 use Rattle.certificate_checker.proofs.Reading.{length_map, moved, so_of_has}
 use Rattle.certificate_checker.proofs.Refusing.{menu_sound}
-use Rattle.certificate_checker.proofs.Turning.{held_length, held_next}
+use Rattle.certificate_checker.proofs.Turning.{held_length, held_next, order_length}
 
 -- what has a tree is the best of the offer
 pub best_of_tree : (offer : Offer) (bundle tree : List ℕ) → IsMenu offer.menu → IsAffordable offer bundle → MayTake offer bundle → IsOffered offer bundle → IsTreeText offer None bundle tree → IsBest (wishes_of offer.menu) offer.price offer.budget offer.allowed bundle
@@ -66,6 +72,24 @@ within_set seats held i bundle s low within offered =
       ]
       | inr left ↦ (let now = rw left at counted in omega arith)
     ]
+
+-- of each section the count and the seats
+used_at : (f : ℕ → ℕ) (first : ℕ) (seats : List ℕ) (k : ℕ) → k < length seats → slice_index_or (zip (map f (places_from first (length seats))) seats) k (0, 0) ≡ (f (first + k), slice_index seats k)
+used_at f first [] k low = absurd (omega arith)
+used_at f first (seat ∷ seats) zero low = let here : first ≡ first + 0 = omega arith in ap (λ s. (f s, seat)) here
+used_at f first (seat ∷ seats) (suc k) low = let there : suc first + k ≡ first + suc k = omega arith in used_at f (suc first) seats k (omega arith) ∙ ap (λ s. (f s, slice_index seats k)) there
+
+zip_long : (f : ℕ → ℕ) (first : ℕ) (seats : List ℕ) → length (zip (map f (places_from first (length seats))) seats) ≡ length seats
+zip_long f first [] = refl
+zip_long f first (seat ∷ seats) = ap suc (zip_long f (suc first) seats)
+
+used_is : (seats : List ℕ) (bundles : List (List ℕ)) (used : List (ℕ × ℕ)) → length used ≡ length seats → ((k : ℕ) → k < length seats → slice_index_or used k (0, 0) ≡ (holders k bundles, slice_index seats k)) → used ≡ used_of seats bundles
+used_is seats bundles used long each =
+    let many = zip_long (λ s. holders s bundles) 0 seats in
+    same_lists used (used_of seats bundles) (omega arith) (λ k d low.
+    let inside : k < length seats = omega arith in
+    let number : 0 + k ≡ k = omega arith in
+    any_default used k d (0, 0) low ∙ each k inside ∙ sym (used_at (λ s. holders s bundles) 0 seats k inside ∙ ap (λ s. (holders s bundles, slice_index seats k)) number) ∙ sym (any_default (used_of seats bundles) k d (0, 0) (omega arith)))
 
 module _ (market : Market) (streams : List (List Command)) (text : List ℕ) (accepted : IsAccepted market streams text) where
   abbrev p : Publication
@@ -158,23 +182,22 @@ module _ (market : Market) (streams : List (List Command)) (text : List ℕ) (ac
       simp_length [] ys x = omega arith
       simp_length (y ∷ xs) ys x = let rest = simp_length xs ys x in omega arith
 
-  -- the pass without a change is the last one
-  quiet_pass : 0 < length crowd.students → EndsWithQuietPass (length crowd.students) p
-  quiet_pass some =
-      let n : ℕ = length crowd.students in
-      let has_one : HasQuietPass n p (length p.turns) = printed.quiet some in
-      let long : (has_one.pass + 1) * n ≡ has_one.pass * n + n = next_pass has_one.pass n in
-      let whole = has_one.whole in
-      let last : (has_one.pass + 1) * n ≡ length p.turns = elim (cases_lt ((has_one.pass + 1) * n) (length p.turns)) [
-        | inl before ↦ absurd ((printed.turns ((has_one.pass + 1) * n) before).due.goes_on (record { pass = has_one.pass; whole = (omega arith); quiet = has_one.quiet }))
-        | inr not ↦ (let h = not in omega arith)
-      ] in
-      record {
-        whole = omega arith;
-        quiet = λ turn low far.
-            let spot : has_one.pass * n + (turn - has_one.pass * n) ≡ turn = omega arith in
-            subst (IsQuietTurn p) spot (has_one.quiet (turn - has_one.pass * n) (omega arith));
-      }
+  -- the turns come in passes; without students there is no turn, and no pass
+  by_pass : ComeInPasses (order_in crowd) (demanded p) p.turns
+  by_pass = elim (cases_lt 0 (length crowd.students)) [
+    | inl some ↦ due_in_passes crowd p some (λ k low. (printed.turns k low).due) (printed.quiet some)
+    | inr none ↦
+        let no_order : order_in crowd ≡ [] = none_of (order_in crowd) (let n = order_length (map (λ (student : Asked). student.budget) crowd.students) in let m = length_map (λ (student : Asked). student.budget) crowd.students in let h = none in omega arith) in
+        let no_turns : p.turns ≡ [] = none_of p.turns (elim (cases_lt 0 (length p.turns)) [
+          | inl one ↦ absurd (let low : (turn_in p 0).student < length crowd.students = turn_listed 0 one in let h = none in omega arith)
+          | inr not ↦ let h = not in omega arith
+        ]) in
+        come_in_passes (order_in crowd) (demanded p) p.turns [] (sym no_turns) (λ e. no_order, λ e. refl) tt
+  ]
+    where
+      none_of : {A : Type 0} (xs : List A) → length xs ≡ 0 → xs ≡ []
+      none_of [] long = refl
+      none_of (x ∷ xs) long = absurd (omega arith)
 
   -- no section is above its seats, after so many turns
   within : (k : ℕ) → AreWithinSeats market (held_before p k)
@@ -208,14 +231,26 @@ module _ (market : Market) (streams : List (List Command)) (text : List ℕ) (ac
       let same = students in
       allocation_is p (length crowd.students) (omega arith) (omega arith) printed.allocation
 
+  -- the printed seats are those that the final bundles use
+  used_are : p.used ≡ used_of (seats_in market) p.allocation
+  used_are =
+      let many = accepted.is_text.is_publication.used.count in
+      let same = sections in
+      let seats : length (seats_in market) ≡ crowd.sections = length_map (λ (section : Section). section.seats) market.catalog.sections ∙ sym accepted.holds.is_crowd.is_crowd.sections in
+      used_is (seats_in market) p.allocation p.used (omega arith) (λ k low. printed.used k (omega arith))
+
+  pub is_allocated : IsAllocation market accepted.holds.is_crowd.journal p
+  is_allocated =
+      let many : length p.budgets ≡ length market.roll.students = accepted.is_text.is_publication.budgets.count ∙ students ∙ count in
+      is_allocation market accepted.holds.is_crowd.journal p many (subst (λ budgets. ComeInPasses (after_order_of budgets) (demanded p) p.turns) (sym budgets_are_those) by_pass) at_turn allocated used_are
+
 pub accepted_is_optimal : AcceptedIsOptimal
 accepted_is_optimal market streams text accepted = record {
   journal = accepted.holds.is_crowd.journal;
   is_journal = accepted.holds.is_crowd.is_journal;
   budgets = budgets_are_those market streams text accepted ∙ accepted.holds.is_crowd.is_crowd.budgets;
   stage_two = stage_two market streams text accepted;
-  turns = at_turn market streams text accepted;
-  quiet = λ some. subst (λ n. EndsWithQuietPass n accepted.publication) (count market streams text accepted) (quiet_pass market streams text accepted (let same = count market streams text accepted in omega arith));
+  allocation = is_allocated market streams text accepted;
   seats_in_stage_two = within market streams text accepted 0;
   seats_after_turns = after_turns market streams text accepted;
   seats_in_the_end = subst (AreWithinSeats market) (sym (allocated market streams text accepted)) (after_turns market streams text accepted accepted.publication.turns [] (sym (append-nil accepted.publication.turns)));

@@ -1,27 +1,20 @@
 -- The laws of accepted texts.
-use Rattle.std.specs.Prelude.{ℕ, ◌≡◌, ◌<◌, ◌≤◌, ◌+◌, List, [], ◌∷◌, ◌++◌, length, slice_index, slice_index_or}
-use Rattle.budget_draw.specs.Budgets.{budgets_of, raised_by}
+use Rattle.std.specs.Prelude.{ℕ, ◌≡◌, ◌<◌, List, [], ◌++◌, length, slice_index, slice_index_or}
+use Rattle.budget_draw.specs.Budgets.{budgets_of}
 use Rattle.bundle_rules.specs.Demand.{IsBest}
 use Rattle.course_catalog.specs.Catalog.{IsCatalog}
 use Rattle.student_roll.specs.Students.{IsRoll}
 use Rattle.market_certificate.specs.Publications.{ProvedTurn, Publication}
 use Rattle.preference_desk.specs.declared.entry.Entry.{Entry}
 use Rattle.utility_language.specs.declared.commands.Command.{Command}
+use Rattle.published_parts.specs.Allocations.{IsAllocation}
 use Rattle.published_parts.specs.Holdings.{AreWithinSeats, demanded, held_after}
-use Rattle.held_seats.specs.Choices.{may_choose}
 use Rattle.published_parts.specs.Journals.{IsJournalOf, wishes_in}
-use Rattle.published_parts.specs.Markets.{Market, names_in, seats_in}
+use Rattle.published_parts.specs.Markets.{Market, names_in}
 use Rattle.published_parts.specs.Offers.{all_sections}
 use Rattle.certificate_checker.specs.declared.findings.Finding.{Finding}
 use Rattle.certificate_checker.specs.Certificates.{IsAccepted}
 use Rattle.certificate_checker.specs.Findings.{IsFirstFinding}
-use Rattle.certificate_checker.specs.Turns.{IsQuietTurn}
-
--- there are at least as many turns as students, and the last ones, one of each student, leave everything as it is: at each the best that the
--- student can get is what it holds
-pub record EndsWithQuietPass (students : ℕ) (p : Publication) : Type 0 where
-  pub whole : students ≤ length p.turns
-  pub quiet : (turn : ℕ) → turn < length p.turns → length p.turns ≤ turn + students → IsQuietTurn p turn
 
 -- What an accepted text promises to every student, whoever printed it. What a student wants is what all sessions said of it, in the printed
 -- order; its budget is the one that the seed draws.
@@ -33,13 +26,9 @@ pub record IsOptimal (market : Market) (streams : List (List Command)) (p : Publ
   -- every other one that it may take and can pay
   pub stage_two : (student : ℕ) → student < length market.roll.students
       → IsBest (wishes_in market journal student) (slice_index p.prices) (slice_index p.budgets student) (all_sections (length market.catalog.sections)) (slice_index_or (demanded p) student [])
-  -- at each turn the student gets the best bundle that its raised budget buys, at the same prices, of the sections that it holds and of
-  -- those that are free at that turn
-  pub turns : (earlier later : List ProvedTurn) (turn : ProvedTurn) → p.turns ≡ earlier ++ turn ∷ later
-      → IsBest (wishes_in market journal turn.student) (slice_index p.prices) (raised_by market.settings.raise (slice_index p.budgets turn.student))
-      (may_choose (seats_in market) (held_after (demanded p) earlier) turn.student) turn.bundle
-  -- where there are students, the last pass is without a change
-  pub quiet : 0 < length market.roll.students → EndsWithQuietPass (length market.roll.students) p
+  -- the turns of the aftermarket come in passes, each to the best bundle of what is held and what is free; in the last pass nobody changes
+  -- anything; and the final bundles and the used seats are those behind it
+  pub allocation : IsAllocation market journal p
   -- no section has more students than seats: not in stage two, not after any turn, and not in the end
   pub seats_in_stage_two : AreWithinSeats market (demanded p)
   pub seats_after_turns : (earlier later : List ProvedTurn) → p.turns ≡ earlier ++ later → AreWithinSeats market (held_after (demanded p) earlier)

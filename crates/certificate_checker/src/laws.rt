@@ -2,8 +2,10 @@
 ghost use Rattle.certificate_checker.specs.Laws.{AcceptedIsOptimal, NoFindingInAccepted, OneTextForPrices};
 
 /// What is accepted is optimal, whoever printed it. In stage two each student has the best bundle that its budget buys at
-/// the printed prices; at each turn the best that its raised budget buys of what it holds and of what is free; and at its
-/// last turn that is what it holds already. No section has more students than seats, at any time.
+/// the printed prices. The turns come in passes, in each of which each student has one turn, by budget before any raise; at
+/// each it gets the best that its raised budget buys of what it holds and of what is free; in the last pass, and in no other,
+/// nobody changes anything. Each student's final bundle is what its last turn left, and the best that it may have in the end.
+/// The used seats are those that the final bundles take. No section has more students than seats, at any time.
 pub fn accepted_is_optimal()
     ensures { AcceptedIsOptimal }
 {}

@@ -19,7 +19,7 @@ use Rattle.bundle_rules.proofs.BestValue.{best-is, best-only}
 use Rattle.demand_api.specs.Crowds.{Student, CrowdData, IsCrowd, IsWithin, greatest_budget, top, demand, demands, demand_of, holders, count, counts}
 use Rattle.demand_api.specs.Made.{MakeCrowd, students_of, greatest, crowd_of}
 use Rattle.demand_api.specs.Asking.{ArePricesFor}
-use Rattle.demand_api.specs.Counting.{HasCounted}
+use Rattle.demand_api.specs.Counting.{AreCounts, HasCounted}
 use Rattle.demand_api.proofs.Halving.{price_at}
 
 -- allowed sets that say the same have the same best bundles
@@ -216,11 +216,6 @@ pub index_same : (xs : List ℕ) (k d : ℕ) → k < length xs → slice_index_o
 index_same [] k d low = absurd (omega arith)
 index_same (x ∷ xs) zero d low = refl
 index_same (x ∷ xs) (suc k) d low = index_same xs k d (omega arith)
-
--- each section's count so far
-pub record AreCounts (sections : ℕ) (bundles : List (List ℕ)) (counts : List ℕ) : Type 0 where
-  pub len : length counts ≡ sections
-  pub each : (s : ℕ) → s < sections → slice_index counts s ≡ holders s bundles
 
 pub counts_done : (crowd : CrowdData) (price : ℕ → ℕ) (i : ℕ) (found : List ℕ) → length (demands crowd price) ≤ i → AreCounts crowd.sections (take i (demands crowd price)) found → found ≡ counts crowd price
 counts_done crowd price i found past are =

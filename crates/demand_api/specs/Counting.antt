@@ -1,7 +1,13 @@
--- What one bundle adds to the counts.
-use Rattle.std.specs.Prelude.{ℕ, ◌≡◌, ◌+◌, List, slice_index, if◌then◌else◌}
+-- Counts by section, and what one bundle adds to them.
+use Rattle.std.specs.Prelude.{ℕ, ◌≡◌, ◌<◌, ◌+◌, List, length, slice_index, if◌then◌else◌}
 use Rattle.bundle_rules.specs.Sets.{has}
+use Rattle.demand_api.specs.Crowds.{holders}
 
 -- one more at the section where the bundle has it, and no change where not
 abbrev pub HasCounted : List ℕ → List ℕ → List ℕ → ℕ → Type 0
 HasCounted before after bundle s = slice_index after s ≡ slice_index before s + (if has bundle s then 1 else 0)
+
+-- each section's count so far
+pub record AreCounts (sections : ℕ) (bundles : List (List ℕ)) (counts : List ℕ) : Type 0 where
+  pub len : length counts ≡ sections
+  pub each : (s : ℕ) → s < sections → slice_index counts s ≡ holders s bundles

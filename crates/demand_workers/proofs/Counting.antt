@@ -10,9 +10,9 @@ use Rattle.bundle_rules.specs.Bundles.{sections_of}
 use Rattle.bundle_rules.specs.Sets.{has}
 use Rattle.bundle_rules.specs.Ordinals.{ordinals}
 use Rattle.bundle_rules.specs.Demand.{price_in}
-use Rattle.demand_api.specs.Counting.{HasCounted}
+use Rattle.demand_api.specs.Counting.{AreCounts, HasCounted}
 use Rattle.demand_api.specs.Crowds.{CrowdData, demand, demands, holders, counts, demand_of}
-use Rattle.demand_api.proofs.Takers.{AreCounts, counted, lent_back}
+use Rattle.demand_api.proofs.Takers.{counted, lent_back}
 use Rattle.demand_workers.specs.Rounds.{prices_of}
 
 -- what each student takes is one bundle for each

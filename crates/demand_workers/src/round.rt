@@ -1,6 +1,7 @@
 // A round of all workers over one board.
 ghost use Rattle.std.specs.Prelude.{◌≡◌, ◌≤◌, ◌<◌, ℕ, All, IfOk, length, slice_index_or};
 ghost use Rattle.std.specs.Arc.{arc_value};
+ghost use Rattle.std.specs.Vec.{vec_len};
 ghost use Rattle.price_board.specs.Openings.{IsAskOf, IsMade};
 ghost use Rattle.price_board.specs.Seats.{IsFree, IsFinished};
 ghost use Rattle.demand_workers.specs.Remembered.{AreRemembered};
@@ -47,7 +48,33 @@ pub(crate) fn ask_workers<R: Threads + Wait + Sync>(
         versions: copies_of(alloc, versions)?,
         asks,
     };
-    let (board, mut seats) = Board::start(alloc, shared, round, workspaces.len() as u16)?;
+    let (board, seats) = Board::start(alloc, shared, round, workspaces.len() as u16)?;
+    Ok(work_and_close(
+        rt, board, seats, workspaces, remembered, crowd, versions, gate,
+    ))
+}
+
+// From the start of the first worker to the answers: it is given no allocator and has no error, so no memory is taken meanwhile.
+fn work_and_close<R: Threads + Wait + Sync>(
+    rt: &R,
+    board: Board,
+    mut seats: Vec<BoardSeat>,
+    workspaces: &[Mutex<Workspace>],
+    remembered: &Remembered,
+    crowd: &Crowd,
+    versions: &[Vec<Tokens>],
+    gate: &(dyn Gate + Sync),
+) -> Answers
+    requires remembered { AreRemembered (data_of crowd.now) remembered.now.prices.items remembered.now.bundles.items }
+    requires crowd { IsMade crowd.now }
+    requires versions { AreVersionsFor (data_of crowd.now) versions.now }
+    requires board { IsBoardOf (data_of crowd.now) versions.now board }
+    requires count { (vec_len seats ≡ length workspaces.now) × (1 ≤ length workspaces.now) × (length workspaces.now ≤ 16) }
+    requires allotments { length board.allotments ≡ vec_len seats }
+    requires numbers { (n : ℕ) (d : _) → n < vec_len seats → (slice_index_or seats.items n d).number ≡ n }
+    requires free { All (λ seat. IsFree board seat) seats.items }
+    ensures terms { result.terms ≡ board.base }
+{
     work_all(
         rt,
         &board,
@@ -58,7 +85,7 @@ pub(crate) fn ask_workers<R: Threads + Wait + Sync>(
         versions,
         gate,
     );
-    Ok(board.close(seats))
+    board.close(seats)
 }
 
 // Copies of these vectors of prices.

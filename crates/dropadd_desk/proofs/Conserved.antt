@@ -23,11 +23,11 @@ use Rattle.dropadd_desk.specs.Market.{Market, offered, section_count, section_na
 use Rattle.dropadd_desk.specs.Halls.{IsHall}
 use Rattle.dropadd_desk.specs.Openings.{IsLawful}
 use Rattle.dropadd_desk.specs.Laws.{ConservationLaw, IsFair}
-use Rattle.dropadd_desk.specs.Lines.{HallStep, Line, is_added, is_dropped, is_passed_on, line_after, line_from, line_of, named_student, names_section, no_line, noted, replies}
+use Rattle.dropadd_desk.specs.Lines.{HallStep, Line, is_added, is_dropped, is_passed_on, is_refusal, line_after, line_from, line_of, named_student, names_section, no_line, noted, replies}
 use Rattle.dropadd_desk.specs.Replies.{NamesInRange}
 use Rattle.dropadd_desk.specs.Shared.{is_sound, state_after, reply_to}
 use Rattle.dropadd_desk.specs.Step.{add, by_names, drop as drop_section, known, leave, step as step_of, waiting_for}
-use Rattle.dropadd_desk.proofs.Stepped.{IsQuiet, IsStepped, add_step, drop_step, is_quiet, leave_step, one_if, quiet, students_in}
+use Rattle.dropadd_desk.proofs.Stepped.{IsQuiet, IsStepped, add_step, drop_step, leave_step, one_if, quiet, students_in}
 use Rattle.dropadd_desk.proofs.Tickets.{all_in_order, each_once}
 
 -- a place that is found is one of the list
@@ -69,11 +69,11 @@ pub record Names (market : Market) (state : HallState) (student section : Name) 
   pub made_is : by_names market state student section made ≡ made i s
 
 pub names_or_quiet : (market : Market) (state : HallState) (student section : Name) (made : ℕ → ℕ → HallReply × HallState)
-    → ((answer : HallReply) × (by_names market state student section made ≡ (answer, state)) × (is_quiet answer ≡ true) × NamesInRange market answer) ⊎ Names market state student section made
+    → ((answer : HallReply) × (by_names market state student section made ≡ (answer, state)) × (is_refusal answer ≡ true) × NamesInRange market answer) ⊎ Names market state student section made
 names_or_quiet market state student section made = cases (student_named market student) (section_named market section) refl refl
   where
     cases : (o p : Option ℕ) → student_named market student ≡ o → section_named market section ≡ p
-        → ((answer : HallReply) × (by_names market state student section made ≡ (answer, state)) × (is_quiet answer ≡ true) × NamesInRange market answer) ⊎ Names market state student section made
+        → ((answer : HallReply) × (by_names market state student section made ≡ (answer, state)) × (is_refusal answer ≡ true) × NamesInRange market answer) ⊎ Names market state student section made
     cases None p e f = inl (reply.NoStudent, ap (λ o. known o (reply.NoStudent, state) (λ i. known (section_named market section) (reply.NoSection, state) (λ s. made i s))) e, refl, tt)
     cases (Some i) None e f = inl (reply.NoSection, ap (λ o. known o (reply.NoStudent, state) (λ i. known (section_named market section) (reply.NoSection, state) (λ s. made i s))) e ∙ ap (λ p. known p (reply.NoSection, state) (λ s. made i s)) f, refl, tt)
     cases (Some i) (Some s) e f = inr (record {

@@ -4,6 +4,8 @@ pub mod CloseUp
 pub mod Conserved
 pub mod CopyLemmas
 pub mod DeskLemmas
+pub mod Fitting
+pub mod Handing
 pub mod FrontRows
 pub mod InRange
 pub mod Queues

@@ -18,19 +18,19 @@ use Rattle.dropadd_desk.specs.Market.{Market, offered, section_count, student_co
 use Rattle.dropadd_desk.specs.Sets.{with_section, without_section}
 use Rattle.dropadd_desk.specs.Fits.{fits, lowest_clash, passes_credits, passes_courses}
 use Rattle.dropadd_desk.specs.Halls.{IsHall}
-use Rattle.dropadd_desk.specs.Lines.{Line, Ticket, is_added, is_dropped, is_passed_on, is_queued, noted}
+use Rattle.dropadd_desk.specs.Lines.{Line, Ticket, is_added, is_dropped, is_passed_on, is_queued, is_refusal, noted}
 use Rattle.dropadd_desk.specs.Step.{add, answered, drop as drop_section, first_of, given, has_free_seat, held_by, leave, pass_on, refusal, waiting_for, where_so, with_held, with_waiting}
 use Rattle.bundle_rules.specs.Existence.Members.{has-here, has-there}
 use Rattle.dropadd_desk.proofs.Queues.{none_behind, without_has, has_behind}
 use Rattle.dropadd_desk.proofs.Steps.{behind_keeps, holders_same, left_keeps, one_holder_fewer, one_holder_more, queued_keeps, waiting_here, waiting_there, with_keeps, with_other, without_keeps, without_other}
 
 -- who stands at a place
-has_at : (xs : List ℕ) (n i : ℕ) → slice_get xs n ≡ Some i → has xs i ≡ true
+pub has_at : (xs : List ℕ) (n i : ℕ) → slice_get xs n ≡ Some i → has xs i ≡ true
 has_at [] n i e = absurd (cc e)
 has_at (x ∷ xs) zero i e = let same : x ≡ i = cc e in subst (λ m. has (x ∷ xs) m ≡ true) same (has-here x xs)
 has_at (x ∷ xs) (suc n) i e = has-there x xs i (has_at xs n i e)
 
-none_past : (xs : List ℕ) (n : ℕ) → slice_get xs n ≡ None → length xs ≤ n
+pub none_past : (xs : List ℕ) (n : ℕ) → slice_get xs n ≡ None → length xs ≤ n
 none_past [] n e = omega arith
 none_past (x ∷ xs) zero e = absurd (cc e)
 none_past (x ∷ xs) (suc n) e = let rest = none_past xs n e in omega (arith, rest)
@@ -53,14 +53,7 @@ pub record IsStepped (market : Market) (state : HallState) (i s : ℕ) (outcome 
   pub line : (number : ℕ) (line : Line) → students_in line.waiting ≡ waiting_for state s → students_in (noted number i outcome.0 line).waiting ≡ waiting_for outcome.1 s
   pub next : (lapsed : ℕ) (next : StudentNo) → outcome.0 ≡ reply.Dropped lapsed (Some next) → slice_get (waiting_for state s) lapsed ≡ Some next.0
 
--- replies that change nothing
-abbrev pub is_quiet : HallReply → Bool
-is_quiet reply.Added = false
-is_quiet (reply.Queued ahead) = false
-is_quiet (reply.Dropped lapsed next) = false
-is_quiet reply.Left = false
-is_quiet _ = true
-
+-- a reply that changes nothing
 pub record IsQuiet (answer : HallReply) : Type 0 where
   pub line : (number i : ℕ) (line : Line) → noted number i answer line ≡ line
   pub added : is_added answer ≡ false
@@ -69,7 +62,7 @@ pub record IsQuiet (answer : HallReply) : Type 0 where
   pub queued : is_queued answer ≡ false
   pub next : (lapsed : ℕ) (next : StudentNo) → answer ≢ reply.Dropped lapsed (Some next)
 
-pub quiet : (answer : HallReply) → is_quiet answer ≡ true → IsQuiet answer
+pub quiet : (answer : HallReply) → is_refusal answer ≡ true → IsQuiet answer
 quiet reply.Added e = absurd (false≢true e)
 quiet (reply.Queued ahead) e = absurd (false≢true e)
 quiet (reply.Dropped lapsed next) e = absurd (false≢true e)
@@ -79,13 +72,13 @@ quiet _ e = record { line = λ n i line. refl; added = refl; dropped = refl; pas
 -- a refusal is such a reply
 abbrev pub QuietOrNone : Option HallReply → Type 0
 QuietOrNone None = Unit {0}
-QuietOrNone (Some answer) = is_quiet answer ≡ true
+QuietOrNone (Some answer) = is_refusal answer ≡ true
 
 first_quiet : (o : Option HallReply) (more : List (Option HallReply)) → QuietOrNone o → QuietOrNone (first_of more) → QuietOrNone (first_of (o ∷ more))
 first_quiet None more here rest = rest
 first_quiet (Some answer) more here rest = here
 
-so_quiet : (b : Bool) (answer : HallReply) → is_quiet answer ≡ true → QuietOrNone (where_so b answer)
+so_quiet : (b : Bool) (answer : HallReply) → is_refusal answer ≡ true → QuietOrNone (where_so b answer)
 so_quiet true answer e = e
 so_quiet false answer e = tt
 
@@ -101,11 +94,11 @@ refusal_quiet market state i s =
     (first_quiet _ _ (so_quiet (passes_credits market i s (held_by state i)) reply.Credits refl)
     (first_quiet _ _ (so_quiet (passes_courses market i (held_by state i)) reply.Courses refl) tt))))
 
-first_none : (o : Option HallReply) (more : List (Option HallReply)) → first_of (o ∷ more) ≡ None → (o ≡ None) × (first_of more ≡ None)
+pub first_none : (o : Option HallReply) (more : List (Option HallReply)) → first_of (o ∷ more) ≡ None → (o ≡ None) × (first_of more ≡ None)
 first_none None more e = (refl, e)
 first_none (Some answer) more e = cc
 
-so_none : (b : Bool) (answer : HallReply) → where_so b answer ≡ None → b ≡ false
+pub so_none : (b : Bool) (answer : HallReply) → where_so b answer ≡ None → b ≡ false
 so_none true answer e = cc
 so_none false answer e = refl
 

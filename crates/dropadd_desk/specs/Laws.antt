@@ -1,16 +1,17 @@
 -- The law of drop and add.
-use Rattle.std.specs.Prelude.{ℕ, ◌≡◌, ◌<◌, ◌≤◌, ◌+◌, true, false, if◌then◌else◌, Some, List, All, ◌∷◌, ◌++◌, map, slice_get}
+use Rattle.std.specs.Prelude.{ℕ, ◌≡◌, ◌<◌, ◌≤◌, ◌+◌, ◌↔◌, true, false, if◌then◌else◌, Option, Some, option_map, List, All, [], ◌∷◌, ◌++◌, map, slice_get}
 use Rattle.chronicle.specs.History.{IsLegal, state_after as state_after_steps}
 use Rattle.market_units.specs.declared.units.StudentNo.{StudentNo}
 use Rattle.bundle_rules.specs.Sets.{has, IsAscending}
 use Rattle.demand_api.specs.Crowds.{holders}
 use Rattle.dropadd_desk.specs.declared.reply.HallReply.TheVariants as reply
 use Rattle.dropadd_desk.specs.declared.shared.HallState.{HallState}
-use Rattle.dropadd_desk.specs.Market.{Market, offered, section_count}
+use Rattle.dropadd_desk.specs.Market.{Market, offered, section_count, student_count}
+use Rattle.dropadd_desk.specs.Fits.{fits}
 use Rattle.dropadd_desk.specs.Halls.{IsHall}
-use Rattle.dropadd_desk.specs.Openings.{IsLawful}
+use Rattle.dropadd_desk.specs.Openings.{IsAllowed, IsLawful}
 use Rattle.dropadd_desk.specs.Step.{has_free_seat, held_by, waiting_for}
-use Rattle.dropadd_desk.specs.Lines.{HallStep, Ticket, gives_ticket, is_added, is_dropped, is_passed_on, line_of, names_section, replies, tickets_of}
+use Rattle.dropadd_desk.specs.Lines.{HallStep, Ticket, gives_ticket, is_added, is_dropped, is_passed_on, is_refusal, line_of, names_section, replies, tickets_of}
 use Rattle.dropadd_desk.specs.Replies.{NamesInRange}
 use Rattle.dropadd_desk.specs.Shared.{is_sound, state_after, reply_to}
 
@@ -46,6 +47,34 @@ pub record IsConserved (market : Market) (opening : HallState) (history : List H
 abbrev pub ConservationLaw : Type 0
 ConservationLaw = (market : Market) (opening : HallState) (history : List HallStep) → IsHall market opening → IsLawful market opening
     → IsLegal is_sound state_after reply_to market opening history → (s : ℕ) → s < section_count market → IsConserved market opening history s
+
+-- What each student holds is allowed at every time, where it is so at the opening: no two of the sections clash, and the caps are kept.
+abbrev pub AllowedLaw : Type 0
+AllowedLaw = (market : Market) (opening : HallState) (history : List HallStep) → IsHall market opening → IsLawful market opening
+    → IsLegal is_sound state_after reply_to market opening history → (i : ℕ) → i < student_count market → IsAllowed market i (held_by (state_after_steps state_after market opening history) i)
+
+-- What a given up seat comes to, from one state to the next, where so many lapse and this student is told as the next.
+pub record GoesToFirstFit (market : Market) (before after : HallState) (s lapsed : ℕ) (next : Option StudentNo) : Type 0 where
+  -- those who lapse are the first so many who wait, and the section fits none of them beside what he holds
+  pub lapse : (place i : ℕ) → place < lapsed → slice_get (waiting_for before s) place ≡ Some i → fits market i s (held_by before i) ≡ false
+  -- the next is who waits behind them, and there is none where nobody does
+  pub behind : slice_get (waiting_for before s) lapsed ≡ option_map (λ (one : StudentNo). one.0) next
+  -- the section fits the next beside what he holds
+  pub fit : (one : StudentNo) → next ≡ Some one → fits market one.0 s (held_by before one.0) ≡ true
+  -- of those who did not hold the section the next holds it now, and nobody else
+  pub given : (i : ℕ) → i < student_count market → has (held_by before i) s ≡ false → (has (held_by after i) s ≡ true) ↔ (slice_get (waiting_for before s) lapsed ≡ Some i)
+
+-- A seat that is given up goes to the first of those who wait whom the section fits.
+abbrev pub FirstFitLaw : Type 0
+FirstFitLaw = (market : Market) (opening : HallState) (before : List HallStep) (step : HallStep) (s lapsed : ℕ) (next : Option StudentNo) → IsHall market opening
+    → IsLegal is_sound state_after reply_to market opening (before ++ step ∷ []) → names_section market s step.request ≡ true → step.reply ≡ reply.Dropped lapsed next
+    → GoesToFirstFit market (state_after_steps state_after market opening before) (state_after_steps state_after market opening (before ++ step ∷ [])) s lapsed next
+
+-- A request that is refused changes nothing.
+abbrev pub RefusalLaw : Type 0
+RefusalLaw = (market : Market) (opening : HallState) (before : List HallStep) (step : HallStep)
+    → IsLegal is_sound state_after reply_to market opening (before ++ step ∷ []) → is_refusal step.reply ≡ true
+    → state_after_steps state_after market opening (before ++ step ∷ []) ≡ state_after_steps state_after market opening before
 
 -- Whatever is requested, replies name sections of the catalogue and students of the roll.
 abbrev pub RepliesInRangeLaw : Type 0

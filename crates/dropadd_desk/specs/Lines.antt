@@ -97,6 +97,14 @@ abbrev pub is_passed_on : HallReply → Bool
 is_passed_on (reply.Dropped lapsed (Some next)) = true
 is_passed_on _ = false
 
+-- a request is refused by each reply but that a seat was given, a place in the list was given, a seat was given up or a place was given up
+abbrev pub is_refusal : HallReply → Bool
+is_refusal reply.Added = false
+is_refusal (reply.Queued ahead) = false
+is_refusal (reply.Dropped lapsed next) = false
+is_refusal reply.Left = false
+is_refusal _ = true
+
 -- whether the step of this number gave a ticket for the section
 abbrev pub gives_ticket : Market → ℕ → List HallStep → ℕ → Bool
 gives_ticket market s [] number = false

@@ -1,5 +1,5 @@
 //! What holds of a shared desk: each call here does nothing, and its contract is a law.
-ghost use Rattle.dropadd_desk.specs.Laws.{ConservationLaw, RepliesInRangeLaw};
+ghost use Rattle.dropadd_desk.specs.Laws.{AllowedLaw, ConservationLaw, FirstFitLaw, RefusalLaw, RepliesInRangeLaw};
 
 /// After any requests from a lawful opening no section has more holders than seats, a section for which somebody waits has no free seat,
 /// and nobody waits for what he holds. Holders are those at the opening, more those who were added and those to whom a seat was passed
@@ -7,6 +7,23 @@ ghost use Rattle.dropadd_desk.specs.Laws.{ConservationLaw, RepliesInRangeLaw};
 /// did not leave, the one who was queued first was given the section or lapsed first.
 pub fn conservation()
     ensures { ConservationLaw }
+{}
+
+/// What each student holds is allowed at every time, where it is so at the opening: no two of the sections clash, and the student's caps
+/// are kept.
+pub fn held_is_allowed()
+    ensures { AllowedLaw }
+{}
+
+/// A seat that is given up goes to the first of those who wait whom the section fits beside what he then holds. Those before him lapse; where
+/// there is no such one all lapse, and nobody has the seat.
+pub fn first_whom_it_fits()
+    ensures { FirstFitLaw }
+{}
+
+/// A request that is refused changes nothing.
+pub fn refusals_change_nothing()
+    ensures { RefusalLaw }
 {}
 
 /// Replies name sections of the catalogue and students of the roll.

@@ -1,9 +1,10 @@
 // Rows of all students, by workers.
 ghost use Rattle.std.specs.Prelude.{◌≡◌, ◌≤◌, ◌<◌, ℕ, All, IfOk, length, map, slice_index_or};
+ghost use Rattle.std.specs.Vec.{vec_len};
 ghost use Rattle.std.specs.Arc.{arc_value};
 ghost use Rattle.demand_api.specs.Made.{MakeCrowd};
-ghost use Rattle.fairness_audit.specs.Allocations.{IsAllocation, allocation_of};
-ghost use Rattle.fairness_audit.specs.Rows.{rows};
+ghost use Rattle.fairness_audit.specs.Allocations.{IsAllocation, allocation_of, student_count};
+ghost use Rattle.fairness_audit.specs.Rows.{row, rows};
 ghost use Rattle.fairness_audit.specs.Seats.{IsFinished, IsFree};
 ghost use Rattle.fairness_audit.specs.Texts.{AreRowsAmong};
 ghost use Rattle.fairness_audit.specs.Views.{row_of};
@@ -46,11 +47,34 @@ pub fn audit<R: Threads + Wait + Sync, G: Gate + Sync>(
     let mut found = vec![in alloc; EnvyRow::empty(); students]?;
     let share = 2 * students as u64 + 1;
     let allotments = vec![in alloc; share; usize::from(workers)]?;
-    let (chronicle, mut seats) = Chronicle::start(alloc, register, allotments)?;
-    work_all(rt, &chronicle, seats.as_mut_slice(), &crowd, &bundles, gate);
-    let (register, _) = chronicle.close(seats);
-    register.write_rows(&mut found);
+    let (chronicle, seats) = Chronicle::start(alloc, register, allotments)?;
+    work_and_write(rt, chronicle, seats, &crowd, &bundles, &mut found, gate);
     Ok(found)
+}
+
+// From the start of the first worker to the rows: it is given no allocator and has no error, so no memory is taken meanwhile.
+fn work_and_write<R: Threads + Wait + Sync, G: Gate + Sync>(
+    rt: &R,
+    chronicle: Chronicle<Register>,
+    mut seats: Vec<Seat<Register>>,
+    crowd: &Crowd,
+    bundles: &[Bundle],
+    rows: &mut [EnvyRow],
+    gate: &G,
+)
+    requires crowd { MakeCrowd crowd.now.menus.items crowd.now.budgets.items crowd.now.sections }
+    requires bundles { IsAllocation (allocation_of crowd.now bundles.now) }
+    requires chronicle { chronicle.base.allocation ≡ allocation_of crowd.now bundles.now }
+    requires count { (1 ≤ vec_len seats) × (vec_len seats ≤ 16) × (length chronicle.allotments ≡ vec_len seats) }
+    requires numbers { (n : ℕ) (d : _) → n < vec_len seats → (slice_index_or seats.items n d).number ≡ n }
+    requires free { All (λ seat. IsFree chronicle seat) seats.items }
+    requires rows { length rows.old ≡ student_count chronicle.base.allocation }
+    ensures count { length rows.new ≡ length rows.old }
+    ensures each { (i : ℕ) (d : EnvyRow) → i < length rows.new → row_of (slice_index_or rows.new i d) ≡ row chronicle.base.allocation i }
+{
+    work_all(rt, &chronicle, seats.as_mut_slice(), crowd, bundles, gate);
+    let (register, _) = chronicle.close(seats);
+    register.write_rows(rows);
 }
 
 // Each worker works at its seat, in a thread of its own where one can be started.

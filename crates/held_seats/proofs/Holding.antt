@@ -16,8 +16,8 @@ use Rattle.bundle_rules.specs.Ordinals.{ordinals}
 use Rattle.bundle_rules.specs.Places.{places_from}
 use Rattle.bundle_rules.specs.Existence.Members.{has-cases}
 use Rattle.demand_api.specs.Crowds.{holders}
-use Rattle.demand_api.specs.Counting.{HasCounted}
-use Rattle.demand_api.proofs.Takers.{AreCounts, listed_in, holders_few, index_same, lent_back, listed_by_place}
+use Rattle.demand_api.specs.Counting.{AreCounts, HasCounted}
+use Rattle.demand_api.proofs.Takers.{listed_in, holders_few, index_same, lent_back, listed_by_place}
 use Rattle.held_seats.specs.Choices.{is_free, may_choose}
 use Rattle.held_seats.specs.Floors.{AreBelow}
 use Rattle.held_seats.proofs.Freeing.{Tells, no_seats}

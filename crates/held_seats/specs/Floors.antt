@@ -3,7 +3,7 @@ use Rattle.std.specs.Prelude.{ℕ, ◌<◌, ◌≡◌, nat_lt, true, List, All, 
 use Rattle.std.specs.FinSet as set
 use Rattle.bundle_rules.specs.Sets.{has}
 use Rattle.bundle_rules.specs.Bundles.{sections_of}
-use Rattle.demand_api.proofs.Takers.{AreCounts}
+use Rattle.demand_api.specs.Counting.{AreCounts}
 use Rattle.held_seats.specs.declared.floor.Floor.{Floor}
 
 -- the sections of each bundle are below this number

@@ -4,7 +4,7 @@ ghost use Rattle.std.specs.FinSet as set;
 ghost use Rattle.bundle_rules.specs.Sets.{has};
 ghost use Rattle.bundle_rules.specs.Ordinals.{ordinals};
 ghost use Rattle.bundle_rules.specs.Bundles.{sections_of};
-ghost use Rattle.demand_api.proofs.Takers.{AreCounts};
+ghost use Rattle.demand_api.specs.Counting.{AreCounts};
 ghost use Rattle.held_seats.specs.Floors.{AreBelow};
 
 use bundle_rules::Bundle;

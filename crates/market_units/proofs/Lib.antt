@@ -1,4 +1,3 @@
-pub mod EqualNames
 pub mod NameLists
 mod Padding
 mod SectionCalls

@@ -1,3 +1,4 @@
+pub mod EqualNames
 pub mod Laws
 pub mod Name
 pub mod Names

@@ -11,9 +11,9 @@ use Rattle.bundle_rules.specs.Bundles.{sections_of}
 use Rattle.bundle_rules.specs.Sets.{has}
 use Rattle.bundle_rules.specs.Ordinals.{ordinals, IsBundle}
 use Rattle.demand_api.specs.Crowds.{holders}
-use Rattle.demand_api.specs.Counting.{HasCounted}
+use Rattle.demand_api.specs.Counting.{AreCounts, HasCounted}
 use Rattle.demand_api.proofs.Holders.{holders_set}
-use Rattle.demand_api.proofs.Takers.{AreCounts, holders_few, listed_in, sections_few, index_same}
+use Rattle.demand_api.proofs.Takers.{holders_few, listed_in, sections_few, index_same}
 use Rattle.own_price.specs.Kept.{AreWithin, IsTally}
 
 -- the sections of the bundle at a place

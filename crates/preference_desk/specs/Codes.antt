@@ -5,7 +5,7 @@ use Rattle.std.specs.Coded.{Coded, code_by, coded_ℕ, coded×, coded_ℤ, coded
 use base.Stored.{coded_via}
 use Rattle.market_units.specs.declared.names.Name.{Name}
 use Rattle.market_units.specs.Name.{name_bytes}
-use Rattle.market_units.proofs.EqualNames.{same_name}
+use Rattle.market_units.specs.EqualNames.{same_name}
 use Rattle.utility_language.specs.declared.commands.Command.{Command}
 use Rattle.utility_language.specs.declared.commands.Command.TheVariants.{Rate, Pair, Clear, Close, Unreadable}
 use Rattle.preference_desk.specs.declared.entry.Entry.{Entry}

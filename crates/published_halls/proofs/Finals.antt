@@ -1,5 +1,5 @@
 -- The final bundles of a publication, as a desk opens with them.
-use Rattle.std.proofs.Common.{ℕ, ◌≡◌, ◌<◌, ◌∙◌, ◌++◌, List, length, arith, refl, sym, subst}
+use Rattle.std.proofs.Common.{ℕ, ◌≡◌, ◌<◌, ◌∙◌, ◌++◌, List, [], ◌∷◌, append_assoc, length, arith, refl, sym, subst}
 use Rattle.std.specs.Prelude.{slice_index_or}
 use Rattle.certificate_checker.proofs.Reading.{length_map, so_of_has}
 use Rattle.chronicle.specs.History.{IsLegal}
@@ -11,7 +11,10 @@ use Rattle.dropadd_desk.specs.Halls.{IsHall, opening}
 use Rattle.dropadd_desk.specs.Market.{Market, section_count, student_count}
 use Rattle.dropadd_desk.specs.Openings.{IsLawful}
 use Rattle.dropadd_desk.specs.Shared.{is_sound, reply_to, state_after}
+use Rattle.dropadd_desk.specs.Lines.{HallStep}
 use Rattle.dropadd_desk.proofs.Conserved.{conserved}
+use Rattle.dropadd_desk.proofs.Fitting.{held_is_allowed}
+use Rattle.dropadd_desk.proofs.Handing.{first_whom_it_fits, refusals_change_nothing}
 use Rattle.dropadd_desk.proofs.StateLemmas.{nobody_waits, opening_hall}
 use Rattle.dropadd_hall.specs.Faults.{IsFaultless}
 use Rattle.held_seats.specs.Floors.{AreBelow}
@@ -21,8 +24,9 @@ use Rattle.market_certificate.specs.Texts.{IsPublished}
 use Rattle.market_certificate.proofs.NamesOf.{tables_are}
 use Rattle.market_certificate.proofs.OneText.{one_publication}
 use Rattle.student_roll.specs.Students.{IsRoll, Student}
-use Rattle.published_halls.specs.Laws.{ToldHallIsConserved}
+use Rattle.published_halls.specs.Laws.{ToldHallIsAllowed, ToldHallIsConserved, ToldHallServesTheFirst, ToldRefusalsChangeNothing}
 use Rattle.published_halls.specs.Openings.{CanOpen, IsTextOf, Opens, opened, tables_in}
+use Rattle.published_halls.specs.Told.{IsToldHall}
 
 -- one for each student
 pub each_final : (market : Market) (p : Publication) → IsPublication (tables_in market) p → length p.allocation ≡ student_count market
@@ -46,6 +50,37 @@ told_conserved market streams text told hall before after split s low =
     let legal : IsLegal is_sound state_after reply_to market (opened market p) (before ++ after) = subst (IsLegal is_sound state_after reply_to market (opened market p)) split hall.told_of.legal in
     conserved market (opened market p) before (opening_hall market p.allocation (each_final market p is) (finals_below market p is)) (opens_lawfully market p hall.opens.faultless)
     (legal_front is_sound state_after reply_to market (opened market p) before after legal) s low
+
+-- the history of a told hall is legal, up to any step
+front_legal : (market : Market) (streams : List (List HallCommand)) (text told : List ℕ) (hall : IsToldHall market streams text told) (front after : List HallStep) → hall.history ≡ front ++ after
+    → IsLegal is_sound state_after reply_to market (opened market hall.publication) front
+front_legal market streams text told hall front after split =
+    legal_front is_sound state_after reply_to market (opened market hall.publication) front after (subst (IsLegal is_sound state_after reply_to market (opened market hall.publication)) split hall.told_of.legal)
+
+told_opening : (market : Market) (streams : List (List HallCommand)) (text told : List ℕ) (hall : IsToldHall market streams text told) → IsHall market (opened market hall.publication)
+told_opening market streams text told hall =
+    let p : Publication = hall.publication in
+    let is = hall.opens.is_text.is_publication in
+    opening_hall market p.allocation (each_final market p is) (finals_below market p is)
+
+pub told_allowed : ToldHallIsAllowed
+told_allowed market streams text told hall before after split =
+    held_is_allowed market (opened market hall.publication) before (told_opening market streams text told hall) (opens_lawfully market hall.publication hall.opens.faultless)
+    (front_legal market streams text told hall before after split)
+
+-- one step with those before it is a beginning
+one_longer : (before after : List HallStep) (step : HallStep) → before ++ step ∷ after ≡ (before ++ step ∷ []) ++ after
+one_longer before after step = sym (append_assoc before (step ∷ []) after)
+
+pub told_first : ToldHallServesTheFirst
+told_first market streams text told hall before after step s lapsed next split names is =
+    first_whom_it_fits market (opened market hall.publication) before step s lapsed next (told_opening market streams text told hall)
+    (front_legal market streams text told hall (before ++ step ∷ []) after (split ∙ one_longer before after step)) names is
+
+pub told_refusals : ToldRefusalsChangeNothing
+told_refusals market streams text told hall before after step split refused =
+    refusals_change_nothing market (opened market hall.publication) before step
+    (front_legal market streams text told hall (before ++ step ∷ []) after (split ∙ one_longer before after step)) refused
 
 -- the tables of a market as they can be read
 tables_in_limits : (market : Market) → IsCatalog market.catalog → IsRoll market.roll → AreTables (tables_in market)

@@ -13,3 +13,5 @@ pub mod Telling
 pub mod Existing
 pub mod Merged
 pub mod Rooming
+pub mod ByPass
+pub mod Publishable

@@ -2,7 +2,6 @@
 use Rattle.std.proofs.Common.{ℕ, ◌≡◌, ◌<◌, ◌+◌, ◌∙◌, List, [], ◌∷◌, ◌++◌, map, length, get_or, take, ap, sym, subst, length-append}
 use Rattle.std.specs.FinSet as set
 use Rattle.std.specs.Ordering.{nat_cmp}
-use Rattle.std.specs.Prelude.{All}
 use Rattle.std.specs.List.{AllZip}
 use Rattle.std.proofs.lemmas.List.{get_or-map, get_or_default}
 use Rattle.market_units.specs.declared.units.Tokens.{Tokens}
@@ -13,20 +12,19 @@ use Rattle.bundle_rules.specs.Menus.{MenuData}
 use Rattle.bundle_bounds.specs.Offers.{offer_of}
 use Rattle.budget_draw.specs.Budgets.{raised_by}
 use Rattle.demand_api.specs.declared.crowd.Crowd.{Crowd}
-use Rattle.demand_api.specs.Crowds.{Student}
 use Rattle.demand_api.specs.Made.{crowd_of, students_of}
 use Rattle.aftermarket_stage.specs.declared.turns.Turn.{Turn}
 use Rattle.aftermarket_stage.specs.After.{turn_of, turns_of}
 use Rattle.aftermarket_stage.specs.Turns.{TurnData}
 use Rattle.market_certificate.specs.declared.publication.Proved as proved
 use Rattle.market_certificate.specs.declared.publication.ProvedTurn as turn
-use Rattle.market_certificate.specs.Publications.{Proved, ProvedTurn}
+use Rattle.market_certificate.specs.Publications.{Proved}
 use Rattle.market_certificate.specs.Views.{proved_of, turn_of as published_of}
 use Rattle.published_parts.specs.Offers.{IsProvedDemand}
 use Rattle.published_parts.proofs.Asked.{nobody}
 use Rattle.published_market.specs.declared.rooms.Room.{Room}
 use Rattle.published_market.specs.Making.{AreProved, AreProvedTurns, HasForm, HasTurnForm}
-use Rattle.published_market.specs.Rooms.{AreRoomsOfStudents, AreRoomsOfTurns, IsRoomOf, IsRoomOfStudent, IsRoomOfTurn, IsRoomOfTurnAt}
+use Rattle.published_market.specs.Rooms.{AreRoomsOfStudents, IsRoomOf, IsRoomOfStudent, IsRoomOfTurn, IsRoomOfTurnAt}
 use Rattle.published_market.specs.Turns.{IsPublishedTurn}
 use Rattle.published_market.proofs.Showing.{all_more, zip_more}
 

@@ -1,17 +1,21 @@
 -- The laws of published markets. The first six are the sentences on what a published text says of students and sections.
-use Rattle.std.specs.Prelude.{ℕ, ◌<◌, ◌≡◌, ◌⊎◌, List, [], ◌∷◌, ◌++◌, length, slice_index, slice_index_or}
+use Rattle.std.specs.Prelude.{ℕ, ◌<◌, ◌≤◌, ◌≡◌, ◌^◌, ◌⊎◌, List, [], ◌++◌, length, slice_index, slice_index_or}
 use Rattle.bundle_rules.specs.Demand.{IsBest}
-use Rattle.budget_draw.specs.Budgets.{budgets_of, raised_by}
+use Rattle.budget_draw.specs.Budgets.{budgets_of}
+use Rattle.course_catalog.specs.Catalog.{IsCatalog}
+use Rattle.student_roll.specs.Students.{IsRoll}
+use Rattle.market_settings.specs.Settings.{AreInRange}
 use Rattle.preference_desk.specs.declared.entry.Entry.{Entry}
 use Rattle.utility_language.specs.declared.commands.Command.{Command}
-use Rattle.market_certificate.specs.Publications.{ProvedTurn, Publication}
+use Rattle.market_certificate.specs.Publications.{IsPublication, ProvedTurn, Publication}
+use Rattle.market_certificate.specs.Texts.{text_of}
 use Rattle.demand_api.specs.Crowds.{CrowdData, IsCrowd}
 use Rattle.published_parts.specs.Crowds.{IsCrowdAfter}
-use Rattle.published_parts.specs.Markets.{Market, names_in, seats_in}
+use Rattle.published_parts.specs.Markets.{Market, names_in, tables_in}
 use Rattle.published_parts.specs.Journals.{IsJournalOf, wishes_in}
+use Rattle.published_parts.specs.Allocations.{AreBestAtTheirTurns, IsAllocation}
 use Rattle.published_parts.specs.Offers.{all_sections}
 use Rattle.published_parts.specs.Holdings.{AreWithinSeats, demanded, held_after}
-use Rattle.held_seats.specs.Choices.{may_choose}
 use Rattle.published_market.specs.Publishing.{IsPublished, IsPublishedText, IsUnpriced}
 
 -- the published order has a journal, which merges all sessions' commands
@@ -35,9 +39,13 @@ BestWithinBudget = (market : Market) (streams : List (List Command)) (order : Li
 -- of those that are free when its turn comes
 abbrev pub BestAtItsTurn : Type 0
 BestAtItsTurn = (market : Market) (streams : List (List Command)) (order : List ℕ) (p : Publication) (journal : List Entry) → IsPublished market streams order p → IsJournalOf (names_in market) streams order journal
-    → (earlier later : List ProvedTurn) (turn : ProvedTurn) → p.turns ≡ earlier ++ turn ∷ later
-    → IsBest (wishes_in market journal turn.student) (slice_index p.prices) (raised_by market.settings.raise (slice_index p.budgets turn.student))
-    (may_choose (seats_in market) (held_after (demanded p) earlier) turn.student) turn.bundle
+    → AreBestAtTheirTurns market journal p
+
+-- the turns come in passes, in the last of which nobody changes anything; each student's final bundle is what its last turn left, and the
+-- best that it may have in the end; and the used seats are those that the final bundles take
+abbrev pub AllocatedInPasses : Type 0
+AllocatedInPasses = (market : Market) (streams : List (List Command)) (order : List ℕ) (p : Publication) (journal : List Entry) → IsPublished market streams order p → IsJournalOf (names_in market) streams order journal
+    → IsAllocation market journal p
 
 -- no section is above its seats in the bundles of stage two
 abbrev pub StageTwoWithinSeats : Type 0
@@ -51,6 +59,18 @@ TurnsWithinSeats = (market : Market) (streams : List (List Command)) (order : Li
 -- nor at the end
 abbrev pub AllocationWithinSeats : Type 0
 AllocationWithinSeats = (market : Market) (streams : List (List Command)) (order : List ℕ) (p : Publication) → IsPublished market streams order p → AreWithinSeats market p.allocation
+
+-- a market and streams such as can be read: a catalogue, a roll and settings in their ranges, and at most 64 streams
+pub record AreInOrder (market : Market) (streams : List (List Command)) : Type 0 where
+  pub catalog : IsCatalog market.catalog
+  pub roll : IsRoll market.roll
+  pub settings : AreInRange market.settings
+  pub sessions : length streams ≤ 64
+
+-- what is published for inputs in order is a publication in the ranges of the text, where its text is not of 2 ^ 64 bytes or more
+abbrev pub PublishedIsPublication : Type 0
+PublishedIsPublication = (market : Market) (streams : List (List Command)) (order : List ℕ) (p : Publication) → AreInOrder market streams → IsPublished market streams order p
+    → length (text_of (tables_in market) p) < 2 ^ 64 → IsPublication (tables_in market) p
 
 -- a market publishes one publication for an order
 abbrev pub OnePublication : Type 0

@@ -1,6 +1,6 @@
 //! What holds of published markets: each call here does nothing, and its contract is a law. First come the sentences on
 //! what a published text says of students and sections.
-ghost use Rattle.published_market.specs.Laws.{AllocationWithinSeats, BestAtItsTurn, BestWithinBudget, BudgetsAreDrawn, OneLeastError, OnePublication, OnePublishedText, OrderMergesStreams, PublishedIsPriced, PublishedOrUnpriced, StageTwoWithinSeats, TurnsWithinSeats};
+ghost use Rattle.published_market.specs.Laws.{AllocatedInPasses, AllocationWithinSeats, BestAtItsTurn, BestWithinBudget, BudgetsAreDrawn, OneLeastError, OnePublication, OnePublishedText, OrderMergesStreams, PublishedIsPriced, PublishedIsPublication, PublishedOrUnpriced, StageTwoWithinSeats, TurnsWithinSeats};
 
 use aftermarket_stage::laws::{aftermarket_ends, one_aftermarket, stays_within_seats};
 use oversubscription_stage::laws::elimination_ends;
@@ -46,6 +46,18 @@ pub fn allocation_within_seats()
 {
     stays_within_seats();
 }
+
+/// The turns come in passes, in each of which each student has one turn, by budget before any raise; in the last pass, and in no
+/// other, nobody changes anything. Each student's final bundle is what its last turn left, and the best that it may have in the
+/// end, of what it holds and of what is free. The used seats are those that the final bundles take.
+pub fn allocated_in_passes()
+    ensures { AllocatedInPasses }
+{}
+
+/// What is published for inputs in order is a publication in the ranges of the text, where its text is not of 2 ^ 64 bytes or more.
+pub fn published_is_publication()
+    ensures { PublishedIsPublication }
+{}
 
 /// A market publishes one publication for an order.
 pub fn one_publication()

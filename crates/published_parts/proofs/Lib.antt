@@ -3,3 +3,5 @@ pub mod OneCrowds
 pub mod OneBests
 pub mod LowerFirst
 pub mod Asked
+pub mod Passing
+pub mod Resting

@@ -1,25 +1,20 @@
 -- Of each adjusted pair in the closed preferences the lower section comes first.
-use Rattle.std.proofs.Common.{ℕ, ◌==◌, ◌≡◌, ◌≢◌, ◌<◌, Bool, true, false, true≢false, not, cond, ◌&&◌, List, [], ◌∷◌, length, get_or, refl, sym, ◌∙◌, subst, arith, inl, inr}
-use Rattle.std.specs.Prelude.{ℤ, All, min, max, unsigned_abs}
-use Rattle.std.specs.Ordering.{eq_by_cmp}
-use Rattle.std.specs.FinMap.{FinMap, entries, entries-insert, insert, remove}
+use Rattle.std.proofs.Common.{ℕ, ◌≡◌, ◌≢◌, ◌<◌, true, not, ◌&&◌, List, get_or, refl, arith}
+use Rattle.std.specs.Prelude.{ℤ, All, min, max}
 use Rattle.std.specs.Str.{bytes_eq}
-use Rattle.std.proofs.lemmas.Bool.{and_parts, cases_lt, not-false}
-use Rattle.std.proofs.Math.ListN.{get_or-eq_default}
-use Rattle.std.proofs.lemmas.List.Elements.{All-nil, All-set, All-filter, All-replicate}
+use Rattle.std.proofs.lemmas.Bool.{and_parts, not-false}
+use Rattle.std.proofs.lemmas.List.Elements.{All-nil, All-set}
 use Rattle.market_units.specs.Name.{name_bytes}
 use Rattle.utility_language.specs.declared.commands.Command.{Command}
 use Rattle.utility_language.specs.declared.commands.Command.TheVariants.{Rate, Pair, Clear, Close, Unreadable}
 use Rattle.preference_desk.specs.declared.entry.Entry.{Entry}
-use Rattle.preference_desk.specs.declared.reply.Reply.{Reply}
 use Rattle.preference_desk.specs.DeskNames.{DeskNames, has_name, ordinal_of}
-use Rattle.preference_desk.specs.DeskStep.{DeskState, is_done, changed, reply_to, state_after}
-use Rattle.preference_desk.specs.Journals.{closed_preferences, opening, state_after_all}
-use Rattle.preference_desk.specs.StudentPreferences.{no_preferences, pair_cmp, pair_of, with_pair}
+use Rattle.preference_desk.specs.DeskStep.{DeskState, is_done, changed, reply_to}
+use Rattle.preference_desk.specs.Journals.{closed_preferences}
+use Rattle.preference_desk.specs.StudentPreferences.{no_preferences, pair_cmp, pair_of}
 use Rattle.preference_desk.proofs.Keeping.{at_or_default, closed_keep, done_skips, pair_keeps}
 use Rattle.preference_desk.proofs.NameLemmas.{other_ordinals}
-use Rattle.preference_desk.proofs.PairLemmas.{pair_cmp_total, pair_cmp_same}
-use Rattle.preference_desk.proofs.RowLemmas.{entries-remove, entries-nothing, All-put}
+use Rattle.preference_desk.proofs.RowLemmas.{entries-nothing}
 use Rattle.market_menus.specs.Wanted.{HasLowerFirst}
 
 nothing_lower : HasLowerFirst no_preferences

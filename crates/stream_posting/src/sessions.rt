@@ -1,12 +1,13 @@
 // The whole work of sessions at one object.
-ghost use Rattle.std.specs.Prelude.{◌≡◌, ◌≤◌, true, length, map, IfOk};
+ghost use Rattle.std.specs.Prelude.{◌≡◌, ◌<◌, ◌≤◌, ℕ, true, length, map, slice_index_or, IfOk};
 ghost use Rattle.std.specs.Vec.{vec_len};
 ghost use Rattle.market_lists.specs.Totals.{total};
 ghost use Rattle.chronicle.specs.History.{IsLegal, state_after};
+ghost use Rattle.stream_posting.specs.Postings.{IsReady};
 ghost use Rattle.stream_posting.specs.Streams.{MergesCalls, lists_of};
 
 use crate::posting::post_all;
-use chronicle::{Chronicle, Journal, Object};
+use chronicle::{Chronicle, Journal, Object, Seat};
 use market_edge::Gate;
 use market_units::{MAX_SESSIONS, NoMemory};
 use std::alloc::Global;
@@ -35,10 +36,34 @@ where
     ensures state { IfOk result (λ closed. O.state closed.0 ≡ state_after O.after (O.base object) (O.state object) closed.1) }
 {
     let allotments = lengths_of(alloc, streams)?;
-    let (chronicle, mut seats) = Chronicle::start(alloc, object, allotments)?;
-    post_all(rt, &chronicle, seats.as_mut_slice(), streams, gate);
-    let (object, journal) = chronicle.close(seats);
+    let (chronicle, seats) = Chronicle::start(alloc, object, allotments)?;
+    let (object, journal) = post_and_close(rt, chronicle, seats, streams, gate);
     Ok((object, journal))
+}
+
+// From the first session's start to the end of the history: it is given no allocator and has no error, so no memory is taken meanwhile.
+fn post_and_close<R: Threads + Wait + Sync, O: Object + Send, G: Gate + Sync>(
+    rt: &R,
+    chronicle: Chronicle<O>,
+    mut seats: Vec<Seat<O>>,
+    streams: &[Vec<O::Request>],
+    gate: &G,
+) -> (O, Journal<O>)
+where
+    O::Request: Send + Sync,
+    O::Reply: Send,
+    requires sessions { (1 ≤ length streams.now) × (length streams.now ≤ MAX_SESSIONS) }
+    requires sound { (request : O.Request) → O.sound chronicle.base request ≡ true }
+    requires count { (vec_len seats ≡ length streams.now) × (length chronicle.allotments ≡ length streams.now) }
+    requires numbers { (n : ℕ) (d : _) → n < vec_len seats → (slice_index_or seats.items n d).number ≡ n }
+    requires ready { (n : ℕ) (d : _) (none : _) → n < vec_len seats → IsReady chronicle (slice_index_or streams.now n none).items (slice_index_or seats.items n d) }
+    ensures base { O.base result.0 ≡ chronicle.base }
+    ensures legal { IsLegal O.sound O.after O.reply chronicle.base chronicle.opening result.1 }
+    ensures merges { MergesCalls (lists_of streams.now) result.1 }
+    ensures state { O.state result.0 ≡ state_after O.after chronicle.base chronicle.opening result.1 }
+{
+    post_all(rt, &chronicle, seats.as_mut_slice(), streams, gate);
+    chronicle.close(seats)
 }
 
 // How many requests each stream has.

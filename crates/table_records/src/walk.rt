@@ -62,8 +62,7 @@ fn version_of(fields: &ByteRecord, headers: &[&[&[u8]]]) -> Option<usize>
 }
 
 /// Reads a table from a text: its version, which is that of the first of its headers that record 1 is, and every row; or
-/// the refusal of the first bad record at its first bad column. The reading stops there, and takes memory for no record
-/// after it.
+/// the refusal of the first bad record at its first bad column, where the reading stops.
 pub fn read_rows<T: Table>(
     alloc: Global,
     table: &T,

@@ -4,13 +4,10 @@ ghost use Rattle.demand_api.specs.Asking.{ArePricesFor};
 ghost use Rattle.tabu_search.specs.Visits.{counts_at};
 
 use demand_api::Demands;
-use market_units::{NoMemory, Tokens};
+use market_units::{MAX_VERSIONS, NoMemory, Tokens};
 use std::alloc::Global;
 use std::sync::Wait;
 use std::thread::Threads;
-
-// How many vectors are counted at once.
-const BATCH: usize = 16;
 
 // The counts at one vector.
 pub(crate) fn count_one<R: Threads + Wait + Sync, D: Demands>(
@@ -28,13 +25,13 @@ pub(crate) fn count_one<R: Threads + Wait + Sync, D: Demands>(
     Ok(found[0].to_vec(alloc)?)
 }
 
-// The next vectors to be counted, at most 16.
+// The next vectors to be counted, as many as are asked for at once.
 fn next_batch(vectors: &[Vec<Tokens>], done: usize) -> &[Vec<Tokens>]
     requires { done ≤ length vectors.now }
     ensures { result.now ≡ take 16 (drop done vectors.now) }
 {
     let rest = &vectors[done..];
-    &rest[..rest.len().min(BATCH)]
+    &rest[..rest.len().min(MAX_VERSIONS)]
 }
 
 // The counts at each vector, in order, of which at most 16 are asked for at once.

@@ -4,7 +4,7 @@ use Rattle.std.specs.Prelude.{codes}
 use Rattle.std.specs.Fmt.{signed_decimal}
 use Rattle.market_units.specs.declared.names.Name.{Name}
 use Rattle.market_units.specs.Name.{name_bytes}
-use Rattle.market_units.proofs.EqualNames.{same_name}
+use Rattle.market_units.specs.EqualNames.{same_name}
 use Rattle.utility_language.specs.declared.commands.Command.{Command}
 use Rattle.utility_language.specs.declared.commands.Command.TheVariants.{Rate, Pair, Clear, Close, Unreadable}
 use Rattle.utility_language.specs.Commands.{Spells, words_by}

@@ -2,7 +2,7 @@ use Rattle.std.proofs.Common.{take}
 use Rattle.bundle_rules.specs.Demand.{price_in}
 use Rattle.demand_api.specs.Crowds.{demands}
 use Rattle.demand_api.specs.Made.{crowd_of}
-use Rattle.demand_api.proofs.Takers.{AreCounts}
+use Rattle.demand_api.specs.Counting.{AreCounts}
 use Rattle.demand_api.proofs.plain.counts_at.Given as goal
 
 abbrev pub invariant-loop-place : goal.invariant-loop-place

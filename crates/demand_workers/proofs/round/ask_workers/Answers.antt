@@ -10,8 +10,3 @@ start-requires-clause-round g c =
     let crowd = arc_value c.args.crowd.now in
     subst (λ (w : Crowd). IsRound (terms_of w (record { versions = c.in_ok-copies_of.field-0; asks = c.args.asks }))) (sym c.in_ok-shared.ensures)
     (versions_are_round crowd.menus.items crowd.budgets.items crowd.sections c.args.versions.now c.in_ok-copies_of.field-0.items c.args.asks.items c.requires.crowd c.requires.versions c.requires.some c.requires.few c.requires.asks c.requires.sections c.in_ok-copies_of.ensures)
-
-pub close-requires-clause-all : goal.close-requires-clause-all
-close-requires-clause-all g c =
-    every_number (length c.in_ok-board.board.allotments) c.in_ok-board.seats.len c.as_mut_slice.result.now c.work_all.new.seats c.in_ok-board.seats.items
-    (c.as_mut_slice.ensures.len ∙ c.in_ok-board.ensures.count ∙ sym c.in_ok-board.ensures.allotments) (sym c.as_mut_slice.ensures.len) c.work_all.ensures.count c.work_all.ensures.numbers

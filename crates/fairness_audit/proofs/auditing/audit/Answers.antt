@@ -1,17 +1,16 @@
-use Rattle.std.proofs.Common.{◌≡◌, ◌≤◌, ◌<◌, ◌+◌, ◌*◌, ◌∙◌, ℕ, List, length, map, ap, sym, subst, arith, slice_index, slice_index_or}
+use Rattle.std.proofs.Common.{◌≡◌, ◌≤◌, ◌<◌, ◌+◌, ◌*◌, ◌∙◌, ℕ, length, map, ap, sym, subst, arith, slice_index}
 use Rattle.std.specs.Arc.{arc_value}
 use Rattle.std.specs.List.{range_with_len}
 use Rattle.std.proofs.lemmas.List.{get_or-replicate}
 use Rattle.chronicle.specs.Views.{sum_of}
-use Rattle.demand_api.specs.declared.crowd.Crowd.{Crowd}
 use Rattle.demand_api.proofs.Takers.{crowd_made, lent_back, students_length}
 use Rattle.fairness_audit.specs.declared.shared.Terms.{Terms}
 use Rattle.fairness_audit.specs.declared.shared.Progress.{Progress}
 use Rattle.fairness_audit.specs.Allocations.{Allocation, allocation_of, student_count}
-use Rattle.fairness_audit.specs.Rows.{RowData, row, rows}
+use Rattle.fairness_audit.specs.Rows.{row, rows}
 use Rattle.fairness_audit.specs.Texts.{AreRowsAmong}
 use Rattle.fairness_audit.specs.Views.{row_of}
-use Rattle.fairness_audit.proofs.Endings.{all_of_audit, every_number, filled_as, new_free, sum_of-replicate}
+use Rattle.fairness_audit.proofs.Endings.{new_free, sum_of-replicate}
 use Rattle.fairness_audit.proofs.Naming.{rows_among}
 use Rattle.fairness_audit.proofs.Places.{listed}
 use Rattle.fairness_audit.proofs.auditing.audit.Goals as goal
@@ -35,42 +34,35 @@ start-requires-clause-room g c =
     let h2 : room ≡ other = room_is in
     let goal : calls ≤ room = omega arith in goal
 
-pub work_all-requires-clause-free : goal.work_all-requires-clause-free
-work_all-requires-clause-free g c κs within = λ k d below.
-    let lent : ℕ = length c.as_mut_slice.result.now in
+pub work_and_write-requires-clause-count : goal.work_and_write-requires-clause-count
+work_and_write-requires-clause-count g c κs within =
+    let s : ℕ = c.in_ok-chronicle.seats.len in
     let m : ℕ = c.from.result in
-    let count : lent ≡ m = omega (arith, c.as_mut_slice.ensures.len, c.in_ok-chronicle.ensures.count, c.in_ok-allotments.ensures.len) in
-    let low : k < m = (let h : k < lent = below in omega arith) in
+    let w : ℕ = c.args.workers in
+    let many : s ≡ m = c.in_ok-chronicle.ensures.count ∙ c.in_ok-allotments.ensures.len in
+    let as_told : m ≡ w = c.from.ensures in
+    let least : 1 ≤ w = c.requires.workers.0 in
+    let most : w ≤ 16 = c.requires.workers.1 in
+    let all : length c.in_ok-chronicle.chronicle.allotments ≡ s = ap length c.in_ok-chronicle.ensures.chronicle.2 ∙ sym c.in_ok-allotments.allotments.ok.0 ∙ sym c.in_ok-chronicle.ensures.count in
+    ((let goal : 1 ≤ s = omega arith in goal), (let goal : s ≤ 16 = omega arith in goal), all)
+
+pub work_and_write-requires-clause-free : goal.work_and_write-requires-clause-free
+work_and_write-requires-clause-free g c κs within = λ k d below.
+    let m : ℕ = c.from.result in
+    let s : ℕ = c.in_ok-chronicle.seats.len in
+    let all : length c.in_ok-chronicle.seats.items ≡ s = sym c.in_ok-chronicle.seats.ok.0 in
+    let many : s ≡ m = c.in_ok-chronicle.ensures.count ∙ c.in_ok-allotments.ensures.len in
+    let low : k < m = (let h : k < length c.in_ok-chronicle.seats.items = below in omega arith) in
     let items = c.in_ok-allotments.ensures.items_if_clones_equal (λ y is. is) in
     new_free c.in_ok-chronicle.chronicle k (slice_index c.in_ok-allotments.allotments.items k) _
-    (ap (λ seats. slice_index_or seats k d) c.as_mut_slice.ensures.value ∙ c.in_ok-chronicle.ensures.seats k d (omega (arith, c.in_ok-allotments.ensures.len)))
+    (c.in_ok-chronicle.ensures.seats k d (omega (arith, c.in_ok-allotments.ensures.len)))
     (ap (λ (p : Progress). p.places) c.in_ok-chronicle.ensures.chronicle.1 ∙ c.in_ok-register.ensures.places)
     (ap (λ l. slice_index l k) items ∙ get_or-replicate m k (2 * c.student_count-students.result + 1) 0 low
     ∙ ap (λ n. 2 * n + 1) (c.student_count-students.ensures.value ∙ ap (λ (t : Terms). student_count t.allocation) (sym c.in_ok-chronicle.ensures.chronicle.0)))
 
-pub close-register-requires-clause-chronicle : goal.close-register-requires-clause-chronicle
-close-register-requires-clause-chronicle g c =
-    all_of_audit c.in_ok-chronicle.chronicle c.in_ok-chronicle.seats.len c.work_all.new.seats c.in_ok-chronicle.seats.items (sym c.as_mut_slice.ensures.len ∙ sym c.work_all.ensures.count) c.work_all.ensures.finished
-
-pub close-register-requires-clause-all : goal.close-register-requires-clause-all
-close-register-requires-clause-all g c =
-    every_number (length c.in_ok-chronicle.chronicle.allotments) c.in_ok-chronicle.seats.len c.as_mut_slice.result.now c.work_all.new.seats c.in_ok-chronicle.seats.items
-    (c.as_mut_slice.ensures.len ∙ c.in_ok-chronicle.ensures.count ∙ c.in_ok-allotments.allotments.ok.0 ∙ ap length (sym c.in_ok-chronicle.ensures.chronicle.2)) (sym c.as_mut_slice.ensures.len) c.work_all.ensures.count c.work_all.ensures.numbers
-
-pub write_rows-requires-clause-filled : goal.write_rows-requires-clause-filled
-write_rows-requires-clause-filled g c =
-    let chronicle = c.in_ok-chronicle.chronicle in
-    let m : ℕ = length chronicle.allotments in
-    let n : ℕ = length c.in_ok-allotments.allotments.items in
-    let w : ℕ = c.args.workers in
-    let same : m ≡ n = ap length c.in_ok-chronicle.ensures.chronicle.2 in
-    let many : n ≡ w = sym c.in_ok-allotments.allotments.ok.0 ∙ c.in_ok-allotments.ensures.len ∙ c.from.ensures in
-    let least : 1 ≤ w = c.requires.workers.0 in
-    filled_as chronicle c.close-register.result.1 c.in_ok-chronicle.seats.len c.work_all.new.seats c.in_ok-chronicle.seats.items c.close-register.result.0 (sym c.as_mut_slice.ensures.len ∙ sym c.work_all.ensures.count)
-    (let goal : 1 ≤ m = omega arith in goal)
-    (every_number m c.in_ok-chronicle.seats.len c.as_mut_slice.result.now c.work_all.new.seats c.in_ok-chronicle.seats.items
-    (c.as_mut_slice.ensures.len ∙ c.in_ok-chronicle.ensures.count ∙ c.in_ok-allotments.allotments.ok.0 ∙ ap length (sym c.in_ok-chronicle.ensures.chronicle.2)) (sym c.as_mut_slice.ensures.len) c.work_all.ensures.count c.work_all.ensures.numbers)
-    c.work_all.ensures.finished c.close-register.ensures.legal c.close-register.ensures.seats c.close-register.ensures.seen c.close-register.ensures.others c.close-register.ensures.base c.close-register.ensures.last
+pub work_and_write-requires-clause-rows : goal.work_and_write-requires-clause-rows
+work_and_write-requires-clause-rows g c κs within =
+    c.deref_mut.ensures.len ∙ c.in_ok-found.ensures.len ∙ c.student_count-students.ensures.value ∙ ap (λ (t : Terms). student_count t.allocation) (sym c.in_ok-chronicle.ensures.chronicle.0)
 
 pub returns : goal.returns
 returns g c =
@@ -79,14 +71,14 @@ returns g c =
     let shared : arc_value c.in_ok-shared.shared ≡ crowd = c.in_ok-shared.ensures in
     let held : arc_value c.in_ok-held.held ≡ arc_value c.args.bundles = c.in_ok-held.ensures in
     let first = c.in_ok-register.ensures.allocation ∙ (λ i. allocation_of (shared i) (held i).items) in
-    let last = ap (λ (t : Terms). t.allocation) (c.close-register.ensures.base ∙ c.in_ok-chronicle.ensures.chronicle.0) ∙ first in
-    let n : ℕ = length c.write_rows.new.rows in
+    let last = ap (λ (t : Terms). t.allocation) c.in_ok-chronicle.ensures.chronicle.0 ∙ first in
+    let n : ℕ = length c.work_and_write.new.rows in
     let s : ℕ = student_count (allocation_of crowd items) in
-    let lent = c.write_rows.ensures.count ∙ c.deref_mut.ensures.len in
+    let lent = c.work_and_write.ensures.count ∙ c.deref_mut.ensures.len in
     let students : n ≡ s = lent ∙ c.in_ok-found.ensures.len ∙ c.student_count-students.ensures.value ∙ ap student_count first in
-    let told : map row_of c.write_rows.new.rows ≡ map (row c.close-register.result.0.allocation) (range_with_len 0 n) =
-    listed row_of (row c.close-register.result.0.allocation) c.write_rows.new.rows 0 (λ i d low. c.write_rows.ensures.each i d low ∙ ap (row c.close-register.result.0.allocation) (let goal : i ≡ 0 + i = omega arith in goal)) in
-    let whole = ap (map row_of) (lent_back c.in_ok-found.found.len c.write_rows.new.rows c.in_ok-found.found.items (sym lent)) ∙ told
+    let told : map row_of c.work_and_write.new.rows ≡ map (row c.in_ok-chronicle.chronicle.base.allocation) (range_with_len 0 n) =
+    listed row_of (row c.in_ok-chronicle.chronicle.base.allocation) c.work_and_write.new.rows 0 (λ i d low. c.work_and_write.ensures.each i d low ∙ ap (row c.in_ok-chronicle.chronicle.base.allocation) (let goal : i ≡ 0 + i = omega arith in goal)) in
+    let whole = ap (map row_of) (lent_back c.in_ok-found.found.len c.work_and_write.new.rows c.in_ok-found.found.items (sym lent)) ∙ told
     ∙ ap (λ (a : Allocation). map (row a) (range_with_len 0 n)) last ∙ ap (λ m. map (row (allocation_of crowd items)) (range_with_len 0 m)) students in
     record {
       rows = whole;

@@ -1,6 +1,6 @@
 use Rattle.std.proofs.Common.{take, map}
 use Rattle.bundle_rules.specs.Bundles.{sections_of}
-use Rattle.demand_api.proofs.Takers.{AreCounts}
+use Rattle.demand_api.specs.Counting.{AreCounts}
 use Rattle.held_seats.proofs.counts.count_all.Given as goal
 
 abbrev pub invariant-loop-bundle : goal.invariant-loop-bundle

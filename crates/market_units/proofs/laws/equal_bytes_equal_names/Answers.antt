@@ -1,4 +1,4 @@
-use Rattle.market_units.proofs.EqualNames.{same_name}
+use Rattle.market_units.specs.EqualNames.{same_name}
 use Rattle.market_units.proofs.laws.equal_bytes_equal_names.Goals as goal
 
 pub returns : goal.returns

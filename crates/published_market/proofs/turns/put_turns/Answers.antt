@@ -1,7 +1,6 @@
-use Rattle.std.proofs.Common.{◌≡◌, ◌<◌, ◌≤◌, ◌+◌, ◌∙◌, length, get_or, subst, sym, ap, arith, rules}
-use Rattle.std.proofs.lemmas.List.{get_or-map, length-map}
+use Rattle.std.proofs.Common.{◌≡◌, ◌<◌, ◌≤◌, ◌+◌, ◌∙◌, length, get_or, subst, sym, arith, rules}
+use Rattle.std.proofs.lemmas.List.{length-map}
 use Rattle.demand_api.specs.Made.{crowd_of}
-use Rattle.aftermarket_stage.specs.declared.turns.Turn.{Turn}
 use Rattle.aftermarket_stage.specs.After.{turn_of, turns_of}
 use Rattle.market_certificate.specs.Views.{turn_of as published_of}
 use Rattle.published_market.specs.Making.{IsBestTurn}

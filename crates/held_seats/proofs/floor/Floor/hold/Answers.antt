@@ -3,8 +3,8 @@ use Rattle.std.specs.Prelude.{nat_lt, slice_index, slice_set}
 use Rattle.std.specs.FinSet as set
 use Rattle.std.proofs.lemmas.List.{length-map, map-set}
 use Rattle.bundle_rules.specs.Bundles.{sections_of}
-use Rattle.demand_api.specs.Counting.{HasCounted}
-use Rattle.demand_api.proofs.Takers.{AreCounts, lent_back, sections_few}
+use Rattle.demand_api.specs.Counting.{AreCounts, HasCounted}
+use Rattle.demand_api.proofs.Takers.{lent_back, sections_few}
 use Rattle.held_seats.specs.Floors.{held_on}
 use Rattle.held_seats.proofs.Freeing.{Tells}
 use Rattle.held_seats.proofs.Holding.{all_listed, below_item, there_at, holds_one, lent_is, recounted, room_for, free_after, told_by}
