@@ -4,9 +4,10 @@
     python3 spoil.py [--program PATH] [--texts N] [--seed S] [--workers W] [--keep FOLDER]
 
 The texts are that of examples/term and those of drawn markets, of both versions of the tables, which the program itself
-publishes. A text is spoilt at one place: a line deleted, doubled or swapped with the next; a number changed by one; a
-byte deleted, doubled or replaced. Of seven cases one spoils an input besides or instead: settings, a session, the
-catalogue or the roll. The program's form `check` and verify.py must give the same line and the same status.
+publishes. A text is spoilt at one place, seldom at two: a line deleted, doubled or swapped with the next; a number
+changed by one; a byte deleted, doubled or replaced; a word replaced by another of its kind; a symbol of a tree, a section
+of a bundle. Of seven cases one spoils an input besides or instead: settings, a session, the catalogue or the roll. The
+program's form `check` and verify.py must give the same line and the same status.
 
 It prints how many texts were compared, how the answers were distributed, and each difference, whose files it keeps.
 """
@@ -77,10 +78,10 @@ def drawn_sessions(dice, students, sections):
             lines.insert(dice.randrange(len(lines) + 1), f"clear u{i}")
         for line in lines:
             sessions[dice.randrange(len(sessions)) if dice.random() < 0.1 else i % len(sessions)].append(line)
-    odd = ["# a comment", "", "unreadable words", "rate nobody S0 5", "rate u0 S0 101", "close  ", "rate u0\tS1  7 "]
+    odd = ["# a comment", "", "unreadable words", "rate nobody S0 5", "rate u0 S0 101", "rate u0\tS1  7 "]
     for session in sessions:
         for _ in range(dice.choice([0, 1, 3])):
-            session.insert(dice.randrange(len(session) + 1), dice.choice(odd[:5] + odd[6:]))
+            session.insert(dice.randrange(len(session) + 1), dice.choice(odd))
     if dice.random() < 0.2:
         session = dice.choice(sessions)
         session.insert(dice.randrange(len(session) + 1), "close")
