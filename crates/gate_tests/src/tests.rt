@@ -37,7 +37,11 @@ impl Watch {
     }
 
     fn counts(&self) -> (u64, u64, u64) {
-        (count(&self.sessions), count(&self.starts), count(&self.beyond))
+        (
+            count(&self.sessions),
+            count(&self.starts),
+            count(&self.beyond),
+        )
     }
 }
 
@@ -94,7 +98,12 @@ fn try_audit<R: Abort + Threads + Wait + Sync>(rt: &R, alloc: Global, workers: u
     let stream = read_stream(alloc, market.session, 100).expect(rt, "commands");
     let mut streams = Vec::new(alloc);
     streams.push(stream).expect(rt, "memory");
-    let text = market.term.text.as_bytes().to_vec(alloc).expect(rt, "memory");
+    let text = market
+        .term
+        .text
+        .as_bytes()
+        .to_vec(alloc)
+        .expect(rt, "memory");
     assert!(rt; text.len() < 1000 && settings.spread <= 49 && settings.raise <= 50);
     let watch = Watch::of(workers);
     let written = published_audit(

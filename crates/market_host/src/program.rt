@@ -34,7 +34,7 @@ pub fn exit_code<R: Threads + Wait + Sync, H: Shelf, K: Sink>(
     ensures written { (status : Status) × (exit_status result ≡ number_of status)
         × (status ≢ Status.SinkFault → (text : List ℕ) × IsAnswer (words_given args) (sight H.Shelf shelf.old shelf.new) status text × Takes (K.taken sink.old) (K.taken sink.new) text)
         × (status ≡ Status.SinkFault → Rose (K.faults sink.old) (K.faults sink.new) × (instead : Status) × (text : List ℕ)
-            × IsAnswer (words_given args) (sight H.Shelf shelf.old shelf.new) instead text × TakesFront (K.taken sink.old) (K.taken sink.new) text) }
+        × IsAnswer (words_given args) (sight H.Shelf shelf.old shelf.new) instead text × TakesFront (K.taken sink.old) (K.taken sink.new) text) }
 {
     let status = answered(rt, alloc, args, shelf, sink, gate);
     ExitCode::from(status.number())

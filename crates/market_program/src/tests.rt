@@ -155,7 +155,11 @@ fn the_process_ends_with_the_number(rt: HostRuntime) -> Result<(), Fail> {
             2,
             "input 2 can not be read\n",
         ),
-        (Ok("course-match make 2 7 40 15 0"), 5, "no prices: least error 3\n"),
+        (
+            Ok("course-match make 2 7 40 15 0"),
+            5,
+            "no prices: least error 3\n",
+        ),
         (Ok("course-match"), 1, USAGE),
         (Err(ErrorKind::InvalidData), 1, USAGE),
         (Err(ErrorKind::OutOfMemory), 7, "out of memory\n"),
