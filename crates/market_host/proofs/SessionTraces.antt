@@ -1,5 +1,5 @@
 -- Sessions that are used one after another.
-use Rattle.std.proofs.Common.{ℕ, ◌≡◌, ◌<◌, ◌+◌, suc, List, [], ◌∷◌, length, map, take, drop, get_or, arith, ap, subst, sym, ◌∙◌, String, Global}
+use Rattle.std.proofs.Common.{ℕ, ◌≡◌, ◌<◌, ◌+◌, suc, List, [], ◌∷◌, length, map, take, drop, get_or, arith, subst, sym, ◌∙◌, String, Global}
 use Rattle.std.specs.String.{string_bytes}
 use Rattle.std.proofs.lemmas.List.{length-map, length-take-le}
 use Rattle.market_edge.specs.declared.shelf.Shelf as Shelf

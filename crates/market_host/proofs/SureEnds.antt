@@ -1,5 +1,5 @@
 -- Calls over a shelf of which no count of faults rises.
-use Rattle.std.proofs.Common.{ℕ, ◌≡◌, ◌≢◌, List, subst}
+use Rattle.std.proofs.Common.{ℕ, ◌≢◌, List, subst}
 use Rattle.market_edge.specs.Faults.{Rose}
 use Rattle.market_host.specs.declared.status.Status.{Status}
 use Rattle.market_host.specs.declared.status.Status.TheVariants.{ShelfFault}

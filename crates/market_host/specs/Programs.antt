@@ -1,10 +1,9 @@
 -- What the process ends with, and what it writes.
-use Rattle.std.specs.Prelude.{ℕ, ◌≡◌, ◌≢◌, ◌⊎◌, List, [], map, drop, Result, Ok, Err, String}
+use Rattle.std.specs.Prelude.{ℕ, ◌≡◌, ◌⊎◌, List, [], map, drop, Result, Ok, Err, String}
 use Rattle.std.proofs.Common.{Global}
 use Rattle.std.specs.String.{string_bytes}
 use Rattle.std.specs.Vec.Iter.{into_iter_items}
 use Rattle.std.specs.declared.vec.IntoIter.{IntoIter}
-use Rattle.market_edge.specs.Sinks.{Takes, TakesFront}
 use Rattle.market_host.specs.declared.status.Status.{Status}
 use Rattle.market_host.specs.declared.status.Status.TheVariants.{OutOfMemory}
 use Rattle.market_host.specs.declared.trouble.Trouble.TheVariants as trouble

@@ -4,7 +4,9 @@ use market_edge::{FileShelf, Taking, read_whole};
 use std::fs::{Files, Metadata, OpenFile, OpenOptions};
 use std::io;
 use std::io::{Read, Seek, SeekFrom, Write};
+use std::sync::Arc;
 use std::sync::atomic::{AtomicU64, Ordering};
+use std::test::Fail;
 
 fn failure<T>() -> io::Result<T> {
     Err(io::Error::from(io::ErrorKind::Other))
@@ -15,24 +17,24 @@ fn failure<T>() -> io::Result<T> {
 #[derive(Drop)]
 struct Failing {
     failing_call: u64,
-    calls: AtomicU64,
-}
-
-impl Failing {
-    fn fails(&self) -> bool {
-        self.calls.fetch_add(1, Ordering::SeqCst).wrapping_add(1) == self.failing_call
-    }
+    calls: Arc<AtomicU64>,
 }
 
 #[derive(Drop)]
-struct Five<'a> {
-    files: &'a Failing,
+struct Five {
+    failing_call: u64,
+    calls: Arc<AtomicU64>,
     left: usize,
 }
 
-impl Read for Five<'_> {
+// Counts a call, and says whether it fails.
+fn fails(calls: &AtomicU64, failing_call: u64) -> bool {
+    calls.fetch_add(1, Ordering::SeqCst).wrapping_add(1) == failing_call
+}
+
+impl Read for Five {
     fn read(&mut self, room: &mut [u8]) -> io::Result<usize> {
-        if self.files.fails() {
+        if fails(&self.calls, self.failing_call) {
             return failure();
         }
         let count = room.len().min(2).min(self.left);
@@ -42,7 +44,7 @@ impl Read for Five<'_> {
     }
 }
 
-impl Write for Five<'_> {
+impl Write for Five {
     fn write(&mut self, _piece: &[u8]) -> io::Result<usize> {
         failure()
     }
@@ -52,13 +54,13 @@ impl Write for Five<'_> {
     }
 }
 
-impl Seek for Five<'_> {
+impl Seek for Five {
     fn seek(&mut self, _to: SeekFrom) -> io::Result<u64> {
         failure()
     }
 }
 
-impl OpenFile for Five<'_> {
+impl OpenFile for Five {
     fn metadata(&self) -> io::Result<Metadata> {
         failure()
     }
@@ -76,22 +78,23 @@ impl OpenFile for Five<'_> {
     }
 }
 
-impl<'a> Files for &'a Failing {
-    type File = Five<'a>;
+impl Files for Failing {
+    type File = Five;
 
-    type Dir = Five<'a>;
+    type Dir = Five;
 
-    fn open_file(&self, _how: &OpenOptions, _path: &str) -> io::Result<Five<'a>> {
-        if self.fails() {
+    fn open_file(&self, _how: &OpenOptions, _path: &str) -> io::Result<Five> {
+        if fails(&self.calls, self.failing_call) {
             return failure();
         }
         Ok(Five {
-            files: *self,
+            failing_call: self.failing_call,
+            calls: self.calls.clone()?,
             left: 5,
         })
     }
 
-    fn open_dir(&self, _path: &str) -> io::Result<Five<'a>> {
+    fn open_dir(&self, _path: &str) -> io::Result<Five> {
         failure()
     }
 
@@ -130,7 +133,7 @@ impl<'a> Files for &'a Failing {
 
 // A failed open or read of the system is a failure at once: neither is tried again.
 #[test]
-fn a_failed_read_is_not_tried_again(rt: HostRuntime) {
+fn a_failed_read_is_not_tried_again(rt: HostRuntime) -> Result<(), Fail> {
     // The call that fails, the answer, and how many calls are made.
     let cases: [(u64, Result<usize, Taking>, u64); 6] = [
         (1, Err(Taking::ShelfFault), 1),
@@ -141,21 +144,22 @@ fn a_failed_read_is_not_tried_again(rt: HostRuntime) {
         (6, Ok(5), 5),
     ];
     for (failing_call, want, calls) in cases {
+        let made = Arc::new(rt.alloc(), AtomicU64::new(0))?;
         let files = Failing {
             failing_call,
-            calls: AtomicU64::new(0),
+            calls: made.clone()?,
         };
-        let system = &files;
-        let mut shelf = FileShelf::new(&system);
+        let mut shelf = FileShelf::new(&files);
         let length = match read_whole(rt.alloc(), &mut shelf, "CAT", 5) {
             Ok(text) => Ok(text.len()),
             Err(taking) => Err(taking),
         };
         assert_eq!(rt; length, want, "call {failing_call} fails");
         assert_eq!(rt;
-            files.calls.load(Ordering::SeqCst),
+            made.load(Ordering::SeqCst),
             calls,
             "call {failing_call} fails"
         );
     }
+    Ok(())
 }

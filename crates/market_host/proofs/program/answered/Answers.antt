@@ -1,7 +1,5 @@
-use Rattle.std.proofs.Common.{inl, inr, map, refl, rules}
-use Rattle.std.specs.String.{string_bytes}
+use Rattle.std.proofs.Common.{inl, inr, refl}
 use Rattle.market_host.specs.Lines.{line_of}
-use Rattle.market_host.specs.Programs.{words_given}
 use Rattle.market_host.specs.declared.status.Status.TheVariants.{OutOfMemory}
 use Rattle.market_host.specs.declared.trouble.Trouble.TheVariants as trouble
 use Rattle.market_host.proofs.program.answered.Goals as goal
