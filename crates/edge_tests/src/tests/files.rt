@@ -1,4 +1,5 @@
 // A shelf of files whose system fails at a call.
+ghost use Rattle.std.specs.Prelude.{IsErr};
 
 use market_edge::{FileShelf, Taking, read_whole};
 use std::fs::{Files, Metadata, OpenFile, OpenOptions};
@@ -8,7 +9,9 @@ use std::sync::Arc;
 use std::sync::atomic::{AtomicU64, Ordering};
 use std::test::Fail;
 
-fn failure<T>() -> io::Result<T> {
+fn failure<T>() -> io::Result<T>
+    ensures { IsErr result }
+{
     Err(io::Error::from(io::ErrorKind::Other))
 }
 
