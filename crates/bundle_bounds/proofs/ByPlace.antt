@@ -3,7 +3,7 @@ use Rattle.std.proofs.Common.{◌≡◌, ℕ, zero, suc, ◌+◌, ◌<◌, Bool,
 use Rattle.std.proofs.lemmas.Bool.{false≢true}
 use Rattle.std.proofs.lemmas.List.{length-map}
 use Rattle.std.proofs.lemmas.Bool.Decides.{nat_tests}
-use Rattle.market_lists.specs.Totals.{total}
+use Rattle.market_units.specs.Totals.{total}
 use Rattle.bundle_rules.specs.Sets.{has, AllAbove, IsAscending}
 use Rattle.bundle_rules.specs.Existence.Members.{has-here, has-there, has-cases, has-above}
 use Rattle.bundle_rules.specs.declared.menu.Rated.{Rated}

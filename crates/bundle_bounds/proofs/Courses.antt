@@ -4,8 +4,8 @@ use Rattle.std.specs.Prelude.{if◌then◌else◌, ⊤}
 use Rattle.std.proofs.Math.Nat.{mul-add, mul-le-mul_left}
 use Rattle.std.proofs.lemmas.Bool.{cases_Bool, eq-eqb, or_left, false≢true, true≢false}
 use Rattle.std.proofs.lemmas.Bool.Decides.{nat_tests}
-use Rattle.market_lists.specs.Totals.{total}
-use Rattle.market_lists.specs.Subsets.{chosen}
+use Rattle.market_units.specs.Totals.{total}
+use Rattle.market_units.specs.Subsets.{chosen}
 use Rattle.bundle_rules.specs.Sets.{has}
 use Rattle.bundle_rules.specs.Existence.Members.{has-here, has-there, has-cases}
 use Rattle.bundle_bounds.specs.declared.prospects.Prospect.{Prospect}

@@ -2,8 +2,8 @@
 use Rattle.std.proofs.Common.{◌≡◌, ℕ, ◌+◌, Bool, true, false, List, [], ◌∷◌, ◌++◌, refl, ◌∙◌, arith}
 use Rattle.std.proofs.lemmas.Int.{ints}
 use Rattle.std.specs.Prelude.{ℤ, pos, negsuc, ◌+ℤ◌, ◌≤ℤ◌}
-use Rattle.market_lists.specs.Totals.{total, signed_total}
-use Rattle.market_lists.specs.Subsets.{chosen}
+use Rattle.market_units.specs.Totals.{total, signed_total}
+use Rattle.market_units.specs.Subsets.{chosen}
 use Rattle.bundle_rules.specs.Wishes.{Wishes, utility, adjustments}
 use Rattle.bundle_rules.specs.Menus.{by_place, adjustment_in}
 use Rattle.bundle_bounds.specs.Offers.{Offer}

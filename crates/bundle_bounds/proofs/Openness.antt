@@ -3,9 +3,9 @@ use Rattle.std.proofs.Common.{◌≡◌, ◌≢◌, ℕ, zero, suc, ◌+◌, ◌
 use Rattle.std.specs.Prelude.{nat_le}
 use Rattle.std.proofs.lemmas.Bool.{cases_Bool, cases_order, cases_lt, ne_eqb, false≢true, true≢false}
 use Rattle.std.proofs.lemmas.Bool.Decides.{nat_tests}
-use Rattle.market_lists.specs.Totals.{total}
-use Rattle.market_lists.specs.Subsets.{chosen}
-use Rattle.market_lists.proofs.Sums.{total-append}
+use Rattle.market_units.specs.Totals.{total}
+use Rattle.market_units.specs.Subsets.{chosen}
+use Rattle.market_units.proofs.Sums.{total-append}
 use Rattle.bundle_rules.specs.Sets.{has, AllAbove, IsAscending}
 use Rattle.bundle_rules.specs.Existence.Members.{has-here, has-there, has-cases, has-above}
 use Rattle.bundle_rules.specs.declared.menu.Rated.{Rated}

@@ -9,7 +9,7 @@ use Rattle.std.proofs.lemmas.Bool.{cases_Bool, cases_lt}
 use Rattle.std.proofs.lemmas.Bool.Decides.{nat_tests}
 use Rattle.std.proofs.lemmas.Option.{same_Some}
 use Rattle.market_units.specs.declared.units.Tokens.{Tokens}
-use Rattle.market_lists.specs.Totals.{total, signed_total}
+use Rattle.market_units.specs.Totals.{total, signed_total}
 use Rattle.bundle_rules.specs.declared.menu.Rated.{Rated}
 use Rattle.bundle_rules.specs.Demand.{price_in}
 use Rattle.bundle_rules.specs.Menus.{course_at, MenuData, IsMenu, section_at, credits_at, rating_at, adjustment_in}

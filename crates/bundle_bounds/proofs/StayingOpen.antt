@@ -7,8 +7,8 @@ use Rattle.std.specs.FinSet as fin
 use Rattle.std.proofs.lemmas.Bool.{cases_Bool}
 use Rattle.std.proofs.lemmas.List.Folds.{list_all-append}
 use Rattle.market_units.specs.declared.units.Tokens.{Tokens}
-use Rattle.market_lists.specs.Totals.{total, signed_total}
-use Rattle.market_lists.proofs.Sums.{total-append}
+use Rattle.market_units.specs.Totals.{total, signed_total}
+use Rattle.market_units.proofs.Sums.{total-append}
 use Rattle.bundle_rules.specs.declared.menu.Rated.{Rated}
 use Rattle.bundle_rules.specs.Menus.{MenuData, rating_at, credits_at, adjustment_in, clash_in}
 use Rattle.bundle_rules.specs.Existence.Places.{rating_at-is}

@@ -1,6 +1,6 @@
 -- Of each course only one section can be taken.
 use Rattle.std.specs.Prelude.{ℕ, ◌||◌, ◌==◌, max, if◌then◌else◌, Bool, false, List, [], ◌∷◌}
-use Rattle.market_lists.specs.Totals.{total}
+use Rattle.market_units.specs.Totals.{total}
 use Rattle.bundle_bounds.specs.declared.prospects.Prospect.{Prospect}
 use Rattle.bundle_bounds.specs.declared.prospects.Resource.{Resource}
 use Rattle.bundle_bounds.specs.declared.prospects.Resource.TheVariants.{Money, Credits, Count}

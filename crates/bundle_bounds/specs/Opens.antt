@@ -1,7 +1,7 @@
 -- A node of the search: the places below k are decided, and those of the list are chosen. What is open there?
 use Rattle.std.specs.Prelude.{ℕ, zero, suc, ◌+◌, ◌-◌, ℤ, pos, negsuc, ◌+ℤ◌, ◌&&◌, ◌==◌, not, if◌then◌else◌, nat_le, Bool, List, [], ◌∷◌, length}
 use Rattle.std.specs.List.{list_all}
-use Rattle.market_lists.specs.Totals.{total, signed_total}
+use Rattle.market_units.specs.Totals.{total, signed_total}
 use Rattle.bundle_rules.specs.declared.menu.Rated.{Rated}
 use Rattle.bundle_rules.specs.Menus.{adjustment_in, clash_in, course_at, rating_at, credits_at}
 use Rattle.bundle_bounds.specs.Offers.{Offer, price_at, allowed_at}

@@ -3,7 +3,7 @@ ghost use Rattle.std.specs.Prelude.{◌≡◌, ◌<◌, ◌≤◌, ◌-◌, ◌+
 ghost use Rattle.std.specs.List.{list_all};
 ghost use Rattle.std.specs.Ordering.{nat_cmp};
 ghost use Rattle.std.specs.FinSet as set;
-ghost use Rattle.market_lists.specs.Totals.{total};
+ghost use Rattle.market_units.specs.Totals.{total};
 ghost use Rattle.bundle_rules.specs.Demand.{price_in, HasPrices};
 ghost use Rattle.bundle_rules.specs.Menus.{section_at, credits_at, adjustment_in, clash_in, IsMenu};
 ghost use Rattle.bundle_rules.specs.Bundles.{sections_of};

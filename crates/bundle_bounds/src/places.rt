@@ -1,7 +1,7 @@
 // What a place costs, and how it goes with chosen ones.
 ghost use Rattle.std.specs.Prelude.{◌≡◌, ◌<◌, ◌≤◌, ◌*◌, ◌≤ℤ◌, neg_ℤ, pos, not, length};
 ghost use Rattle.std.specs.List.{list_all};
-ghost use Rattle.market_lists.specs.Totals.{signed_total};
+ghost use Rattle.market_units.specs.Totals.{signed_total};
 ghost use Rattle.bundle_rules.specs.Demand.{price_in, HasPrices};
 ghost use Rattle.bundle_rules.specs.Menus.{section_at, adjustment_in, clash_in};
 ghost use Rattle.bundle_bounds.specs.Offers.{AreOnMenu};

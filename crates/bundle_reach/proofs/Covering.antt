@@ -1,7 +1,7 @@
 -- What covers the values of so many places from one on, place by place.
 use Rattle.std.proofs.Common.{◌≡◌, ℕ, zero, suc, ◌+◌, ◌*◌, ◌-◌, ◌≤◌, ◌<◌, max, false, true, List, [], ◌∷◌, length, set, replicate, sym, ap, subst, ◌∙◌, arith, inl, inr}
 use Rattle.std.proofs.lemmas.Bool.{cases_order, cases_lt, true≢false}
-use Rattle.market_lists.specs.Totals.{total}
+use Rattle.market_units.specs.Totals.{total}
 use Rattle.bundle_rules.specs.Existence.Members.{has-here, has-there, has-cases, has-above}
 use Rattle.bundle_rules.specs.Menus.{clash_in}
 use Rattle.bundle_bounds.specs.Offers.{Offer, allowed_at}

@@ -4,8 +4,8 @@ use Rattle.std.specs.Prelude.{ℤ, pos, ◌+ℤ◌, neg_ℤ, ◌≤ℤ◌}
 use Rattle.std.proofs.lemmas.Int.{ints}
 use Rattle.std.proofs.lemmas.Grind.{take-set_at}
 use Rattle.std.proofs.lemmas.List.{map-append}
-use Rattle.market_lists.specs.Totals.{total, signed_total}
-use Rattle.market_lists.proofs.Sums.{total-append}
+use Rattle.market_units.specs.Totals.{total, signed_total}
+use Rattle.market_units.proofs.Sums.{total-append}
 use Rattle.bundle_rules.specs.Sets.{has, IsAscending}
 use Rattle.bundle_rules.specs.declared.bundle.Bundle.{Bundle}
 use Rattle.bundle_rules.specs.Bundles.{sections_of}

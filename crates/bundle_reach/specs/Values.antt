@@ -1,6 +1,6 @@
 -- The most that places can add to a bundle.
 use Rattle.std.specs.Prelude.{ℕ, ◌+◌, ◌*◌, ◌-◌, ◌/◌, ◌^◌, if◌then◌else◌, length}
-use Rattle.market_lists.specs.Totals.{total}
+use Rattle.market_units.specs.Totals.{total}
 use Rattle.bundle_rules.specs.Menus.{adjustment_in, rating_at, credits_at}
 use Rattle.bundle_rules.specs.Places.{places_from}
 use Rattle.bundle_bounds.specs.Offers.{Offer, price_at, allowed_at}

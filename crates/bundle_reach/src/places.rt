@@ -1,6 +1,6 @@
 // What chosen places hope for, and how many more fit.
 ghost use Rattle.std.specs.Prelude.{◌≡◌, ◌<◌, ◌≤◌, ◌*◌, ℕ, All, length, slice_index};
-ghost use Rattle.market_lists.specs.Totals.{total};
+ghost use Rattle.market_units.specs.Totals.{total};
 
 // What the adjustments of the chosen places can add, in a row of such numbers.
 pub(crate) fn hopes_of(row: &[u16; 60], chosen: &[u8]) -> u32

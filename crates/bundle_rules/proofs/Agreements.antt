@@ -1,6 +1,6 @@
 -- What agreeing wishes have in common.
 use Rattle.std.proofs.Common.{◌≡◌, ◌<◌, ℕ, Bool, List, [], ◌∷◌, refl, sym, subst, ◌∙◌, inl, inr}
-use Rattle.market_lists.specs.Totals.{total}
+use Rattle.market_units.specs.Totals.{total}
 use Rattle.bundle_rules.specs.Wishes.{Wishes, adjustments, utility, AllRated, IsFeasible}
 use Rattle.bundle_rules.specs.Preferences.{IsPreferred}
 use Rattle.bundle_rules.specs.Demand.{IsChoice, IsBest}

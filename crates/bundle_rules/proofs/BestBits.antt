@@ -2,7 +2,7 @@
 use Rattle.std.proofs.Common.{◌≡◌, ◌↔◌, ◌<◌, ℕ, zero, suc, Bool, true, false, ◌==◌, List, [], ◌∷◌, map, length, arith, refl, ap, sym, subst, ◌∙◌, inl, inr}
 use Rattle.std.proofs.lemmas.Bool.{eq-eqb, ne_eqb}
 use Rattle.std.proofs.lemmas.List.{length-map}
-use Rattle.market_lists.specs.Subsets.{chosen}
+use Rattle.market_units.specs.Subsets.{chosen}
 use Rattle.bundle_rules.specs.declared.menu.Rated.{Rated}
 use Rattle.bundle_rules.specs.Sets.{has, AllAbove, IsAscending}
 use Rattle.bundle_rules.specs.Wishes.{Wishes, utility}

@@ -1,7 +1,7 @@
 -- What is a part of a choice is a choice.
 use Rattle.std.proofs.Common.{◌≡◌, ◌<◌, ◌≤◌, ◌+◌, ℕ, Bool, true, List, [], ◌∷◌, length, arith, refl, subst, inl, inr}
 use Rattle.std.proofs.lemmas.Bool.{cases_order, false≢true}
-use Rattle.market_lists.specs.Totals.{total}
+use Rattle.market_units.specs.Totals.{total}
 use Rattle.bundle_rules.specs.Sets.{has, AllAbove, IsAscending}
 use Rattle.bundle_rules.specs.Wishes.{Wishes}
 use Rattle.bundle_rules.specs.Demand.{IsChoice}

@@ -1,6 +1,6 @@
 -- Clashes of a list of sections, one by one.
 use Rattle.std.specs.Prelude.{ℕ, ◌≡◌, ◌<◌, ◌≤◌, false, ⊤, List, [], ◌∷◌, All, length}
-use Rattle.market_lists.specs.Totals.{total}
+use Rattle.market_units.specs.Totals.{total}
 use Rattle.bundle_rules.specs.Wishes.{Wishes}
 use Rattle.bundle_rules.specs.Menus.{MenuData, by_place}
 

@@ -1,6 +1,6 @@
 -- The laws of preference and of demand.
 use Rattle.std.specs.Prelude.{ℕ, ◌<◌, ◌≡◌, ◌≢◌, ◌↔◌, ◌⊎◌, Bool, true, List, [], ◌∷◌, length}
-use Rattle.market_lists.specs.Subsets.{chosen}
+use Rattle.market_units.specs.Subsets.{chosen}
 use Rattle.bundle_rules.specs.declared.bundle.Bundle.{Bundle}
 use Rattle.bundle_rules.specs.Bundles.{sections_of}
 use Rattle.bundle_rules.specs.Sets.{has, IsAscending}

@@ -1,6 +1,6 @@
 -- What a student wants and may take.
 use Rattle.std.specs.Prelude.{ℕ, ℤ, pos, ◌+ℤ◌, ◌<◌, ◌≤◌, ◌≡◌, ◌≢◌, Bool, true, false, List, [], ◌∷◌, length}
-use Rattle.market_lists.specs.Totals.{total, signed_total}
+use Rattle.market_units.specs.Totals.{total, signed_total}
 use Rattle.bundle_rules.specs.Sets.{has, IsAscending}
 
 -- by ordinals of sections; a section that is not rated has the rating 0

@@ -1,7 +1,7 @@
 // What a student takes at given prices, by trying every choice.
 ghost use Rattle.std.specs.Prelude.{◌≡◌, ◌↔◌, ◌<◌, ◌≤◌, ◌*◌, ◌++◌, ◌∷◌, [], IsTrue, IfSome, IfNone, length, map, All};
 ghost use Rattle.std.specs.FinSet as set;
-ghost use Rattle.market_lists.specs.Totals.{total};
+ghost use Rattle.market_units.specs.Totals.{total};
 ghost use Rattle.bundle_rules.specs.Sets.{IsAscending};
 ghost use Rattle.bundle_rules.specs.Wishes.{IsFeasible};
 ghost use Rattle.bundle_rules.specs.Demand.{price_in, IsPriced, ArePriced, HasPrices, IsChoice, IsBest};

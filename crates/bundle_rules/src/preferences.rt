@@ -1,6 +1,6 @@
 // Which bundles a student may take, and which of two the student prefers.
 ghost use Rattle.std.specs.Prelude.{◌≡◌, ◌↔◌, ◌<◌, ◌≤◌, ◌*◌, ℕ, pos, neg_ℤ, ◌≤ℤ◌, IsTrue, length, map, take, All};
-ghost use Rattle.market_lists.specs.Totals.{total};
+ghost use Rattle.market_units.specs.Totals.{total};
 ghost use Rattle.bundle_rules.specs.Sets.{DiffersFirstIn};
 ghost use Rattle.bundle_rules.specs.Wishes.{AllRated, IsFeasible, utility, adjustments};
 ghost use Rattle.bundle_rules.specs.Apart.{ClashesWithNone, AreApart, IsWithinCaps, MayTake};

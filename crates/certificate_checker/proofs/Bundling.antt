@@ -4,7 +4,7 @@ use Rattle.std.specs.Prelude.{All, None, nat_lt}
 use Rattle.std.specs.FinSet as set
 use Rattle.std.specs.Ordering.{nat_cmp}
 use Rattle.std.proofs.lemmas.Bool.{lt-ltb}
-use Rattle.market_lists.specs.Totals.{total}
+use Rattle.market_units.specs.Totals.{total}
 use Rattle.market_units.specs.declared.units.Tokens.{Tokens}
 use Rattle.bundle_bounds.specs.Laws.{IsTakable}
 use Rattle.bundle_bounds.specs.Offers.{Offer, offer_of}

@@ -1,6 +1,6 @@
 -- What is printed of each student, and what is offered to it.
 use Rattle.std.specs.Prelude.{ℕ, ◌≡◌, ◌≤◌, true, None, List, [], slice_index, slice_index_or}
-use Rattle.market_lists.specs.Totals.{total}
+use Rattle.market_units.specs.Totals.{total}
 use Rattle.bundle_bounds.specs.Offers.{Offer}
 use Rattle.bundle_rules.specs.Menus.{wishes_of}
 use Rattle.bundle_rules.specs.Sets.{has}

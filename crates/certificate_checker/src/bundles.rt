@@ -1,7 +1,7 @@
 // The printed bundles of stage two, and what is looked for in any bundle.
 ghost use Rattle.std.specs.Prelude.{◌≡◌, ◌↔◌, ◌<◌, ◌≤◌, ◌*◌, ℕ, IsTrue, IfErr, OnOk, All, length, nat_lt, true};
 ghost use Rattle.std.specs.FinSet as set;
-ghost use Rattle.market_lists.specs.Totals.{total};
+ghost use Rattle.market_units.specs.Totals.{total};
 ghost use Rattle.bundle_rules.specs.Bundles.{sections_of};
 ghost use Rattle.bundle_rules.specs.Sets.{has};
 ghost use Rattle.bundle_rules.specs.Demand.{IsPriced, price_in};

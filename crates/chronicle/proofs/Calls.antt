@@ -1,7 +1,7 @@
 -- A call from its parts: a ticket drawn, the turn, the object's step, and the turn passed on.
 use Rattle.std.proofs.Common.{◌≡◌, ◌+◌, ◌-◌, ◌≤◌, ◌<◌, ◌++◌, ◌∷◌, [], ℕ, List, Bool, true, refl, sym, ap, subst, ◌∙◌, arith}
 use Rattle.std.specs.Prelude.{Some}
-use Rattle.market_lists.specs.Beginnings.{BeginsWith}
+use Rattle.market_units.specs.Beginnings.{BeginsWith}
 use Rattle.atomic_table.specs.Seated.{TableId}
 use Rattle.chronicle.specs.declared.journal.StepOf.{StepOf}
 use Rattle.chronicle.specs.declared.origin.Origin.{Origin}

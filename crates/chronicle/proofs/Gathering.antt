@@ -9,7 +9,7 @@ use mathlib.Core.Option.{some}
 use lib.ListN.{get_elem?}
 use Rattle.atomic_table.specs.Seated.{TableId}
 use Rattle.atomic_table.specs.Table.{State, Joins}
-use Rattle.market_lists.specs.Beginnings.{BeginsWith}
+use Rattle.market_units.specs.Beginnings.{BeginsWith}
 use Rattle.chronicle.specs.declared.journal.StepOf.{StepOf}
 use Rattle.chronicle.specs.declared.kept.Kept.{Kept}
 use Rattle.chronicle.specs.declared.origin.Origin.{Origin}

@@ -3,8 +3,8 @@ use Rattle.std.proofs.lemmas.Bool.Decides.{nat_tests}
 use Rattle.std.specs.List.{AllByRecursion as Each}
 use Rattle.std.proofs.Common.{◌==◌, false, arith, ◌≡◌, ◌≢◌, ◌++◌, ◌∷◌, [], ◌∙◌, ℕ, List, Bool, true, refl, sym, subst, append_assoc, append-nil}
 use Rattle.std.proofs.lemmas.List.{append_cancel_left, append_cancel_right}
-use Rattle.market_lists.specs.Beginnings.{BeginsWith}
-use Rattle.market_lists.proofs.Parts.{part_of-append, part_of-own, part_of-other}
+use Rattle.market_units.specs.Beginnings.{BeginsWith}
+use Rattle.market_units.proofs.Parts.{part_of-append, part_of-own, part_of-other}
 use Rattle.chronicle.specs.declared.journal.StepOf.{StepOf}
 use Rattle.chronicle.specs.History.{state_after, IsLegal, calls_by, Extends}
 

@@ -9,10 +9,10 @@ use lib.ListN.{get_elem?}
 use Rattle.std.specs.Vec.{vec_capacity}
 use Rattle.atomic_table.specs.Table.{State, opening, Splits, Joins}
 use Rattle.atomic_table.proofs.Lists.{set_here, set_else, at_longer, at_last}
-use Rattle.market_lists.specs.Beginnings.{BeginsWith}
-use Rattle.market_lists.specs.Totals.{total}
-use Rattle.market_lists.proofs.Fronts.{begins-nothing}
-use Rattle.market_lists.proofs.Sums.{total-append}
+use Rattle.market_units.specs.Beginnings.{BeginsWith}
+use Rattle.market_units.specs.Totals.{total}
+use Rattle.market_units.proofs.Fronts.{begins-nothing}
+use Rattle.market_units.proofs.Sums.{total-append}
 use Rattle.chronicle.specs.declared.journal.StepOf.{StepOf}
 use Rattle.chronicle.specs.declared.kept.Kept.{Kept}
 use Rattle.chronicle.specs.declared.view.View.{View}

@@ -9,9 +9,9 @@ use lib.Seq.{set-get_or}
 use Rattle.std.specs.Vec.{vec_capacity}
 use Rattle.atomic_table.specs.Table.{State, step, keeps, takes, gives, rest, Allows}
 use Rattle.atomic_table.proofs.Lists.{set_here, set_else, set_again}
-use Rattle.market_lists.specs.Beginnings.{BeginsWith}
-use Rattle.market_lists.specs.Totals.{total}
-use Rattle.market_lists.proofs.Fronts.{begins-itself, begins-longer}
+use Rattle.market_units.specs.Beginnings.{BeginsWith}
+use Rattle.market_units.specs.Totals.{total}
+use Rattle.market_units.proofs.Fronts.{begins-itself, begins-longer}
 use Rattle.chronicle.specs.declared.journal.StepOf.{StepOf}
 use Rattle.chronicle.specs.declared.kept.Kept.{Kept}
 use Rattle.chronicle.specs.declared.view.View.{View}

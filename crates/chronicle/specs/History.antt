@@ -1,6 +1,6 @@
 -- A history: a list of steps on one object, which opens in a state. Of the object these are given: which requests are sound, and the state after a step and its reply, by base, state, seat and request.
 use Rattle.std.specs.Prelude.{◌≡◌, ℕ, Bool, true, List, [], ◌∷◌, ◌++◌, ⊤}
-use Rattle.market_lists.specs.Merges.{part_of}
+use Rattle.market_units.specs.Merges.{part_of}
 use Rattle.chronicle.specs.declared.journal.StepOf.{StepOf}
 
 module _ {B S Q A : Type 0} where

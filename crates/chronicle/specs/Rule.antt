@@ -4,8 +4,8 @@ use Rattle.std.specs.Vec.{vec_capacity}
 use mathlib.Core.Option.{some, none}
 use lib.ListN.{get_elem?}
 use Rattle.atomic_table.specs.Table.{State}
-use Rattle.market_lists.specs.Beginnings.{BeginsWith}
-use Rattle.market_lists.specs.Totals.{total}
+use Rattle.market_units.specs.Beginnings.{BeginsWith}
+use Rattle.market_units.specs.Totals.{total}
 use Rattle.chronicle.specs.declared.journal.StepOf.{StepOf}
 use Rattle.chronicle.specs.declared.kept.Kept.{Kept}
 use Rattle.chronicle.specs.declared.view.View.{View}

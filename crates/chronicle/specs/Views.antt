@@ -1,6 +1,6 @@
 -- How the view of a seat changes. A spent seat has no view.
 use Rattle.std.specs.Prelude.{ℕ, ◌+◌, ◌-◌, Option, Some, None, List, [], ◌∷◌, ◌++◌, length, map, nat_lt, if◌then◌else◌}
-use Rattle.market_lists.specs.Totals.{total}
+use Rattle.market_units.specs.Totals.{total}
 use Rattle.chronicle.specs.declared.journal.StepOf.{StepOf}
 use Rattle.chronicle.specs.declared.view.View.{View}
 use Rattle.chronicle.specs.declared.view.Phase.TheVariants as phase

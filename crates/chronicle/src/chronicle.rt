@@ -1,5 +1,5 @@
 ghost use Rattle.std.specs.Prelude.{◌≡◌, ◌<◌, ◌≤◌, ◌+◌, ◌^◌, ◌++◌, ◌∷◌, [], true, ℕ, Some, IfOk, All, Any, length, vec_len, slice_index, slice_index_or};
-ghost use Rattle.market_lists.specs.Beginnings.{BeginsWith};
+ghost use Rattle.market_units.specs.Beginnings.{BeginsWith};
 ghost use Rattle.chronicle.specs.History.{state_after, IsLegal, calls_by, step_of, Extends};
 ghost use Rattle.chronicle.specs.Seats.{origin, standing, new_seats, IsDealing, HasJoined};
 ghost use Rattle.chronicle.specs.Turn.{MayCall, IsWaiting, Draws, Serves, MayStep, Steps, HasToPass, Passes};

@@ -6,8 +6,8 @@ use Rattle.std.proofs.lemmas.List.Elements.{All-cons}
 use Rattle.market_units.specs.declared.units.Tokens.{Tokens}
 use Rattle.clearing_error.specs.Errors.{error}
 use Rattle.clearing_error.proofs.Sections.{error_by_top}
-use Rattle.market_lists.specs.Totals.{total}
-use Rattle.market_lists.proofs.Sums.{total-le}
+use Rattle.market_units.specs.Totals.{total}
+use Rattle.market_units.proofs.Sums.{total-le}
 use Rattle.bundle_rules.specs.Sets.{has}
 use Rattle.bundle_rules.specs.Menus.{wishes_of}
 use Rattle.bundle_rules.specs.Places.{places_from}

@@ -1,6 +1,6 @@
 -- A crowd of students, and what it demands at given prices. A price is given for each section, by its ordinal.
 use Rattle.std.specs.Prelude.{ℕ, suc, ◌<◌, ◌≤◌, if◌then◌else◌, max, List, [], ◌∷◌, All, length, map, nat_lt, slice_index_or}
-use Rattle.market_lists.specs.Totals.{total}
+use Rattle.market_units.specs.Totals.{total}
 use Rattle.bundle_rules.specs.Sets.{has}
 use Rattle.bundle_rules.specs.Menus.{MenuData}
 use Rattle.bundle_rules.specs.Best.{best}

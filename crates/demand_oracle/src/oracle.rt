@@ -1,5 +1,5 @@
 // The best bundle, by a depth-first search that closes nodes by what can still be reached from them.
-ghost use Rattle.std.specs.Prelude.{◌≡◌, ◌<◌, ◌≤◌, ◌⊎◌, ◌↔◌, [], ◌∷◌, ℕ, List, true, Some, IfSome, IfNone, IfOk, IsTrue, length};
+ghost use Rattle.std.specs.Prelude.{◌≡◌, ◌<◌, ◌≤◌, ◌⊎◌, ◌↔◌, [], ◌∷◌, ℕ, List, true, Some, IfSome, IfNone, IsTrue, length};
 ghost use Rattle.std.specs.FinSet as set;
 ghost use Rattle.bundle_rules.specs.Bundles.{sections_of};
 ghost use Rattle.bundle_rules.specs.Sets.{has};
@@ -40,11 +40,12 @@ struct Frames {
 }
 
 impl Model for Workspace {
-    ghost use Rattle.std.specs.Prelude.{ℕ, ◌≡◌, []};
+    ghost use Rattle.std.specs.Prelude.{⊤, tt, ◌≡◌, []};
 
-    ghost Value = { ℕ };
+    // What an earlier demand left tells nothing of a later one.
+    ghost Value = { ⊤ };
 
-    ghost view = { λ workspace. workspace.frames.opened };
+    ghost view = { λ _. tt };
 
     // Between two demands no branch waits.
     ghost invariant = { λ workspace. workspace.frames.pending ≡ [] };
@@ -52,9 +53,7 @@ impl Model for Workspace {
 
 impl Workspace {
     /// A workspace of which no demand was asked.
-    pub fn reserve(alloc: Global) -> Result<Workspace, NoMemory>
-        ensures { IfOk result (λ workspace. workspace ≡ 0) }
-    {
+    pub fn reserve(alloc: Global) -> Result<Workspace, NoMemory> {
         let pending = Pending::reserve(alloc)?;
         Ok(Workspace {
             frames: Frames {
@@ -66,10 +65,8 @@ impl Workspace {
     }
 
     /// How many nodes the last demand opened: those of which it looked up what can be reached, and in a search for bundles with
-    /// a section those too that can not have it any more.
-    pub fn opened(&self) -> u64
-        ensures { result ≡ self.now }
-    {
+    /// a section those too that can not have it any more. It is there to be measured: no clause speaks of it.
+    pub fn opened(&self) -> u64 {
         self.frames.opened
     }
 }

@@ -3,7 +3,7 @@ use Rattle.std.proofs.Common.{ℕ, suc, Bool, All, ◌≡◌, ◌≢◌, ◌<◌
 use Rattle.std.specs.Prelude.{nat_lt}
 use Rattle.std.proofs.lemmas.Bool.{cases_order}
 use Rattle.market_units.specs.declared.units.Tokens.{Tokens}
-use Rattle.market_lists.specs.Totals.{total}
+use Rattle.market_units.specs.Totals.{total}
 use Rattle.bundle_rules.specs.declared.menu.Rated.{Rated}
 use Rattle.bundle_rules.specs.Sets.{has}
 use Rattle.bundle_rules.specs.Demand.{price_in, IsBest}

@@ -3,7 +3,7 @@ ghost use Rattle.std.specs.Prelude.{◌≡◌, ◌<◌, ◌≤◌, ◌*◌, All,
 ghost use Rattle.bundle_rules.specs.Bundles.{sections_of};
 ghost use Rattle.bundle_rules.specs.Demand.{price_in, IsPriced};
 ghost use Rattle.bundle_rules.specs.Ordinals.{ordinals};
-ghost use Rattle.market_lists.specs.Totals.{total};
+ghost use Rattle.market_units.specs.Totals.{total};
 ghost use Rattle.demand_api.specs.Asking.{ArePricesFor};
 ghost use Rattle.demand_api.specs.Crowds.{CrowdData, demand_of};
 ghost use Rattle.price_board.specs.Openings.{IsMade};

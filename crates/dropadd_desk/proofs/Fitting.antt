@@ -4,8 +4,8 @@ use Rattle.std.specs.Prelude.{slice_get, option_map, nat_lt, is_some, if◌then�
 use Rattle.std.specs.List.{after_first, filter, find, position_or_len}
 use Rattle.std.proofs.lemmas.Bool.{cases_Bool, cases_eq, eqb-true, false≢true, ltb-true, ltb-false}
 use Rattle.std.proofs.lemmas.List.Folds.{find_at}
-use Rattle.market_lists.specs.Totals.{total}
-use Rattle.market_lists.proofs.Sums.{total-append}
+use Rattle.market_units.specs.Totals.{total}
+use Rattle.market_units.proofs.Sums.{total-append}
 use Rattle.market_units.specs.declared.names.Name.{Name}
 use Rattle.course_catalog.specs.Sections.{sections_clash}
 use Rattle.course_catalog.proofs.ClashFacts.{clashes_mutual}

@@ -2,7 +2,7 @@
 use Rattle.std.proofs.Common.{ℕ, zero, suc, ◌≡◌, ◌≢◌, ◌<◌, ◌≤◌, ◌+◌, ◌++◌, ◌==◌, ◌&&◌, ◌∙◌, ◌⊎◌, Bool, true, false, not, List, [], ◌∷◌, length, take, drop, arith, refl, sym, subst, inl, inr, Some}
 use Rattle.std.specs.Prelude.{slice_get, if◌then◌else◌}
 use Rattle.std.proofs.lemmas.Bool.{cases_Bool, cases_eq, eq-eqb, eqb-true, false≢true, true≢false}
-use Rattle.market_lists.proofs.Sums.{total-append}
+use Rattle.market_units.proofs.Sums.{total-append}
 use Rattle.bundle_rules.specs.Sets.{has}
 use Rattle.bundle_rules.specs.Existence.Members.{has-cases, has-there, has-here}
 use Rattle.dropadd_desk.specs.Halls.{times, IsQueue}

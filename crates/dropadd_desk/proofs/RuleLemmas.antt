@@ -8,7 +8,7 @@ use Rattle.std.specs.FinSet as set
 use Rattle.std.proofs.lemmas.Bool.{cases_Bool, lt-ltb}
 use Rattle.std.proofs.lemmas.List.{get_or-map, get_or_default, length-map, map_more}
 use Rattle.std.proofs.lemmas.List.Folds.{find-append}
-use Rattle.market_lists.proofs.Sums.{total-append}
+use Rattle.market_units.proofs.Sums.{total-append}
 use Rattle.market_units.specs.declared.names.Name.{Name}
 use Rattle.market_units.specs.declared.units.SectionNo.{SectionNo}
 use Rattle.market_units.specs.Name.{name_bytes}

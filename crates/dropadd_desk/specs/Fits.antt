@@ -1,7 +1,7 @@
 -- Whether a section fits what a student holds.
 use Rattle.std.specs.Prelude.{ℕ, ◌+◌, Bool, ◌&&◌, not, nat_lt, Option, is_some, List, length}
 use Rattle.std.specs.List.{find}
-use Rattle.market_lists.specs.Totals.{total}
+use Rattle.market_units.specs.Totals.{total}
 use Rattle.course_catalog.specs.Sections.{sections_clash}
 use Rattle.dropadd_desk.specs.Market.{Market, offered, enrolled}
 

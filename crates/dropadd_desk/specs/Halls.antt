@@ -1,6 +1,6 @@
 -- What a state of a desk is, and the state in which it opens.
 use Rattle.std.specs.Prelude.{ℕ, ◌≡◌, ◌<◌, ◌≤◌, ◌==◌, true, false, if◌then◌else◌, List, [], length, replicate}
-use Rattle.market_lists.specs.Totals.{total}
+use Rattle.market_units.specs.Totals.{total}
 use Rattle.bundle_rules.specs.Sets.{has}
 use Rattle.held_seats.specs.Floors.{AreBelow}
 use Rattle.dropadd_desk.specs.declared.shared.HallState.{HallState}

@@ -1,7 +1,7 @@
 -- The waiting list of one section, read off a history of requests and replies. Steps are numbered from 0.
 use Rattle.std.specs.Prelude.{ℕ, zero, suc, ◌+◌, ◌==◌, Bool, true, false, not, ◌&&◌, if◌then◌else◌, Option, None, Some, List, [], ◌∷◌, ◌++◌, take, drop}
 use Rattle.std.specs.List.{filter}
-use Rattle.market_lists.specs.Totals.{total}
+use Rattle.market_units.specs.Totals.{total}
 use Rattle.chronicle.specs.declared.journal.StepOf.{StepOf}
 use Rattle.market_units.specs.declared.units.StudentNo.{StudentNo}
 use Rattle.dropadd_desk.specs.declared.command.HallCommand.{HallCommand}

@@ -4,8 +4,8 @@ use Rattle.std.specs.Prelude.{option_map, slice_get, slice_index_or}
 use Rattle.std.specs.List.{list_any}
 use Rattle.std.proofs.lemmas.Bool.{cases_Bool, true≢false, false≢true}
 use Rattle.std.proofs.lemmas.List.{map_more}
-use Rattle.market_lists.specs.Totals.{total}
-use Rattle.market_lists.proofs.Sums.{total-append}
+use Rattle.market_units.specs.Totals.{total}
+use Rattle.market_units.proofs.Sums.{total-append}
 use Rattle.market_units.specs.declared.units.SectionNo.{SectionNo}
 use Rattle.course_catalog.specs.Catalog.{CatalogData}
 use Rattle.course_catalog.specs.Sections.{Section, section_at, sections_clash}

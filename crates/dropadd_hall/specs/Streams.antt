@@ -2,7 +2,7 @@
 use Rattle.std.specs.Prelude.{ℕ, List, Vec}
 use Rattle.std.proofs.Common.{Global}
 use Rattle.std.specs.Vec.{vec_len}
-use Rattle.market_lists.specs.Totals.{total}
+use Rattle.market_units.specs.Totals.{total}
 use Rattle.dropadd_desk.specs.declared.command.HallCommand.{HallCommand}
 use Rattle.stream_posting.specs.Streams.{lists_of}
 

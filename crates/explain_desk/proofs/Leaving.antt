@@ -1,7 +1,7 @@
 -- Which reasons leave a bundle with the section.
 use Rattle.std.proofs.Common.{ℕ, ◌≡◌, ◌≢◌, ◌<◌, Bool, true, false, true≢false, List, [], ◌∷◌, refl, ap, sym, subst, arith, inl, inr, ◌∙◌, length}
 use Rattle.std.proofs.lemmas.Bool.{cases_lt}
-use Rattle.market_lists.specs.Totals.{total}
+use Rattle.market_units.specs.Totals.{total}
 use Rattle.bundle_rules.specs.Demand.{IsChoice}
 use Rattle.bundle_rules.specs.Given.{SomeHas}
 use Rattle.bundle_rules.specs.Menus.{MenuData, wishes_of}

@@ -1,6 +1,6 @@
 -- The limits that sections can pass together.
 use Rattle.std.specs.Prelude.{ℕ, ◌<◌, List, length}
-use Rattle.market_lists.specs.Totals.{total}
+use Rattle.market_units.specs.Totals.{total}
 use Rattle.bundle_rules.specs.Wishes.{Wishes}
 use Rattle.explain_desk.specs.declared.limits.Limit.{Limit}
 use Rattle.explain_desk.specs.declared.limits.Limit.TheVariants.{Price, Credits, Courses}

@@ -1,6 +1,6 @@
 // Whether a text is the forced tree of a bundle with a section.
 ghost use Rattle.std.specs.Prelude.{◌≡◌, ◌↔◌, ◌<◌, ◌≤◌, true, All, Some, IsOk, IfErr};
-ghost use Rattle.market_lists.specs.Totals.{total};
+ghost use Rattle.market_units.specs.Totals.{total};
 ghost use Rattle.bundle_rules.specs.Bundles.{sections_of};
 ghost use Rattle.bundle_rules.specs.Demand.{HasPrices, price_in};
 ghost use Rattle.bundle_rules.specs.Menus.{place_in, wishes_of};

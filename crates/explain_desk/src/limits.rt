@@ -1,6 +1,6 @@
 // The limits that sections can pass together.
 ghost use Rattle.std.specs.Prelude.{◌≡◌, ◌<◌, ◌≤◌, ◌*◌, ◌∷◌, IfSome, IfNone, All, length};
-ghost use Rattle.market_lists.specs.Totals.{total};
+ghost use Rattle.market_units.specs.Totals.{total};
 ghost use Rattle.bundle_rules.specs.Bundles.{sections_of};
 ghost use Rattle.bundle_rules.specs.Demand.{HasPrices, price_in};
 ghost use Rattle.bundle_rules.specs.Menus.{place_in, wishes_of};

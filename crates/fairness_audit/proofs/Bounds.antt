@@ -4,7 +4,7 @@ use Rattle.std.specs.Prelude.{ℤ, pos, negsuc, ◌≤ℤ◌, ◌<ℤ◌, int_lt
 use Rattle.std.proofs.lemmas.Bool.{cases_Bool, cases_eq, cases_order, true≢false}
 use Rattle.std.proofs.lemmas.Int.{ints}
 use Rattle.std.proofs.lemmas.List.{get_or-set_other, get_or-set_same}
-use Rattle.market_lists.specs.Totals.{signed_total, total}
+use Rattle.market_units.specs.Totals.{signed_total, total}
 use Rattle.bundle_rules.specs.declared.menu.Rated.{Rated}
 use Rattle.bundle_rules.specs.Menus.{IsMenu, MenuData, adjustment_in, place_in, rating_at, section_at, wishes_of}
 use Rattle.bundle_rules.specs.Sets.{AllAbove, IsAscending, has}

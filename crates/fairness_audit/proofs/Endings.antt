@@ -3,7 +3,7 @@ use Rattle.std.proofs.Common.{ℕ, zero, suc, drop, take, ◌≡◌, ◌≢◌, 
 use Rattle.std.specs.Prelude.{slice_get, slice_index_or}
 use Rattle.std.specs.List.{Any, AllByRecursion as Each}
 use Rattle.std.proofs.Math.Nat.{suc-mul}
-use Rattle.market_lists.specs.Beginnings.{BeginsWith}
+use Rattle.market_units.specs.Beginnings.{BeginsWith}
 use Rattle.chronicle.specs.declared.journal.StepOf.{StepOf}
 use Rattle.chronicle.specs.declared.origin.Origin.{Origin}
 use Rattle.chronicle.specs.declared.standing.Standing.{Standing}

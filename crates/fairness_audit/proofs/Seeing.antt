@@ -7,7 +7,7 @@ use Rattle.std.proofs.lemmas.List.Folds.{find-append}
 use Rattle.std.specs.List.{find}
 use Rattle.std.specs.Option.{option_or}
 use Rattle.market_units.specs.declared.units.SectionNo.{SectionNo}
-use Rattle.market_lists.specs.Totals.{total}
+use Rattle.market_units.specs.Totals.{total}
 use Rattle.bundle_rules.specs.Demand.{IsBest, IsChoice}
 use Rattle.bundle_rules.specs.Menus.{MenuData, wishes_of}
 use Rattle.bundle_rules.specs.Ordinals.{ordinals}

@@ -1,6 +1,6 @@
 -- A worker's seat between its calls.
 use Rattle.std.specs.Prelude.{ℕ, ◌≡◌, ◌<◌, ◌+◌, ◌*◌, Bool, true, false, List, [], Some, length, slice_get, if◌then◌else◌}
-use Rattle.market_lists.specs.Totals.{total}
+use Rattle.market_units.specs.Totals.{total}
 use Rattle.chronicle.specs.declared.journal.StepOf.{StepOf}
 use Rattle.chronicle.specs.declared.origin.Origin.{Origin}
 use Rattle.chronicle.specs.declared.standing.Standing.{Standing}

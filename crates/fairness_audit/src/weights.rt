@@ -1,6 +1,6 @@
 // Which bundles need no search, since all that could be seen in them is worth too little.
 ghost use Rattle.std.specs.Prelude.{◌≡◌, ◌≤◌, ◌<◌, ◌*◌, ◌+◌, ◌-◌, All, IsTrue, false, length, slice_index};
-ghost use Rattle.market_lists.specs.Totals.{total};
+ghost use Rattle.market_units.specs.Totals.{total};
 ghost use Rattle.bundle_rules.specs.Bundles.{sections_of};
 ghost use Rattle.bundle_rules.specs.Menus.{IsMenu, adjustment_in, wishes_of};
 ghost use Rattle.bundle_rules.specs.Ordinals.{ordinals};

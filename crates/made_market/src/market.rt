@@ -6,7 +6,7 @@ ghost use Rattle.std.specs.Vec.{vec_len};
 ghost use Rattle.made_market.specs.Settings.{made_settings};
 ghost use Rattle.made_market.specs.Tables.{made_catalog, made_roll};
 ghost use Rattle.made_market.specs.Streams.{session_texts};
-ghost use Rattle.market_lists.specs.Totals.{total};
+ghost use Rattle.market_units.specs.Totals.{total};
 ghost use Rattle.market_settings.specs.Settings.{AreInRange};
 ghost use Rattle.utility_language.specs.declared.commands.Command.{Command};
 ghost use Rattle.utility_language.specs.Commands.{AreCommands};

@@ -5,7 +5,7 @@ ghost use Rattle.std.specs.List.{AllZip};
 ghost use Rattle.std.specs.Vec.{vec_len};
 ghost use Rattle.course_catalog.specs.Catalog.{CatalogData};
 ghost use Rattle.course_catalog.specs.Reading.{catalog_of};
-ghost use Rattle.market_lists.specs.Totals.{total};
+ghost use Rattle.market_units.specs.Totals.{total};
 ghost use Rattle.market_settings.specs.declared.reader.Settings.{Settings};
 ghost use Rattle.market_settings.specs.Settings.{AreInRange, settings_of};
 ghost use Rattle.student_roll.specs.Rolls.{roll_of};

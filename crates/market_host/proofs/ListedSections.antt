@@ -13,7 +13,7 @@ use Rattle.bundle_rules.specs.Wishes.{IsFeasible}
 use Rattle.bundle_rules.proofs.Feasibility.{place_of_rated}
 use Rattle.course_catalog.specs.Sections.{Section}
 use Rattle.market_menus.specs.MenusOf.{AreMenusOf, IsMenuOf, places_of, rated_of}
-use Rattle.market_lists.proofs.Images.{unmapped}
+use Rattle.market_units.proofs.Images.{unmapped}
 use Rattle.market_units.specs.declared.units.SectionNo.{SectionNo}
 use Rattle.preference_desk.specs.StudentPreferences.{SectionsBelow, StudentPreferences, no_preferences}
 use Rattle.student_roll.specs.Students.{Student}

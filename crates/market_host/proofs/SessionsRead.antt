@@ -9,8 +9,8 @@ use Rattle.std.proofs.lemmas.List.{append-nil, drop-append-le, length-append, le
 use Rattle.std.proofs.lemmas.List.Elements.{AllZip-push}
 use Rattle.std.proofs.lemmas.Slice.Zip.{AllZip-long}
 use Rattle.market_edge.specs.Holdings.{Holding, IsTextOf}
-use Rattle.market_lists.specs.Totals.{total}
-use Rattle.market_lists.proofs.Sums.{total-append}
+use Rattle.market_units.specs.Totals.{total}
+use Rattle.market_units.proofs.Sums.{total-append}
 use Rattle.market_words.specs.declared.words.Form.{Form}
 use Rattle.utility_language.specs.Commands.{command_lines}
 use Rattle.market_host.specs.declared.trouble.Trouble.{Trouble}

@@ -9,7 +9,7 @@ use Rattle.market_settings.specs.declared.reader.Settings.{Settings as SettingsD
 use Rattle.market_settings.specs.Settings.{settings_of}
 use Rattle.price_sheet.specs.Sheets.{prices_of}
 use Rattle.market_edge.specs.Holdings.{Holding, IsTextOf, told_text}
-use Rattle.market_lists.specs.Totals.{total}
+use Rattle.market_units.specs.Totals.{total}
 use Rattle.market_words.specs.declared.words.Form.{Form}
 use Rattle.market_host.specs.declared.cause.Cause.{Cause}
 use Rattle.market_host.specs.Marks.{without_mark}

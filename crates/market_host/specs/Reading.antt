@@ -4,7 +4,7 @@ use Rattle.std.proofs.Common.{Global}
 use Rattle.std.specs.List.{AllZip}
 use Rattle.course_catalog.specs.Catalog.{CatalogData}
 use Rattle.market_edge.specs.Holdings.{Holding, IsTextOf, TakesExactly}
-use Rattle.market_lists.specs.Totals.{total}
+use Rattle.market_units.specs.Totals.{total}
 use Rattle.market_words.specs.declared.words.Form.{Form}
 use Rattle.utility_language.specs.declared.commands.Command.{Command}
 use Rattle.utility_language.specs.Commands.{IsCommandOf}

@@ -1,8 +1,8 @@
 -- Sums over the first items of a list.
 use Rattle.std.proofs.Common.{ℕ, ◌≡◌, ◌<◌, ◌≤◌, ◌+◌, ◌∙◌, List, [], ◌∷◌, ◌++◌, map, length, get_or, take, refl, ap, arith}
 use Rattle.std.proofs.lemmas.List.{map-append, take_all, take_more}
-use Rattle.market_lists.specs.Totals.{total}
-use Rattle.market_lists.proofs.Sums.{total-append}
+use Rattle.market_units.specs.Totals.{total}
+use Rattle.market_units.proofs.Sums.{total-append}
 
 -- one more item
 pub total_more : {A B : Type 0} (f : B → ℕ) (v : A → B) (xs : List A) (i : ℕ) (d : A) (sum more : ℕ) → i < length xs → sum ≡ total f (map v (take i xs)) → more ≡ f (v (get_or xs i d)) → sum + more ≡ total f (map v (take (i + 1) xs))

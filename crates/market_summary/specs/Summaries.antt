@@ -2,7 +2,7 @@
 use Rattle.std.specs.Prelude.{ℕ, ◌+◌, ℤ, List, [], ◌∷◌, ◌++◌, codes, length}
 use Rattle.std.specs.Fmt.{decimal, signed_decimal}
 use Rattle.std.specs.List.{zip}
-use Rattle.market_lists.specs.Totals.{signed_total, total}
+use Rattle.market_units.specs.Totals.{signed_total, total}
 use Rattle.bundle_rules.specs.Menus.{wishes_of}
 use Rattle.bundle_rules.specs.Wishes.{utility}
 use Rattle.demand_api.specs.Crowds.{CrowdData, Student}

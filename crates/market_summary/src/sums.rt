@@ -1,6 +1,6 @@
 // Sums over a publication.
 ghost use Rattle.std.specs.Prelude.{◌≡◌, ◌≤◌, ◌*◌, ◌^◌, ◌≤ℤ◌, pos, neg_ℤ, length, map};
-ghost use Rattle.market_lists.specs.Totals.{total};
+ghost use Rattle.market_units.specs.Totals.{total};
 ghost use Rattle.bundle_rules.specs.Bundles.{sections_of};
 ghost use Rattle.market_certificate.specs.Views.{proved_of, turn_of};
 ghost use Rattle.market_summary.specs.Sums.{AreRatedBy, worth_by_menus};

@@ -1,6 +1,10 @@
+pub mod Beginnings
 pub mod EqualNames
 pub mod Laws
+pub mod Merges
 pub mod Name
 pub mod Names
 pub mod SectionBits
 pub mod Sections
+pub mod Subsets
+pub mod Totals

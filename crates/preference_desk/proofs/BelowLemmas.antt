@@ -2,7 +2,7 @@
 use Rattle.std.proofs.Common.{ℕ, ◌≡◌, ◌<◌, List, map, sym, subst, arith}
 use Rattle.std.specs.Prelude.{ℤ, All}
 use Rattle.std.specs.FinMap.{entries}
-use Rattle.market_lists.proofs.Images.{unmapped}
+use Rattle.market_units.proofs.Images.{unmapped}
 use Rattle.market_units.specs.declared.units.SectionNo.{SectionNo}
 use Rattle.preference_desk.specs.Rows.{pair_entry, rating_entry}
 use Rattle.preference_desk.specs.StudentPreferences.{SectionsBelow, StudentPreferences}

@@ -1,6 +1,6 @@
 -- Journals: lists of entries, which tell what every session said and what the desk replied.
 use Rattle.std.specs.Prelude.{ℕ, ◌≡◌, ◌+◌, ◌<◌, ◌≤◌, List, [], ◌∷◌, length, map, replicate, All, slice_index_or, ⊤}
-use Rattle.market_lists.specs.Merges.{part_of}
+use Rattle.market_units.specs.Merges.{part_of}
 use Rattle.utility_language.specs.declared.commands.Command.{Command}
 use Rattle.preference_desk.specs.declared.entry.Entry.{Entry}
 use Rattle.preference_desk.specs.DeskNames.{DeskNames}

@@ -7,7 +7,7 @@ use Rattle.std.proofs.lemmas.List.{length-append}
 use Rattle.std.proofs.lemmas.List.Elements.{filter-append}
 use Rattle.chronicle.specs.declared.journal.StepOf.{StepOf}
 use Rattle.chronicle.specs.History.{step_of, IsLegal, state_after, calls_by}
-use Rattle.market_lists.specs.Totals.{total}
+use Rattle.market_units.specs.Totals.{total}
 use Rattle.bundle_rules.specs.declared.bundle.Bundle.{Bundle}
 use Rattle.price_board.specs.declared.calls.BoardCall.{BoardCall}
 use Rattle.price_board.specs.declared.calls.BoardCall.TheVariants.{Draw as DrawCall, Post as PostCall}

@@ -1,6 +1,6 @@
 -- When the posted bundles of a version decide what is asked of it.
 use Rattle.std.specs.Prelude.{ℕ, ◌+◌, ◌==◌, ◌||◌, Bool, Option, Some, None, List, slice_index_or, nat_lt, nat_le, if◌then◌else◌}
-use Rattle.market_lists.specs.Totals.{total}
+use Rattle.market_units.specs.Totals.{total}
 use Rattle.bundle_rules.specs.declared.bundle.Bundle.{Bundle}
 use Rattle.bundle_rules.specs.Bundles.{sections_of}
 use Rattle.bundle_rules.specs.Sets.{has}

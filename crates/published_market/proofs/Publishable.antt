@@ -8,7 +8,7 @@ use Rattle.std.proofs.lemmas.List.Elements.{All-append, All-cons, All-map}
 use Rattle.std.proofs.lemmas.List.FromFn.{get_or-enumerate_from, length-enumerate_from}
 use Rattle.std.proofs.lemmas.Option.{get_or_from_slice_get, slice_get_within}
 use Rattle.std.proofs.lemmas.Slice.Zip.{AllZip-long}
-use Rattle.market_lists.proofs.Images.{unmapped}
+use Rattle.market_units.proofs.Images.{unmapped}
 use Rattle.market_units.specs.declared.units.Tokens.{Tokens}
 use Rattle.seed_words.specs.Streams.{stream_words}
 use Rattle.bundle_rules.specs.Demand.{price_in}

@@ -1,7 +1,7 @@
 // The whole work of sessions at one object.
 ghost use Rattle.std.specs.Prelude.{◌≡◌, ◌<◌, ◌≤◌, ℕ, true, length, map, slice_index_or, IfOk};
 ghost use Rattle.std.specs.Vec.{vec_len};
-ghost use Rattle.market_lists.specs.Totals.{total};
+ghost use Rattle.market_units.specs.Totals.{total};
 ghost use Rattle.chronicle.specs.History.{IsLegal, state_after};
 ghost use Rattle.stream_posting.specs.Postings.{IsReady};
 ghost use Rattle.stream_posting.specs.Streams.{MergesCalls, lists_of};

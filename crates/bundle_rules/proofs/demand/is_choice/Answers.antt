@@ -1,6 +1,6 @@
 use Rattle.std.proofs.Common.{◌≡◌, ◌<◌, ◌≤◌, true, sym, subst, ◌∙◌, ap}
 use Rattle.std.specs.FinSet as set
-use Rattle.market_lists.specs.Totals.{total}
+use Rattle.market_units.specs.Totals.{total}
 use Rattle.bundle_rules.specs.Sets.{has}
 use Rattle.bundle_rules.specs.Bundles.{sections_of}
 use Rattle.bundle_rules.specs.Demand.{IsPriced, price_in}

@@ -3,7 +3,7 @@ use Rattle.bundle_rules.specs.Menus.{wishes_of}
 use Rattle.bundle_rules.specs.Places.{menu_sections, AreBestBits}
 use Rattle.bundle_rules.proofs.Bits.{bits_of-chosen}
 use Rattle.bundle_rules.proofs.BestBits.{best_from_bits, best_to_bits, choice_among}
-use Rattle.market_lists.specs.Subsets.{chosen}
+use Rattle.market_units.specs.Subsets.{chosen}
 use Rattle.bundle_rules.proofs.laws.best_by_bits.Goals as goal
 
 pub returns : goal.returns

@@ -1,6 +1,6 @@
 use Rattle.std.proofs.Common.{arith, ◌≡◌, ◌≤◌, ◌+◌, ◌*◌, ◌∷◌, [], ◌∙◌, ℕ, ap, refl, length, length-append}
 use Rattle.std.proofs.lemmas.List.Elements.{All-push}
-use Rattle.market_lists.proofs.Sums.{total-append}
+use Rattle.market_units.proofs.Sums.{total-append}
 use Rattle.chronicle.specs.Views.{sum_of}
 use Rattle.chronicle_bench.proofs.calls.share_out.Goals as goal
 

@@ -1,5 +1,5 @@
 use Rattle.std.proofs.Common.{◌≡◌, ◌≤◌, ◌*◌, take}
-use Rattle.market_lists.specs.Totals.{total}
+use Rattle.market_units.specs.Totals.{total}
 use Rattle.bundle_rules.specs.Ordinals.{ordinals}
 use Rattle.course_catalog.specs.Sections.{section_at}
 use Rattle.dropadd_hall.proofs.opening.sum_credits.Given as goal

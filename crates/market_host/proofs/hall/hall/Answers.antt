@@ -2,7 +2,7 @@ use Rattle.std.proofs.Common.{ℕ, ◌≡◌, ◌≤◌, ◌-◌, List, [], ◌�
 use Rattle.std.specs.String.{string_bytes}
 use Rattle.std.proofs.lemmas.Result.{err_from_is_err_and}
 use Rattle.dropadd_hall.specs.Streams.{request_count}
-use Rattle.market_lists.specs.Totals.{total}
+use Rattle.market_units.specs.Totals.{total}
 use Rattle.market_words.specs.declared.words.Form.TheVariants.{Hall}
 use Rattle.dropadd_hall.specs.Requests.{IsRequestOf}
 use Rattle.market_host.specs.Kinds.{Catalog, Published, Roll}

@@ -3,7 +3,7 @@ use Rattle.std.specs.String.{string_bytes}
 use Rattle.std.specs.Vec.{vec_len}
 use Rattle.std.proofs.lemmas.List.{length-drop, length-take-le}
 use Rattle.std.proofs.lemmas.Result.{err_from_is_err_and}
-use Rattle.market_lists.specs.Totals.{total}
+use Rattle.market_units.specs.Totals.{total}
 use Rattle.market_words.specs.declared.words.Form.TheVariants.{Run}
 use Rattle.utility_language.specs.Commands.{IsCommandOf}
 use Rattle.market_host.specs.Sessions.{command_count}

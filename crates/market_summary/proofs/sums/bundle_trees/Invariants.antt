@@ -1,7 +1,7 @@
 use Rattle.std.proofs.Common.{◌≡◌, ◌≤◌, ◌*◌, ◌^◌, length, map, take}
 use Rattle.market_certificate.specs.Publications.{Proved}
 use Rattle.market_certificate.specs.Views.{proved_of}
-use Rattle.market_lists.specs.Totals.{total}
+use Rattle.market_units.specs.Totals.{total}
 use Rattle.market_summary.proofs.sums.bundle_trees.Given as goal
 
 abbrev pub invariant-bundles : goal.invariant-bundles

@@ -1,5 +1,5 @@
 use Rattle.std.proofs.Common.{ℕ, ◌<◌, ◌≤◌, ◌∙◌, length, ap, arith}
-use Rattle.market_lists.specs.Totals.{total}
+use Rattle.market_units.specs.Totals.{total}
 use Rattle.market_summary.proofs.Totals.{map_same, total_all, total_more}
 use Rattle.market_summary.proofs.sums.used_seats.Goals as goal
 

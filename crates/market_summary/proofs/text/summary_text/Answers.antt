@@ -7,7 +7,7 @@ use Rattle.demand_api.specs.Made.{students_of}
 use Rattle.demand_api.proofs.Takers.{students_length}
 use Rattle.market_certificate.specs.Publications.{Proved, ProvedTurn}
 use Rattle.market_certificate.specs.Views.{proved_of, publication_of, turn_of}
-use Rattle.market_lists.specs.Totals.{total}
+use Rattle.market_units.specs.Totals.{total}
 use Rattle.published_market.specs.Publishing.{lengths_of}
 use Rattle.market_summary.specs.Summaries.{line, worth_of}
 use Rattle.market_summary.proofs.TenLines.{ten_lines}

@@ -1,7 +1,7 @@
 use Rattle.std.proofs.Common.{ℕ, ◌≡◌, ◌≤◌, ◌<◌, ◌∙◌, arith, length, slice_index, slice_index_or, true, ap, sym, subst}
 use Rattle.std.specs.Vec.{vec_len}
 use Rattle.std.proofs.lemmas.List.{get_or-map, length-map}
-use Rattle.market_lists.specs.Totals.{total}
+use Rattle.market_units.specs.Totals.{total}
 use Rattle.chronicle.specs.History.{IsLegal, state_after}
 use Rattle.chronicle.specs.Views.{sum_of}
 use Rattle.stream_posting.proofs.Merging.{sum_of-lengths}

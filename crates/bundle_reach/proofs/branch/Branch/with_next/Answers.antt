@@ -6,7 +6,7 @@ use Rattle.bundle_rules.specs.Menus.{place_in, rating_at, credits_at, adjustment
 use Rattle.bundle_rules.specs.Demand.{price_in}
 use Rattle.bundle_rules.specs.Existence.Places.{section_at-is, rating_at-is, credits_at-is}
 use Rattle.bundle_rules.proofs.Feasibility.{places_of_rated}
-use Rattle.market_lists.specs.Totals.{signed_total}
+use Rattle.market_units.specs.Totals.{signed_total}
 use Rattle.bundle_rules.specs.Wishes.{utility}
 use Rattle.bundle_bounds.specs.Offers.{places_of}
 use Rattle.bundle_reach.specs.Branches.{chosen_of, with_next_of, AreSmallSums}

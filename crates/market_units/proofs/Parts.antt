@@ -2,7 +2,7 @@
 use Rattle.std.proofs.Common.{◌≡◌, ◌≢◌, ◌++◌, ◌∷◌, [], ◌==◌, ℕ, true, false, List, refl, ap, inl, inr, arith}
 use Rattle.std.proofs.lemmas.Bool.{cases_Bool}
 use Rattle.std.proofs.lemmas.Bool.Decides.{nat_tests}
-use Rattle.market_lists.specs.Merges.{part_of}
+use Rattle.market_units.specs.Merges.{part_of}
 
 module _ {A : Type 0} (number : A → ℕ) (n : ℕ) where
   -- the part of two lists is the parts of them, one after the other

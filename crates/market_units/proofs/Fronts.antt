@@ -1,7 +1,7 @@
 -- Lists that begin with other lists.
 use Rattle.std.proofs.Common.{◌++◌, [], ◌∙◌, List, refl, sym, ap, append_assoc}
 use Rattle.std.proofs.lemmas.List.{append-nil}
-use Rattle.market_lists.specs.Beginnings.{BeginsWith}
+use Rattle.market_units.specs.Beginnings.{BeginsWith}
 
 -- a list begins with itself
 pub begins-itself : {A : Type 0} (xs : List A) → BeginsWith xs xs

@@ -1,6 +1,6 @@
 -- The order of subsets: the first has the first place on which they differ.
 use Rattle.std.proofs.Common.{◌≡◌, ◌≢◌, Bool, true, false, List, [], ◌∷◌, length, refl, ap, inl, inr, ◌⊎◌, true≢false, sym, arith}
-use Rattle.market_lists.specs.Subsets.{earlier}
+use Rattle.market_units.specs.Subsets.{earlier}
 
 pub one_is_earlier : (as' bs : List Bool) → length as' ≡ length bs → as' ≢ bs → (earlier as' bs ≡ true) ⊎ (earlier bs as' ≡ true)
 one_is_earlier [] [] same other = absurd (other refl)

@@ -1,5 +1,0 @@
-use Rattle.market_lists.proofs.Orders.{earlier_than_earlier}
-use Rattle.market_lists.proofs.laws.earlier_than_earlier.Goals as goal
-
-pub returns : goal.returns
-returns c = earlier_than_earlier

@@ -1,5 +1,0 @@
-use Rattle.market_lists.proofs.Orders.{not_both_are_earlier}
-use Rattle.market_lists.proofs.laws.not_both_are_earlier.Goals as goal
-
-pub returns : goal.returns
-returns c = not_both_are_earlier

@@ -1,5 +1,0 @@
-pub mod Beginnings
-pub mod Laws
-pub mod Merges
-pub mod Subsets
-pub mod Totals
