@@ -1,4 +1,5 @@
-// What a few bounds of a resource tell of the others: as a function of its price, a resource's bound is convex.
+// What a few bounds of a resource tell of the others: as a function of its price, a resource's
+// bound is convex.
 ghost use Rattle.std.specs.Prelude.{◌≡◌, ◌<◌, ◌≤◌, ◌≤ℤ◌, ◌+◌, ◌*◌, ◌/◌, ◌+ℤ◌, ℤ, ℕ, List, pos, IsTrue};
 ghost use Rattle.bundle_bounds.specs.declared.prospects.Prospect.{Prospect};
 ghost use Rattle.bundle_bounds.specs.declared.prospects.Resource.{Resource};
@@ -27,8 +28,8 @@ impl Known {
         }
     }
 
-    // Whether it is known that the bound at the price of so much worth for so much that is taken is not below the
-    // limit.
+    // Whether it is known that the bound at the price of so much worth for so much that is taken is
+    // not below the limit.
     pub(crate) fn has_ratio(&self, worth: u64, taken: u64) -> bool
         requires worth { worth ≤ 20000000 }
         requires taken { taken ≤ 1000001 }
@@ -37,6 +38,7 @@ impl Known {
         ensures { IsTrue result → 0 < taken → (base limit : ℤ) (rest : ℕ) (resource : Resource) (all : List Prospect) → IsKnown base limit rest resource all self.now
             → limit ≤ℤ (base +ℤ pos (at_price resource rest (worth / taken) all)) }
     {
+        // Multiplied and not divided: a division costs as much as a sum over the open places.
         if worth < self.low * taken {
             return true;
         }
@@ -50,9 +52,9 @@ impl Known {
         self.high <= self.low
     }
 
-    // Takes in what a price and the next one make, where the bound at the first is above the limit by at least the
-    // margin. The bound does not fall on the side on which it rises here; on the other side it falls by no more at a
-    // step than here.
+    // Takes in what a price and the next one make, where the bound at the first is above the limit
+    // by at least the margin. The bound does not fall on the side on which it rises here; on the
+    // other side it falls by no more at a step than here.
     pub(crate) fn learn(&mut self, price: u64, sum: u64, next: u64, margin: u64)
         requires price { price < 20000000 }
         requires high { self.old.high ≤ 20000001 }
@@ -71,7 +73,8 @@ impl Known {
     }
 }
 
-// How many steps of this height stay within the margin, but no more than these, which are as good as all.
+// How many steps of this height stay within the margin, but no more than these, which are as good
+// as all.
 fn steps_within(margin: u64, height: u64, most: u64) -> u64
     requires margin { margin ≤ 1000000000000000000 }
     ensures within { result * height ≤ margin }

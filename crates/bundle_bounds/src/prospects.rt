@@ -12,7 +12,8 @@ pub(crate) enum Resource {
     Count,
 }
 
-/// An open place: the first place of its course, the most that it can add to the utility, its price and its credits.
+/// An open place: the first place of its course, the most that it can add to the utility, its price
+/// and its credits.
 #[derive(Clone, Copy, Debug)]
 pub(crate) struct Prospect {
     pub(crate) place: u8,
@@ -22,7 +23,8 @@ pub(crate) struct Prospect {
     pub(crate) credits: u16,
 }
 
-// Courses are told apart by a place of the menu.
+// Courses are told apart by a place of the menu. These are at most 60, so that a small array has a
+// mark for each course; course numbers have no such bound.
 const COURSES: usize = 60;
 
 // Room for what is known of the open places of a menu.
@@ -135,8 +137,8 @@ fn add_up_twice(prospects: &[Prospect], resource: Resource, price: u64) -> (u64,
     (sum, next)
 }
 
-// How much a prospect in front of others adds to the greatest of each course. One that is alone is the only one of its
-// course.
+// How much a prospect in front of others adds to the greatest of each course. One that is alone is
+// the only one of its course.
 pub(crate) fn added(
     prospect: &Prospect,
     more: &[Prospect],

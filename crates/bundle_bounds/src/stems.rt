@@ -27,8 +27,9 @@ const ROOM: usize = 60;
 
 const MOST: usize = 8;
 
-/// Nodes that have chosen the same sections, one after another: each has one more place decided than the one before it.
-/// What they share is kept: the open places with their worth, what the chosen ones leave, and what was found of bounds.
+/// Nodes that have chosen the same sections, one after another: each has one more place decided
+/// than the one before it. What they share is kept: the open places with their worth, what the
+/// chosen ones leave, and what was found of bounds.
 #[derive(Clone, Copy)]
 pub struct Stem {
     champion: Places,
@@ -48,7 +49,8 @@ pub struct Stem {
 impl Stem {
     ghost use Rattle.bundle_bounds.specs.Stems.{IsStem};
 
-    /// The stem at the root: no place is decided. There is a price for each section of the menu, each at most 1,000,001.
+    /// The stem at the root: no place is decided. There is a price for each section of the menu,
+    /// each at most 1,000,001.
     pub fn root(
         menu: &Menu,
         prices: &[Tokens],
@@ -125,6 +127,8 @@ impl Stem {
         if self.is_quiet {
             return None;
         }
+        // A bound is sought on the champion's own path too, though none closes there: a law for
+        // that would spare 2 ns a node.
         let base = 1000 * i64::from(self.utility);
         // Most nodes end here, before the tangents are copied.
         if is_plain_below(base, self.limit, self.plain) {
@@ -178,7 +182,8 @@ impl Stem {
         self.is_quiet = false;
     }
 
-    /// Writes the stem of the node with the next place decided and taken, which is open, into the other one.
+    /// Writes the stem of the node with the next place decided and taken, which is open, into the
+    /// other one.
     pub fn take(
         &self,
         menu: &Menu,

@@ -15,7 +15,8 @@ pub(crate) fn hopes_of(row: &[u16; 60], chosen: &[u8]) -> u32
     }
 }
 
-// How many more sections fit, where the lightest has so many credits.
+// How many more sections fit, where the lightest has so many credits. Without this number flat
+// ratings open a million nodes.
 pub(crate) fn fitting(courses: u32, credits: u32, lightest: u32) -> u32
     requires courses { courses ≤ 8 }
     requires lightest { lightest ≤ 100 }

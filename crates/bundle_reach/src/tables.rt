@@ -21,17 +21,19 @@ pub(crate) const PLACES: usize = 60;
 
 pub(crate) const COUNTS: usize = 9;
 
+// With twice as many, 5 percent fewer nodes are opened, and the table takes twice as long to fill.
 pub(crate) const UNITS: usize = 64;
 
 pub(crate) const MILLION: u64 = 1_000_000;
 
 pub(crate) const THOUSAND: u64 = 1_000;
 
-// What can be added from each place on, by at most so many places that cost at most so many units, in thousandths of a
-// point of utility: a row for each place and count.
+// What can be added from each place on, by at most so many places that cost at most so many units,
+// in thousandths of a point of utility: a row for each place and count.
 pub(crate) type Table = [[u32; UNITS]; ROWS * COUNTS];
 
-// So many tokens in whole units, each of which is a power of two of tokens.
+// So many tokens in whole units, each of which is a power of two of tokens, so that a node divides
+// by a shift. Prices and what is left are both rounded down, so nothing affordable is left out.
 #[inline(always)]
 pub(crate) fn in_units(tokens: u32, shift: u32) -> u32
     requires { shift < 32 }
@@ -161,7 +163,8 @@ fn put_nothing(place: u8, most: &mut Table)
     }
 }
 
-// Writes the most that so many places from this one on can add, where its adjustments with later ones can add so much.
+// Writes the most that so many places from this one on can add, where its adjustments with later
+// ones can add so much.
 fn put_place(
     menu: &Menu,
     prices: &[Tokens],
@@ -193,8 +196,9 @@ fn put_place(
     put_counts(courses, place, next, value, cost as usize, most);
 }
 
-// What is left of a million times the most that a place can add, where its adjustments with later places can add so
-// much.
+// What is left of a million times the most that a place can add, where its adjustments with later
+// places can add so much. Adjustments count at the lower place alone: with twenty pairs that opens
+// half the nodes of counting them at both.
 fn value_at(menu: &Menu, prices: &[Tokens], multipliers: Multipliers, place: u8, hoped: u16) -> u64
     requires prices { HasPrices menu.now prices.now }
     requires place { place < length menu.now.places }
@@ -208,7 +212,9 @@ fn value_at(menu: &Menu, prices: &[Tokens], multipliers: Multipliers, place: u8,
     (MILLION * most_added).saturating_sub(price + credits)
 }
 
-// The first place from one on that does not clash with an earlier one, or the number of places where there is none.
+// The first place from one on that does not clash with an earlier one, or the number of places
+// where there is none. Clashes behind the first gap exclude nothing: sections of one course mostly
+// stand side by side in a catalogue.
 fn next_apart(menu: &Menu, place: u8, from: u8) -> u8
     requires place { place < length menu.now.places }
     requires from { from ≤ length menu.now.places }
@@ -222,7 +228,8 @@ fn next_apart(menu: &Menu, place: u8, from: u8) -> u8
     next_apart(menu, place, from + 1)
 }
 
-// So many millionths in thousandths, rounded up.
+// So many millionths in thousandths, rounded up. In thousandths a number of the table has 32 bits;
+// multipliers stay in millionths, since at prices of 25,000 one in thousandths would be below 10.
 fn thousandths(value: u64) -> u32
     requires { value ≤ 65635000000 }
     ensures value { value ≤ 1000 * result }
@@ -231,8 +238,9 @@ fn thousandths(value: u64) -> u32
     (value / THOUSAND + 1) as u32
 }
 
-// For each count up to the course cap and for each number of units the greater one of what so many later places can add,
-// and of the value with what one fewer can add from the next place on that does not clash.
+// For each count up to the course cap and for each number of units the greater one of what so many
+// later places can add, and of the value with what one fewer can add from the next place on that
+// does not clash.
 fn put_counts(courses: u8, place: u8, next: u8, value: u32, cost: usize, most: &mut Table)
     requires courses { courses ≤ 8 }
     requires place { place < next }
@@ -250,8 +258,8 @@ fn put_counts(courses: u8, place: u8, next: u8, value: u32, cost: usize, most: &
     }
 }
 
-// For each number of units the greater one of the number of a row, and of the value with that of another where so many
-// units fewer are left.
+// For each number of units the greater one of the number of a row, and of the value with that of
+// another where so many units fewer are left.
 fn most_within(later: [u32; UNITS], apart: &[u32; UNITS], value: u32, cost: usize) -> [u32; UNITS]
     requires value { value ≤ 65635001 }
     requires small { (units : ℕ) → units < 64 → slice_index apart.now units ≤ 525080008 }

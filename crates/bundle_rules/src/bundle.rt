@@ -14,6 +14,8 @@ const ROOM: usize = 8;
 /// At most 8 sections, ascending by ordinal.
 #[derive(Clone, Copy, Debug)]
 pub struct Bundle {
+    // Ghost fields and no model, as in `Name` of `market_units`: nodes of searches hold bundles and
+    // are passed by value more than once.
     sections: [SectionNo; ROOM],
     len: u8,
     ghost whole: { length sections ≡ 8 },
@@ -37,7 +39,8 @@ impl Bundle {
         }
     }
 
-    /// The bundle of these sections, or `None` exactly where there are more than 8 or they are not strictly ascending.
+    /// The bundle of these sections, or `None` exactly where there are more than 8 or they are not
+    /// strictly ascending.
     pub fn of(sections: &[SectionNo]) -> Option<Bundle>
         ensures some { IsSome result ↔ IsBundle (ordinals sections.now) }
         ensures value { IfSome result (λ bundle. sections_of bundle ≡ ordinals sections.now) }

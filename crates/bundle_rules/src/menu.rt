@@ -23,11 +23,13 @@ pub struct Rated {
 pub struct Menu {
     places: Vec<Rated>,
     pairs: Vec<(u8, u8, i16)>,
+    // Bits past the last place do not count, though contracts see whole words.
     clashes: Vec<u64>,
     credits: u16,
     courses: u8,
 
-    // The adjustment of each two places, row by row.
+    // The adjustment of each two places, row by row: one access finds what a search asks wherever
+    // it takes a section. Contracts see the pairs alone.
     adjustments: Vec<i16>,
 }
 
@@ -82,7 +84,8 @@ impl Menu {
         credits <= MAX_CREDITS && courses <= MAX_COURSES
     }
 
-    /// The menu of these places, pairs, clashes and caps. Bit t of the word of a place tells whether it clashes with place t.
+    /// The menu of these places, pairs, clashes and caps. Bit t of the word of a place tells
+    /// whether it clashes with place t.
     pub fn build(
         alloc: Global,
         places: &[Rated],

@@ -8,10 +8,12 @@ use std::marker::Model;
 use std::sync::Wait;
 use std::thread::Parker;
 
-/// As many bells as there are seats. A thread sleeps at the bell of its ticket: the tickets that wait follow one
-/// another and are no more than the seats, so no two of them have the same bell. Contracts see how many there are.
+/// As many bells as there are seats. A thread sleeps at the bell of its ticket: the tickets that
+/// wait follow one another and are no more than the seats, so no two of them have the same bell.
+/// Contracts see how many there are.
 #[derive(Drop)]
 pub struct Bells {
+    // Padded, so that a thread that sets its bell does not take the cache line of its neighbour's.
     parkers: Vec<CachePadded<Parker>>,
 }
 
@@ -43,7 +45,9 @@ impl Bells {
         self.of(ticket).park(rt);
     }
 
-    /// Rings the bell of this ticket.
+    /// Rings the bell of this ticket. A late or needless ring costs whoever sleeps there one look
+    /// more, and never takes a needed one away: a bell keeps one ring, and the ring for a ticket
+    /// comes after the ticket is served.
     pub fn ring(&self, ticket: u64) {
         self.of(ticket).unpark();
     }

@@ -30,15 +30,17 @@ const TICKET: usize = 1;
 // How many tickets may be before one that is watched for, the one that is served among them.
 const NEAR: u64 = 2;
 
-// How often a thread looks before it sleeps, with the processor's pause between: about as long as a sleeping thread
-// takes to wake, so that two threads which wait for each other do not fall asleep in turn.
+// How often a thread looks before it sleeps, with the processor's pause between: about as long as a
+// sleeping thread takes to wake, so that two threads which wait for each other do not fall asleep
+// in turn.
 const LOOKS: u32 = 2000;
 
 // How many pauses of the processor a call stands back for another thread.
 const PAUSES: u32 = 100;
 
-/// An object that threads share, with the history of their calls. Calls take turns by ticket; a thread that is not
-/// served yet sleeps at the bell of its ticket, which is rung when its turn comes. Contracts see it as its `Origin`.
+/// An object that threads share, with the history of their calls. Calls take turns by ticket; a
+/// thread that is not served yet sleeps at the bell of its ticket, which is rung when its turn
+/// comes. Contracts see it as its `Origin`.
 #[derive(Drop)]
 pub struct Chronicle<O: Object> {
     bells: Bells,
@@ -119,7 +121,9 @@ impl<O: Object> Chronicle<O> {
         }
     }
 
-    // The seats of all allotments: the first one, and those that are split off from it.
+    // The seats of all allotments: the first one, and those that are split off from it. The first
+    // begins with all allotments, and is at rest with its own before it is handed out, so no keeper
+    // of seats stays behind.
     fn all_seats(
         &self,
         alloc: Global,
@@ -156,7 +160,8 @@ impl<O: Object> Chronicle<O> {
         Seat { number, place }
     }
 
-    /// Ends the history: with all its seats back, in any order, the object comes out, and the whole history.
+    /// Ends the history: with all its seats back, in any order, the object comes out, and the whole
+    /// history.
     pub fn close(self, seats: Vec<Seat<O>>) -> (O, Journal<O>)
         requires chronicle { All (λ s. s.chronicle ≡ Some self) seats.items }
         requires all { (n : ℕ) → n < length self.allotments → Any (λ s. s.number ≡ n) seats.items }
@@ -230,8 +235,11 @@ impl<O: Object> Chronicle<O> {
         reply
     }
 
-    // Stands back for a moment where another thread is in its turn and nobody waits. That thread then makes its next
-    // calls with all that they touch at hand; two threads that do nothing but call would else fetch it at each call.
+    // Stands back for a moment where another thread is in its turn and nobody waits. That thread
+    // then makes its next calls with all that they touch at hand; two threads that do nothing but
+    // call would else fetch it at each call. It looks by `peek`, which needs no seat and is no step
+    // of the rule. Whatever it sees, the ticket is drawn after the pauses, so turns go by ticket as
+    // before.
     fn give_way(&self) {
         let drawn = self.table.shared.peek(TICKET);
         let served = self.table.shared.peek(SERVING);
@@ -276,7 +284,8 @@ impl<O: Object> Chronicle<O> {
         }
     }
 
-    // Watches for a bounded time which ticket is served, where few are before this one. Answers whether it is its turn.
+    // Watches for a bounded time which ticket is served, where few are before this one. Answers
+    // whether it is its turn.
     fn watch(&self, ticket: u64) -> bool {
         for _ in 0..LOOKS {
             let before = ticket.wrapping_sub(self.table.shared.peek(SERVING));
@@ -300,8 +309,11 @@ impl<O: Object> Chronicle<O> {
         kept.step(number, request)
     }
 
-    // Gives the object back, passes the turn on, and rings the bell of the next ticket if it was drawn. Who draws it
-    // after this look looks in its turn after the turn was passed, so it finds itself served and does not sleep.
+    // Gives the object back, passes the turn on, and rings the bell of the next ticket if it was
+    // drawn. Who draws it after this look looks in its turn after the turn was passed, so it finds
+    // itself served and does not sleep. All four accesses (this add and look, the caller's draw and
+    // look) are sequentially consistent: with a weaker order a wake-up could be lost. Tickets never
+    // reach 2^64, so equal numbers are one ticket.
     fn pass(&self, place: &mut Place<O>, number: u16, request: &O::Request, reply: &O::Reply)
         requires own { place.old.table_id ≡ self.now.table }
         requires has_to_pass { HasToPass O.base O.state O.room O.sound O.after O.reply (step_of number request.now reply.now) place.old.me }
@@ -311,6 +323,8 @@ impl<O: Object> Chronicle<O> {
         let served = self.table.shared.fetch_add::<Pass>(place, SERVING, 1);
         let next = served.wrapping_add(1);
         if self.table.shared.peek(TICKET) != next {
+            // Also where the next thread only watches: to note who sleeps gained nothing, and a
+            // ring that is kept spares the next sleep.
             self.bells.ring(next);
         }
     }

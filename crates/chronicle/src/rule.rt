@@ -40,7 +40,9 @@ impl<T, B, S, Q, A> Play<Kept<T, Q, A>, Option<View<B, S, Q, A>>> for Draw {
     ghost then = { drew };
 }
 
-/// Looks which ticket is served, and takes the object where it is the seat's.
+/// Looks which ticket is served, and takes the object where it is the seat's. The look that takes
+/// it also notes the whole history as seen: nobody else can take a step before the turn is passed
+/// on, and the pass needs it.
 pub struct Look<O> {
     object: PhantomData<O>,
 }

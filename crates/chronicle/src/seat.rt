@@ -30,6 +30,8 @@ impl<O: Object> Model for Seat<O> {
     ghost use Rattle.chronicle.specs.declared.standing.Standing.{Standing};
     ghost use Rattle.chronicle.specs.Seats.{standing_of, IsAtRest};
 
+    // Its chronicle is optional: a spent seat has no view, and no base fits every object. With a
+    // snapshot of the key beside the view, the kit found no proof that a seat is `Send`.
     ghost Value = { Standing O.Base O.State O.Request O.Reply };
 
     ghost view = { λ s. standing_of s.place.table_id s.number s.place.me.0 };

@@ -12,6 +12,8 @@ pub struct Bench {
     /// How many workers there are.
     pub workers: u16,
     pub(crate) alloc: Global,
+    // Behind locks, since threads share them: a thread is lent only what it has to answer. A worker
+    // locks its own, which no other does meanwhile.
     workspaces: Vec<Mutex<Workspace>>,
     ghost each: { length workspaces.items ≡ workers },
     ghost some: { 1 ≤ workers },
@@ -19,7 +21,8 @@ pub struct Bench {
 }
 
 impl Bench {
-    /// Reserves a workspace for each of 1 to 16 workers. The only error is that memory was wanted and not given.
+    /// Reserves a workspace for each of 1 to 16 workers. The only error is that memory was wanted
+    /// and not given.
     pub fn reserve(alloc: Global, workers: u16) -> Result<Bench, NoMemory>
         requires { (1 ≤ workers) × (workers ≤ MAX_WORKERS) }
         ensures { IfOk result (λ bench. bench.workers ≡ workers) }

@@ -30,11 +30,13 @@ use std::alloc::Global;
 use std::sync::{Arc, Wait};
 use std::thread::Threads;
 
-/// A crowd that is asked by the workers of a bench, each with a workspace of its own. They draw the tasks of a call, or of one version
-/// of it, from one board, each in a thread of its own where one can be started, and pass the gate before their first draw and after
-/// each post. Where what is remembered of earlier calls leaves few students to ask, the caller's own thread asks them, without a board.
-/// Students who are surely asked, at several versions of which few are asked, or on the walk to a least price, are asked by several
-/// workers at once where they are enough for that, also without a board. Its one form is `PooledDemands<AnyGate>`, which `make` gives.
+/// A crowd that is asked by the workers of a bench, each with a workspace of its own. They draw the
+/// tasks of a call, or of one version of it, from one board, each in a thread of its own where one
+/// can be started, and pass the gate before their first draw and after each post. Where what is
+/// remembered of earlier calls leaves few students to ask, the caller's own thread asks them,
+/// without a board. Students who are surely asked, at several versions of which few are asked, or
+/// on the walk to a least price, are asked by several workers at once where they are enough for
+/// that, also without a board. Its one form is `PooledDemands<AnyGate>`, which `make` gives.
 #[derive(Drop)]
 pub struct PooledDemands<G> {
     crowd: Arc<Crowd>,
@@ -47,7 +49,8 @@ pub struct PooledDemands<G> {
 }
 
 impl<'g> PooledDemands<AnyGate<'g>> {
-    /// The demands of this crowd, of which nothing was asked, for the workers of a bench. It takes no memory.
+    /// The demands of this crowd, of which nothing was asked, for the workers of a bench. It takes
+    /// no memory.
     pub fn make(
         bench: Bench,
         crowd: Arc<Crowd>,
@@ -161,7 +164,8 @@ impl<'g> PooledDemands<AnyGate<'g>> {
         Ok(())
     }
 
-    // Remembers what each student takes at these prices, but where few of the listed ones have to be asked and many of all.
+    // Remembers what each student takes at these prices, but where few of the listed ones have to
+    // be asked and many of all.
     fn recall_for<R: Threads + Wait + Sync>(
         &mut self,
         rt: &R,
@@ -187,8 +191,8 @@ impl<'g> PooledDemands<AnyGate<'g>> {
         self.recall(rt, alloc, prices)
     }
 
-    // The least price of one section at which at most so many take it, the other prices as remembered. What is taken there is
-    // remembered: whoever raises the price asks for it next.
+    // The least price of one section at which at most so many take it, the other prices as
+    // remembered. What is taken there is remembered: whoever raises the price asks for it next.
     fn least_alone<R: Threads + Wait + Sync>(
         &mut self,
         rt: &R,
@@ -240,8 +244,8 @@ impl<'g> PooledDemands<AnyGate<'g>> {
         Ok(found)
     }
 
-    // Remembers what each student takes at these prices, where nothing is remembered: of several versions that lie about one,
-    // that one may serve for the others.
+    // Remembers what each student takes at these prices, where nothing is remembered: of several
+    // versions that lie about one, that one may serve for the others.
     fn recall_first<R: Threads + Wait + Sync>(
         &mut self,
         rt: &R,
@@ -334,6 +338,8 @@ impl Demands for PooledDemands<AnyGate<'_>> {
     ) -> Result<Vec<Vec<u32>>, NoMemory> {
         self.asked = self.asked.saturating_add(1);
         let mut found = Vec::with_capacity(alloc, batch.len())?;
+        // What is remembered once stays as it is here: a search counts its neighbours and then asks
+        // again near the vector where it stands.
         self.recall_first(rt, alloc, &batch[0])?;
         let survey = ask_few(
             rt,

@@ -20,7 +20,8 @@ use market_units::{Name, NoMemory, SectionNo, StudentNo};
 use std::alloc::Global;
 use student_roll::Roll;
 
-/// The desk: what each student holds, and who waits for each section. All memory that it will need was taken when it was prepared.
+/// The desk: what each student holds, and who waits for each section. All memory that it will need
+/// was taken when it was prepared.
 #[derive(Drop)]
 pub struct HallDesk {
     rules: MarketRules,
@@ -42,8 +43,8 @@ impl HallDesk {
     ghost use Rattle.dropadd_desk.specs.Step.{add, by_names, drop, given, IsUnknown, has_free_seat, held_by, leave, pass_on, refusal, step, waiting_for, with_held};
     ghost use Rattle.demand_api.specs.Crowds.{holders};
 
-    /// A desk for the sections of the catalogue and the students of the roll, with room for so many requests: each student holds one of
-    /// these bundles, in file order, and nobody waits.
+    /// A desk for the sections of the catalogue and the students of the roll, with room for so many
+    /// requests: each student holds one of these bundles, in file order, and nobody waits.
     pub fn prepare(
         alloc: Global,
         catalog: &Catalog,
@@ -59,6 +60,7 @@ impl HallDesk {
     {
         let rules = MarketRules::copy(alloc, catalog, roll)?;
         let floor = Floor::open(alloc, rules.seats(), final_bundles)?;
+        // Rows as wide as the roll is long: nobody stands in a list twice.
         let lists = WaitingLists::reserve(alloc, catalog.len(), roll.len())?;
         Ok(HallDesk {
             rules,
@@ -127,7 +129,8 @@ impl HallDesk {
         }
     }
 
-    // The student and the section of these names, or the reply to a name that is not known, the student's first.
+    // The student and the section of these names, or the reply to a name that is not known, the
+    // student's first.
     fn find(&self, student: &Name, section: &Name) -> Result<(StudentNo, SectionNo), HallReply>
         ensures student { IfOk result (λ found. student_named (market_of self.now) student.now ≡ Some found.0.0) }
         ensures section { IfOk result (λ found. section_named (market_of self.now) section.now ≡ Some found.1.0) }
@@ -191,7 +194,8 @@ impl HallDesk {
         None
     }
 
-    // The student, who neither holds the section nor waits for it and has room for it, holds it from now on.
+    // The student, who neither holds the section nor waits for it and has room for it, holds it
+    // from now on.
     fn give(&mut self, student: StudentNo, section: SectionNo)
         requires student { student.0 < student_count (market_of self.old) }
         requires section { section.0 < section_count (market_of self.old) }
@@ -225,7 +229,8 @@ impl HallDesk {
         self.pass_on(section)
     }
 
-    // A seat of the section was given up: it goes to the first in the list whom it fits, and those before are out of the list.
+    // A seat of the section was given up: it goes to the first in the list whom it fits, and those
+    // before are out of the list.
     fn pass_on(&mut self, section: SectionNo) -> HallReply
         requires { section.0 < section_count (market_of self.old) }
         ensures market { market_of self.new ≡ market_of self.old }

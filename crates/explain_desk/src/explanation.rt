@@ -2,7 +2,8 @@
 use crate::Reason;
 use bundle_rules::Bundle;
 
-/// The best bundle with a section, with the forced tree that proves it.
+/// The best bundle with a section, with the forced tree that proves it. The `Proved` of
+/// `market_certificate` has a canonical tree, of two symbols fewer.
 #[derive(Drop)]
 pub struct Proved {
     /// The bundle.
@@ -16,6 +17,7 @@ pub struct Proved {
 pub struct Explained {
     /// The first reason that applies.
     pub reason: Reason,
-    /// The best bundle with the section, where the reason is a clash, a limit beside the bundle, or less utility.
+    /// The best bundle with the section, where the reason is a clash, a limit beside the bundle, or
+    /// less utility.
     pub best: Option<Proved>,
 }

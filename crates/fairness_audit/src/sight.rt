@@ -17,8 +17,8 @@ use crate::weights::{Weights, may_be_more};
 use bundle_rules::{Bundle, Menu, feasible, prefers, utility};
 use market_units::{SectionNo, StudentNo};
 
-// What a student with this menu, whose own bundle is worth so much to it, sees in the bundle of another, if that is worth more. Most bundles
-// need no search, by their weights.
+// What a student with this menu, whose own bundle is worth so much to it, sees in the bundle of
+// another, if that is worth more. Most bundles need no search, by their weights.
 pub(crate) fn sight(
     menu: &Menu,
     weights: &Weights,
@@ -78,7 +78,8 @@ fn but_for(bundle: &Bundle, section: SectionNo) -> Bundle
     rest
 }
 
-// The best bundle out of another, where no section costs anything.
+// The best bundle out of another, where no section costs anything. Not by `demand`: the tables of a
+// search cost more than all parts of so small a bundle.
 fn best_out_of(menu: &Menu, bundle: &Bundle) -> Bundle
     ensures value { sections_of result ≡ seen menu.now (sections_of bundle.now) }
     ensures feasible { IsFeasible (wishes_of menu.now) (sections_of result) }
@@ -86,8 +87,8 @@ fn best_out_of(menu: &Menu, bundle: &Bundle) -> Bundle
     best_from(menu, bundle.sections(), Bundle::empty())
 }
 
-// The best of the bundles that are these sections and some of the later ones. Of at most 8 sections all are tried, but for those with a
-// part that the student may not take.
+// The best of the bundles that are these sections and some of the later ones. Of at most 8 sections
+// all are tried, but for those with a part that the student may not take.
 fn best_from(menu: &Menu, later: &[SectionNo], chosen: Bundle) -> Bundle
     requires chosen { IsFeasible (wishes_of menu.now) (sections_of chosen) }
     requires few { length (sections_of chosen) + length later.now ≤ 8 }

@@ -9,7 +9,8 @@ ghost use Rattle.market_edge.specs.Openings.{Opening, Changes, as_before, with_b
 #[derive(Clone, Copy, Debug, PartialEq, Eq)]
 pub struct Failed;
 
-/// Where texts are read from. A call that fails is counted, by the names that it may be about, and no other call is.
+/// Where texts are read from. A call that fails is counted, by the names that it may be about, and
+/// no other call is.
 pub trait Shelf {
     /// What it holds, where it tells. No call changes it.
     ghost holds: { Self → Option Holding };
@@ -23,8 +24,8 @@ pub trait Shelf {
     /// The names that a failed read may be about.
     ghost serves: { Self → List ℕ → Bool };
 
-    /// The names whose texts were begun, in order, each with whether it was read to its end, where it tells. A call may end
-    /// the telling, and none begins it.
+    /// The names whose texts were begun, in order, each with whether it was read to its end, where
+    /// it tells. A call may end the telling, and none begins it.
     ghost openings: { Self → Option (List Opening) };
 
     /// How often begins and reads have failed, by name, up to the greatest `u64`.
@@ -40,11 +41,13 @@ pub trait Shelf {
         ensures opens { OnOk result (Changes (openings self.old) (openings self.new) (with_begun name.now)) }
         ensures opens_none { OnErr result (Changes (openings self.old) (openings self.new) as_before) }
         ensures cause { OnErr result (Rose (faults self.old name.now) (faults self.new name.now)) }
+        // An equation of the whole function of names, so that no caller's proof needs a premise for
+        // each name.
         ensures uncounted { OnOk result (faults self.new ≡ faults self.old) }
         ensures later { (other : List ℕ) → faults self.old other ≤ faults self.new other };
 
-    /// Puts the next bytes of the begun text at the front of the room, and answers how many: 0 at the end of the text
-    /// alone. A failed call takes none.
+    /// Puts the next bytes of the begun text at the front of the room, and answers how many: 0 at
+    /// the end of the text alone. A failed call takes none.
     fn read(&mut self, room: &mut [u8]) -> Result<usize, Failed>
         requires begun { IsTrue (is_begun self.old) }
         requires room { 0 < length room.old }

@@ -7,11 +7,14 @@ use crate::{Failed, Sink};
 use market_units::NoMemory;
 use std::alloc::Global;
 
-/// A sink that takes every byte, and tells them while they are at most so many. Once more were taken it tells nothing.
+/// A sink that takes every byte, and tells them while they are at most so many. Once more were
+/// taken it tells nothing.
 #[derive(Drop)]
 pub struct SureSink {
     bytes: Vec<u8>,
     size: usize,
+    // It goes past `size` and stays at the greatest `usize`: no sink of that size can be made, so
+    // it still says "more than `size`".
     count: usize,
     ghost reserved: { size ≤ vec_capacity bytes },
     ghost counted: { count ≤ size → length bytes.items ≡ count },
@@ -20,7 +23,8 @@ pub struct SureSink {
 impl SureSink {
     ghost use Rattle.market_edge.specs.SureSinks.{count_of, size_of, told_bytes};
 
-    /// A sink that has taken nothing yet, and tells at most `size` bytes. Their room is reserved here.
+    /// A sink that has taken nothing yet, and tells at most `size` bytes. Their room is reserved
+    /// here.
     pub fn make(alloc: Global, size: usize) -> Result<SureSink, NoMemory>
         ensures taken { IfOk result (λ sink. told_bytes sink ≡ Some []) }
         ensures size { IfOk result (λ sink. size_of sink ≡ size) }

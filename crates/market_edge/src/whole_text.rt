@@ -83,6 +83,8 @@ pub fn read_whole<H: Shelf>(
         if count == 0 {
             return Ok(text);
         }
+        // Asked before these bytes are kept, so that want of memory cannot stand in the place of
+        // `TooLong`.
         if text.len() + count > limit {
             return Err(Taking::TooLong);
         }

@@ -9,7 +9,8 @@ use crate::{Key, StepSizes};
 use serde_json::Value;
 use std::alloc::Global;
 
-/// The settings of a market.
+/// The settings of a market. `AreInRange` says the ranges, and no ghost field does, so that clauses
+/// compare settings with the definition's value field by field.
 #[derive(Debug, Drop)]
 pub struct Settings {
     /// The seed of all draws.

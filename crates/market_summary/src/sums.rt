@@ -1,4 +1,5 @@
-// Sums over a publication.
+// Sums over a publication. Seats and bytes are added up in 128 bits: memory alone bounds how many
+// there are, and no list of numbers of 64 bits can overflow it.
 ghost use Rattle.std.specs.Prelude.{◌≡◌, ◌≤◌, ◌*◌, ◌^◌, ◌≤ℤ◌, pos, neg_ℤ, length, map};
 ghost use Rattle.market_units.specs.Totals.{total};
 ghost use Rattle.bundle_rules.specs.Bundles.{sections_of};

@@ -14,6 +14,8 @@ use std::hash::{Hash, Hasher};
 /// A name: 1 to 32 letters, digits, dashes, underscores and dots. Contracts see it as its bytes.
 #[derive(Clone, Copy, Debug)]
 pub struct Name {
+    // Ghost fields and no model: commands hold names and are passed by value more than once, and a
+    // type with a model is `Copy` only with a law that its value gives the fields back.
     room: [u8; 32],
     len: u8,
     // What stands past the name is zeros, so that equal bytes make equal names.

@@ -19,7 +19,8 @@ pub(crate) fn all_students(alloc: Global, count: u16) -> Result<Vec<StudentNo>, 
     Ok(students)
 }
 
-// The students whose bundle has the section.
+// The students whose bundle has the section. One pass over the bundles is little beside the
+// holders' demands, and a table of holders would want memory while bundles are exchanged.
 pub(crate) fn holders(
     alloc: Global,
     bundles: &[Bundle],

@@ -7,14 +7,16 @@ use market_units::NoMemory;
 use std::alloc::Global;
 use std::marker::Model;
 
-/// The number of a row of its region.
+/// The number of a row of its region. Anyone may make one, since each call asks that its row is
+/// live.
 #[derive(Clone, Copy, Debug, PartialEq, Eq)]
 pub struct RowId(pub u32);
 
-/// Rows of one width. Each is live, which is handed out and held by its number, or spare. A live row
-/// keeps what was written to it until it is given back. Only `reserve` takes memory.
+/// Rows of one width. Each is live, which is handed out and held by its number, or spare. A live
+/// row keeps what was written to it until it is given back. Only `reserve` takes memory.
 #[derive(Drop)]
 pub struct Region<T> {
+    // Each is a `Vec` of its own: whatever a borrow of `row_mut` ends with, no other row changes.
     rows: Vec<Vec<T>>,
     spare_ids: Vec<u32>,
     spare: usize,
@@ -40,7 +42,8 @@ impl<T: Copy> Region<T> {
     ghost use Rattle.row_region.specs.Rows.{IsLive, spare_of, with_row, without_row};
     ghost use Rattle.row_region.specs.Lending.{lends_row};
 
-    /// A region of this many spare rows of this width. What a row holds when it is handed out is `fill`.
+    /// A region of this many spare rows of this width. What a row holds when it is handed out is
+    /// `fill`.
     pub fn reserve(alloc: Global, rows: u32, width: u32, fill: T) -> Result<Region<T>, NoMemory>
         ensures { IfOk result (λ region. region ≡ record { width = width; fill = fill; reserved = rows; live = map.empty }) }
     {

@@ -56,6 +56,8 @@ fn post_stream<R: Wait, O: Object, G: Gate>(
     gate.pass(Stop::SessionStart(session));
     for request in stream {
         chronicle.call(rt, seat, *request);
+        // Not while a turn is held: one session at its gate would then hold up all others, and two
+        // could not meet.
         gate.pass(Stop::SessionCall(session));
     }
 }

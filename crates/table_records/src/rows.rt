@@ -13,10 +13,13 @@ use indexmap::IndexSet;
 use market_units::{Name, NoMemory};
 use std::alloc::Global;
 
-/// The version of a table, its rows in the order of their records, and their names in the same order.
+/// The version of a table, its rows in the order of their records, and their names in the same
+/// order.
 #[derive(Drop)]
 pub struct Rows<R> {
     pub version: usize,
+    // By the hasher of `indexmap`, whose seed is fixed: names that collide on purpose are read
+    // slowly. The tables of a market have at most 2,000 names, and no clause speaks of time.
     pub names: IndexSet<Name>,
     pub rows: Vec<R>,
 }

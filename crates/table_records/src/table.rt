@@ -26,11 +26,13 @@ pub trait Table {
     /// What holds of every row that is read from a table of this version.
     ghost is_row: { ℕ → Self.Row → Type 0 };
 
-    /// The headers of the table's versions, from version 1 on: the fields that the first record may be.
+    /// The headers of the table's versions, from version 1 on: the fields that the first record may
+    /// be. Where there are none, every text is refused by its header, so no condition asks for one.
     fn headers(&self) -> &[&[&[u8]]]
         ensures { map (λ header. map (λ f. f.now) header.now) result.now ≡ (rules self.now).headers };
 
-    /// The greatest number of rows, with the refusal of one more; `None` where there is no such number.
+    /// The greatest number of rows, with the refusal of one more; `None` where there is no such
+    /// number.
     fn most(&self) -> Option<(usize, Self::Refusal)>
         ensures { result ≡ (rules self.now).most };
 
@@ -42,8 +44,8 @@ pub trait Table {
     fn refuse(&self, fault: Fault) -> Self::Refusal
         ensures { result ≡ (rules self.now).refusal fault };
 
-    /// The row of this number and name that the record is in a table of this version, or the refusal of its first bad
-    /// column after the first.
+    /// The row of this number and name that the record is in a table of this version, or the
+    /// refusal of its first bad column after the first.
     fn read_row(
         &self,
         version: usize,

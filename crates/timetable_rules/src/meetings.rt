@@ -11,6 +11,7 @@ pub struct Meetings {
     places: [Meeting; MAX_MEETINGS],
     len: usize,
     ghost few: { len ≤ 10 },
+    // The ranges stand here, so that a `Meeting` is plain data, which definitions can write down.
     ghost each: { All IsMeeting (take len places) },
 }
 
