@@ -8,7 +8,7 @@ use Rattle.chronicle.proofs.HistoryLaws.{legal_front}
 use Rattle.course_catalog.specs.Catalog.{IsCatalog}
 use Rattle.course_catalog.specs.Sections.{Section}
 use Rattle.dropadd_desk.specs.declared.command.HallCommand.{HallCommand}
-use Rattle.dropadd_desk.specs.Halls.{IsHall, opening}
+use Rattle.dropadd_desk.specs.Halls.{IsHall}
 use Rattle.dropadd_desk.specs.Market.{Market, section_count, student_count}
 use Rattle.dropadd_desk.specs.Openings.{IsLawful}
 use Rattle.dropadd_desk.specs.Shared.{is_sound, reply_to, state_after}
@@ -21,12 +21,11 @@ use Rattle.dropadd_hall.specs.Faults.{IsFaultless}
 use Rattle.held_seats.specs.Floors.{AreBelow}
 use Rattle.market_certificate.specs.Publications.{IsPublication, Publication}
 use Rattle.market_certificate.specs.Tables.{AreTables}
-use Rattle.market_certificate.specs.Texts.{IsPublished}
 use Rattle.market_certificate.proofs.NamesOf.{tables_are}
 use Rattle.market_certificate.proofs.OneText.{one_publication}
 use Rattle.student_roll.specs.Students.{IsRoll, Student}
 use Rattle.published_halls.specs.Laws.{ToldHallIsAllowed, ToldHallIsConserved, ToldHallServesTheFirst, ToldRefusalsChangeNothing}
-use Rattle.published_halls.specs.Openings.{CanOpen, IsTextOf, Opens, opened, tables_in}
+use Rattle.published_halls.specs.Openings.{CanOpen, IsTextOf, opened, tables_in}
 use Rattle.published_halls.specs.Told.{IsToldHall}
 
 -- one for each student
