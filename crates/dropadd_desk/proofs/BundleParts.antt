@@ -2,7 +2,8 @@
 use Rattle.std.proofs.Common.{ℕ, suc, ◌≡◌, ◌<◌, ◌≤◌, ◌+◌, ◌++◌, ◌∙◌, Bool, true, false, List, [], ◌∷◌, length, take, drop, arith, refl, sym, ap, subst, map, None, Some, cond, get_or}
 use Rattle.std.specs.Prelude.{nat_lt, nat_le, not}
 use Rattle.std.proofs.lemmas.Bool.{ltb-false}
-use Rattle.std.specs.List.{filter, position, position_or_len}
+use Rattle.std.specs.List.{All, filter, position, position_or_len}
+use Rattle.std.proofs.lemmas.List.Elements.{All-map}
 use Rattle.std.proofs.lemmas.List.{append_assoc, length-append, get_or-map, length-map, map-append, map_more, take-append-drop}
 use Rattle.market_units.specs.declared.units.SectionNo.{SectionNo}
 use Rattle.bundle_rules.specs.declared.bundle.Bundle.{Bundle}
@@ -12,6 +13,14 @@ use Rattle.bundle_rules.specs.Ordinals.{ordinals, IsBundle}
 use Rattle.bundle_rules.specs.Existence.Members.{IsAscending-front}
 use Rattle.dropadd_desk.specs.Sets.{place_in, with_section, without_section}
 use Rattle.dropadd_desk.proofs.SetChanges.{place_within, lower_part, higher_part, other_parts, with_ascends, without_ascends, length-with, length-without}
+
+-- the sections of each bundle ascend
+sections_ascend : (bundle : Bundle) → IsAscending (sections_of bundle)
+unfolding sections_of
+sections_ascend bundle = bundle.ascending
+
+pub bundles_ascend : (bundles : List Bundle) → All IsAscending (map sections_of bundles)
+bundles_ascend bundles = All-map IsAscending sections_of bundles (λ k d low. sections_ascend (get_or bundles k d))
 
 -- a front of a bundle is a bundle
 bundle_front : (xs ys : List ℕ) → IsBundle (xs ++ ys) → IsBundle xs

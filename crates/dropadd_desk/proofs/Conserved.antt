@@ -1,4 +1,4 @@
--- Histories of steps from a lawful opening.
+-- Histories of steps from an opening where nobody waits, no section is over its seats, and each student's sections keep timetable and caps.
 use Rattle.std.proofs.Common.{ℕ, ◌≡◌, ◌≢◌, ◌<◌, ◌≤◌, ◌+◌, ◌++◌, ◌==◌, ◌&&◌, ◌∙◌, ◌⊎◌, Bool, true, false, List, [], ◌∷◌, length, map, arith, refl, sym, ap, subst, inl, inr, Some, None, cond}
 use Rattle.std.specs.Prelude.{slice_get, slice_index, nat_lt, Option, if◌then◌else◌}
 use Rattle.std.specs.List.{position_or_len}
@@ -21,12 +21,13 @@ use Rattle.dropadd_desk.specs.declared.reply.HallReply.TheVariants as reply
 use Rattle.dropadd_desk.specs.declared.shared.HallState.{HallState}
 use Rattle.dropadd_desk.specs.Market.{Market, offered, section_count, section_named, seats_in, student_count, student_named}
 use Rattle.dropadd_desk.specs.Halls.{IsHall}
+use Rattle.dropadd_desk.specs.Holdings.{held_after, held_after_reply, held_by_replies, names_student}
 use Rattle.dropadd_desk.specs.Openings.{IsLawful}
 use Rattle.dropadd_desk.specs.Laws.{ConservationLaw, IsFair}
 use Rattle.dropadd_desk.specs.Lines.{HallStep, Line, is_added, is_dropped, is_passed_on, is_refusal, line_after, line_from, line_of, named_student, names_section, no_line, noted, replies}
 use Rattle.dropadd_desk.specs.Replies.{NamesInRange}
 use Rattle.dropadd_desk.specs.Shared.{is_sound, state_after, reply_to}
-use Rattle.dropadd_desk.specs.Step.{add, by_names, drop as drop_section, known, leave, step as step_of, waiting_for}
+use Rattle.dropadd_desk.specs.Step.{add, by_names, drop as drop_section, held_by, known, leave, step as step_of, waiting_for}
 use Rattle.dropadd_desk.proofs.Stepped.{IsQuiet, IsStepped, add_step, drop_step, leave_step, one_if, quiet, students_in}
 use Rattle.dropadd_desk.proofs.Tickets.{all_in_order, each_once}
 
@@ -58,6 +59,7 @@ pub record IsAbout (market : Market) (state : HallState) (command : HallCommand)
   pub section : s < section_count market
   pub names : (t : ℕ) → names_section market t command ≡ (s == t)
   pub who : named_student market command ≡ i
+  pub students : (j : ℕ) → names_student market j command ≡ (i == j)
   pub stepped : IsStepped market state i s (step_of market state command)
 
 -- the two names of a request
@@ -87,8 +89,9 @@ names_or_quiet market state student section made = cases (student_named market s
 -- a request by two names changes nothing, or is of a known student about a known section, where what is made for these is a step
 of_names : (market : Market) (state : HallState) (command : HallCommand) (student section : Name) (made : ℕ → ℕ → HallReply × HallState) → step_of market state command ≡ by_names market state student section made
     → ((t : ℕ) → names_section market t command ≡ known (section_named market section) false (λ u. u == t)) → named_student market command ≡ known (student_named market student) 0 (λ (i : ℕ). i)
+    → ((j : ℕ) → names_student market j command ≡ known (student_named market student) false (λ k. k == j))
     → ((n : Names market state student section made) → IsStepped market state n.i n.s (made n.i n.s)) → IsQuietStep market state command ⊎ ((i : ℕ) × (s : ℕ) × IsAbout market state command i s)
-of_names market state command student section made steps names who stepped = elim (names_or_quiet market state student section made) [
+of_names market state command student section made steps names who students stepped = elim (names_or_quiet market state student section made) [
   | inl q ↦ inl (record { answer = q.0; is = steps ∙ q.1; nothing = quiet q.0 q.2 })
   | inr n ↦ inr (
     n.i,
@@ -97,6 +100,7 @@ of_names market state command student section made steps names who stepped = eli
       section = section_within market section n.s n.section_is;
       names = λ t. names t ∙ ap (λ p. known p false (λ u. u == t)) n.section_is;
       who = who ∙ ap (λ o. known o 0 (λ (i : ℕ). i)) n.student_is;
+      students = λ j. students j ∙ ap (λ o. known o false (λ k. k == j)) n.student_is;
       stepped = subst (IsStepped market state n.i n.s) (sym (steps ∙ n.made_is)) (stepped n);
     },
   )
@@ -106,13 +110,13 @@ pub every_step : (market : Market) (state : HallState) → IsHall market state �
 unfolding step_of
 every_step market state is Unreadable = inl (record { answer = reply.Unreadable; is = refl; nothing = quiet reply.Unreadable refl })
 every_step market state is (Add student section) =
-    of_names market state (Add student section) student section (add market state) refl (λ t. refl) refl
+    of_names market state (Add student section) student section (add market state) refl (λ t. refl) refl (λ j. refl)
     (λ n. add_step market state is n.i n.s (student_within market student n.i n.student_is) (section_within market section n.s n.section_is))
 every_step market state is (Drop student section) =
-    of_names market state (Drop student section) student section (drop_section market state) refl (λ t. refl) refl
+    of_names market state (Drop student section) student section (drop_section market state) refl (λ t. refl) refl (λ j. refl)
     (λ n. drop_step market state n.i n.s is (student_within market student n.i n.student_is) (section_within market section n.s n.section_is))
 every_step market state is (Leave student section) =
-    of_names market state (Leave student section) student section (leave state) refl (λ t. refl) refl (λ n. leave_step market state is n.i n.s (section_within market section n.s n.section_is))
+    of_names market state (Leave student section) student section (leave state) refl (λ t. refl) refl (λ j. refl) (λ n. leave_step market state is n.i n.s (section_within market section n.s n.section_is))
 
 -- a state that is kept stays one
 pub hall_after : (market : Market) (state : HallState) (command : HallCommand) → IsHall market state → IsHall market (step_of market state command).1
@@ -132,6 +136,7 @@ pub record IsOneStep (market : Market) (state : HallState) (line : Line) (number
   pub kept : IsKept market (state_after market state step.seat step.request) (line_after market s number step line) s
   pub balance : holders s (state_after market state step.seat step.request).held + one_if (names_section market s step.request && is_dropped step.reply)
       ≡ holders s state.held + one_if (names_section market s step.request && is_added step.reply) + one_if (names_section market s step.request && is_passed_on step.reply)
+  pub who : (j : ℕ) → has (held_by (state_after market state step.seat step.request) j) s ≡ held_after market s j step (has (held_by state j) s)
   pub next : (lapsed : ℕ) (next : StudentNo) → names_section market s step.request ≡ true → step.reply ≡ reply.Dropped lapsed (Some next) → slice_get (waiting_for state s) lapsed ≡ Some next.0
 
 and_none : (b c : Bool) → c ≡ false → one_if (b && c) ≡ 0
@@ -151,6 +156,8 @@ one_step market state line number s step kept replied = elim (every_step market 
       record {
         kept = subst (λ h. IsKept market h (line_after market s number step line) s) (sym same) (subst (λ l. IsKept market state l s) (sym line_same) kept);
         balance = omega (arith, dropped, added, passed, count);
+        who = λ j. ap (λ (h : HallState). has (held_by h j) s) same ∙ sym (held_nothing (names_section market s step.request) j (names_student market j step.request) (has (held_by state j) s) step.reply
+            (ap (λ r. held_after_reply j (names_student market j step.request) r (has (held_by state j) s)) answer ∙ q.nothing.held j (names_student market j step.request) (has (held_by state j) s)));
         next = λ lapsed next names is. absurd (q.nothing.next lapsed next (sym answer ∙ is));
       }
   | inr about ↦ named_step about.0 about.1 about.2
@@ -159,6 +166,10 @@ one_step market state line number s step kept replied = elim (every_step market 
     read_nothing : (b : Bool) (i : ℕ) (answer : HallReply) → noted number i answer line ≡ line → (if b then noted number i answer line else line) ≡ line
     read_nothing true i answer e = e
     read_nothing false i answer e = refl
+
+    held_nothing : (b : Bool) (j : ℕ) (is_named before : Bool) (answer : HallReply) → held_after_reply j is_named answer before ≡ before → (if b then held_after_reply j is_named answer before else before) ≡ before
+    held_nothing true j is_named before answer e = e
+    held_nothing false j is_named before answer e = refl
 
     after : HallState
     after = state_after market state step.seat step.request
@@ -183,6 +194,10 @@ one_step market state line number s step kept replied = elim (every_step market 
             };
             balance = dropped_balance (one_if (names_section market s step.request && is_dropped step.reply)) (one_if (is_dropped (reply_to market state step.seat step.request))) (one_if (names_section market s step.request && is_added step.reply)) (one_if (is_added (reply_to market state step.seat step.request)))
                 (one_if (names_section market s step.request && is_passed_on step.reply)) (one_if (is_passed_on (reply_to market state step.seat step.request))) (holders s after.held) (holders s state.held) dropped added passed stepped.balance;
+            who = λ j. stepped.held j ∙ sym (
+                ap (λ b. if b then held_after_reply j (names_student market j step.request) step.reply (has (held_by state j) s) else has (held_by state j) s) named
+                ∙ ap (λ b. held_after_reply j b step.reply (has (held_by state j) s)) (about.students j)
+                ∙ ap (λ r. held_after_reply j (i == j) r (has (held_by state j) s)) replied);
             next = λ lapsed next names is. stepped.next lapsed next (sym replied ∙ is);
           }
       | inr other ↦
@@ -205,6 +220,7 @@ one_step market state line number s step kept replied = elim (every_step market 
               told = ap (λ (l : Line). students_in l.waiting) read ∙ kept.told ∙ sym waiting;
             };
             balance = omega (arith, dropped, added, passed, count);
+            who = λ j. about.stepped.held_elsewhere s apart j ∙ sym (ap (λ b. if b then held_after_reply j (names_student market j step.request) step.reply (has (held_by state j) s) else has (held_by state j) s) named);
             next = λ lapsed next names is. absurd (false≢true (sym named ∙ names));
           }
     ]
@@ -216,15 +232,17 @@ one_step market state line number s step kept replied = elim (every_step market 
 pub record IsWhole (market : Market) (state : HallState) (line : Line) (number s : ℕ) (history : List HallStep) : Type 0 where
   pub kept : IsKept market (state_after_steps state_after market state history) (line_from market s number history line) s
   pub balance : holders s (state_after_steps state_after market state history).held + replies market s is_dropped history ≡ holders s state.held + replies market s is_added history + replies market s is_passed_on history
+  pub who : (i : ℕ) → has (held_by (state_after_steps state_after market state history) i) s ≡ held_by_replies market s i history (has (held_by state i) s)
 
 pub all_steps : (market : Market) (state : HallState) (line : Line) (number s : ℕ) (history : List HallStep) → IsKept market state line s → IsLegal is_sound state_after reply_to market state history → IsWhole market state line number s history
-all_steps market state line number s [] kept legal = record { kept = kept; balance = (let n : ℕ = holders s state.held in let goal : n + 0 ≡ n + 0 + 0 = omega arith in goal) }
+all_steps market state line number s [] kept legal = record { kept = kept; balance = (let n : ℕ = holders s state.held in let goal : n + 0 ≡ n + 0 + 0 = omega arith in goal); who = λ i. refl }
 all_steps market state line number s (step ∷ more) kept legal =
     let one = one_step market state line number s step kept legal.1 in
     let rest = all_steps market (state_after market state step.seat step.request) (line_after market s number step line) (number + 1) s more one.kept legal.2 in
     record {
       kept = rest.kept;
       balance = in_a_row _ _ _ _ _ _ _ _ _ one.balance rest.balance;
+      who = λ i. rest.who i ∙ ap (held_by_replies market s i more) (one.who i);
     }
   where
     in_a_row : (d d' a a' p p' n m k : ℕ) → n + d ≡ m + a + p → k + d' ≡ n + a' + p' → k + (d + d') ≡ m + (a + a') + (p + p')
@@ -247,7 +265,9 @@ conserved market opening history is lawful legal s low =
     let start = opened market opening s is lawful low in
     let whole = all_steps market opening no_line 0 s history start legal in
     record {
+      hall = whole.kept.hall;
       fair = whole.kept.fair;
+      who = whole.who;
       balance = whole.balance;
       waiting = whole.kept.told;
       once = λ number. each_once market s history number;

@@ -83,6 +83,7 @@ module _ (market : Market) (state : HallState) (is : IsHall market state) (i s :
       record {
         lapse = λ k j before at. lapse_before k j (omega arith) at;
         behind = none;
+        all = λ f. all;
         fit = λ one f. absurd (cc f);
         given = λ j inside lacks. (
           λ there. absurd (false≢true (sym (lacks_still j lacks) ∙ there)),
@@ -100,6 +101,7 @@ module _ (market : Market) (state : HallState) (is : IsHall market state) (i s :
       record {
         lapse = λ k j before there. lapse_before k j (omega arith) there;
         behind = here;
+        all = λ f. absurd (cc f);
         fit = λ one f. let same : w ≡ one.0 = number_same w one f in subst (λ n. fits market n s (held_by state n) ≡ true) same (sym (fit_is w waits) ∙ found_passes fit list w e);
         given = λ j inside lacks. (
           λ there. elim (cases_eq j w) [

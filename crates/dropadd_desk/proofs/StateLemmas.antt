@@ -1,12 +1,12 @@
 -- A desk's state, as its parts change.
 use Rattle.std.proofs.Common.{ℕ, zero, suc, ◌≡◌, ◌<◌, ◌≤◌, ◌+◌, ◌∙◌, Bool, true, false, not, List, [], length, arith, refl, sym, ap, subst, get_or}
-use Rattle.std.specs.Prelude.{slice_set, replicate, nat_lt, is_some, ◌&&◌}
+use Rattle.std.specs.Prelude.{slice_set, replicate, nat_lt, is_some, ◌&&◌, All}
 use Rattle.std.specs.FinSet as set
 use Rattle.std.proofs.lemmas.Bool.{false≢true, ltb-false}
 use Rattle.std.proofs.lemmas.List.{length-map, length-replicate}
 use Rattle.course_catalog.specs.Sections.{Section}
 use Rattle.student_roll.specs.Students.{no_student}
-use Rattle.bundle_rules.specs.Sets.{has}
+use Rattle.bundle_rules.specs.Sets.{has, IsAscending}
 use Rattle.held_seats.specs.declared.floor.Floor.{Floor}
 use Rattle.held_seats.specs.Floors.{AreBelow, IsFloor, held_on}
 use Rattle.dropadd_desk.specs.declared.shared.HallState.{HallState}
@@ -38,10 +38,11 @@ nobody_waits (suc n) zero = refl
 nobody_waits (suc n) (suc s) = nobody_waits n s
 
 -- the opening is a state
-pub opening_hall : (market : Market) (held : List (List ℕ)) → length held ≡ student_count market → AreBelow (section_count market) held → IsHall market (opening market held)
-opening_hall market held count within = record {
+pub opening_hall : (market : Market) (held : List (List ℕ)) → length held ≡ student_count market → AreBelow (section_count market) held → All IsAscending held → IsHall market (opening market held)
+opening_hall market held count within up = record {
   each_student = count;
   within = within;
+  ascending = up;
   each_section = length-replicate (section_count market) [];
   queues = λ s. subst (IsQueue (student_count market)) (sym (nobody_waits (section_count market) s)) (record { once = λ i. omega arith; within = λ i there. absurd (false≢true there) });
   apart = λ i s there. absurd (false≢true (sym (ap (λ l. has l i) (nobody_waits (section_count market) s)) ∙ there));
@@ -68,8 +69,8 @@ fits_few market i s set is low fit =
     last_of false false false e = refl
 
 -- the same, of what was made for the opening
-pub opening_of : (made market : Market) (held bundles : List (List ℕ)) (lists : Lists) → made ≡ market → held ≡ bundles → length bundles ≡ student_count market → AreBelow (section_count market) bundles → lists.lists ≡ replicate (section_count market) []
+pub opening_of : (made market : Market) (held bundles : List (List ℕ)) (lists : Lists) → made ≡ market → held ≡ bundles → length bundles ≡ student_count market → AreBelow (section_count market) bundles → All IsAscending bundles → lists.lists ≡ replicate (section_count market) []
     → IsHall made (record { held = held; waiting = lists.lists })
-opening_of made market held bundles lists is same count within none =
+opening_of made market held bundles lists is same count within up none =
     let state : ◌≡◌ {A = HallState} (record { held = held; waiting = lists.lists }) (opening market bundles) = λ i. record { held = same i; waiting = none i } in
-    subst (λ m. IsHall m (record { held = held; waiting = lists.lists })) (sym is) (subst (IsHall market) (sym state) (opening_hall market bundles count within))
+    subst (λ m. IsHall m (record { held = held; waiting = lists.lists })) (sym is) (subst (IsHall market) (sym state) (opening_hall market bundles count within up))

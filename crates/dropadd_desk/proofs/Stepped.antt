@@ -1,5 +1,5 @@
 -- What a student's step about a section does, and what it leaves.
-use Rattle.std.proofs.Common.{ℕ, zero, suc, ◌≡◌, ◌≢◌, ◌<◌, ◌≤◌, ◌+◌, ◌++◌, ◌==◌, ◌∙◌, Bool, true, false, not, List, [], ◌∷◌, length, map, drop, arith, refl, sym, ap, subst, inl, inr, Some, None}
+use Rattle.std.proofs.Common.{ℕ, zero, suc, ◌≡◌, ◌≢◌, ◌<◌, ◌≤◌, ◌+◌, ◌++◌, ◌==◌, ◌&&◌, ◌||◌, ◌∙◌, Bool, true, false, not, List, [], ◌∷◌, length, map, drop, arith, refl, sym, ap, subst, inl, inr, Some, None}
 use Rattle.std.specs.Prelude.{slice_get, slice_index, option_map, if◌then◌else◌, nat_lt, Option}
 use Rattle.std.specs.List.{before_first, after_first, filter, find, position_or_len}
 use Rattle.std.proofs.lemmas.Bool.{cases_Bool, false≢true, true≢false, ltb-true}
@@ -18,11 +18,12 @@ use Rattle.dropadd_desk.specs.Market.{Market, offered, section_count, student_co
 use Rattle.dropadd_desk.specs.Sets.{with_section, without_section}
 use Rattle.dropadd_desk.specs.Fits.{fits, lowest_clash, passes_credits, passes_courses}
 use Rattle.dropadd_desk.specs.Halls.{IsHall}
+use Rattle.dropadd_desk.specs.Holdings.{held_after_reply}
 use Rattle.dropadd_desk.specs.Lines.{Line, Ticket, is_added, is_dropped, is_passed_on, is_queued, is_refusal, noted}
 use Rattle.dropadd_desk.specs.Step.{add, answered, drop as drop_section, first_of, given, has_free_seat, held_by, leave, pass_on, refusal, waiting_for, where_so, with_held, with_waiting}
 use Rattle.bundle_rules.specs.Existence.Members.{has-here, has-there}
 use Rattle.dropadd_desk.proofs.Queues.{none_behind, without_has, has_behind}
-use Rattle.dropadd_desk.proofs.Steps.{behind_keeps, holders_same, left_keeps, one_holder_fewer, one_holder_more, queued_keeps, waiting_here, waiting_there, with_keeps, with_other, without_keeps, without_other}
+use Rattle.dropadd_desk.proofs.Steps.{behind_keeps, held_same, held_with, held_without, holders_same, left_keeps, one_holder_fewer, one_holder_more, queued_keeps, waiting_here, waiting_there, with_keeps, with_other, without_keeps, without_other}
 
 -- who stands at a place
 pub has_at : (xs : List ℕ) (n i : ℕ) → slice_get xs n ≡ Some i → has xs i ≡ true
@@ -47,6 +48,8 @@ pub record IsStepped (market : Market) (state : HallState) (i s : ℕ) (outcome 
   pub hall : IsHall market outcome.1
   pub held_others : (t : ℕ) → t ≢ s → holders t outcome.1.held ≡ holders t state.held
   pub waiting_others : (t : ℕ) → t ≢ s → waiting_for outcome.1 t ≡ waiting_for state t
+  pub held : (j : ℕ) → has (held_by outcome.1 j) s ≡ held_after_reply j (i == j) outcome.0 (has (held_by state j) s)
+  pub held_elsewhere : (t : ℕ) → t ≢ s → (j : ℕ) → has (held_by outcome.1 j) t ≡ has (held_by state j) t
   pub seats : holders s state.held ≤ (offered market s).seats → holders s outcome.1.held ≤ (offered market s).seats
   pub full : ((j : ℕ) → has (waiting_for state s) j ≡ true → has_free_seat market state s ≡ false) → (j : ℕ) → has (waiting_for outcome.1 s) j ≡ true → has_free_seat market outcome.1 s ≡ false
   pub balance : holders s outcome.1.held + one_if (is_dropped outcome.0) ≡ holders s state.held + one_if (is_added outcome.0) + one_if (is_passed_on outcome.0)
@@ -56,6 +59,7 @@ pub record IsStepped (market : Market) (state : HallState) (i s : ℕ) (outcome 
 -- a reply that changes nothing
 pub record IsQuiet (answer : HallReply) : Type 0 where
   pub line : (number i : ℕ) (line : Line) → noted number i answer line ≡ line
+  pub held : (j : ℕ) (is_named before : Bool) → held_after_reply j is_named answer before ≡ before
   pub added : is_added answer ≡ false
   pub dropped : is_dropped answer ≡ false
   pub passed : is_passed_on answer ≡ false
@@ -67,7 +71,7 @@ quiet reply.Added e = absurd (false≢true e)
 quiet (reply.Queued ahead) e = absurd (false≢true e)
 quiet (reply.Dropped lapsed next) e = absurd (false≢true e)
 quiet reply.Left e = absurd (false≢true e)
-quiet _ e = record { line = λ n i line. refl; added = refl; dropped = refl; passed = refl; queued = refl; next = λ l w f. cc }
+quiet _ e = record { line = λ n i line. refl; held = λ j is_named before. refl; added = refl; dropped = refl; passed = refl; queued = refl; next = λ l w f. cc }
 
 -- a refusal is such a reply
 abbrev pub QuietOrNone : Option HallReply → Type 0
@@ -119,6 +123,8 @@ module _ (market : Market) (state : HallState) (is : IsHall market state) where
     hall = is;
     held_others = λ t apart. refl;
     waiting_others = λ t apart. refl;
+    held = λ j. sym (q.held j (i == j) (has (held_by state j) s));
+    held_elsewhere = λ t apart j. refl;
     seats = λ few. few;
     full = λ all. all;
     balance = (let d : one_if (is_dropped answer) ≡ 0 = ap one_if q.dropped in let a : one_if (is_added answer) ≡ 0 = ap one_if q.added in let p : one_if (is_passed_on answer) ≡ 0 = ap one_if q.passed in let n : ℕ = holders s state.held in let goal : n + one_if (is_dropped answer) ≡ n + one_if (is_added answer) + one_if (is_passed_on answer) = omega arith in goal);
@@ -140,6 +146,8 @@ module _ (market : Market) (state : HallState) (is : IsHall market state) where
         hall = with_keeps market state is i s low below waits;
         held_others = λ t apart. holders_same market state i t (with_section s (held_by state i)) inside (with_other market s t (held_by state i) apart);
         waiting_others = λ t apart. refl;
+        held = held_with state i s inside;
+        held_elsewhere = λ t apart. held_same state i t (with_section s (held_by state i)) inside (with_other market s t (held_by state i) apart);
         seats = λ few. let h : slice_index (seats_in market) s ≡ (offered market s).seats = seats_at s below in omega (arith, more, room, h);
         full = λ all j there. absurd (false≢true (sym (all j there) ∙ free));
         balance = omega (arith, more);
@@ -156,6 +164,8 @@ module _ (market : Market) (state : HallState) (is : IsHall market state) where
         hall = queued_keeps market state is i s low below lacks waits;
         held_others = λ t apart. refl;
         waiting_others = λ t apart. waiting_there state s t (waiting_for state s ++ i ∷ []) apart;
+        held = λ j. refl;
+        held_elsewhere = λ t apart j. refl;
         seats = λ few. few;
         full = λ all j there. taken;
         balance = nothing (holders s state.held);
@@ -197,6 +207,8 @@ module _ (market : Market) (state : HallState) (is : IsHall market state) where
             hall = left_keeps market state is i s below;
             held_others = λ t apart. refl;
             waiting_others = λ t apart. waiting_there state s t (without_section i (waiting_for state s)) apart;
+            held = λ j. refl;
+            held_elsewhere = λ t apart j. refl;
             seats = λ few. few;
             full = λ all j there. all j (without_has i j (waiting_for state s) (sym (ap (λ l. has l j) here) ∙ there));
             balance = nothing (holders s state.held);
@@ -209,6 +221,8 @@ module _ (market : Market) (state : HallState) (is : IsHall market state) where
     pub hall : IsHall market outcome.1
     pub held_others : (t : ℕ) → t ≢ s → holders t outcome.1.held ≡ holders t state.held
     pub waiting_others : (t : ℕ) → t ≢ s → waiting_for outcome.1 t ≡ waiting_for state t
+    pub held : (j : ℕ) (is_named before : Bool) → (not is_named && before) ≡ has (held_by state j) s → has (held_by outcome.1 j) s ≡ held_after_reply j is_named outcome.0 before
+    pub held_elsewhere : (t : ℕ) → t ≢ s → (j : ℕ) → has (held_by outcome.1 j) t ≡ has (held_by state j) t
     pub dropped : is_dropped outcome.0 ≡ true
     pub added : is_added outcome.0 ≡ false
     pub count : holders s outcome.1.held ≡ holders s state.held + one_if (is_passed_on outcome.0)
@@ -247,6 +261,8 @@ module _ (market : Market) (state : HallState) (is : IsHall market state) where
             hall = hall_behind;
             held_others = λ t apart. refl;
             waiting_others = λ t apart. waiting_there state s t rest apart;
+            held = λ j is_named before e. sym e;
+            held_elsewhere = λ t apart j. refl;
             dropped = refl;
             added = refl;
             count = omega arith;
@@ -270,6 +286,8 @@ module _ (market : Market) (state : HallState) (is : IsHall market state) where
             hall = with_keeps market behind hall_behind w s student below (ap (λ l. has l w) here ∙ none_behind (student_count market) w place list (is.queues s) at);
             held_others = λ t apart. holders_same market state w t (with_section s (held_by state w)) inside (with_other market s t (held_by state w) apart);
             waiting_others = λ t apart. waiting_there state s t rest apart;
+            held = λ j is_named before e. held_with behind w s inside j ∙ ap (λ b. w == j || b) (sym e);
+            held_elsewhere = λ t apart. held_same behind w t (with_section s (held_by state w)) inside (with_other market s t (held_by state w) apart);
             dropped = refl;
             added = refl;
             count = one_holder_more market state w s inside lacks;
@@ -320,6 +338,8 @@ drop_step market state i s is low below = by_place (has (held_by state i) s) ref
           hall = p.hall;
           held_others = λ t apart. p.held_others t apart ∙ holders_same market state i t (without_section s (held_by state i)) inside (without_other market s t (held_by state i) apart);
           waiting_others = λ t apart. p.waiting_others t apart;
+          held = λ j. p.held j (i == j) (has (held_by state j) s) (sym (held_without state i s inside j));
+          held_elsewhere = λ t apart j. p.held_elsewhere t apart j ∙ held_same state i t (without_section s (held_by state i)) inside (without_other market s t (held_by state i) apart) j;
           seats = λ few. let most = at_most_one (is_passed_on outcome.0) in omega (arith, one, count, most, few);
           full = λ all j there. elim (cases_Bool (is_passed_on outcome.0)) [
             | inl is_so ↦

@@ -1,11 +1,11 @@
 -- What a step makes of a state.
-use Rattle.std.proofs.Common.{ℕ, ◌≡◌, ◌≢◌, ◌<◌, ◌+◌, ◌++◌, ◌==◌, ◌||◌, ◌∙◌, Bool, true, false, List, [], ◌∷◌, length, drop, arith, refl, sym, ap, subst, inl, inr, length-set, get_or}
+use Rattle.std.proofs.Common.{ℕ, ◌≡◌, ◌≢◌, ◌<◌, ◌+◌, ◌++◌, ◌==◌, ◌&&◌, ◌||◌, ◌∙◌, Bool, true, false, not, List, [], ◌∷◌, length, drop, arith, refl, sym, ap, subst, inl, inr, length-set, get_or}
 use Rattle.std.specs.Prelude.{slice_set, if◌then◌else◌, nat_lt}
 use Rattle.std.specs.List.{All}
 use Rattle.std.proofs.lemmas.Bool.{cases_Bool, cases_eq, eq-eqb, ne_eqb, eqb-true, false≢true, ltb-true, ltb-false}
 use Rattle.std.proofs.lemmas.List.{get_or-set_same, get_or-set_other, get_or_past}
 use Rattle.std.proofs.lemmas.Option.{slice_get-get_or}
-use Rattle.bundle_rules.specs.Sets.{has}
+use Rattle.bundle_rules.specs.Sets.{has, IsAscending}
 use Rattle.demand_api.specs.Crowds.{holders}
 use Rattle.held_seats.proofs.Gets.{holders_set}
 use Rattle.dropadd_desk.specs.declared.shared.HallState.{HallState}
@@ -13,7 +13,7 @@ use Rattle.dropadd_desk.specs.Market.{Market, section_count, student_count}
 use Rattle.dropadd_desk.specs.Sets.{with_section, without_section}
 use Rattle.dropadd_desk.specs.Halls.{IsHall, IsQueue}
 use Rattle.dropadd_desk.specs.Step.{held_by, waiting_for, with_held, with_waiting}
-use Rattle.dropadd_desk.proofs.SetChanges.{has-with, has-without}
+use Rattle.dropadd_desk.proofs.SetChanges.{has-with, has-without, with_ascends, without_ascends}
 use Rattle.dropadd_desk.proofs.Queues.{queue_behind, queue_more, queue_without, without_has, has_push, has_behind}
 
 -- what a bundle that is written, and a list that is written, changes
@@ -29,6 +29,38 @@ waiting_here state s list low = get_or-set_same state.waiting s list [] low
 pub waiting_there : (state : HallState) (s t : ℕ) (list : List ℕ) → t ≢ s → waiting_for (with_waiting state s list) t ≡ waiting_for state t
 waiting_there state s t list apart = get_or-set_other state.waiting s t list [] apart
 
+-- what each student holds where one holds a section more, or one fewer
+pub held_with : (state : HallState) (i s : ℕ) → i < length state.held → (j : ℕ) → has (held_by (with_held state i (with_section s (held_by state i))) j) s ≡ (i == j || has (held_by state j) s)
+held_with state i s low j = elim (cases_eq j i) [
+  | inl same ↦
+      let here : (i == j) ≡ true = eq-eqb i j (sym same) in
+      let self : (s == s) ≡ true = eq-eqb s s refl in
+      ap (λ n. has (held_by (with_held state i (with_section s (held_by state i))) n) s) same ∙ ap (λ l. has l s) (held_here state i (with_section s (held_by state i)) low)
+      ∙ has-with s (held_by state i) s ∙ rw (self, here) refl
+  | inr apart ↦
+      let other : (i == j) ≡ false = ne_eqb i j (λ e. apart (sym e)) in
+      ap (λ l. has l s) (held_there state i j (with_section s (held_by state i)) apart) ∙ rw other refl
+]
+
+pub held_without : (state : HallState) (i s : ℕ) → i < length state.held → (j : ℕ) → has (held_by (with_held state i (without_section s (held_by state i))) j) s ≡ (not (i == j) && has (held_by state j) s)
+held_without state i s low j = elim (cases_eq j i) [
+  | inl same ↦
+      let here : (i == j) ≡ true = eq-eqb i j (sym same) in
+      let self : (s == s) ≡ true = eq-eqb s s refl in
+      ap (λ n. has (held_by (with_held state i (without_section s (held_by state i))) n) s) same ∙ ap (λ l. has l s) (held_here state i (without_section s (held_by state i)) low)
+      ∙ has-without s (held_by state i) s ∙ rw (self, here) refl
+  | inr apart ↦
+      let other : (i == j) ≡ false = ne_eqb i j (λ e. apart (sym e)) in
+      ap (λ l. has l s) (held_there state i j (without_section s (held_by state i)) apart) ∙ rw other refl
+]
+
+-- of a section for which what is written says what was there, nothing changes
+pub held_same : (state : HallState) (i t : ℕ) (set : List ℕ) → i < length state.held → has set t ≡ has (held_by state i) t → (j : ℕ) → has (held_by (with_held state i set) j) t ≡ has (held_by state j) t
+held_same state i t set low same j = elim (cases_eq j i) [
+  | inl one ↦ ap (λ n. has (held_by (with_held state i set) n) t) one ∙ ap (λ l. has l t) (held_here state i set low) ∙ same ∙ ap (λ n. has (held_by state n) t) (sym one)
+  | inr apart ↦ ap (λ l. has l t) (held_there state i j set apart)
+]
+
 -- a fact of each item stays where one is written of which it holds
 each_set : (P : List ℕ → Type 0) (xs : List (List ℕ)) (i : ℕ) (x : List ℕ) → All P xs → P x → All P (slice_set xs i x)
 each_set P xs i x all is = λ k d low. elim (cases_eq k i) [
@@ -40,11 +72,12 @@ each_set P xs i x all is = λ k d low. elim (cases_eq k i) [
 
 module _ (market : Market) where
   -- a student holds another set, of which he waits for no section
-  pub hold_keeps : (state : HallState) (i : ℕ) (set : List ℕ) → IsHall market state → i < student_count market → ((s : ℕ) → has set s ≡ true → s < section_count market)
+  pub hold_keeps : (state : HallState) (i : ℕ) (set : List ℕ) → IsHall market state → i < student_count market → ((s : ℕ) → has set s ≡ true → s < section_count market) → IsAscending set
       → ((s : ℕ) → has (waiting_for state s) i ≡ true → has set s ≡ false) → IsHall market (with_held state i set)
-  hold_keeps state i set is low within apart = record {
+  hold_keeps state i set is low within up apart = record {
     each_student = length-set state.held i set ∙ is.each_student;
     within = each_set (λ bundle. (s : ℕ) → has bundle s ≡ true → s < section_count market) state.held i set is.within within;
+    ascending = each_set IsAscending state.held i set is.ascending up;
     each_section = is.each_section;
     queues = is.queues;
     apart = λ j s there. elim (cases_eq j i) [
@@ -61,6 +94,7 @@ module _ (market : Market) where
       record {
         each_student = is.each_student;
         within = is.within;
+        ascending = is.ascending;
         each_section = length-set state.waiting s list ∙ is.each_section;
         queues = λ t. elim (cases_eq t s) [
           | inl same ↦ subst (IsQueue (student_count market)) (sym (ap (waiting_for (with_waiting state s list)) same ∙ waiting_here state s list inside)) queue
@@ -77,6 +111,13 @@ module _ (market : Market) where
   within_at state i s is there = elim (cases_Bool (nat_lt i (length state.held))) [
     | inl low ↦ is.within i [] (ltb-true i (length state.held) low) s there
     | inr past ↦ let nothing : held_by state i ≡ [] = get_or_past state.held i [] (ltb-false i (length state.held) past) in absurd (false≢true (sym (ap (λ l. has l s) nothing) ∙ there))
+  ]
+
+  -- and it ascends
+  pub ascends_at : (state : HallState) (i : ℕ) → IsHall market state → IsAscending (held_by state i)
+  ascends_at state i is = elim (cases_Bool (nat_lt i (length state.held))) [
+    | inl low ↦ is.ascending i [] (ltb-true i (length state.held) low)
+    | inr past ↦ subst IsAscending (sym (get_or_past state.held i [] (ltb-false i (length state.held) past))) tt
   ]
 
   -- holders after a set is written
@@ -124,7 +165,7 @@ module _ (market : Market) (state : HallState) (is : IsHall market state) where
   ]
 
   pub with_keeps : (i s : ℕ) → i < student_count market → s < section_count market → has (waiting_for state s) i ≡ false → IsHall market (with_held state i (with_section s (held_by state i)))
-  with_keeps i s low below waits = hold_keeps market state i (with_section s (held_by state i)) is low (with_within i s below)
+  with_keeps i s low below waits = hold_keeps market state i (with_section s (held_by state i)) is low (with_within i s below) (with_ascends s (held_by state i) (ascends_at market state i is))
       (λ t there. elim (cases_Bool (s == t)) [
         | inl same ↦ absurd (false≢true (sym waits ∙ ap (λ n. has (waiting_for state n) i) (eqb-true s t same) ∙ there))
         | inr other ↦ has-with s (held_by state i) t ∙ rw other (is.apart i t there)
@@ -135,7 +176,7 @@ module _ (market : Market) (state : HallState) (is : IsHall market state) where
   without_within i s t there = within_at market state i t is (without_has s t (held_by state i) there)
 
   pub without_keeps : (i s : ℕ) → i < student_count market → IsHall market (with_held state i (without_section s (held_by state i)))
-  without_keeps i s low = hold_keeps market state i (without_section s (held_by state i)) is low (without_within i s) (λ t there. lacks_still t (is.apart i t there))
+  without_keeps i s low = hold_keeps market state i (without_section s (held_by state i)) is low (without_within i s) (without_ascends s (held_by state i) (ascends_at market state i is)) (λ t there. lacks_still t (is.apart i t there))
     where
       lacks_still : (t : ℕ) → has (held_by state i) t ≡ false → has (without_section s (held_by state i)) t ≡ false
       lacks_still t lacks = has-without s (held_by state i) t ∙ elim (cases_Bool (s == t)) [ inl same ↦ rw same refl | inr other ↦ rw other lacks ]

@@ -15,7 +15,7 @@ use Rattle.dropadd_desk.proofs.Stepped.{one_if, quiet}
 
 -- how often a ticket is in a line
 abbrev pub occurs : ℕ → Line → ℕ
-occurs m line = tickets_of m line.served + tickets_of m line.left + tickets_of m line.waiting
+occurs m line = tickets_of m line.given_or_lapsed + tickets_of m line.left + tickets_of m line.waiting
 
 tickets-append : (m : ℕ) (xs ys : List Ticket) → tickets_of m (xs ++ ys) ≡ tickets_of m xs + tickets_of m ys
 tickets-append m xs ys = total-append (λ (ticket : Ticket). if ticket.number == m then 1 else 0) xs ys
@@ -34,7 +34,7 @@ tickets-parted m p (x ∷ xs) = let rest = tickets-parted m p xs in elim (cases_
 noted_count : (m number i : ℕ) (answer : HallReply) (line : Line) → occurs m (noted number i answer line) ≡ occurs m line + one_if (is_queued answer && (number == m))
 noted_count m number i (reply.Queued ahead) line = let all = tickets-append m line.waiting (record { number = number; student = i } ∷ []) in omega (arith, all)
 noted_count m number i (reply.Dropped lapsed next) line =
-    let served = tickets-append m line.served (take (lapsed + one_next next) line.waiting) in
+    let served = tickets-append m line.given_or_lapsed (take (lapsed + one_next next) line.waiting) in
     let split = tickets-split m (lapsed + one_next next) line.waiting in
     omega (arith, served, split)
 noted_count m number i reply.Left line =
@@ -107,8 +107,8 @@ numbers_of tickets = map (λ (ticket : Ticket). ticket.number) tickets
 
 -- in order, and all below this number
 pub record AreInOrder (number : ℕ) (line : Line) : Type 0 where
-  pub ascending : IsAscending (numbers_of (line.served ++ line.waiting))
-  pub below : AllBelow number (numbers_of (line.served ++ line.waiting))
+  pub ascending : IsAscending (numbers_of (line.given_or_lapsed ++ line.waiting))
+  pub below : AllBelow number (numbers_of (line.given_or_lapsed ++ line.waiting))
 
 below_more : (n : ℕ) (xs : List ℕ) → AllBelow n xs → AllBelow (n + 1) xs
 below_more n [] all = tt
@@ -157,20 +157,20 @@ same_order number xs ys same up low = (subst (λ l. IsAscending (numbers_of l)) 
 noted_order : (number i : ℕ) (answer : HallReply) (line : Line) → AreInOrder number line → AreInOrder (number + 1) (noted number i answer line)
 noted_order number i (reply.Queued ahead) line order =
     let ticket : Ticket = record { number = number; student = i } in
-    let joined : numbers_of (line.served ++ (line.waiting ++ ticket ∷ [])) ≡ numbers_of (line.served ++ line.waiting) ++ number ∷ [] =
-    ap numbers_of (sym (append_assoc line.served line.waiting (ticket ∷ []))) ∙ map-append (λ (t : Ticket). t.number) (line.served ++ line.waiting) (ticket ∷ []) in
+    let joined : numbers_of (line.given_or_lapsed ++ (line.waiting ++ ticket ∷ [])) ≡ numbers_of (line.given_or_lapsed ++ line.waiting) ++ number ∷ [] =
+    ap numbers_of (sym (append_assoc line.given_or_lapsed line.waiting (ticket ∷ []))) ∙ map-append (λ (t : Ticket). t.number) (line.given_or_lapsed ++ line.waiting) (ticket ∷ []) in
     record {
-      ascending = subst IsAscending (sym joined) (ascending_push number (numbers_of (line.served ++ line.waiting)) order.ascending order.below);
-      below = subst (AllBelow (number + 1)) (sym joined) (below_push number (numbers_of (line.served ++ line.waiting)) order.below);
+      ascending = subst IsAscending (sym joined) (ascending_push number (numbers_of (line.given_or_lapsed ++ line.waiting)) order.ascending order.below);
+      below = subst (AllBelow (number + 1)) (sym joined) (below_push number (numbers_of (line.given_or_lapsed ++ line.waiting)) order.below);
     }
 noted_order number i (reply.Dropped lapsed next) line order =
     let n : ℕ = lapsed + one_next next in
-    let same = append_assoc line.served (take n line.waiting) (drop n line.waiting) ∙ ap (λ l. line.served ++ l) (take-append-drop n line.waiting) in
-    let both = same_order number ((line.served ++ take n line.waiting) ++ drop n line.waiting) (line.served ++ line.waiting) same order.ascending order.below in
+    let same = append_assoc line.given_or_lapsed (take n line.waiting) (drop n line.waiting) ∙ ap (λ l. line.given_or_lapsed ++ l) (take-append-drop n line.waiting) in
+    let both = same_order number ((line.given_or_lapsed ++ take n line.waiting) ++ drop n line.waiting) (line.given_or_lapsed ++ line.waiting) same order.ascending order.below in
     record { ascending = both.0; below = both.1 }
 noted_order number i reply.Left line order = record {
-  ascending = ascending_filter (λ (ticket : Ticket). not (ticket.student == i)) line.served line.waiting order.ascending;
-  below = below_more number _ (below_filter number (λ (ticket : Ticket). not (ticket.student == i)) line.served line.waiting order.below);
+  ascending = ascending_filter (λ (ticket : Ticket). not (ticket.student == i)) line.given_or_lapsed line.waiting order.ascending;
+  below = below_more number _ (below_filter number (λ (ticket : Ticket). not (ticket.student == i)) line.given_or_lapsed line.waiting order.below);
 }
 noted_order number i reply.Added line order = record { ascending = order.ascending; below = below_more number _ order.below }
 noted_order number i answer line order =
@@ -178,7 +178,7 @@ noted_order number i answer line order =
     subst (AreInOrder (number + 1)) (sym (q.line number i line)) (record { ascending = order.ascending; below = below_more number _ order.below })
 
 module _ (market : Market) (s : ℕ) where
-  order_from : (number : ℕ) (history : List HallStep) (line : Line) → AreInOrder number line → IsAscending (numbers_of ((line_from market s number history line).served ++ (line_from market s number history line).waiting))
+  order_from : (number : ℕ) (history : List HallStep) (line : Line) → AreInOrder number line → IsAscending (numbers_of ((line_from market s number history line).given_or_lapsed ++ (line_from market s number history line).waiting))
   order_from number [] line order = order.ascending
   order_from number (step ∷ more) line order = order_from (number + 1) more (line_after market s number step line) next
     where
@@ -188,5 +188,5 @@ module _ (market : Market) (s : ℕ) where
         | inr other ↦ rw other (record { ascending = order.ascending; below = below_more number _ order.below })
       ]
 
-  pub all_in_order : (history : List HallStep) → IsAscending (numbers_of ((line_of market s history).served ++ (line_of market s history).waiting))
+  pub all_in_order : (history : List HallStep) → IsAscending (numbers_of ((line_of market s history).given_or_lapsed ++ (line_of market s history).waiting))
   all_in_order history = order_from 0 history no_line (record { ascending = tt; below = tt })

@@ -1,7 +1,7 @@
 -- What a state of a desk is, and the state in which it opens.
-use Rattle.std.specs.Prelude.{ℕ, ◌≡◌, ◌<◌, ◌≤◌, ◌==◌, true, false, if◌then◌else◌, List, [], length, replicate}
+use Rattle.std.specs.Prelude.{ℕ, ◌≡◌, ◌<◌, ◌≤◌, ◌==◌, true, false, if◌then◌else◌, List, All, [], length, replicate}
 use Rattle.market_units.specs.Totals.{total}
-use Rattle.bundle_rules.specs.Sets.{has}
+use Rattle.bundle_rules.specs.Sets.{has, IsAscending}
 use Rattle.held_seats.specs.Floors.{AreBelow}
 use Rattle.dropadd_desk.specs.declared.shared.HallState.{HallState}
 use Rattle.dropadd_desk.specs.Market.{Market, section_count, student_count}
@@ -16,10 +16,11 @@ pub record IsQueue (students : ℕ) (list : List ℕ) : Type 0 where
   pub once : (i : ℕ) → times i list ≤ 1
   pub within : (i : ℕ) → has list i ≡ true → i < students
 
--- a set of the market's sections for each student, and a list of its students for each section, none of whom holds it
+-- a set of the market's sections for each student, in ascending order, and a list of its students for each section, none of whom holds it
 pub record IsHall (market : Market) (state : HallState) : Type 0 where
   pub each_student : length state.held ≡ student_count market
   pub within : AreBelow (section_count market) state.held
+  pub ascending : All IsAscending state.held
   pub each_section : length state.waiting ≡ section_count market
   pub queues : (s : ℕ) → IsQueue (student_count market) (waiting_for state s)
   pub apart : (i s : ℕ) → has (waiting_for state s) i ≡ true → has (held_by state i) s ≡ false

@@ -1,5 +1,5 @@
 -- The law of drop and add.
-use Rattle.std.specs.Prelude.{ℕ, ◌≡◌, ◌<◌, ◌≤◌, ◌+◌, ◌↔◌, true, false, if◌then◌else◌, Option, Some, option_map, List, All, [], ◌∷◌, ◌++◌, map, slice_get}
+use Rattle.std.specs.Prelude.{ℕ, ◌≡◌, ◌<◌, ◌≤◌, ◌+◌, ◌↔◌, true, false, if◌then◌else◌, Option, Some, option_map, None, List, All, [], ◌∷◌, ◌++◌, length, map, slice_get}
 use Rattle.chronicle.specs.History.{IsLegal, state_after as state_after_steps}
 use Rattle.market_units.specs.declared.units.StudentNo.{StudentNo}
 use Rattle.bundle_rules.specs.Sets.{has, IsAscending}
@@ -9,6 +9,7 @@ use Rattle.dropadd_desk.specs.declared.shared.HallState.{HallState}
 use Rattle.dropadd_desk.specs.Market.{Market, offered, section_count, student_count}
 use Rattle.dropadd_desk.specs.Fits.{fits}
 use Rattle.dropadd_desk.specs.Halls.{IsHall}
+use Rattle.dropadd_desk.specs.Holdings.{held_by_replies}
 use Rattle.dropadd_desk.specs.Openings.{IsAllowed, IsLawful}
 use Rattle.dropadd_desk.specs.Step.{has_free_seat, held_by, waiting_for}
 use Rattle.dropadd_desk.specs.Lines.{HallStep, Ticket, gives_ticket, is_added, is_dropped, is_passed_on, is_refusal, line_of, names_section, replies, tickets_of}
@@ -26,24 +27,28 @@ pub record IsFair (market : Market) (state : HallState) (s : ℕ) : Type 0 where
 
 -- what a history from an opening state tells of a section
 pub record IsConserved (market : Market) (opening : HallState) (history : List HallStep) (s : ℕ) : Type 0 where
+  -- it leaves a state of a desk: what each student holds ascends, and nobody stands in a list twice
+  pub hall : IsHall market (state_after_steps state_after market opening history)
   pub fair : IsFair market (state_after_steps state_after market opening history) s
+  -- each student holds it exactly as the replies about this student say, from what the student held at the opening on
+  pub who : (i : ℕ) → has (held_by (state_after_steps state_after market opening history) i) s ≡ held_by_replies market s i history (has (held_by opening i) s)
   -- holders are those at the opening, more those added and those to whom a seat was passed on, less those who gave it up
   pub balance : holders s (state_after_steps state_after market opening history).held + replies market s is_dropped history
       ≡ holders s opening.held + replies market s is_added history + replies market s is_passed_on history
   -- those who wait are those of the line that is read off the replies
   pub waiting : map (λ (ticket : Ticket). ticket.student) (line_of market s history).waiting ≡ waiting_for (state_after_steps state_after market opening history) s
-  -- each `Queued` gave one ticket, which waits, was served or left once and in one of these ways; and there are no other tickets
+  -- each `Queued` gave one ticket, which waits, was given the section or lapsed, or left, once and in one of these ways; and there are no other tickets
   pub once : (number : ℕ)
-      → tickets_of number (line_of market s history).served + tickets_of number (line_of market s history).left + tickets_of number (line_of market s history).waiting
+      → tickets_of number (line_of market s history).given_or_lapsed + tickets_of number (line_of market s history).left + tickets_of number (line_of market s history).waiting
       ≡ (if gives_ticket market s history number then 1 else 0)
   -- tickets are given the section or lapse in the order of their numbers, and before those that wait
-  pub in_order : IsAscending (map (λ (ticket : Ticket). ticket.number) ((line_of market s history).served ++ (line_of market s history).waiting))
+  pub in_order : IsAscending (map (λ (ticket : Ticket). ticket.number) ((line_of market s history).given_or_lapsed ++ (line_of market s history).waiting))
   -- the next student, where a reply names one, is the first of the line behind those who lapse
   pub next : (before after : List HallStep) (step : HallStep) (lapsed : ℕ) (next : StudentNo) → history ≡ before ++ step ∷ after
       → names_section market s step.request ≡ true → step.reply ≡ reply.Dropped lapsed (Some next)
       → slice_get (map (λ (ticket : Ticket). ticket.student) (line_of market s before).waiting) lapsed ≡ Some next.0
 
--- Whatever is requested from a lawful opening, it is so of each section. A beginning of a history is a history, so this holds at each time.
+-- Whatever is requested from an opening where nobody waits, no section is over its seats, and each student's sections keep timetable and caps, it is so of each section, and student by student. A beginning of a history is a history, so this holds at each time.
 abbrev pub ConservationLaw : Type 0
 ConservationLaw = (market : Market) (opening : HallState) (history : List HallStep) → IsHall market opening → IsLawful market opening
     → IsLegal is_sound state_after reply_to market opening history → (s : ℕ) → s < section_count market → IsConserved market opening history s
@@ -59,6 +64,8 @@ pub record GoesToFirstFit (market : Market) (before after : HallState) (s lapsed
   pub lapse : (place i : ℕ) → place < lapsed → slice_get (waiting_for before s) place ≡ Some i → fits market i s (held_by before i) ≡ false
   -- the next is who waits behind them, and there is none where nobody does
   pub behind : slice_get (waiting_for before s) lapsed ≡ option_map (λ (one : StudentNo). one.0) next
+  -- where there is no next, all who wait lapse, and no more are told
+  pub all : next ≡ None → lapsed ≡ length (waiting_for before s)
   -- the section fits the next beside what he holds
   pub fit : (one : StudentNo) → next ≡ Some one → fits market one.0 s (held_by before one.0) ≡ true
   -- of those who did not hold the section the next holds it now, and nobody else

@@ -2,6 +2,7 @@ pub mod Fits
 pub mod Fronts
 pub mod HallView
 pub mod Halls
+pub mod Holdings
 pub mod Kept
 pub mod Laws
 pub mod Lines

@@ -34,14 +34,14 @@ pub record Ticket : Type 0 where
   pub number : ℕ
   pub student : ℕ
 
--- who waits, the one who waits longest first; who was given the section or lapsed, in the order in which this was; and who left
+-- who waits, the one who waits longest first; whom a seat that was given up went to or passed by, in the order in which this was; and who left
 pub record Line : Type 0 where
   pub waiting : List Ticket
-  pub served : List Ticket
+  pub given_or_lapsed : List Ticket
   pub left : List Ticket
 
 abbrev pub no_line : Line
-no_line = record { waiting = []; served = []; left = [] }
+no_line = record { waiting = []; given_or_lapsed = []; left = [] }
 
 -- one where there is a next student
 abbrev pub one_next : Option StudentNo → ℕ
@@ -50,15 +50,15 @@ one_next (Some next) = 1
 
 -- the line after the step of this number, of this student, was replied to
 abbrev pub noted : ℕ → ℕ → HallReply → Line → Line
-noted number i (reply.Queued ahead) line = record { waiting = line.waiting ++ record { number = number; student = i } ∷ []; served = line.served; left = line.left }
+noted number i (reply.Queued ahead) line = record { waiting = line.waiting ++ record { number = number; student = i } ∷ []; given_or_lapsed = line.given_or_lapsed; left = line.left }
 noted number i (reply.Dropped lapsed next) line = record {
   waiting = drop (lapsed + one_next next) line.waiting;
-  served = line.served ++ take (lapsed + one_next next) line.waiting;
+  given_or_lapsed = line.given_or_lapsed ++ take (lapsed + one_next next) line.waiting;
   left = line.left;
 }
 noted number i reply.Left line = record {
   waiting = filter (λ (ticket : Ticket). not (ticket.student == i)) line.waiting;
-  served = line.served;
+  given_or_lapsed = line.given_or_lapsed;
   left = line.left ++ filter (λ (ticket : Ticket). ticket.student == i) line.waiting;
 }
 noted number i _ line = line

@@ -2,7 +2,7 @@
 ghost use Rattle.std.specs.Prelude.{ℕ, ◌≡◌, ◌<◌, ◌≤◌, ◌+◌, true, false, length, map, slice_index_or};
 ghost use Rattle.std.proofs.Props.{props};
 ghost use Rattle.bundle_rules.specs.Bundles.{sections_of};
-ghost use Rattle.bundle_rules.specs.Sets.{has};
+ghost use Rattle.bundle_rules.specs.Sets.{has, IsAscending-prop};
 ghost use Rattle.held_seats.specs.Floors.{AreBelow, IsFloor, held_on};
 ghost use Rattle.dropadd_desk.specs.Halls.{IsHall};
 ghost use Rattle.dropadd_desk.specs.Kept.{IsMarket};
@@ -30,7 +30,7 @@ pub struct HallDesk {
     left: u32,
     ghost is_market: { IsMarket rules } by { Prim.hlevel props },
     ghost counted: { IsFloor (seats_in rules) floor } by { Prim.hlevel props },
-    ghost hall: { IsHall rules (record { held = held_on floor; waiting = lists.lists }) } by { Prim.hlevel props },
+    ghost hall: { IsHall rules (record { held = held_on floor; waiting = lists.lists }) } by { Prim.hlevel (props, IsAscending-prop) },
     ghost wide: { lists.width ≡ length rules.roll.students },
 }
 

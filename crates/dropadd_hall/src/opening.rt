@@ -19,7 +19,7 @@ use student_roll::Roll;
 /// Why students may not hold what they hold.
 #[derive(Clone, Copy, Debug, PartialEq, Eq)]
 pub enum OpeningFault {
-    /// Two of the student's sections clash, or they pass a cap.
+    /// Two sections of the student clash, or all of the student's sections together pass a cap.
     Infeasible {
         student: StudentNo,
     },

@@ -1,13 +1,14 @@
 -- The final bundles of a publication, as a desk opens with them.
 use Rattle.std.proofs.Common.{ℕ, ◌≡◌, ◌<◌, ◌∙◌, ◌++◌, List, [], ◌∷◌, append_assoc, length, arith, refl, sym, subst}
-use Rattle.std.specs.Prelude.{slice_index_or}
+use Rattle.std.specs.Prelude.{All, slice_index_or}
+use Rattle.bundle_rules.specs.Sets.{IsAscending}
 use Rattle.certificate_checker.proofs.Reading.{length_map, so_of_has}
 use Rattle.chronicle.specs.History.{IsLegal}
 use Rattle.chronicle.proofs.HistoryLaws.{legal_front}
 use Rattle.course_catalog.specs.Catalog.{IsCatalog}
 use Rattle.course_catalog.specs.Sections.{Section}
 use Rattle.dropadd_desk.specs.declared.command.HallCommand.{HallCommand}
-use Rattle.dropadd_desk.specs.Halls.{IsHall, opening}
+use Rattle.dropadd_desk.specs.Halls.{IsHall}
 use Rattle.dropadd_desk.specs.Market.{Market, section_count, student_count}
 use Rattle.dropadd_desk.specs.Openings.{IsLawful}
 use Rattle.dropadd_desk.specs.Shared.{is_sound, reply_to, state_after}
@@ -20,12 +21,11 @@ use Rattle.dropadd_hall.specs.Faults.{IsFaultless}
 use Rattle.held_seats.specs.Floors.{AreBelow}
 use Rattle.market_certificate.specs.Publications.{IsPublication, Publication}
 use Rattle.market_certificate.specs.Tables.{AreTables}
-use Rattle.market_certificate.specs.Texts.{IsPublished}
 use Rattle.market_certificate.proofs.NamesOf.{tables_are}
 use Rattle.market_certificate.proofs.OneText.{one_publication}
 use Rattle.student_roll.specs.Students.{IsRoll, Student}
 use Rattle.published_halls.specs.Laws.{ToldHallIsAllowed, ToldHallIsConserved, ToldHallServesTheFirst, ToldRefusalsChangeNothing}
-use Rattle.published_halls.specs.Openings.{CanOpen, IsTextOf, Opens, opened, tables_in}
+use Rattle.published_halls.specs.Openings.{CanOpen, IsTextOf, opened, tables_in}
 use Rattle.published_halls.specs.Told.{IsToldHall}
 
 -- one for each student
@@ -39,6 +39,10 @@ finals_below market p is = λ n d low s there.
     let within : s < length (tables_in market).sections = so_of_has (λ section. section < length (tables_in market).sections) (slice_index_or p.allocation n d) (is.allocation.each n d low).of_catalog s there in
     omega (arith, all, within)
 
+-- and each ascending
+pub finals_ascend : (market : Market) (p : Publication) → IsPublication (tables_in market) p → All IsAscending p.allocation
+finals_ascend market p is = λ n d low. (is.allocation.each n d low).is_bundle.ascending
+
 -- where they may be held, the desk opens as the law of drop and add wants
 opens_lawfully : (market : Market) (p : Publication) → IsFaultless market (opened market p) → IsLawful market (opened market p)
 opens_lawfully market p is = record { students = is.students; seats = is.seats; nobody = nobody_waits (section_count market) }
@@ -48,10 +52,10 @@ told_conserved market streams text told hall before after split s low =
     let p : Publication = hall.publication in
     let is = hall.opens.is_text.is_publication in
     let legal : IsLegal is_sound state_after reply_to market (opened market p) (before ++ after) = subst (IsLegal is_sound state_after reply_to market (opened market p)) split hall.told_of.legal in
-    conserved market (opened market p) before (opening_hall market p.allocation (each_final market p is) (finals_below market p is)) (opens_lawfully market p hall.opens.faultless)
+    conserved market (opened market p) before (opening_hall market p.allocation (each_final market p is) (finals_below market p is) (finals_ascend market p is)) (opens_lawfully market p hall.opens.faultless)
     (legal_front is_sound state_after reply_to market (opened market p) before after legal) s low
 
--- the history of a told hall is legal, up to any step
+-- the history of a printed hall is legal, up to any step
 front_legal : (market : Market) (streams : List (List HallCommand)) (text told : List ℕ) (hall : IsToldHall market streams text told) (front after : List HallStep) → hall.history ≡ front ++ after
     → IsLegal is_sound state_after reply_to market (opened market hall.publication) front
 front_legal market streams text told hall front after split =
@@ -61,7 +65,7 @@ told_opening : (market : Market) (streams : List (List HallCommand)) (text told 
 told_opening market streams text told hall =
     let p : Publication = hall.publication in
     let is = hall.opens.is_text.is_publication in
-    opening_hall market p.allocation (each_final market p is) (finals_below market p is)
+    opening_hall market p.allocation (each_final market p is) (finals_below market p is) (finals_ascend market p is)
 
 pub told_allowed : ToldHallIsAllowed
 told_allowed market streams text told hall before after split =

@@ -15,11 +15,11 @@ use Rattle.dropadd_desk.specs.Step.{held_by}
 use Rattle.published_halls.specs.Openings.{opened}
 use Rattle.published_halls.specs.Told.{IsToldHall}
 
--- the state of a told hall after these steps, from the final bundles on
+-- the state of a printed hall after these steps, from the final bundles on
 abbrev pub state_behind : Market → Publication → List HallStep → HallState
 state_behind market p steps = state_after_steps state_after market (opened market p) steps
 
--- after each beginning of the history of a told hall, the law of drop and add holds of each section, from the final bundles on
+-- after each beginning of the history of a printed hall, the law of drop and add holds of each section, student by student, from the final bundles on
 abbrev pub ToldHallIsConserved : Type 0
 ToldHallIsConserved = (market : Market) (streams : List (List HallCommand)) (text told : List ℕ) (hall : IsToldHall market streams text told)
     → (before after : List HallStep) → hall.history ≡ before ++ after → (s : ℕ) → s < section_count market → IsConserved market (opened market hall.publication) before s

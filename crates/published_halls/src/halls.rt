@@ -23,9 +23,9 @@ use student_roll::Roll;
 
 /// The text of the hall that opens with the final bundles of a published text and takes the requests of all streams, one for
 /// each session; or the first finding, where no hall opens with the text: it is that of no publication, or two sections of a
-/// student clash or pass a cap, or a section has more holders than the catalogue's seats. Whom a finding names is on the
-/// roll, or in the catalogue. Sessions pass the gate as those of `open_hall` do. The text has fewer than 4,294,967,295
-/// bytes. `NoMemory` comes where memory is wanted, and has no other cause.
+/// student clash, or all of the student's sections together pass a cap, or a section has more holders than the catalogue's
+/// seats. Whom a finding names is on the roll, or in the catalogue. Sessions pass the gate as those of `open_hall` do. The
+/// text has fewer than 4,294,967,295 bytes. `NoMemory` comes where memory is wanted, and has no other cause.
 pub fn published_hall<R: Threads + Wait + Sync, G: Gate + Sync>(
     rt: &R,
     alloc: Global,
