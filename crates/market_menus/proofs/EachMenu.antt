@@ -65,9 +65,11 @@ words_for catalog places zero few low = ([], refl, λ a b less. absurd (omega ar
 words_for catalog places (suc n) few low =
     let before = words_for catalog places n few (omega arith) in
     let word = clash_word catalog places (section_at places n) few in
-    let long = before.1 in
-    (before.0 ++ word.0 ∷ [], (let e : length (before.0 ++ word.0 ∷ []) ≡ suc n = omega (arith, length-append before.0 (word.0 ∷ []), long) in e),
-    subst (AreWordsTo catalog places (before.0 ++ word.0 ∷ [])) (add-one n) (words_more catalog places before.0 word.0 n (section_at places n) before.1 before.2 refl word.1))
+    let long = before.1 in (
+      before.0 ++ word.0 ∷ [],
+      (let e : length (before.0 ++ word.0 ∷ []) ≡ suc n = omega (arith, length-append before.0 (word.0 ∷ []), long) in e),
+      subst (AreWordsTo catalog places (before.0 ++ word.0 ∷ [])) (add-one n) (words_more catalog places before.0 word.0 n (section_at places n) before.1 before.2 refl word.1),
+    )
 
 clash_words : (catalog : List Section) (places : List Rated) → length places ≤ 60 → (words : List ℕ) × AreClashWords catalog places words
 clash_words catalog places few = let words = words_for catalog places (length places) few (omega arith) in (words.0, record { whole = words.1; each = words.2 })
