@@ -1,4 +1,5 @@
 //! Budgets: drawn by rank, raised, and put into the order of the aftermarket.
+// Neither: how long it takes.
 #![tactic(auto)]
 
 mod after;

@@ -1,4 +1,5 @@
 //! What can at most still be reached from a node of the search for a best bundle.
+// Neither: how long it takes.
 #![tactic(auto)]
 
 mod closing;

@@ -1,4 +1,6 @@
-//! Menus, bundles, and which bundle a student wants.
+//! Menus, bundles, and which bundle a student wants: utility, what is feasible, what is preferred,
+//! what is best.
+// Neither: how long `best_plain` takes; it tries every choice.
 #![tactic(auto)]
 
 mod ahead;

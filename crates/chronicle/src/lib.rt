@@ -1,4 +1,7 @@
 //! One legal history of the calls of many threads on one object.
+// Neither: progress, fairness, freedom from deadlock and waiting times; that a thread which sleeps
+// until its turn is woken, beyond the tests; any order in time between seats that never told each
+// other anything; that nothing is lost where a seat or a chronicle is dropped without `close`.
 #![tactic(auto)]
 
 mod bells;

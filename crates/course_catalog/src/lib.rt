@@ -1,4 +1,5 @@
 //! The catalogue: its sections, read from a table with each refusal at its exact place.
+// Neither: how much time and memory reading takes; the texts that `thiserror` makes of refusals.
 #![tactic(auto)]
 
 mod catalog;

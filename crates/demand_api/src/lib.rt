@@ -1,4 +1,5 @@
 //! What a crowd of students demands at given prices, and who can be asked for it.
+// Neither: how long it takes.
 #![tactic(auto)]
 
 ghost use Rattle.std.specs.Prelude.{◌≤◌, IsTrue, All, length};

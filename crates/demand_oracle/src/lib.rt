@@ -1,4 +1,5 @@
 //! The bundle that a student wants at given prices, of all bundles or of those with a given section, by branch and bound.
+// Neither: a bound on the number of nodes, and what `opened` counts.
 #![tactic(auto)]
 
 pub mod laws;

@@ -3,6 +3,7 @@
 //! First comes the order of the journal on which the preferences rest, `order SESSION SESSION ..`, a session for each
 //! entry. Then come the students in file order, `bundle STUDENT [SECTION,SECTION]`, the sections in file order,
 //! `count SECTION COUNT`, and the clearing error, `error E`.
+// Neither: how long it takes.
 #![tactic(auto)]
 
 mod lines;

@@ -5,6 +5,7 @@
 //! those of sessions (`utility_language`). The text has a line for each request in its order, `entry SESSION REQUEST: REPLY`; then the
 //! students in file order, `final STUDENT [SECTION,SECTION]`; the sections in file order for which somebody waits, `wait SECTION STUDENT
 //! STUDENT ..`; and all sections, `used SECTION USED SEATS`.
+// Neither: that a thread is started where one can be.
 #![tactic(auto)]
 
 mod hall;

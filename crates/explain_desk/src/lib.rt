@@ -5,6 +5,7 @@
 //! `clash SECTION`, `beside LIMIT` or `less`, and a limit `price`, `credits` or `courses`. Where a bundle with the section
 //! can be had and the student does not hold the section, these lines follow: `best [SECTION,SECTION] UTILITY`, `lost N`
 //! with the utility that the student would lose by it, and `tree TREE`.
+// Neither: how long an explanation takes.
 #![tactic(auto)]
 
 mod checking;

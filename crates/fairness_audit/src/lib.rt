@@ -1,4 +1,5 @@
 //! Envy between students: what each sees in the bundles of the others, and whom it envies.
+// Neither: how long it takes.
 #![tactic(auto)]
 
 mod allocation;

@@ -1,4 +1,6 @@
-//! What students hold of the sections' seats.
+//! What students hold of the sections' seats: each bundle, the holders of each section, and the free
+//! sections.
+// Neither: how long it takes.
 #![tactic(auto)]
 
 mod below;

@@ -1,4 +1,5 @@
 //! The published text of a market: how a publication is written, and what a text is read as.
+// Neither: how much time and memory writing and reading take.
 #![tactic(auto)]
 
 mod amounts;

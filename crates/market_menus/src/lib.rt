@@ -1,4 +1,5 @@
 //! Menus: what each student may choose from, by the closed preferences, the catalogue and the roll.
+// Neither: how long it takes.
 #![tactic(auto)]
 
 mod clashes;

@@ -1,5 +1,6 @@
 //! A market that workers run, from what its sessions say or from a closed desk: the text that it publishes, or its
 //! summary.
+// Neither: how long it takes.
 #![tactic(auto)]
 
 mod held;

@@ -1,4 +1,5 @@
 //! The summary of a market that was held: ten lines, each a word and a number.
+// Neither: how long it takes.
 #![tactic(auto)]
 
 mod lines;

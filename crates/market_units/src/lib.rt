@@ -1,4 +1,5 @@
 //! The numbers, names and sets that every part of the market speaks of, and the market's limits.
+// Neither: the texts that `Debug` prints.
 #![tactic(auto)]
 
 pub mod laws;

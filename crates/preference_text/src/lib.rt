@@ -4,6 +4,7 @@
 //! order: the student's ratings, `rate STUDENT SECTION N`, by ascending section, and then the student's adjustments,
 //! `pair STUDENT FIRST SECOND N`, by ascending pair, each with its lower section first. All adjustments are written,
 //! also those of sections that are not rated.
+// Neither: how long it takes.
 #![tactic(auto)]
 
 mod journal;

@@ -1,4 +1,5 @@
-//! Trees that prove a bundle best.
+//! Trees that prove a bundle the best one, or the best one with a given section.
+// Neither: how long a tree is, and how long it takes.
 #![tactic(auto)]
 
 mod building;

@@ -1,4 +1,5 @@
 //! Dropping and adding sections after a market's text is published.
+// Neither: how long it takes.
 #![tactic(auto)]
 
 mod halls;

@@ -1,4 +1,6 @@
 //! The whole market between the closed desk and the text: what is published, and how it is made.
+// Neither: that trees are written by as many workers as are named, each to a room whose memory was
+// taken before, as they are in the code; that prices of small error exist; how long it takes.
 #![tactic(auto)]
 
 mod bundles;

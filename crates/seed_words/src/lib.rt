@@ -1,4 +1,5 @@
 //! The words that a seed draws, by stream and place: ChaCha20 over a key that holds the seed.
+// Neither: that different seeds, streams or places have different words, beyond the tested ones.
 #![tactic(auto)]
 
 ghost use Rattle.std.specs.Prelude.{◌≡◌, ◌+◌, ◌<◌, ◌^◌, IfOk};

@@ -1,4 +1,5 @@
 //! The roll: the students of the market, read from a table.
+// Neither: how much time and memory reading takes; the texts that `thiserror` makes of refusals.
 #![tactic(auto)]
 
 mod entry;
