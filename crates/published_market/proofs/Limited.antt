@@ -20,7 +20,7 @@ use Rattle.preference_desk.specs.declared.entry.Entry.{Entry}
 use Rattle.preference_desk.specs.DeskNames.{DeskNames, has_name, ordinal_of}
 use Rattle.preference_desk.specs.DeskStep.{DeskState, changed, has_no_room_to_pair, has_no_room_to_rate, is_done, is_out_of_range, preferences_at, reply_to, state_after}
 use Rattle.preference_desk.specs.Journals.{closed_preferences, opening, state_after_all}
-use Rattle.preference_desk.specs.StudentPreferences.{SectionsBelow, no_preferences, pair_cmp, pair_of, with_pair, with_rating}
+use Rattle.preference_desk.specs.StudentPreferences.{no_preferences, pair_cmp, pair_of, with_pair, with_rating}
 use Rattle.preference_desk.proofs.Keeping.{at_or_default, closed_keep, done_skips}
 use Rattle.preference_desk.proofs.PairLemmas.{pair_cmp_same, pair_cmp_total}
 use Rattle.preference_desk.proofs.RowLemmas.{entries-nothing, entries-remove}
