@@ -6,8 +6,9 @@ pub fn certificate_of_published()
     ensures { CertificateOfPublished }
 {}
 
-/// So its text is accepted by whoever checks it for the same market and the same sessions, where these are in order and the text is not
-/// of 2 ^ 64 bytes or more.
+/// So its text is accepted by whoever checks it for the same market and the same sessions: with catalogue, roll and settings in
+/// their ranges and at most 64 sessions, where the text is not of 2 ^ 64 bytes or more. That bound is there since a text is
+/// read with passes below 2 ^ 64 alone, and no pass has a greater number than the text has bytes.
 pub fn published_is_accepted()
     ensures { PublishedIsAccepted }
 {}

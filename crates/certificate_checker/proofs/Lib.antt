@@ -8,6 +8,9 @@ pub mod TurnReading
 pub mod Ranges
 pub mod Composing
 pub mod Refusing
+pub mod OneLine
+pub mod OneDefect
+pub mod OneFirst
 pub mod ByPass
 pub mod Optimal
 pub mod OneText

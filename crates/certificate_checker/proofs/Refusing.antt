@@ -137,7 +137,7 @@ pub menu_sound : (market : Market) (streams : List (List Command)) (order : List
 menu_sound market streams order crowd k is = menus_sound market.catalog.sections market.roll.students (wanted_in market is.journal) crowd.students crowd.sections k is.is_crowd.menus
 
 -- a right turn has no fault
-no_fault : (terms : TermsData) (p : Publication) (turn : ℕ) (what : TurnFault) → IsMenu (turn_offer terms p turn).menu → IsRightTurn terms p turn → ¬ HasTurnFault terms p turn what
+pub no_fault : (terms : TermsData) (p : Publication) (turn : ℕ) (what : TurnFault) → IsMenu (turn_offer terms p turn).menu → IsRightTurn terms p turn → ¬ HasTurnFault terms p turn what
 no_fault terms p turn fault.Order menu right wrong = wrong right.due
 no_fault terms p turn fault.Unaffordable menu right wrong = wrong.1 right.affordable
 no_fault terms p turn fault.Infeasible menu right wrong = wrong.2 right.feasible
@@ -179,7 +179,7 @@ not_of market streams p (Allocation number) holds is = same_in market streams p 
 not_of market streams p (Used section) holds is = same_in market streams p (Used section) holds is
 
 -- the tables of a market as they can be read
-tables_in_limits : (market : Market) → IsCatalog market.catalog → IsRoll market.roll → AreTables (tables_in market)
+pub tables_in_limits : (market : Market) → IsCatalog market.catalog → IsRoll market.roll → AreTables (tables_in market)
 tables_in_limits market catalog roll = tables_are _ _ _ market.roll market.catalog (let one = catalog.known_version in let two = roll.known_version in omega arith) refl refl roll catalog
 
 one_of : (market : Market) (streams : List (List Command)) (text : List ℕ) (finding : Finding) → IsCatalog market.catalog → IsRoll market.roll → IsAccepted market streams text → ¬ ((p : Publication) × IsTextOf market p text × IsFirstOf market streams p finding)

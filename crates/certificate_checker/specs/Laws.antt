@@ -52,3 +52,7 @@ OneTextForPrices = (market : Market) (streams : List (List Command)) (one other 
 -- an accepted text has no first finding, where the catalogue and the roll are such as can be read
 abbrev pub NoFindingInAccepted : Type 0
 NoFindingInAccepted = (market : Market) (streams : List (List Command)) (text : List ℕ) (finding : Finding) → IsCatalog market.catalog → IsRoll market.roll → IsAccepted market streams text → ¬ IsFirstFinding market streams text finding
+
+-- two first findings on one text are one, where the catalogue and the roll are such as can be read
+abbrev pub OneFirstFinding : Type 0
+OneFirstFinding = (market : Market) (streams : List (List Command)) (text : List ℕ) (one other : Finding) → IsCatalog market.catalog → IsRoll market.roll → IsFirstFinding market streams text one → IsFirstFinding market streams text other → one ≡ other

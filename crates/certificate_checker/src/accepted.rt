@@ -2,7 +2,7 @@
 use demand_api::Crowd;
 use market_certificate::Publication;
 
-/// What an accepted text says, and by whom it was checked.
+/// What an accepted text says, and the students' menus and budgets against which it was checked.
 #[derive(Drop)]
 pub struct Accepted {
     /// What the text publishes.

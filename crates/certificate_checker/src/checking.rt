@@ -77,8 +77,8 @@ pub fn check_owned(
     Ok(())
 }
 
-/// The same as `check_owned`, with what an accepted text says, and the students by whom it was checked. It takes the text, and lets
-/// it go as soon as it is read.
+/// The same as `check_owned`, with what an accepted text says, and the students' menus and budgets against which it was
+/// checked. It takes the text, and lets it go as soon as it is read.
 pub fn accept(
     alloc: Global,
     catalog: &Catalog,
@@ -122,7 +122,8 @@ fn publication_in(
     read_publication(alloc, catalog, roll, &text)
 }
 
-// The publication, where the certificate holds of it, with the students by whom it was checked, or the first finding.
+// The publication, where the certificate holds of it, with the students' menus and budgets against which it was checked,
+// or the first finding.
 fn accept_publication(
     alloc: Global,
     catalog: &Catalog,

@@ -17,7 +17,8 @@ pub enum TurnFault {
     Infeasible,
     /// A section of the bundle is neither held by the student nor free.
     Taken,
-    /// The tree is not the bundle's, for what the student may choose.
+    /// The tree does not prove the bundle the best of what is offered: a better one exists, or the tree is not the
+    /// canonical one.
     Tree(TreeDefect),
 }
 
@@ -53,7 +54,8 @@ pub enum Finding {
         /// The student.
         student: StudentNo,
     },
-    /// The first student with a wrong bundle in stage two: the tree is not that of the bundle.
+    /// The first student with a wrong bundle in stage two: the tree does not prove the bundle the best of what is
+    /// offered: a better one exists, or the tree is not the canonical one.
     Tree {
         /// The student.
         student: StudentNo,

@@ -1,5 +1,5 @@
 //! What holds of accepted texts: each call here does nothing, and its contract is a law.
-ghost use Rattle.certificate_checker.specs.Laws.{AcceptedIsOptimal, NoFindingInAccepted, OneTextForPrices};
+ghost use Rattle.certificate_checker.specs.Laws.{AcceptedIsOptimal, NoFindingInAccepted, OneFirstFinding, OneTextForPrices};
 
 /// What is accepted is optimal, whoever printed it. In stage two each student has the best bundle that its budget buys at
 /// the printed prices. The turns come in passes, in each of which each student has one turn, by budget before any raise; at
@@ -15,7 +15,13 @@ pub fn one_text_for_prices()
     ensures { OneTextForPrices }
 {}
 
-/// An accepted text has no first finding, so that a check has one answer.
+/// Where the catalogue and the roll are in their ranges, an accepted text has no first finding.
 pub fn no_finding_in_accepted()
     ensures { NoFindingInAccepted }
+{}
+
+/// Where the catalogue and the roll are in their ranges, a text has at most one first finding. So a check that does not want
+/// for memory has one answer.
+pub fn one_first_finding()
+    ensures { OneFirstFinding }
 {}

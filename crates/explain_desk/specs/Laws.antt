@@ -14,7 +14,7 @@ use Rattle.explain_desk.specs.Explanations.{ExplainedData, IsExplained, IsProved
 use Rattle.explain_desk.specs.Texts.{worth}
 use Rattle.market_certificate.specs.Publications.{Proved}
 
--- there is one first reason
+-- at most one reason is the first that applies
 abbrev pub OneReason : Type 0
 OneReason = (wishes : Wishes) (price : ℕ → ℕ) (budget : ℕ) (bundle : List ℕ) (section : ℕ) (one other : Reason)
     → IsReason wishes price budget bundle section one → IsReason wishes price budget bundle section other → one ≡ other

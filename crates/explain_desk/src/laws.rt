@@ -1,7 +1,7 @@
 //! What holds of explanations: each call here does nothing, and its contract is a law.
 ghost use Rattle.explain_desk.specs.Laws.{ForcedTreesProveTheBest, NothingIsGained, OneExplanation, OneReason, ReasonsLeaveABundle};
 
-/// A student has one reason not to have a section.
+/// At most one reason is the first that applies.
 pub fn one_reason()
     ensures { OneReason }
 {}

@@ -24,7 +24,7 @@ pub struct EnvyRow {
     pub lower: u16,
     /// How many it envies whose unraised budget is greater.
     pub higher: u16,
-    /// Of how many of both kinds the envy ends but for no single section of their bundle.
+    /// How many it envies even if any one section were taken out of their bundle.
     pub beyond: u16,
     /// The first in file order whom it envies.
     pub first: Option<Seen>,

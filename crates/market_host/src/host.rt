@@ -58,8 +58,8 @@ pub fn course_match<R: Threads + Wait + Sync, H: Shelf, K: Sink>(
     // Where the work is ended, the last input was read to its end, and where an input is refused, that one.
     ensures read_out { IsReadOutAt (map string_bytes words.now) (sight H.Shelf shelf.old shelf.new) result }
 
-    // Each input is begun in its turn and read to its end, and so is each before the one that stops the call. Where neither the shelf nor the sink
-    // is at fault, no count of theirs rose.
+    // Where the shelf tells what was begun: each input is begun in its turn and read to its end, and so is each before the one that stops the call.
+    // Where neither the shelf nor the sink is at fault, no count of theirs rose.
     ensures used { result ≢ Status.SinkFault → AreUsed (map string_bytes words.now) (trace H.Shelf shelf.old shelf.new) result }
     ensures uncounted { result ≢ Status.SinkFault → K.faults sink.new ≡ K.faults sink.old }
 

@@ -20,7 +20,8 @@ use std::sync::Wait;
 use std::thread::Threads;
 
 /// Does what the arguments of the process ask for, the first of which is the program's name, and answers the number of
-/// how it went. Arguments that are no text are no words, which is no form.
+/// how it went. Where an argument is not UTF-8, the call is answered as one without words: status 1, or 6 where the sink
+/// is at fault.
 pub fn exit_code<R: Threads + Wait + Sync, H: Shelf, K: Sink>(
     rt: &R,
     alloc: Global,

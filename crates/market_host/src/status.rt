@@ -24,7 +24,7 @@ pub enum Status {
     SinkFault,
     /// There was not enough memory.
     OutOfMemory,
-    /// The published text is not accepted, and this is the first finding on it.
+    /// `check`, `explain`, `audit`: the text is not accepted; `hall`: no desk can open with it. This is the first finding.
     Found { finding: Finding },
     /// This word of the command line, the first such one, names no student or no section. Words are counted from 1, the
     /// form's own word being the first.

@@ -1,4 +1,5 @@
 mod ClashFacts
+mod EachMenu
 pub mod OneMenus
 mod Orders
 mod PairFacts

@@ -1,4 +1,5 @@
 pub mod ClashWords
+pub mod Limits
 pub mod MenusOf
 pub mod PairPlaces
 pub mod Students

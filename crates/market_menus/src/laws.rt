@@ -1,4 +1,5 @@
 // What holds of the definitions.
+ghost use Rattle.market_menus.specs.Limits.{EachHasAMenu};
 ghost use Rattle.market_menus.specs.MenusOf.{OneListOfMenus, OneMenu};
 ghost use Rattle.market_menus.specs.Wanted.{MenuSaysWhatIsWanted};
 
@@ -16,4 +17,9 @@ pub fn one_menu()
 /// The students of a roll have one list of menus.
 pub fn one_list_of_menus()
     ensures { OneListOfMenus }
+{}
+
+/// The students of a roll have menus, where each has preferences such as a desk lets a student have.
+pub fn each_has_a_menu()
+    ensures { EachHasAMenu }
 {}

@@ -1,5 +1,5 @@
 -- What is published exists, where prices are found.
-use Rattle.std.proofs.Common.{ℕ, ◌≡◌, List, [], ◌∷◌, map, length, refl, sym, subst, inl, inr}
+use Rattle.std.proofs.Common.{ℕ, ◌≡◌, ◌⊎◌, List, [], ◌∷◌, map, length, refl, ap, sym, subst, inl, inr}
 use Rattle.std.specs.Prelude.{All, None, Some, slice_get}
 use Rattle.std.specs.List.{AllZip}
 use Rattle.std.proofs.lemmas.List.Elements.{All-cons, All-head, All-nil, All-tail}
@@ -9,8 +9,11 @@ use Rattle.bundle_bounds.specs.Offers.{Offer}
 use Rattle.bundle_rules.specs.Demand.{IsBest, price_in}
 use Rattle.bundle_rules.specs.Menus.{IsMenu, wishes_of}
 use Rattle.bundle_rules.proofs.BestValue.{best-is}
+use Rattle.budget_draw.specs.Budgets.{amounts, budgets_of}
+use Rattle.course_catalog.specs.Catalog.{IsCatalog}
 use Rattle.course_catalog.specs.Sections.{Section}
 use Rattle.demand_api.specs.Crowds.{CrowdData, IsCrowd, Student, demand, demands}
+use Rattle.demand_api.specs.Made.{crowd_of}
 use Rattle.proof_tree.specs.Laws.{HasTree, TreesProveTheBest}
 use Rattle.proof_tree.specs.Texts.{spelled}
 use Rattle.tabu_search.specs.Laws.{SearchEnds}
@@ -20,21 +23,28 @@ use Rattle.oversubscription_stage.specs.Rounds.{IsSettled, last}
 use Rattle.aftermarket_stage.specs.Laws.{AftermarketEnds}
 use Rattle.aftermarket_stage.specs.Passes.{IsAftermarket}
 use Rattle.aftermarket_stage.specs.Turns.{EachTurn, IsTurn, Terms, TurnData, after_turn}
+use Rattle.market_crowd.proofs.CrowdFacts.{crowd_is_markets}
+use Rattle.market_menus.specs.Limits.{EachHasAMenu}
 use Rattle.market_menus.specs.MenusOf.{AreMenusOf}
 use Rattle.market_settings.specs.declared.reader.Settings.{Settings}
 use Rattle.market_certificate.specs.Publications.{Proved, ProvedTurn, Publication}
 use Rattle.preference_desk.specs.StudentPreferences.{StudentPreferences}
-use Rattle.student_roll.specs.Students.{Student as Enrolled}
+use Rattle.preference_desk.specs.declared.entry.Entry.{Entry}
+use Rattle.student_roll.specs.Students.{IsRoll, Student as Enrolled}
+use Rattle.utility_language.specs.declared.commands.Command.{Command}
+use Rattle.published_parts.specs.Crowds.{IsCrowdAfter, IsCrowdIn}
 use Rattle.published_parts.specs.Holdings.{held_after, tokens, used_of}
 use Rattle.published_parts.specs.Journals.{wanted_in}
 use Rattle.preference_desk.specs.Journals.{sessions_of}
-use Rattle.published_parts.specs.Markets.{seats_in}
+use Rattle.published_parts.specs.Markets.{Market, seats_in}
 use Rattle.published_parts.specs.Offers.{IsProvedBest, IsProvedDemand, all_sections, offer_to}
 use Rattle.published_market.specs.Laws.{PublishedOrUnpriced}
-use Rattle.published_market.specs.Publishing.{IsOutcome, Lengths, lengths_of, terms_at}
+use Rattle.published_market.specs.Publishing.{IsOutcome, IsPublished, IsUnpriced, Lengths, lengths_of, terms_at}
 use Rattle.published_market.specs.Turns.{IsPublishedTurn, offer_at}
 use Rattle.published_market.proofs.Found.{found_prices}
+use Rattle.published_market.proofs.Limited.{wanted_limited, wanted_long}
 use Rattle.published_market.proofs.Prices.{tokens_of_prices}
+use Rattle.published_market.proofs.Publishable.{crowd_known}
 use Rattle.published_market.proofs.Sentences.{demands_published}
 use Rattle.published_market.proofs.Turning.{made_each}
 
@@ -129,8 +139,10 @@ menus_limited catalog [] (w ∷ wanted) students are = absurd are
 menus_limited catalog (s ∷ roll) [] students are = absurd are
 menus_limited catalog (s ∷ roll) (w ∷ wanted) [] are = absurd are
 
-pub published_or_unpriced : SearchEnds → EliminationEnds → AftermarketEnds → TreesProveTheBest → PublishedOrUnpriced
-published_or_unpriced search elimination aftermarket trees market streams order crowd after known =
+-- with a crowd
+by_crowd : SearchEnds → EliminationEnds → AftermarketEnds → TreesProveTheBest → (market : Market) (streams : List (List Command)) (order : List ℕ) (crowd : CrowdData) → IsCrowdAfter market streams order crowd → IsCrowd crowd
+    → ((p : Publication) × IsPublished market streams order p) ⊎ ((least : ℕ) × IsUnpriced market streams order least)
+by_crowd search elimination aftermarket trees market streams order crowd after known =
     let menus = menus_limited market.catalog.sections market.roll.students (wanted_in market after.journal) crowd.students after.is_crowd.menus in
     elim (search crowd (seats_in market) market.settings) [
       | inl (prices, error, turns, found) ↦
@@ -138,3 +150,25 @@ published_or_unpriced search elimination aftermarket trees market streams order 
           inl (out.p, record { journal = after.journal; is_journal = after.is_journal; lengths = out.lengths; publication = record { order = out.same; crowd = crowd; is_crowd = after.is_crowd; outcome = out.is } })
       | inr (least, none) ↦ inr (least, (after.journal, after.is_journal, (crowd, after.is_crowd, none)))
     ]
+
+as_tokens : List ℕ → List Tokens
+as_tokens budgets = map (λ (n : ℕ). record { 0 = n }) budgets
+
+amounts_back : (budgets : List ℕ) → amounts (as_tokens budgets) ≡ budgets
+unfolding as_tokens
+amounts_back [] = refl
+amounts_back (budget ∷ budgets) = ap (λ more. budget ∷ more) (amounts_back budgets)
+
+-- the students of a market in order are a crowd
+crowd_there : EachHasAMenu → (market : Market) (journal : List Entry) → IsCatalog market.catalog → IsRoll market.roll → (crowd : CrowdData) × IsCrowdIn market journal crowd
+crowd_there law market journal catalog roll =
+    let menus = law market.catalog market.roll (wanted_in market journal) catalog roll (wanted_long market journal) (wanted_limited market journal) in
+    let budgets : List ℕ = budgets_of market.roll.students market.settings.seed market.settings.spread in (
+      crowd_of menus.0 (as_tokens budgets) (length market.catalog.sections),
+      crowd_is_markets market.catalog market.roll (wanted_in market journal) menus.0 (as_tokens budgets) market.settings.seed market.settings.spread menus.1 (amounts_back budgets),
+    )
+
+pub published_or_unpriced : EachHasAMenu → SearchEnds → EliminationEnds → AftermarketEnds → TreesProveTheBest → PublishedOrUnpriced
+published_or_unpriced law search elimination aftermarket trees market streams order journal are is_journal =
+    let there = crowd_there law market journal are.catalog are.roll in
+    by_crowd search elimination aftermarket trees market streams order there.0 (record { journal = journal; is_journal = is_journal; is_crowd = there.1 }) (crowd_known market journal there.0 are.catalog are.roll are.settings there.1)

@@ -10,6 +10,7 @@ pub mod PublicationRanges
 pub mod HeldStages
 pub mod Found
 pub mod Telling
+pub mod Limited
 pub mod Existing
 pub mod Merged
 pub mod Rooming

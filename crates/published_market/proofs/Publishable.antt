@@ -80,7 +80,7 @@ amounts_back [] = refl
 amounts_back (student ∷ students) = ap (λ more. student.budget ∷ more) (amounts_back students)
 
 -- the crowd of a market in order
-crowd_known : (market : Market) (journal : List Entry) (crowd : CrowdData) → IsCatalog market.catalog → IsRoll market.roll → AreInRange market.settings → IsCrowdIn market journal crowd → IsCrowd crowd
+pub crowd_known : (market : Market) (journal : List Entry) (crowd : CrowdData) → IsCatalog market.catalog → IsRoll market.roll → AreInRange market.settings → IsCrowdIn market journal crowd → IsCrowd crowd
 unfolding as_tokens
 crowd_known market journal crowd catalog roll settings is =
     let menus : List MenuData = map (λ (student : Asked). student.menu) crowd.students in

@@ -9,8 +9,6 @@ use Rattle.preference_desk.specs.declared.entry.Entry.{Entry}
 use Rattle.utility_language.specs.declared.commands.Command.{Command}
 use Rattle.market_certificate.specs.Publications.{IsPublication, ProvedTurn, Publication}
 use Rattle.market_certificate.specs.Texts.{text_of}
-use Rattle.demand_api.specs.Crowds.{CrowdData, IsCrowd}
-use Rattle.published_parts.specs.Crowds.{IsCrowdAfter}
 use Rattle.published_parts.specs.Markets.{Market, names_in, tables_in}
 use Rattle.published_parts.specs.Journals.{IsJournalOf, wishes_in}
 use Rattle.published_parts.specs.Allocations.{AreBestAtTheirTurns, IsAllocation}
@@ -23,7 +21,7 @@ abbrev pub OrderMergesStreams : Type 0
 OrderMergesStreams = (market : Market) (streams : List (List Command)) (order : List ℕ) (p : Publication) → IsPublished market streams order p
     → (p.order ≡ order) × ((journal : List Entry) × IsJournalOf (names_in market) streams order journal)
 
--- each student's budget is what the seed draws for it, with its base and what it carried over
+-- each student's budget is its base, what it carried over, and the spread times the rank that the seed draws for it
 abbrev pub BudgetsAreDrawn : Type 0
 BudgetsAreDrawn = (market : Market) (streams : List (List Command)) (order : List ℕ) (p : Publication) → IsPublished market streams order p
     → p.budgets ≡ budgets_of market.roll.students market.settings.seed market.settings.spread
@@ -88,7 +86,7 @@ OneLeastError = (market : Market) (streams : List (List Command)) (order : List 
 abbrev pub PublishedIsPriced : Type 0
 PublishedIsPriced = (market : Market) (streams : List (List Command)) (order : List ℕ) (p : Publication) (least : ℕ) → IsPublished market streams order p → ¬ IsUnpriced market streams order least
 
--- an order of which the journal merges the streams has something published, or a least error that is not accepted
+-- for inputs in order, an order with a journal that merges the streams has something published, or a least error that is not accepted
 abbrev pub PublishedOrUnpriced : Type 0
-PublishedOrUnpriced = (market : Market) (streams : List (List Command)) (order : List ℕ) (crowd : CrowdData) → IsCrowdAfter market streams order crowd → IsCrowd crowd
+PublishedOrUnpriced = (market : Market) (streams : List (List Command)) (order : List ℕ) (journal : List Entry) → AreInOrder market streams → IsJournalOf (names_in market) streams order journal
     → ((p : Publication) × IsPublished market streams order p) ⊎ ((least : ℕ) × IsUnpriced market streams order least)

@@ -3,6 +3,7 @@
 ghost use Rattle.published_market.specs.Laws.{AllocatedInPasses, AllocationWithinSeats, BestAtItsTurn, BestWithinBudget, BudgetsAreDrawn, OneLeastError, OnePublication, OnePublishedText, OrderMergesStreams, PublishedIsPriced, PublishedIsPublication, PublishedOrUnpriced, StageTwoWithinSeats, TurnsWithinSeats};
 
 use aftermarket_stage::laws::{aftermarket_ends, one_aftermarket, stays_within_seats};
+use market_menus::laws::each_has_a_menu;
 use oversubscription_stage::laws::elimination_ends;
 use proof_tree::laws::trees_prove_the_best;
 use tabu_search::laws::{not_both_are_searched, one_is_found, search_ends};
@@ -12,7 +13,7 @@ pub fn order_merges_streams()
     ensures { OrderMergesStreams }
 {}
 
-/// Each student's budget is drawn by the seed.
+/// Each budget is the base, what was carried over, and the spread times the rank that the seed draws.
 pub fn budgets_are_drawn()
     ensures { BudgetsAreDrawn }
 {}
@@ -54,7 +55,9 @@ pub fn allocated_in_passes()
     ensures { AllocatedInPasses }
 {}
 
-/// What is published for inputs in order is a publication in the ranges of the text, where its text is not of 2 ^ 64 bytes or more.
+/// What is published for catalogue, roll and settings in their ranges and at most 64 sessions is a publication in the ranges of
+/// the text, where its text is not of 2 ^ 64 bytes or more: a turn's pass is to be below 2 ^ 64, and no pass has a greater
+/// number than the text has bytes.
 pub fn published_is_publication()
     ensures { PublishedIsPublication }
 {}
@@ -75,7 +78,7 @@ pub fn one_published_text()
     one_aftermarket();
 }
 
-/// Where no prices are found, the least error is one.
+/// Where no prices are found, there is only one least error.
 pub fn one_least_error()
     ensures { OneLeastError }
 {
@@ -89,10 +92,12 @@ pub fn published_is_priced()
     not_both_are_searched();
 }
 
-/// An order of which the journal merges the streams has something published, or a least error that is not accepted.
+/// For catalogue, roll and settings in their ranges and at most 64 sessions, an order with a journal that merges the streams has
+/// something published, or a least error that is not accepted.
 pub fn published_or_unpriced()
     ensures { PublishedOrUnpriced }
 {
+    each_has_a_menu();
     search_ends();
     elimination_ends();
     aftermarket_ends();

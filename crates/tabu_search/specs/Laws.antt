@@ -20,7 +20,7 @@ abbrev pub OneIsFound : Type 0
 OneIsFound = (crowd : CrowdData) (seats : List ℕ) (settings : Settings) (one other : List Tokens) (error error' turns turns' : ℕ) → IsFound crowd seats settings one error turns → IsFound crowd seats settings other error' turns'
     → (one ≡ other) × (error ≡ error') × (turns ≡ turns')
 
--- and where none are found, the least error is one
+-- and where none are found, there is only one least error
 abbrev pub OneLeastError : Type 0
 OneLeastError = (crowd : CrowdData) (seats : List ℕ) (settings : Settings) (least least' : ℕ) → FindsNone crowd seats settings least → FindsNone crowd seats settings least' → least ≡ least'
 

@@ -16,7 +16,7 @@ pub fn one_is_found()
     ensures { OneIsFound }
 {}
 
-/// Where it finds none, the least error is one.
+/// Where it finds none, there is only one least error.
 pub fn one_least_error()
     ensures { OneLeastError }
 {}
