@@ -6,6 +6,3 @@ mod sums;
 mod text;
 
 pub use text::summary_text;
-
-#[cfg(test)]
-mod tests;

@@ -1,5 +1,5 @@
-//! Tests of the published text: how it is read and written, and what is found in forged ones. There is nothing else here,
-//! so that what they stand on is proved once.
+//! Tests of the published text: how it is read and written, what is found in forged ones, and what is published of a market
+//! and told of it. There is nothing else here, so that what they stand on is proved once.
 #![tactic(auto)]
 
 #[cfg(test)]
@@ -7,4 +7,16 @@ mod certificate;
 #[cfg(test)]
 mod checker;
 #[cfg(test)]
+mod demands;
+#[cfg(test)]
+mod desks;
+#[cfg(test)]
+mod fields;
+#[cfg(test)]
+mod made_markets;
+#[cfg(test)]
 mod readers;
+#[cfg(test)]
+mod runs;
+#[cfg(test)]
+mod summaries;

@@ -1,10 +1,10 @@
-// Each field, written alone.
-use super::*;
+// The fields of printed lines, each written alone.
+use crate::readers::catalog_in;
 use bundle_rules::Bundle;
-use course_catalog::read_catalog;
 use market_units::SectionNo;
 use std::process::Abort;
 use std::test::Fail;
+use text_fields::{put_bundle_field, put_field, put_number_field, put_signed_field};
 
 const CATALOG: &[u8] =
     b"section,course,seats,credits,meetings\nA,AA,1,1,\nB-2,BB,1,1,\nC,CC,1,1,\n";
@@ -12,7 +12,7 @@ const CATALOG: &[u8] =
 #[test]
 fn fields_stand_behind_the_text(rt: HostRuntime) -> Result<(), Fail> {
     let alloc = rt.alloc();
-    let catalog = read_catalog(alloc, CATALOG).expect(&rt, "a catalogue");
+    let catalog = catalog_in(&rt, alloc, CATALOG);
     assert!(rt; catalog.len() == 3);
     let mut text = b"line".to_vec(alloc)?;
     put_field(&mut text, b"word").expect(&rt, "memory");
