@@ -21,6 +21,3 @@ pub use accepted::Accepted;
 pub use checking::{accept, check, check_owned};
 pub use findings::{CheckEnd, Finding, TurnFault};
 pub use words::finding_line;
-
-#[cfg(test)]
-mod tests;

@@ -13,6 +13,3 @@ mod text;
 pub use lines::put_order;
 pub use taking::Taken;
 pub use text::demand_text;
-
-#[cfg(test)]
-mod tests;

@@ -9,6 +9,3 @@ mod market;
 mod reading;
 
 pub use market::{MadeMarket, make_market};
-
-#[cfg(test)]
-mod tests;

@@ -5,6 +5,3 @@ pub mod laws;
 mod summary;
 
 pub use summary::made_summary;
-
-#[cfg(test)]
-mod tests;

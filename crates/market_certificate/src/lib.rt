@@ -14,6 +14,3 @@ pub use publication::{Proved, ProvedTurn, Publication};
 pub use reading::read_publication;
 pub use refusals::{LineFault, TextRefusal};
 pub use writing::{put_error, put_field, put_number_field, put_publication};
-
-#[cfg(test)]
-mod tests;

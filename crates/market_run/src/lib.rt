@@ -9,6 +9,3 @@ mod texts;
 
 pub use held::{HeldEnd, held_summary, held_text};
 pub use texts::{made_summary, published_text};
-
-#[cfg(test)]
-mod tests;

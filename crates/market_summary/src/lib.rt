@@ -7,6 +7,3 @@ mod sums;
 mod text;
 
 pub use text::summary_text;
-
-#[cfg(test)]
-mod tests;

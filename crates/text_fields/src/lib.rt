@@ -7,6 +7,3 @@ mod fields;
 pub use bundles::put_bundle_field;
 pub use fields::put_signed_field;
 pub use market_certificate::{put_field, put_number_field};
-
-#[cfg(test)]
-mod tests;

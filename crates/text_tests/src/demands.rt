@@ -1,7 +1,7 @@
-// Lines and texts, called alone.
-use super::*;
+// What students take at given prices, and the line of an order.
 use bundle_rules::{Menu, Rated};
 use demand_api::{Crowd, PlainDemands};
+use demand_text::{Taken, put_order};
 use market_units::{SectionNo, Tokens};
 use preference_desk::{Entry, Reply};
 use std::alloc::Global;

@@ -1,10 +1,11 @@
-use super::*;
-use course_catalog::read_catalog;
+// What a published text is read as, and that it is written again as it was.
+
+use crate::readers::{catalog_in, roll_in};
+use market_certificate::{LineFault, Publication, TextRefusal, put_publication, read_publication};
 use market_units::Tokens;
 use std::alloc::Global;
 use std::process::Abort;
 use std::test::Fail;
-use student_roll::read_roll;
 use worked_terms::{
     CARRIED_TERM, EQUAL_ROLL, FOUR_TERM, NO_SECTIONS_TERM, NOBODY_TERM, ORDINARY_TERM, WorkedTerm,
 };
@@ -205,25 +206,34 @@ const SECOND_CHANGES: [Change; 17] = [
     (185, 2, b",", 15, LineFault::Form),
 ];
 
-// The text is read, and written again as it was.
-fn try_case(rt: &impl Abort, alloc: Global, case: &WorkedTerm) -> Result<(), Fail> {
-    let text = case.text.as_bytes();
-    assert!(rt; case.catalogue.len() < 10_000);
-    assert!(rt; case.roll.len() < 10_000);
+// What a text is read as with the tables of a term.
+fn read(
+    rt: &impl Abort,
+    alloc: Global,
+    term: &WorkedTerm,
+    text: &[u8],
+) -> Result<Publication, TextRefusal> {
+    let catalog = catalog_in(rt, alloc, term.catalogue);
+    let roll = roll_in(rt, alloc, term.roll);
     assert!(rt; text.len() < 10_000);
-    let catalog = read_catalog(alloc, case.catalogue)?;
-    let roll = read_roll(alloc, case.roll)?;
-    let publication = read_publication(alloc, &catalog, &roll, text)?;
-    let written = put_publication(alloc, &catalog, &roll, &publication)?;
-    assert_eq!(rt; written.as_slice(), text);
-    Ok(())
+    read_publication(alloc, &catalog, &roll, text)
 }
 
-// The changed text has this defect.
-fn try_change(rt: &impl Abort, alloc: Global, change: &Change) -> Result<(), Fail> {
-    let (from, old, new, line, kind) = *change;
-    let term = ORDINARY_TERM;
-    let base = term.text.as_bytes();
+// The text is read, and written again as it was.
+fn try_case(rt: &impl Abort, alloc: Global, case: &WorkedTerm) {
+    let text = case.text.as_bytes();
+    let catalog = catalog_in(rt, alloc, case.catalogue);
+    let roll = roll_in(rt, alloc, case.roll);
+    assert!(rt; text.len() < 10_000);
+    let publication = read_publication(alloc, &catalog, &roll, text).expect(rt, "a publication");
+    let written = put_publication(alloc, &catalog, &roll, &publication).expect(rt, "memory");
+    assert_eq!(rt; written.as_slice(), text);
+}
+
+// The text of the ordinary term, changed.
+fn with_change(rt: &impl Abort, alloc: Global, change: &Change) -> Result<Vec<u8>, Fail> {
+    let (from, old, new, ..) = *change;
+    let base = ORDINARY_TERM.text.as_bytes();
     assert!(rt; from < 10_000);
     assert!(rt; old < 10_000);
     let behind = from + old;
@@ -232,12 +242,14 @@ fn try_change(rt: &impl Abort, alloc: Global, change: &Change) -> Result<(), Fai
     text.extend_from_slice(&base[..from])?;
     text.extend_from_slice(new)?;
     text.extend_from_slice(&base[behind..])?;
-    assert!(rt; text.len() < 10_000);
-    assert!(rt; term.catalogue.len() < 10_000);
-    assert!(rt; term.roll.len() < 10_000);
-    let catalog = read_catalog(alloc, term.catalogue)?;
-    let roll = read_roll(alloc, term.roll)?;
-    match read_publication(alloc, &catalog, &roll, &text) {
+    Ok(text)
+}
+
+// The changed text has this defect.
+fn try_change(rt: &impl Abort, alloc: Global, change: &Change) -> Result<(), Fail> {
+    let (_, _, _, line, kind) = *change;
+    let text = with_change(rt, alloc, change)?;
+    match read(rt, alloc, &ORDINARY_TERM, &text) {
         Ok(_) => assert!(rt; false),
         Err(refusal) => assert_eq!(rt; refusal, TextRefusal::Defect { line, kind }),
     }
@@ -245,7 +257,7 @@ fn try_change(rt: &impl Abort, alloc: Global, change: &Change) -> Result<(), Fai
 }
 
 #[test]
-fn a_published_text_is_read_and_written_again(rt: HostRuntime) -> Result<(), Fail> {
+fn a_published_text_is_read_and_written_again(rt: HostRuntime) {
     let cases = [
         AFTERMARKET_SWAPS_IN_LATER_PASSES,
         CARRIED_TERM,
@@ -256,16 +268,15 @@ fn a_published_text_is_read_and_written_again(rt: HostRuntime) -> Result<(), Fai
         ORDINARY_TERM,
     ];
     for case in cases.iter() {
-        try_case(&rt, rt.alloc(), case)?;
+        try_case(&rt, rt.alloc(), case);
     }
     let cases = [
         PART_TERMS_MAKE_VERSION_TWO,
         TIES_OF_EXCESS_RAISE_THE_LOWEST_ORDINAL,
     ];
     for case in cases.iter() {
-        try_case(&rt, rt.alloc(), case)?;
+        try_case(&rt, rt.alloc(), case);
     }
-    Ok(())
 }
 
 #[test]
@@ -279,30 +290,31 @@ fn the_first_defect_is_told(rt: HostRuntime) -> Result<(), Fail> {
     Ok(())
 }
 
-// What the lines of the ordinary term say.
-#[test]
-fn a_text_says_what_its_lines_say(rt: HostRuntime) -> Result<(), Fail> {
-    let alloc = rt.alloc();
-    let term = ORDINARY_TERM;
-    let text = term.text.as_bytes();
-    assert!(rt; term.catalogue.len() < 10_000);
-    assert!(rt; term.roll.len() < 10_000);
-    assert!(rt; text.len() < 10_000);
-    let catalog = read_catalog(alloc, term.catalogue)?;
-    let roll = read_roll(alloc, term.roll)?;
-    let publication = read_publication(alloc, &catalog, &roll, text)?;
-    assert_eq!(rt; publication.order.as_slice(), [1; 8].as_slice());
+// The tokens that the lines of the ordinary term say.
+fn says_tokens(rt: &impl Abort, publication: &Publication) {
     assert!(rt;
         publication.budgets.as_slice() == [Tokens(104), Tokens(103), Tokens(102)].as_slice()
     );
     assert!(rt; publication.start.as_slice() == [Tokens(0); 4].as_slice());
-    assert_eq!(rt; publication.error, 1);
     assert!(rt;
         publication.prices.as_slice() == [Tokens(104), Tokens(0), Tokens(0), Tokens(0)].as_slice()
     );
+}
+
+// What else they say.
+fn says_numbers(rt: &impl Abort, publication: &Publication) {
+    assert_eq!(rt; publication.order.as_slice(), [1; 8].as_slice());
+    assert_eq!(rt; publication.error, 1);
     assert_eq!(rt;
         publication.used.as_slice(),
         [(1, 1), (1, 2), (1, 2), (1, 1)].as_slice()
     );
-    Ok(())
+}
+
+#[test]
+fn a_text_says_what_its_lines_say(rt: HostRuntime) {
+    let text = ORDINARY_TERM.text.as_bytes();
+    let publication = read(&rt, rt.alloc(), &ORDINARY_TERM, text).expect(&rt, "a publication");
+    says_tokens(&rt, &publication);
+    says_numbers(&rt, &publication);
 }

@@ -5,7 +5,7 @@ use Rattle.published_parts.specs.Crowds.{IsCrowdIn}
 use Rattle.published_parts.specs.Markets.{market_of}
 use Rattle.published_market.specs.Publishing.{IsPublicationOf, lengths_of}
 use Rattle.market_summary.proofs.SomeOutcomes.{some_outcome}
-use Rattle.market_summary.proofs.tests.summary_of.Goals as goal
+use Rattle.text_tests.proofs.summaries.summary_of.Goals as goal
 
 pub summary_text-requires-clause-outcome : goal.summary_text-requires-clause-outcome
 summary_text-requires-clause-outcome g c =
