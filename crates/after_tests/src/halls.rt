@@ -1,13 +1,13 @@
-// Requests read, made and told.
+// The drop-add hall: requests read, made and told.
 ghost use Rattle.std.specs.Prelude.{◌≡◌, ◌≤◌, IfOk, length};
 ghost use Rattle.dropadd_desk.specs.HallView.{market_of, room_of};
 ghost use Rattle.dropadd_hall.specs.Streams.{request_count};
 
-use super::*;
 use bundle_rules::Bundle;
 use chronicle::Step;
 use course_catalog::{Catalog, read_catalog};
 use dropadd_desk::{HallCommand, HallDesk, HallReply};
+use dropadd_hall::{ClosedHall, open_hall, put_hall, read_request, read_requests};
 use held_seats::are_below;
 use market_edge::{Gate, MeetingGate, OpenGate};
 use market_units::SectionNo;
@@ -213,27 +213,56 @@ fn is_posted(steps: &[Step<HallDesk>], seat: u16, lines: &[(&[u8], HallReply)]) 
     at == lines.len()
 }
 
+// The text of a hall in which one session makes the requests of a text.
+fn try_one<R: Abort + Threads + Wait + Sync>(
+    rt: &R,
+    alloc: Global,
+    text: &[u8],
+    want: &[u8],
+) -> Result<(), Fail> {
+    let requests = stream_of_text(rt, alloc, text);
+    let told = tell(rt, alloc, &[requests], &OpenGate)?;
+    assert!(rt; told.text.as_slice() == want);
+    Ok(())
+}
+
 #[test]
 fn each_reply_is_told(rt: HostRuntime) -> Result<(), Fail> {
-    let requests = stream_of_text(&rt, rt.alloc(), REQUESTS);
-    let told = tell(&rt, rt.alloc(), &[requests], &OpenGate)?;
-    assert!(rt; told.text.as_slice() == TOLD);
-    Ok(())
+    try_one(&rt, rt.alloc(), REQUESTS, TOLD)
 }
 
 #[test]
 fn a_waiting_list_is_told(rt: HostRuntime) -> Result<(), Fail> {
     let text = b"# w behind v\n\nadd v A\r\n\tadd  w A ";
-    let requests = stream_of_text(&rt, rt.alloc(), text);
-    let told = tell(&rt, rt.alloc(), &[requests], &OpenGate)?;
-    assert!(rt; told.text.as_slice() == WAITING);
-    Ok(())
+    try_one(&rt, rt.alloc(), text, WAITING)
 }
 
 #[test]
-fn no_room_for_a_request(rt: HostRuntime) -> Result<(), Fail> {
+fn no_room_for_a_request(rt: HostRuntime) {
     assert!(rt; read_requests(rt.alloc(), b"add v A\n#\nadd w A", 1) == Err(StreamEnd::TooMany));
-    Ok(())
+}
+
+// The calls and what is told, where each session keeps its order.
+fn try_told(rt: &impl Abort, told: &Told) {
+    let steps = told.hall.journal.steps();
+    assert_eq!(rt; steps.len(), 7);
+    assert!(rt; is_posted(steps, 0, &FIRST));
+    assert!(rt; is_posted(steps, 1, &SECOND));
+    assert!(rt; told.text.ends_with(HELD));
+}
+
+// The stops of two sessions that met, one of three requests and one of four, and of nobody else.
+fn try_gate(rt: &impl Abort, gate: &MeetingGate) {
+    assert_eq!(rt; gate.missed(), 0);
+    let sessions = [
+        gate.first.counts(),
+        gate.second.counts(),
+        gate.third.counts(),
+    ];
+    assert_eq!(rt; sessions, [(1, 4), (1, 3), (0, 0)]);
+    let workers = [gate.first_worker.counts(), gate.second_worker.counts()];
+    assert_eq!(rt; workers, [(0, 0), (0, 0)]);
+    assert_eq!(rt; gate.others(), 0);
 }
 
 // Two sessions whose calls meet: neither can make all its requests before the other has made one.
@@ -245,17 +274,7 @@ fn two_sessions_request_at_once(rt: HostRuntime) -> Result<(), Fail> {
         stream_of(rt.alloc(), &SECOND)?,
     ];
     let told = tell(&rt, rt.alloc(), &streams, &gate)?;
-    let steps = told.hall.journal.steps();
-    assert_eq!(rt; steps.len(), 7);
-    assert!(rt; is_posted(steps, 0, &FIRST));
-    assert!(rt; is_posted(steps, 1, &SECOND));
-    assert!(rt; told.text.ends_with(HELD));
-    assert_eq!(rt; gate.missed(), 0);
-    assert_eq!(rt; gate.first.counts(), (1, 4));
-    assert_eq!(rt; gate.second.counts(), (1, 3));
-    assert_eq!(rt; gate.third.counts(), (0, 0));
-    assert_eq!(rt; gate.first_worker.counts(), (0, 0));
-    assert_eq!(rt; gate.second_worker.counts(), (0, 0));
-    assert_eq!(rt; gate.others(), 0);
+    try_told(&rt, &told);
+    try_gate(&rt, &gate);
     Ok(())
 }

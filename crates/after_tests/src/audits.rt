@@ -1,14 +1,14 @@
-// Audits of small markets. The texts are those of a second implementation, for the same tables and bundles.
+// Audits of small markets, by workers. The texts are those of a second implementation, for the same tables and bundles.
 ghost use Rattle.std.specs.Prelude.{◌≡◌, ◌≤◌, IfOk, length, map};
 ghost use Rattle.std.specs.Arc.{arc_value};
 ghost use Rattle.demand_api.specs.Made.{MakeCrowd};
 ghost use Rattle.fairness_audit.specs.Texts.{AreRowsAmong};
 ghost use Rattle.fairness_audit.specs.Views.{row_of};
 
-use super::*;
 use bundle_rules::{Bundle, Menu, Rated};
 use course_catalog::read_catalog;
 use demand_api::Crowd;
+use fairness_audit::{EnvyRow, Seen, audit, is_allocation, put_rows};
 use market_edge::{Gate, MeetingGate, OpenGate};
 use market_units::{SectionNo, StudentNo, Tokens};
 use std::alloc::Global;

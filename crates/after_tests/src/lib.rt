@@ -1,0 +1,11 @@
+//! Tests of what comes after publication: halls of drop and add, and audits; and that the gate which a call is given is
+//! the one that its sessions and workers pass, which no clause says, since a pass changes nothing. There is nothing
+//! else here, so that what they stand on is proved once.
+#![tactic(auto)]
+
+#[cfg(test)]
+mod audits;
+#[cfg(test)]
+mod gates;
+#[cfg(test)]
+mod halls;
