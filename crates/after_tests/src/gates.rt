@@ -1,7 +1,7 @@
 // Each call below the top call that hands its gate on, with a gate that counts.
 ghost use Rattle.std.specs.Prelude.{◌≤◌};
 
-use course_catalog::{Catalog, read_catalog};
+use crate::tables::tables_of;
 use dropadd_hall::read_requests;
 use made_run::made_summary;
 use market_edge::{Gate, Stop};
@@ -13,9 +13,8 @@ use std::process::Abort;
 use std::sync::Wait;
 use std::sync::atomic::{AtomicU64, Ordering};
 use std::thread::Threads;
-use student_roll::{Roll, read_roll};
 use utility_language::read_stream;
-use worked_terms::{EQUAL_ENVY, EQUAL_MARKET, WorkedTerm};
+use worked_terms::{EQUAL_ENVY, EQUAL_MARKET};
 
 // Counts the stops of sessions, the starts of the worker of one number, and those of workers of greater numbers.
 #[derive(Drop)]
@@ -64,20 +63,12 @@ fn add_one(counter: &AtomicU64) {
     counter.fetch_add(1, Ordering::SeqCst);
 }
 
-fn tables_of<R: Abort>(rt: &R, alloc: Global, term: &WorkedTerm) -> (Catalog, Roll) {
-    assert!(rt; term.catalogue.len() < 1000 && term.roll.len() < 1000);
-    (
-        read_catalog(alloc, term.catalogue).expect(rt, "a catalogue"),
-        read_roll(alloc, term.roll).expect(rt, "a roll"),
-    )
-}
-
 // One session of four requests stands before its first one and after each.
 #[test]
 fn a_hall_passes_the_gate(rt: HostRuntime) {
     let alloc = rt.alloc();
     let term = EQUAL_MARKET.term;
-    let (catalog, roll) = tables_of(&rt, alloc, &term);
+    let (catalog, roll) = tables_of(&rt, alloc, term.catalogue, term.roll);
     let four: &[u8] = b"add v X\ndrop u X\nadd u X\ndrop v X\n";
     let requests = read_requests(alloc, four, 100).expect(&rt, "requests");
     assert!(rt; term.text.len() < 1000 && requests.len() <= 100);
@@ -93,7 +84,7 @@ fn try_audit<R: Abort + Threads + Wait + Sync>(rt: &R, alloc: Global, workers: u
     requires { (1 ≤ workers) × (workers ≤ 16) }
 {
     let market = EQUAL_MARKET;
-    let (catalog, roll) = tables_of(rt, alloc, &market.term);
+    let (catalog, roll) = tables_of(rt, alloc, market.term.catalogue, market.term.roll);
     let settings = read_settings(alloc, market.settings).expect(rt, "settings");
     let stream = read_stream(alloc, market.session, 100).expect(rt, "commands");
     let mut streams = Vec::new(alloc);

@@ -3,9 +3,10 @@ ghost use Rattle.std.specs.Prelude.{◌≡◌, ◌≤◌, IfOk, length};
 ghost use Rattle.dropadd_desk.specs.HallView.{market_of, room_of};
 ghost use Rattle.dropadd_hall.specs.Streams.{request_count};
 
+use crate::tables::tables_of;
 use bundle_rules::Bundle;
 use chronicle::Step;
-use course_catalog::{Catalog, read_catalog};
+use course_catalog::Catalog;
 use dropadd_desk::{HallCommand, HallDesk, HallReply};
 use dropadd_hall::{ClosedHall, open_hall, put_hall, read_request, read_requests};
 use held_seats::are_below;
@@ -16,7 +17,7 @@ use std::process::Abort;
 use std::sync::Wait;
 use std::test::Fail;
 use std::thread::Threads;
-use student_roll::{Roll, read_roll};
+use student_roll::Roll;
 use utility_language::StreamEnd;
 use worked_terms::FIVE_SECTIONS_TERM;
 
@@ -136,17 +137,23 @@ struct Told {
     text: Vec<u8>,
 }
 
+// What so many students hold, of whom the first holds the first section.
+fn opening_of(rt: &impl Abort, alloc: Global, students: u16) -> Vec<Bundle> {
+    let mut bundles = Vec::new(alloc);
+    let first = Bundle::of(&[SectionNo(0)]).expect(rt, "one section");
+    bundles.push(first).expect(rt, "memory");
+    for _ in 1..students {
+        bundles.push(Bundle::empty()).expect(rt, "memory");
+    }
+    bundles
+}
+
 // A desk at which the first student holds the first section, with room for 200 requests.
 fn desk_of(rt: &impl Abort, alloc: Global, catalog: &Catalog, roll: &Roll) -> HallDesk
     ensures market { market_of result ≡ record { catalog = catalog.now; roll = roll.now } }
     ensures room { room_of result ≡ 200 }
 {
-    let mut bundles = Vec::new(alloc);
-    let first = Bundle::of(&[SectionNo(0)]).expect(rt, "one section");
-    bundles.push(first).expect(rt, "memory");
-    for _ in 1..roll.len() {
-        bundles.push(Bundle::empty()).expect(rt, "memory");
-    }
+    let bundles = opening_of(rt, alloc, roll.len());
     assert!(rt; bundles.len() == usize::from(roll.len()));
     assert!(rt; are_below(usize::from(catalog.len()), &bundles));
     HallDesk::prepare(alloc, catalog, roll, &bundles, 200).expect(rt, "memory")
@@ -163,9 +170,7 @@ fn tell<R: Abort + Threads + Wait + Sync, G: Gate + Sync>(
     requires few { request_count streams.now ≤ 200 }
 {
     let term = FIVE_SECTIONS_TERM;
-    assert!(rt; term.catalogue.len() < 1000 && term.roll.len() < 1000);
-    let catalog = read_catalog(alloc, term.catalogue)?;
-    let roll = read_roll(alloc, term.roll)?;
+    let (catalog, roll) = tables_of(rt, alloc, term.catalogue, term.roll);
     let desk = desk_of(rt, alloc, &catalog, &roll);
     let hall = open_hall(rt, alloc, desk, streams, gate)?;
     let text = put_hall(alloc, &catalog, &roll, &hall)?;

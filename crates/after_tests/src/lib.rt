@@ -9,3 +9,5 @@ mod audits;
 mod gates;
 #[cfg(test)]
 mod halls;
+#[cfg(test)]
+mod tables;
