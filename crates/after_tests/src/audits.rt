@@ -47,8 +47,11 @@ struct Case {
 }
 
 const A: SectionNo = SectionNo(0);
+
 const B: SectionNo = SectionNo(1);
+
 const C: SectionNo = SectionNo(2);
+
 const D: SectionNo = SectionNo(3);
 
 // The places of these wishes.
@@ -98,11 +101,7 @@ fn crowd_of<R: Abort>(
 }
 
 // These bundles.
-fn bundles_of<R: Abort>(
-    rt: &R,
-    alloc: Global,
-    held: &[&[SectionNo]],
-) -> Result<Vec<Bundle>, Fail> {
+fn bundles_of<R: Abort>(rt: &R, alloc: Global, held: &[&[SectionNo]]) -> Result<Vec<Bundle>, Fail> {
     let mut bundles = Vec::new(alloc);
     for sections in held {
         bundles.push(Bundle::of(sections).expect(rt, "a bundle"))?;
@@ -160,7 +159,10 @@ fn try_case<R: Abort + Threads + Wait + Sync>(
     let crowd = crowd_of(rt, alloc, case.students, catalog.len())?;
     for workers in [1, 2, 16] {
         let found = text_of(rt, alloc, case, &catalog, &roll, &crowd, workers)?;
-        assert!(rt; found.as_slice() == case.text.as_bytes(), "{workers} workers");
+        assert!(rt;
+            found.as_slice() == case.text.as_bytes(),
+            "{workers} workers"
+        );
     }
     Ok(())
 }
@@ -193,10 +195,7 @@ fn four_students_one_seat(rt: HostRuntime) -> Result<(), Fail> {
 const EQUAL: Case = Case {
     catalogue: ONE_SEAT_CATALOGUE,
     roll: EQUAL_ROLL,
-    students: &[
-        (100, 1, WANTS_A, &[], &[0]),
-        (100, 1, WANTS_A, &[], &[0]),
-    ],
+    students: &[(100, 1, WANTS_A, &[], &[0]), (100, 1, WANTS_A, &[], &[0])],
     settled: &[&[], &[]],
     last: &[&[A], &[]],
     text: EQUAL_ENVY,
@@ -211,10 +210,7 @@ fn equal_budgets_envy_after_the_aftermarket(rt: HostRuntime) -> Result<(), Fail>
 const CARRIED: Case = Case {
     catalogue: ONE_SEAT_CATALOGUE,
     roll: b"student,budget,credits,courses,carry\nu,100,10,1,0\nv,90,10,1,15\n",
-    students: &[
-        (100, 1, WANTS_A, &[], &[0]),
-        (105, 1, WANTS_A, &[], &[0]),
-    ],
+    students: &[(100, 1, WANTS_A, &[], &[0]), (105, 1, WANTS_A, &[], &[0])],
     settled: &[&[], &[A]],
     last: &[&[], &[A]],
     text: LOWER_BASE_ENVY,
@@ -305,13 +301,7 @@ fn an_audit_of_nobody(rt: HostRuntime) -> Result<(), Fail> {
     try_case(&rt, rt.alloc(), &NOBODY)
 }
 
-const HIMSELF: [Student; 1] = [(
-    100,
-    2,
-    &[(0, 0, 10), (1, 1, 10)],
-    &[(0, 1, -15)],
-    &[0; 2],
-)];
+const HIMSELF: [Student; 1] = [(100, 2, &[(0, 0, 10), (1, 1, 10)], &[(0, 1, -15)], &[0; 2])];
 
 // One of two sections alone is worth more to the student than both, which it has: that is no envy of itself.
 #[test]

@@ -1,23 +1,18 @@
 // The drop-add hall: requests read, made and told.
 ghost use Rattle.std.specs.Prelude.{◌≡◌, ◌≤◌, IfOk, length};
-ghost use Rattle.dropadd_desk.specs.HallView.{market_of, room_of};
 ghost use Rattle.dropadd_hall.specs.Streams.{request_count};
 
+use crate::desks::{Said, desk_of};
 use crate::tables::tables_of;
-use bundle_rules::Bundle;
 use chronicle::Step;
-use course_catalog::Catalog;
 use dropadd_desk::{HallCommand, HallDesk, HallReply};
 use dropadd_hall::{ClosedHall, open_hall, put_hall, read_request, read_requests};
-use held_seats::are_below;
 use market_edge::{Gate, MeetingGate, OpenGate};
-use market_units::SectionNo;
 use std::alloc::Global;
 use std::process::Abort;
 use std::sync::Wait;
 use std::test::Fail;
 use std::thread::Threads;
-use student_roll::Roll;
 use utility_language::StreamEnd;
 use worked_terms::FIVE_SECTIONS_TERM;
 
@@ -100,7 +95,7 @@ used E 0 9
 ";
 
 // Requests of two sessions with their replies, which are the same in every order that keeps each session's own.
-const FIRST: [(&[u8], HallReply); 4] = [
+const FIRST: [Said; 4] = [
     (
         b"drop u A",
         HallReply::Dropped {
@@ -113,7 +108,7 @@ const FIRST: [(&[u8], HallReply); 4] = [
     (b"add u Q", HallReply::NoSection),
 ];
 
-const SECOND: [(&[u8], HallReply); 3] = [
+const SECOND: [Said; 3] = [
     (b"add v B", HallReply::Added),
     (b"no request", HallReply::Unreadable),
     (b"add w C", HallReply::Added),
@@ -137,28 +132,6 @@ struct Told {
     text: Vec<u8>,
 }
 
-// What so many students hold, of whom the first holds the first section.
-fn opening_of(rt: &impl Abort, alloc: Global, students: u16) -> Vec<Bundle> {
-    let mut bundles = Vec::new(alloc);
-    let first = Bundle::of(&[SectionNo(0)]).expect(rt, "one section");
-    bundles.push(first).expect(rt, "memory");
-    for _ in 1..students {
-        bundles.push(Bundle::empty()).expect(rt, "memory");
-    }
-    bundles
-}
-
-// A desk at which the first student holds the first section, with room for 200 requests.
-fn desk_of(rt: &impl Abort, alloc: Global, catalog: &Catalog, roll: &Roll) -> HallDesk
-    ensures market { market_of result ≡ record { catalog = catalog.now; roll = roll.now } }
-    ensures room { room_of result ≡ 200 }
-{
-    let bundles = opening_of(rt, alloc, roll.len());
-    assert!(rt; bundles.len() == usize::from(roll.len()));
-    assert!(rt; are_below(usize::from(catalog.len()), &bundles));
-    HallDesk::prepare(alloc, catalog, roll, &bundles, 200).expect(rt, "memory")
-}
-
 // The text of a hall in which these requests are made.
 fn tell<R: Abort + Threads + Wait + Sync, G: Gate + Sync>(
     rt: &R,
@@ -171,7 +144,7 @@ fn tell<R: Abort + Threads + Wait + Sync, G: Gate + Sync>(
 {
     let term = FIVE_SECTIONS_TERM;
     let (catalog, roll) = tables_of(rt, alloc, term.catalogue, term.roll);
-    let desk = desk_of(rt, alloc, &catalog, &roll);
+    let desk = desk_of(rt, alloc, &catalog, &roll, 200);
     let hall = open_hall(rt, alloc, desk, streams, gate)?;
     let text = put_hall(alloc, &catalog, &roll, &hall)?;
     Ok(Told { hall, text })
@@ -187,7 +160,7 @@ fn stream_of_text(rt: &impl Abort, alloc: Global, text: &[u8]) -> Vec<HallComman
 }
 
 // Requests of these lines.
-fn stream_of(alloc: Global, lines: &[(&[u8], HallReply)]) -> Result<Vec<HallCommand>, Fail>
+fn stream_of(alloc: Global, lines: &[Said]) -> Result<Vec<HallCommand>, Fail>
     ensures { IfOk result (λ requests. length requests.items ≤ 100) }
 {
     let mut requests = Vec::new(alloc);
@@ -201,7 +174,7 @@ fn stream_of(alloc: Global, lines: &[(&[u8], HallReply)]) -> Result<Vec<HallComm
 }
 
 // Whether the steps of this seat are these lines with their replies, in order.
-fn is_posted(steps: &[Step<HallDesk>], seat: u16, lines: &[(&[u8], HallReply)]) -> bool {
+fn is_posted(steps: &[Step<HallDesk>], seat: u16, lines: &[Said]) -> bool {
     let mut at = 0usize;
     for step in steps {
         if step.seat != seat {
