@@ -16,6 +16,3 @@ pub use desk::HallDesk;
 pub use reply::HallReply;
 pub use rules::MarketRules;
 pub use shared::HallState;
-
-#[cfg(test)]
-mod tests;

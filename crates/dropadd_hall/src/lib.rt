@@ -18,6 +18,3 @@ pub use hall::{ClosedHall, open_hall};
 pub use opening::{OpeningFault, opening_fault};
 pub use requests::{read_request, read_requests};
 pub use text::put_hall;
-
-#[cfg(test)]
-mod tests;

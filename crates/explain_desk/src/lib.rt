@@ -24,6 +24,3 @@ pub use explanation::{Explained, Proved};
 pub use limits::Limit;
 pub use reasons::Reason;
 pub use text::put_explained;
-
-#[cfg(test)]
-mod tests;

@@ -28,6 +28,3 @@ pub use register::Register;
 pub use row::{EnvyRow, Seen};
 pub use shared::{Progress, Terms};
 pub use text::put_rows;
-
-#[cfg(test)]
-mod tests;

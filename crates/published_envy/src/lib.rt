@@ -6,6 +6,3 @@ mod audits;
 pub mod laws;
 
 pub use audits::published_audit;
-
-#[cfg(test)]
-mod tests;

@@ -7,6 +7,3 @@ pub mod laws;
 mod opening;
 
 pub use halls::published_hall;
-
-#[cfg(test)]
-mod tests;

@@ -4,6 +4,3 @@
 mod reasons;
 
 pub use reasons::published_reason;
-
-#[cfg(test)]
-mod tests;

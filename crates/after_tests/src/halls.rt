@@ -1,22 +1,18 @@
-// Requests read, made and told.
+// The drop-add hall: requests read, made and told.
 ghost use Rattle.std.specs.Prelude.{◌≡◌, ◌≤◌, IfOk, length};
-ghost use Rattle.dropadd_desk.specs.HallView.{market_of, room_of};
 ghost use Rattle.dropadd_hall.specs.Streams.{request_count};
 
-use super::*;
-use bundle_rules::Bundle;
+use crate::desks::{Said, desk_of};
+use crate::tables::tables_of;
 use chronicle::Step;
-use course_catalog::{Catalog, read_catalog};
 use dropadd_desk::{HallCommand, HallDesk, HallReply};
-use held_seats::are_below;
+use dropadd_hall::{ClosedHall, open_hall, put_hall, read_request, read_requests};
 use market_edge::{Gate, MeetingGate, OpenGate};
-use market_units::SectionNo;
 use std::alloc::Global;
 use std::process::Abort;
 use std::sync::Wait;
 use std::test::Fail;
 use std::thread::Threads;
-use student_roll::{Roll, read_roll};
 use utility_language::StreamEnd;
 use worked_terms::FIVE_SECTIONS_TERM;
 
@@ -99,7 +95,7 @@ used E 0 9
 ";
 
 // Requests of two sessions with their replies, which are the same in every order that keeps each session's own.
-const FIRST: [(&[u8], HallReply); 4] = [
+const FIRST: [Said; 4] = [
     (
         b"drop u A",
         HallReply::Dropped {
@@ -112,7 +108,7 @@ const FIRST: [(&[u8], HallReply); 4] = [
     (b"add u Q", HallReply::NoSection),
 ];
 
-const SECOND: [(&[u8], HallReply); 3] = [
+const SECOND: [Said; 3] = [
     (b"add v B", HallReply::Added),
     (b"no request", HallReply::Unreadable),
     (b"add w C", HallReply::Added),
@@ -136,22 +132,6 @@ struct Told {
     text: Vec<u8>,
 }
 
-// A desk at which the first student holds the first section, with room for 200 requests.
-fn desk_of(rt: &impl Abort, alloc: Global, catalog: &Catalog, roll: &Roll) -> HallDesk
-    ensures market { market_of result ≡ record { catalog = catalog.now; roll = roll.now } }
-    ensures room { room_of result ≡ 200 }
-{
-    let mut bundles = Vec::new(alloc);
-    let first = Bundle::of(&[SectionNo(0)]).expect(rt, "one section");
-    bundles.push(first).expect(rt, "memory");
-    for _ in 1..roll.len() {
-        bundles.push(Bundle::empty()).expect(rt, "memory");
-    }
-    assert!(rt; bundles.len() == usize::from(roll.len()));
-    assert!(rt; are_below(usize::from(catalog.len()), &bundles));
-    HallDesk::prepare(alloc, catalog, roll, &bundles, 200).expect(rt, "memory")
-}
-
 // The text of a hall in which these requests are made.
 fn tell<R: Abort + Threads + Wait + Sync, G: Gate + Sync>(
     rt: &R,
@@ -163,10 +143,8 @@ fn tell<R: Abort + Threads + Wait + Sync, G: Gate + Sync>(
     requires few { request_count streams.now ≤ 200 }
 {
     let term = FIVE_SECTIONS_TERM;
-    assert!(rt; term.catalogue.len() < 1000 && term.roll.len() < 1000);
-    let catalog = read_catalog(alloc, term.catalogue)?;
-    let roll = read_roll(alloc, term.roll)?;
-    let desk = desk_of(rt, alloc, &catalog, &roll);
+    let (catalog, roll) = tables_of(rt, alloc, term.catalogue, term.roll);
+    let desk = desk_of(rt, alloc, &catalog, &roll, 200);
     let hall = open_hall(rt, alloc, desk, streams, gate)?;
     let text = put_hall(alloc, &catalog, &roll, &hall)?;
     Ok(Told { hall, text })
@@ -182,7 +160,7 @@ fn stream_of_text(rt: &impl Abort, alloc: Global, text: &[u8]) -> Vec<HallComman
 }
 
 // Requests of these lines.
-fn stream_of(alloc: Global, lines: &[(&[u8], HallReply)]) -> Result<Vec<HallCommand>, Fail>
+fn stream_of(alloc: Global, lines: &[Said]) -> Result<Vec<HallCommand>, Fail>
     ensures { IfOk result (λ requests. length requests.items ≤ 100) }
 {
     let mut requests = Vec::new(alloc);
@@ -196,7 +174,7 @@ fn stream_of(alloc: Global, lines: &[(&[u8], HallReply)]) -> Result<Vec<HallComm
 }
 
 // Whether the steps of this seat are these lines with their replies, in order.
-fn is_posted(steps: &[Step<HallDesk>], seat: u16, lines: &[(&[u8], HallReply)]) -> bool {
+fn is_posted(steps: &[Step<HallDesk>], seat: u16, lines: &[Said]) -> bool {
     let mut at = 0usize;
     for step in steps {
         if step.seat != seat {
@@ -213,27 +191,56 @@ fn is_posted(steps: &[Step<HallDesk>], seat: u16, lines: &[(&[u8], HallReply)]) 
     at == lines.len()
 }
 
+// The text of a hall in which one session makes the requests of a text.
+fn try_one<R: Abort + Threads + Wait + Sync>(
+    rt: &R,
+    alloc: Global,
+    text: &[u8],
+    want: &[u8],
+) -> Result<(), Fail> {
+    let requests = stream_of_text(rt, alloc, text);
+    let told = tell(rt, alloc, &[requests], &OpenGate)?;
+    assert!(rt; told.text.as_slice() == want);
+    Ok(())
+}
+
 #[test]
 fn each_reply_is_told(rt: HostRuntime) -> Result<(), Fail> {
-    let requests = stream_of_text(&rt, rt.alloc(), REQUESTS);
-    let told = tell(&rt, rt.alloc(), &[requests], &OpenGate)?;
-    assert!(rt; told.text.as_slice() == TOLD);
-    Ok(())
+    try_one(&rt, rt.alloc(), REQUESTS, TOLD)
 }
 
 #[test]
 fn a_waiting_list_is_told(rt: HostRuntime) -> Result<(), Fail> {
     let text = b"# w behind v\n\nadd v A\r\n\tadd  w A ";
-    let requests = stream_of_text(&rt, rt.alloc(), text);
-    let told = tell(&rt, rt.alloc(), &[requests], &OpenGate)?;
-    assert!(rt; told.text.as_slice() == WAITING);
-    Ok(())
+    try_one(&rt, rt.alloc(), text, WAITING)
 }
 
 #[test]
-fn no_room_for_a_request(rt: HostRuntime) -> Result<(), Fail> {
+fn no_room_for_a_request(rt: HostRuntime) {
     assert!(rt; read_requests(rt.alloc(), b"add v A\n#\nadd w A", 1) == Err(StreamEnd::TooMany));
-    Ok(())
+}
+
+// The calls and what is told, where each session keeps its order.
+fn try_told(rt: &impl Abort, told: &Told) {
+    let steps = told.hall.journal.steps();
+    assert_eq!(rt; steps.len(), 7);
+    assert!(rt; is_posted(steps, 0, &FIRST));
+    assert!(rt; is_posted(steps, 1, &SECOND));
+    assert!(rt; told.text.ends_with(HELD));
+}
+
+// The stops of two sessions that met, one of three requests and one of four, and of nobody else.
+fn try_gate(rt: &impl Abort, gate: &MeetingGate) {
+    assert_eq!(rt; gate.missed(), 0);
+    let sessions = [
+        gate.first.counts(),
+        gate.second.counts(),
+        gate.third.counts(),
+    ];
+    assert_eq!(rt; sessions, [(1, 4), (1, 3), (0, 0)]);
+    let workers = [gate.first_worker.counts(), gate.second_worker.counts()];
+    assert_eq!(rt; workers, [(0, 0), (0, 0)]);
+    assert_eq!(rt; gate.others(), 0);
 }
 
 // Two sessions whose calls meet: neither can make all its requests before the other has made one.
@@ -245,17 +252,7 @@ fn two_sessions_request_at_once(rt: HostRuntime) -> Result<(), Fail> {
         stream_of(rt.alloc(), &SECOND)?,
     ];
     let told = tell(&rt, rt.alloc(), &streams, &gate)?;
-    let steps = told.hall.journal.steps();
-    assert_eq!(rt; steps.len(), 7);
-    assert!(rt; is_posted(steps, 0, &FIRST));
-    assert!(rt; is_posted(steps, 1, &SECOND));
-    assert!(rt; told.text.ends_with(HELD));
-    assert_eq!(rt; gate.missed(), 0);
-    assert_eq!(rt; gate.first.counts(), (1, 4));
-    assert_eq!(rt; gate.second.counts(), (1, 3));
-    assert_eq!(rt; gate.third.counts(), (0, 0));
-    assert_eq!(rt; gate.first_worker.counts(), (0, 0));
-    assert_eq!(rt; gate.second_worker.counts(), (0, 0));
-    assert_eq!(rt; gate.others(), 0);
+    try_told(&rt, &told);
+    try_gate(&rt, &gate);
     Ok(())
 }

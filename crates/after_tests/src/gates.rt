@@ -1,21 +1,16 @@
 // Each call below the top call that hands its gate on, with a gate that counts.
 ghost use Rattle.std.specs.Prelude.{◌≤◌};
 
-use course_catalog::{Catalog, read_catalog};
-use dropadd_hall::read_requests;
+use crate::opened_halls::hall_of;
+use crate::told_audits::audited;
 use made_run::made_summary;
 use market_edge::{Gate, Stop};
-use market_settings::read_settings;
-use published_envy::published_audit;
-use published_halls::published_hall;
 use std::alloc::Global;
 use std::process::Abort;
 use std::sync::Wait;
 use std::sync::atomic::{AtomicU64, Ordering};
 use std::thread::Threads;
-use student_roll::{Roll, read_roll};
-use utility_language::read_stream;
-use worked_terms::{EQUAL_ENVY, EQUAL_MARKET, WorkedTerm};
+use worked_terms::{EQUAL_ENVY, EQUAL_MARKET, EQUAL_TERM};
 
 // Counts the stops of sessions, the starts of the worker of one number, and those of workers of greater numbers.
 #[derive(Drop)]
@@ -64,26 +59,11 @@ fn add_one(counter: &AtomicU64) {
     counter.fetch_add(1, Ordering::SeqCst);
 }
 
-fn tables_of<R: Abort>(rt: &R, alloc: Global, term: &WorkedTerm) -> (Catalog, Roll) {
-    assert!(rt; term.catalogue.len() < 1000 && term.roll.len() < 1000);
-    (
-        read_catalog(alloc, term.catalogue).expect(rt, "a catalogue"),
-        read_roll(alloc, term.roll).expect(rt, "a roll"),
-    )
-}
-
 // One session of four requests stands before its first one and after each.
 #[test]
 fn a_hall_passes_the_gate(rt: HostRuntime) {
-    let alloc = rt.alloc();
-    let term = EQUAL_MARKET.term;
-    let (catalog, roll) = tables_of(&rt, alloc, &term);
-    let four: &[u8] = b"add v X\ndrop u X\nadd u X\ndrop v X\n";
-    let requests = read_requests(alloc, four, 100).expect(&rt, "requests");
-    assert!(rt; term.text.len() < 1000 && requests.len() <= 100);
     let watch = Watch::of(1);
-    let text = term.text.as_bytes();
-    let hall = published_hall(&rt, alloc, &catalog, &roll, text, &[requests], &watch);
+    let hall = hall_of(&rt, rt.alloc(), EQUAL_TERM.text.as_bytes(), &watch);
     assert!(rt; hall.is_ok());
     assert_eq!(rt; watch.counts(), (5, 0, 0));
 }
@@ -92,23 +72,9 @@ fn a_hall_passes_the_gate(rt: HostRuntime) {
 fn try_audit<R: Abort + Threads + Wait + Sync>(rt: &R, alloc: Global, workers: u16)
     requires { (1 ≤ workers) × (workers ≤ 16) }
 {
-    let market = EQUAL_MARKET;
-    let (catalog, roll) = tables_of(rt, alloc, &market.term);
-    let settings = read_settings(alloc, market.settings).expect(rt, "settings");
-    let stream = read_stream(alloc, market.session, 100).expect(rt, "commands");
-    let mut streams = Vec::new(alloc);
-    streams.push(stream).expect(rt, "memory");
-    let text = market
-        .term
-        .text
-        .as_bytes()
-        .to_vec(alloc)
-        .expect(rt, "memory");
-    assert!(rt; text.len() < 1000 && settings.spread <= 49 && settings.raise <= 50);
     let watch = Watch::of(workers);
-    let written = published_audit(
-        rt, alloc, workers, &catalog, &roll, &settings, &streams, text, &watch,
-    );
+    let text = EQUAL_MARKET.term.text.as_bytes();
+    let written = audited(rt, alloc, &EQUAL_MARKET, text, workers, &watch);
     let written = written.expect(rt, "an accepted text");
     assert!(rt; written.as_slice() == EQUAL_ENVY.as_bytes());
     assert_eq!(rt; watch.counts(), (0, 2, 0), "{workers} workers");

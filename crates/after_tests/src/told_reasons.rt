@@ -1,17 +1,14 @@
 // A term, the reasons for which its students do not have sections, and a forged text.
 ghost use Rattle.std.specs.Prelude.{◌≤◌};
 
-use super::*;
+use crate::tables::{settings_of, streams_of, tables_of};
 use certificate_checker::{CheckEnd, Finding};
-use course_catalog::read_catalog;
 use market_certificate::LineFault;
-use market_settings::read_settings;
 use market_units::{SectionNo, StudentNo};
+use published_reasons::published_reason;
 use std::alloc::Global;
 use std::process::Abort;
 use std::test::Fail;
-use student_roll::read_roll;
-use utility_language::read_stream;
 use worked_terms::TIGHT_MARKET;
 
 // What is told of the student and the section by this text.
@@ -23,16 +20,11 @@ fn told<R: Abort>(
     section: u16,
 ) -> Result<Vec<u8>, CheckEnd> {
     let market = TIGHT_MARKET;
-    assert!(rt; market.term.catalogue.len() < 1000 && market.term.roll.len() < 1000);
-    let catalog = read_catalog(alloc, market.term.catalogue).expect(rt, "a catalogue");
-    let roll = read_roll(alloc, market.term.roll).expect(rt, "a roll");
-    let settings = read_settings(alloc, market.settings).expect(rt, "settings");
-    let stream = read_stream(alloc, market.session, 100).expect(rt, "commands");
-    let mut streams = Vec::new(alloc);
-    streams.push(stream).expect(rt, "memory");
-    let text = text.to_vec(alloc).expect(rt, "memory");
     assert!(rt; text.len() < 1000);
-    assert!(rt; settings.spread <= 49 && settings.raise <= 50);
+    let (catalog, roll) = tables_of(rt, alloc, market.term.catalogue, market.term.roll);
+    let settings = settings_of(rt, alloc, market.settings);
+    let streams = streams_of(rt, alloc, market.session);
+    let text = text.to_vec(alloc).expect(rt, "memory");
     assert!(rt; student < roll.len());
     assert!(rt; section < catalog.len());
     published_reason(
@@ -48,8 +40,7 @@ fn told<R: Abort>(
 }
 
 #[test]
-fn reasons_of_a_published_text(rt: HostRuntime) -> Result<(), Fail> {
-    let alloc = rt.alloc();
+fn reasons_of_a_published_text(rt: HostRuntime) {
     let cases: [(u16, u16, &[u8]); 4] = [
         (0, 0, b"ann A held\n"),
         (
@@ -62,10 +53,10 @@ fn reasons_of_a_published_text(rt: HostRuntime) -> Result<(), Fail> {
     ];
     let published = TIGHT_MARKET.term.text.as_bytes();
     for (student, section, text) in cases {
-        let told = told(&rt, alloc, published, student, section).expect(&rt, "an accepted text");
+        let told = told(&rt, rt.alloc(), published, student, section);
+        let told = told.expect(&rt, "an accepted text");
         assert!(rt; told.as_slice() == text);
     }
-    Ok(())
 }
 
 #[test]

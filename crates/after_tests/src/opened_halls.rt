@@ -1,20 +1,18 @@
 // Published texts with which a hall opens, and others.
-ghost use Rattle.std.specs.Prelude.{◌≤◌, IfOk, length};
-ghost use Rattle.dropadd_hall.specs.Streams.{request_count};
+ghost use Rattle.std.specs.Prelude.{◌≤◌, length};
 
-use super::*;
+use crate::tables::tables_of;
 use certificate_checker::{CheckEnd, Finding};
-use course_catalog::read_catalog;
+use dropadd_desk::HallCommand;
 use dropadd_hall::read_requests;
 use market_certificate::LineFault;
-use market_edge::OpenGate;
+use market_edge::{Gate, OpenGate};
 use market_units::SectionNo;
+use published_halls::published_hall;
 use std::alloc::Global;
 use std::process::Abort;
 use std::sync::Wait;
-use std::test::Fail;
 use std::thread::Threads;
-use student_roll::read_roll;
 use worked_terms::EQUAL_TERM;
 
 // How the term's text ends.
@@ -22,37 +20,51 @@ const END: &[u8] = b"final u [X]\nfinal v []\nused X 1 1\nend\n";
 
 const REQUESTS: &[u8] = b"add v X\ndrop u X\nadd u X\ndrop v X\n";
 
-// What is told of the requests where the text of two students and the one seat ends so.
-fn told<R: Abort + Threads + Wait + Sync>(
-    rt: &R,
-    alloc: Global,
-    end: &[u8],
-) -> Result<Vec<u8>, CheckEnd> {
-    let term = EQUAL_TERM;
-    assert!(rt; term.catalogue.len() < 1000 && term.roll.len() < 1000);
-    let catalog = read_catalog(alloc, term.catalogue).expect(rt, "a catalogue");
-    let roll = read_roll(alloc, term.roll).expect(rt, "a roll");
-    let whole = term.text.as_bytes();
-    let front = whole.strip_suffix(END).expect(rt, "an end");
+// The text of two students and the one seat, which ends so.
+fn text_of<R: Abort>(rt: &R, alloc: Global, end: &[u8]) -> Vec<u8> {
+    let front = EQUAL_TERM
+        .text
+        .as_bytes()
+        .strip_suffix(END)
+        .expect(rt, "an end");
     let mut text = front.to_vec(alloc).expect(rt, "memory");
     text.extend_from_slice(end).expect(rt, "memory");
+    text
+}
+
+// The four requests.
+fn requests_of<R: Abort>(rt: &R, alloc: Global) -> Vec<HallCommand>
+    ensures { length result.items ≤ 100 }
+{
     let requests = read_requests(alloc, REQUESTS, 100).expect(rt, "requests");
-    assert!(rt; text.len() < 10_000);
     assert!(rt; requests.len() <= 100);
-    published_hall(rt, alloc, &catalog, &roll, &text, &[requests], &OpenGate)
+    requests
+}
+
+/// What is told of the four requests of one session where a hall opens with this text of the two students.
+pub(crate) fn hall_of<R: Abort + Threads + Wait + Sync, G: Gate + Sync>(
+    rt: &R,
+    alloc: Global,
+    text: &[u8],
+    gate: &G,
+) -> Result<Vec<u8>, CheckEnd> {
+    assert!(rt; text.len() < 10_000);
+    let (catalog, roll) = tables_of(rt, alloc, EQUAL_TERM.catalogue, EQUAL_TERM.roll);
+    let requests = requests_of(rt, alloc);
+    published_hall(rt, alloc, &catalog, &roll, text, &[requests], gate)
 }
 
 // What is found where the text ends so.
 fn found<R: Abort + Threads + Wait + Sync>(rt: &R, alloc: Global, end: &[u8]) -> Option<Finding> {
-    match told(rt, alloc, end) {
+    match hall_of(rt, alloc, &text_of(rt, alloc, end), &OpenGate) {
         Err(CheckEnd::Found(finding)) => Some(finding),
         _ => None,
     }
 }
 
 #[test]
-fn a_dropped_seat_goes_to_the_first_who_waits(rt: HostRuntime) -> Result<(), Fail> {
-    let text: &[u8] = b"entry 1 add v X: queued 0
+fn a_dropped_seat_goes_to_the_first_who_waits(rt: HostRuntime) {
+    let told: &[u8] = b"entry 1 add v X: queued 0
 entry 1 drop u X: dropped 0 to v
 entry 1 add u X: queued 0
 entry 1 drop v X: dropped 0 to u
@@ -60,13 +72,13 @@ final u [X]
 final v []
 used X 1 1
 ";
-    let told = told(&rt, rt.alloc(), END).expect(&rt, "a hall");
-    assert!(rt; told.as_slice() == text);
-    Ok(())
+    let text = text_of(&rt, rt.alloc(), END);
+    let hall = hall_of(&rt, rt.alloc(), &text, &OpenGate).expect(&rt, "a hall");
+    assert!(rt; hall.as_slice() == told);
 }
 
 #[test]
-fn no_hall_opens(rt: HostRuntime) -> Result<(), Fail> {
+fn no_hall_opens(rt: HostRuntime) {
     let seats = Finding::Seats {
         section: SectionNo(0),
         used: 2,
@@ -83,5 +95,4 @@ fn no_hall_opens(rt: HostRuntime) -> Result<(), Fail> {
     for (end, finding) in cases {
         assert!(rt; found(&rt, rt.alloc(), end) == Some(finding));
     }
-    Ok(())
 }

@@ -1,46 +1,39 @@
 // Audits of published texts, and of a forged one. The texts are those of a second implementation, for the same inputs.
 ghost use Rattle.std.specs.Prelude.{◌≤◌};
 
-use super::*;
+use crate::tables::{settings_of, streams_of, tables_of};
 use certificate_checker::{CheckEnd, Finding};
-use course_catalog::read_catalog;
-use market_edge::OpenGate;
-use market_settings::read_settings;
+use market_edge::{Gate, OpenGate};
 use market_units::SectionNo;
+use published_envy::published_audit;
 use std::alloc::Global;
 use std::process::Abort;
 use std::sync::Wait;
 use std::test::Fail;
 use std::thread::Threads;
-use student_roll::read_roll;
-use utility_language::read_stream;
 use worked_terms::{
     BEYOND_ONE_ENVY, BEYOND_ONE_MARKET, EQUAL_ENVY, EQUAL_MARKET, LOWER_BASE_ENVY,
     LOWER_BASE_MARKET, WorkedMarket,
 };
 
-// How an audit of the text by so many workers ends.
-fn audited<R: Abort + Threads + Wait + Sync>(
+/// How an audit of the text by so many workers ends.
+pub(crate) fn audited<R: Abort + Threads + Wait + Sync, G: Gate + Sync>(
     rt: &R,
     alloc: Global,
     market: &WorkedMarket,
     text: &[u8],
     workers: u16,
+    gate: &G,
 ) -> Result<Vec<u8>, CheckEnd>
     requires { (1 ≤ workers) × (workers ≤ 16) }
 {
-    assert!(rt; market.term.catalogue.len() < 1000 && market.term.roll.len() < 1000);
-    let catalog = read_catalog(alloc, market.term.catalogue).expect(rt, "a catalogue");
-    let roll = read_roll(alloc, market.term.roll).expect(rt, "a roll");
-    let settings = read_settings(alloc, market.settings).expect(rt, "settings");
-    let stream = read_stream(alloc, market.session, 100).expect(rt, "commands");
-    let mut streams = Vec::new(alloc);
-    streams.push(stream).expect(rt, "memory");
-    let text = text.to_vec(alloc).expect(rt, "memory");
     assert!(rt; text.len() < 1000);
-    assert!(rt; settings.spread <= 49 && settings.raise <= 50);
+    let (catalog, roll) = tables_of(rt, alloc, market.term.catalogue, market.term.roll);
+    let settings = settings_of(rt, alloc, market.settings);
+    let streams = streams_of(rt, alloc, market.session);
+    let text = text.to_vec(alloc).expect(rt, "memory");
     published_audit(
-        rt, alloc, workers, &catalog, &roll, &settings, &streams, text, &OpenGate,
+        rt, alloc, workers, &catalog, &roll, &settings, &streams, text, gate,
     )
 }
 
@@ -53,7 +46,8 @@ fn try_audit<R: Abort + Threads + Wait + Sync>(
 ) {
     let text = market.term.text.as_bytes();
     for workers in [1, 2, 16] {
-        let found = audited(rt, alloc, market, text, workers).expect(rt, "an accepted text");
+        let found = audited(rt, alloc, market, text, workers, &OpenGate);
+        let found = found.expect(rt, "an accepted text");
         assert!(rt; found.as_slice() == written);
     }
 }
@@ -76,7 +70,7 @@ fn no_audit_of_a_forged_text(rt: HostRuntime) -> Result<(), Fail> {
     let mut forged = EQUAL_MARKET.term.text.as_bytes().to_vec(alloc)?;
     assert!(rt; forged.len() == 213);
     forged[205] = b'0';
-    match audited(&rt, alloc, &EQUAL_MARKET, &forged, 2) {
+    match audited(&rt, alloc, &EQUAL_MARKET, &forged, 2, &OpenGate) {
         Err(CheckEnd::Found(found)) => assert_eq!(rt; found, finding),
         _ => assert!(rt; false),
     }
