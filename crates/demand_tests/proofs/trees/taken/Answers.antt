@@ -7,7 +7,7 @@ use Rattle.bundle_bounds.specs.Opens.{is_open}
 use Rattle.bundle_bounds.specs.Laws.{IsNode}
 use Rattle.bundle_bounds.proofs.Openings.{node_later, node_same, node_with, open_facts, takable_where_open}
 use Rattle.bundle_bounds.proofs.NodeFacts.{nothing_chosen}
-use Rattle.proof_tree.proofs.tests.taken.Goals as goal
+use Rattle.demand_tests.proofs.trees.taken.Goals as goal
 
 last : (a b : Bool) → (a && b) ≡ true → b ≡ true
 last true b is = is
