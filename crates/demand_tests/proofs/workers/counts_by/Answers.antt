@@ -1,5 +1,4 @@
-use Rattle.std.proofs.Common.{rules, ◌∙◌, List, [], ◌∷◌, Vec, Global, IsTrue, ap, sym, subst}
-use Rattle.std.specs.Arc.{arc_value}
+use Rattle.std.proofs.Common.{rules, ◌∙◌, List, [], ◌∷◌, Vec, Global, ap, sym, subst}
 use Rattle.market_units.specs.declared.units.Tokens.{Tokens}
 use Rattle.demand_api.specs.Crowds.{CrowdData}
 use Rattle.demand_workers.specs.Rounds.{data_of, AreVersionsFor}
