@@ -17,6 +17,3 @@ mod tangents;
 pub use nodes::{Leaf, Node, bound, bound_closes, is_open};
 pub use places::{adjustments_with, is_apart, price_of_place};
 pub use stems::Stem;
-
-#[cfg(test)]
-mod tests;

@@ -24,6 +24,3 @@ mod worker;
 
 pub use bench::Bench;
 pub use pooled_demands::PooledDemands;
-
-#[cfg(test)]
-mod tests;

@@ -15,6 +15,3 @@ pub use building::{build, build_forced, build_into};
 pub use checking::{check_forced, check_tree};
 pub use defects::TreeDefect;
 pub use signs::Sign;
-
-#[cfg(test)]
-mod tests;

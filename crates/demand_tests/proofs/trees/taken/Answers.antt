@@ -1,5 +1,5 @@
-use Rattle.std.proofs.Common.{rules, ◌≡◌, ◌≤◌, ◌<◌, ◌+◌, ◌++◌, ◌∷◌, [], Bool, true, false, length, sym, subst, ap, ◌∙◌, arith}
-use Rattle.std.specs.Prelude.{nat_le, ◌&&◌}
+use Rattle.std.proofs.Common.{rules, ◌≡◌, ◌≤◌, ◌<◌, ◌+◌, ◌++◌, ◌∷◌, [], Bool, true, false, length, sym, subst, ◌∙◌, arith}
+use Rattle.std.specs.Prelude.{◌&&◌}
 use Rattle.bundle_rules.specs.Bundles.{sections_of}
 use Rattle.bundle_rules.specs.Menus.{section_at}
 use Rattle.bundle_bounds.specs.Offers.{offer_of, places_of}
@@ -7,7 +7,7 @@ use Rattle.bundle_bounds.specs.Opens.{is_open}
 use Rattle.bundle_bounds.specs.Laws.{IsNode}
 use Rattle.bundle_bounds.proofs.Openings.{node_later, node_same, node_with, open_facts, takable_where_open}
 use Rattle.bundle_bounds.proofs.NodeFacts.{nothing_chosen}
-use Rattle.proof_tree.proofs.tests.taken.Goals as goal
+use Rattle.demand_tests.proofs.trees.taken.Goals as goal
 
 last : (a b : Bool) → (a && b) ≡ true → b ≡ true
 last true b is = is

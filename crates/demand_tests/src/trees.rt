@@ -1,14 +1,19 @@
 // Trees of worked examples, and texts that are none.
+ghost use Rattle.std.specs.Prelude.{ℕ, ◌≡◌, ◌<◌, ◌+◌, ◌++◌, ◌∷◌, [], List, length, true};
+ghost use Rattle.std.specs.FinSet as set;
+ghost use Rattle.std.specs.Ordering.{nat_cmp};
+ghost use Rattle.market_units.specs.declared.units.Tokens.{Tokens};
 ghost use Rattle.bundle_rules.specs.Bundles.{sections_of};
 ghost use Rattle.bundle_rules.specs.Demand.{HasPrices};
-ghost use Rattle.bundle_bounds.specs.Offers.{offer_of};
-ghost use Rattle.bundle_bounds.specs.Laws.{IsTakable};
+ghost use Rattle.bundle_rules.specs.Menus.{section_at, IsMenu};
+ghost use Rattle.bundle_bounds.specs.Offers.{offer_of, places_of};
+ghost use Rattle.bundle_bounds.specs.Opens.{is_open};
+ghost use Rattle.bundle_bounds.specs.Laws.{IsNode, IsTakable};
 
-use super::*;
-use crate::walk::with_next;
 use bundle_bounds::{Node, is_open};
 use bundle_rules::{Bundle, Menu, Rated, has_prices};
 use market_units::{SectionNo, SectionSet, Tokens};
+use proof_tree::{TreeDefect, build, build_forced, build_into, check_forced, check_tree};
 use std::alloc::Global;
 use std::process::Abort;
 use std::test::Fail;
@@ -35,6 +40,22 @@ fn menu_of<R: Abort>(
     }
     assert!(rt; Menu::may_build(&rated, pairs, clashes, caps.0, caps.1));
     Menu::build(alloc, &rated, pairs, clashes, caps.0, caps.1).expect(rt, "memory")
+}
+
+// The node with the section of the next place, where that is open.
+fn with_next(menu: &Menu, node: &Node) -> Node
+    requires left { node.now.place < length menu.now.places }
+    requires open { (prices : List Tokens) × (budget : ℕ) × (allowed : set.FinSet nat_cmp) × IsNode (offer_of menu.now prices budget allowed) node.now.place (sections_of node.now.chosen) × (is_open (offer_of menu.now prices budget allowed) (places_of menu.now (sections_of node.now.chosen)) node.now.place ≡ true) }
+    ensures menu { IsMenu menu.now }
+    ensures place { result.place ≡ node.now.place + 1 }
+    ensures chosen { sections_of result.chosen ≡ sections_of node.now.chosen ++ section_at menu.now.places node.now.place ∷ [] }
+{
+    prove!(node.place < menu.len());
+    let rated = menu.rated(node.place);
+    Node {
+        place: node.place + 1,
+        chosen: node.chosen.with(rated.section),
+    }
 }
 
 // The bundle of these sections, of which each is open beside those before it.

@@ -2,7 +2,7 @@ use Rattle.bundle_rules.specs.Bundles.{sections_of}
 use Rattle.bundle_bounds.specs.Offers.{offer_of, places_of}
 use Rattle.bundle_bounds.specs.Bounds.{bounds}
 use Rattle.bundle_bounds.proofs.NodeFacts.{first_has}
-use Rattle.bundle_bounds.proofs.tests.closing.Goals as goal
+use Rattle.demand_tests.proofs.bounds.closing.Goals as goal
 
 pub bound-requires-clause-leaf : goal.bound-requires-clause-leaf
 bound-requires-clause-leaf g c =

@@ -5,9 +5,9 @@ ghost use Rattle.demand_api.specs.Asking.{ArePricesFor};
 ghost use Rattle.price_board.specs.Openings.{IsMade};
 ghost use Rattle.demand_workers.specs.Rounds.{data_of, AreVersionsFor};
 
-use super::*;
 use bundle_rules::{Menu, Rated};
 use demand_api::{Crowd, Demands};
+use demand_workers::{Bench, PooledDemands};
 use market_edge::{Gate, OpenGate, Stop};
 use market_units::{NoMemory, SectionNo, StudentNo, Tokens};
 use std::alloc::Global;

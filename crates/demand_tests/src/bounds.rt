@@ -1,5 +1,5 @@
 // Bounds of two small menus, worked by hand.
-use super::*;
+use bundle_bounds::{Leaf, Node, bound, bound_closes};
 use bundle_rules::{Bundle, Menu, Rated, feasible, has_prices};
 use market_units::{SectionNo, SectionSet, Tokens};
 use std::alloc::Global;

@@ -1,9 +1,8 @@
-use Rattle.std.proofs.Common.{rules, ◌∙◌, List, [], ◌∷◌, Vec, Global, IsTrue, ap, sym, subst}
-use Rattle.std.specs.Arc.{arc_value}
+use Rattle.std.proofs.Common.{rules, ◌∙◌, List, [], ◌∷◌, Vec, Global, ap, sym, subst}
 use Rattle.market_units.specs.declared.units.Tokens.{Tokens}
 use Rattle.demand_api.specs.Crowds.{CrowdData}
 use Rattle.demand_workers.specs.Rounds.{data_of, AreVersionsFor}
-use Rattle.demand_workers.proofs.tests.counts_by.Goals as goal
+use Rattle.demand_tests.proofs.workers.counts_by.Goals as goal
 
 pub counts-requires-clause-prices : goal.counts-requires-clause-prices
 counts-requires-clause-prices g c =
