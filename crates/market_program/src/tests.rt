@@ -29,7 +29,7 @@ mod runs;
 mod shelf;
 mod workers;
 
-use cases::{assert_told, try_cases};
+use cases::{assert_told, try_cases, try_run};
 
 const USAGE: &str = "usage: run, check, prefer, demand, quote, make, explain, hall, audit\n";
 

@@ -36,9 +36,9 @@ audit 2 beyond.cat beyond.stu beyond.set beyond.text beyond.s1
 audit 16 beyond.cat beyond.stu beyond.set beyond.text beyond.s1
 => 0 beyond.envy
 == sees only what is of use
-audit 1 single.cat STU ACCEPT99 TEXT S1
-audit 2 single.cat STU ACCEPT99 TEXT S1
-audit 16 single.cat STU ACCEPT99 TEXT S1
+audit 1 TWO STU ACCEPT99 TEXT S1
+audit 2 TWO STU ACCEPT99 TEXT S1
+audit 16 TWO STU ACCEPT99 TEXT S1
 -- STU
 student,budget,credits,courses
 u,300,10,2

@@ -68,6 +68,18 @@ pub(super) fn text_of(alloc: Global, title: &str, text: &str) -> Result<Vec<u8>,
     Ok(text.as_bytes().to_vec(alloc)?)
 }
 
+// The command has one of these answers over such files, beside those of the shelf that it names.
+pub(super) fn try_run<R: Threads + Wait + Sync + Abort>(
+    rt: &R,
+    alloc: Global,
+    line: &str,
+    files: &[File],
+    answers: &str,
+) -> Result<(), Fail> {
+    let answer = run(rt, alloc, line, files)?;
+    assert_told(rt, alloc, line, answers, &answer)
+}
+
 // The status and the text are one of these answers.
 pub(super) fn assert_told<R: Abort>(
     rt: &R,
@@ -77,7 +89,7 @@ pub(super) fn assert_told<R: Abort>(
     answer: &Answer,
 ) -> Result<(), Fail> {
     let is_told = is_told(alloc, answers, answer)?;
-    assert!(rt; is_told, "{shows}: {answer:?}");
+    assert!(rt; is_told, "{shows}: {answer:?}, not {answers}");
     Ok(())
 }
 

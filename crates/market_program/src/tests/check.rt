@@ -226,8 +226,7 @@ fn try_forged<R: Threads + Wait + Sync + Abort>(
             return Err(Fail::from("a text without an answer"));
         };
         let text = text_with(alloc, text, changes)?;
-        let answer = run(rt, alloc, line, &[("TEXT", &text)])?;
-        assert_told(rt, alloc, changes, answers, &answer)?;
+        try_run(rt, alloc, line, &[("TEXT", &text)], answers)?;
     }
     Ok(())
 }
@@ -258,10 +257,9 @@ const OTHERS: [u8; 12] = *b"019 A\n[],+*n";
 // The text with another byte in this place.
 fn with_byte(alloc: Global, place: usize, other: u8) -> Result<Vec<u8>, Fail> {
     let mut text = ORDINARY_TEXT.as_bytes().to_vec(alloc)?;
-    let Some(byte) = text.get_mut(place) else {
-        return Err(Fail::from("no such place"));
-    };
-    *byte = other;
+    if let Some(byte) = text.get_mut(place) {
+        *byte = other;
+    }
     Ok(text)
 }
 

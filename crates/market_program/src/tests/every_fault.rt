@@ -74,7 +74,7 @@ const OF_WISHES: [Command; 5] = [
 ];
 
 // The answer where the shelf's call and the sink's write of these numbers fail.
-fn try_failing<R: Threads + Wait + Sync + Abort>(
+pub(super) fn try_failing<R: Threads + Wait + Sync + Abort>(
     rt: &R,
     alloc: Global,
     line: &str,

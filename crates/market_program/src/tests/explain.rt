@@ -26,7 +26,7 @@ best [B] 40
 lost 10
 tree +x!-*
 == beside price
-explain single.cat STU ACCEPT9 TEXT w B S1
+explain TWO STU ACCEPT9 TEXT w B S1
 -- STU
 student,budget,credits,courses
 u,100,10,2

@@ -66,6 +66,23 @@ fn assert_workers_met<R: Abort>(rt: &R, gate: &MeetingGate, least: u64) {
 // The calls of three sessions, of which the first two met.
 const CALLS_OF_SESSIONS: [(u64, u64); 3] = [(1, 4), (1, 3), (1, 0)];
 
+// The first two of three sessions meet, and their entries are these.
+fn try_sessions<R: Threads + Wait + Sync + Abort>(
+    rt: &R,
+    alloc: Global,
+    line: &str,
+    files: &[File],
+    first: &[&str],
+    second: &[&str],
+    end: &str,
+) -> Result<(), Fail> {
+    let gate = MeetingGate::new();
+    let text = done_past(rt, alloc, line, files, &gate)?;
+    assert_counts(rt, &gate, CALLS_OF_SESSIONS);
+    assert_entries(rt, text.as_str(), first, second, end);
+    Ok(())
+}
+
 // The calls of two sessions with two commands each.
 const CALLS_OF_TWO: [(u64, u64); 3] = [(1, 2), (1, 2), (0, 0)];
 
@@ -100,12 +117,16 @@ const CLOSED: &str = "rate ann A 30\nrate bob B 20\npair bob A B -5\n";
 // has no command.
 #[test]
 fn two_sessions_post_at_once(rt: HostRuntime) -> Result<(), Fail> {
-    let gate = MeetingGate::new();
     let line = "prefer TWO ANN+BOB S1 S2 S3";
-    let text = done_past(&rt, rt.alloc(), line, &SESSIONS, &gate)?;
-    assert_counts(&rt, &gate, CALLS_OF_SESSIONS);
-    assert_entries(&rt, text.as_str(), &FIRST_ENTRIES, &SECOND_ENTRIES, CLOSED);
-    Ok(())
+    try_sessions(
+        &rt,
+        rt.alloc(),
+        line,
+        &SESSIONS,
+        &FIRST_ENTRIES,
+        &SECOND_ENTRIES,
+        CLOSED,
+    )
 }
 
 const REQUESTS: [File<'static>; 3] = [
@@ -134,12 +155,16 @@ const HELD: &str =
 // session has no request.
 #[test]
 fn two_sessions_of_a_hall_request_at_once(rt: HostRuntime) -> Result<(), Fail> {
-    let gate = MeetingGate::new();
     let line = "hall five.cat five.stu five.text R1 R2 R3";
-    let text = done_past(&rt, rt.alloc(), line, &REQUESTS, &gate)?;
-    assert_counts(&rt, &gate, CALLS_OF_SESSIONS);
-    assert_entries(&rt, text.as_str(), &FIRST_REPLIES, &SECOND_REPLIES, HELD);
-    Ok(())
+    try_sessions(
+        &rt,
+        rt.alloc(),
+        line,
+        &REQUESTS,
+        &FIRST_REPLIES,
+        &SECOND_REPLIES,
+        HELD,
+    )
 }
 
 const RATINGS: [File<'static>; 2] = [
@@ -173,17 +198,28 @@ fn is_lawful(text: &str, front: &str, end: &str) -> bool {
 const TAKEN: &str =
     "bundle s1 []\nbundle s2 []\nbundle s3 [X]\nbundle s4 [X]\ncount X 2\nerror 1\n";
 
+// Two sessions meet, and two workers, who made a call for each of four students; each session passes the gate as often as it has commands.
+fn try_workers<R: Threads + Wait + Sync + Abort>(
+    rt: &R,
+    alloc: Global,
+    line: &str,
+    front: &str,
+    end: &str,
+) -> Result<(), Fail> {
+    let gate = MeetingGate::new();
+    let text = done_past(rt, alloc, line, &RATINGS, &gate)?;
+    assert!(rt; is_lawful(text.as_str(), front, end), "{text}");
+    assert_counts(rt, &gate, CALLS_OF_TWO);
+    assert_workers_met(rt, &gate, 4);
+    Ok(())
+}
+
 // Two workers whose calls meet: neither can post all tasks before the other has posted one. There is a task for each
-// student, and each session passes the gate as often as it has commands.
+// student.
 #[test]
 fn two_workers_post_at_once(rt: HostRuntime) -> Result<(), Fail> {
-    let gate = MeetingGate::new();
     let line = "demand 2 four.cat four.stu four.set X=102 S1 S2";
-    let text = done_past(&rt, rt.alloc(), line, &RATINGS, &gate)?;
-    assert!(rt; is_lawful(text.as_str(), "", TAKEN), "{text}");
-    assert_counts(&rt, &gate, CALLS_OF_TWO);
-    assert_workers_met(&rt, &gate, 4);
-    Ok(())
+    try_workers(&rt, rt.alloc(), line, "", TAKEN)
 }
 
 const FRONT: &str = "course-match 1\n";
@@ -199,16 +235,8 @@ fn end_of_published() -> &'static str {
 // In one run sessions meet and workers meet.
 #[test]
 fn sessions_and_workers_of_a_run_post_at_once(rt: HostRuntime) -> Result<(), Fail> {
-    let gate = MeetingGate::new();
     let line = "run 2 four.cat four.stu four.set S1 S2";
-    let text = done_past(&rt, rt.alloc(), line, &RATINGS, &gate)?;
-    assert!(rt;
-        is_lawful(text.as_str(), FRONT, end_of_published()),
-        "{text}"
-    );
-    assert_counts(&rt, &gate, CALLS_OF_TWO);
-    assert_workers_met(&rt, &gate, 4);
-    Ok(())
+    try_workers(&rt, rt.alloc(), line, FRONT, end_of_published())
 }
 
 // Two workers of an audit whose calls meet: neither can post all rows before the other has posted one. Both look for the

@@ -1,94 +1,140 @@
 // Inputs at their limits, and one beyond.
 use super::*;
 
-// The answer to a command over such files.
-fn try_files<R: Threads + Wait + Sync + Abort>(
-    rt: &R,
-    alloc: Global,
-    line: &str,
-    files: &[File],
-    answers: &str,
-) -> Result<(), Fail> {
-    let answer = run(rt, alloc, line, files)?;
-    assert_told(rt, alloc, line, answers, &answer)
-}
+// A text, and behind it a row for each number from the first to before the last: the head, and each of the pieces behind the number.
+type Part = (
+    &'static str,
+    (u32, u32),
+    &'static str,
+    &'static [&'static str],
+);
 
-// A text, a row for each number from the first to before the last, and another text. A row is the head, and each of the pieces behind the number.
-fn with_rows(
-    alloc: Global,
-    start: &str,
-    numbers: (u32, u32),
-    head: &str,
-    pieces: &[&str],
-    end: &str,
-) -> Result<Vec<u8>, Fail> {
-    let mut text = start.as_bytes().to_vec(alloc)?;
-    for number in numbers.0..numbers.1 {
-        let digits = format!(in alloc; "{number}")?;
-        text.extend_from_slice(head.as_bytes())?;
-        put_pieces(&mut text, digits.as_str(), pieces)?;
+// Cases that consist of such parts.
+fn made_of(alloc: Global, parts: &[Part]) -> Result<String, Fail> {
+    let mut text = String::new(alloc);
+    for (start, numbers, head, pieces) in parts {
+        text.push_str(start)?;
+        put_rows(&mut text, alloc, *numbers, head, pieces)?;
     }
-    text.extend_from_slice(end.as_bytes())?;
     Ok(text)
 }
 
-fn put_pieces(text: &mut Vec<u8>, digits: &str, pieces: &[&str]) -> Result<(), Fail> {
+fn put_rows(
+    text: &mut String,
+    alloc: Global,
+    numbers: (u32, u32),
+    head: &str,
+    pieces: &[&str],
+) -> Result<(), Fail> {
+    for number in numbers.0..numbers.1 {
+        let digits = format!(in alloc; "{number}")?;
+        text.push_str(head)?;
+        put_pieces(text, digits.as_str(), pieces)?;
+    }
+    Ok(())
+}
+
+fn put_pieces(text: &mut String, digits: &str, pieces: &[&str]) -> Result<(), Fail> {
     for piece in pieces {
-        text.extend_from_slice(digits.as_bytes())?;
-        text.extend_from_slice(piece.as_bytes())?;
+        text.push_str(digits)?;
+        text.push_str(piece)?;
     }
     Ok(())
 }
 
-const CATALOGUE: &str = "section,course,seats,credits,meetings\n";
-
-const ROLL: &str = "student,budget,credits,courses\n";
-
-// What stands behind four hundred sections, and what is told then.
-const SECTIONS: [(&str, &str); 2] = [
-    ("", "0\nbundle ann [S399]\nutility 7\n"),
-    ("S0\n", "3\ninput 1 row 402: too many rows\n"),
-];
-
-#[test]
-fn four_hundred_sections(rt: HostRuntime) -> Result<(), Fail> {
-    let alloc = rt.alloc();
-    let session: &[u8] = b"rate ann S399 7\nrate ann S400 8\n";
-    for (end, answers) in SECTIONS {
-        let catalogue = with_rows(alloc, CATALOGUE, (0, 400), "S", &[",C", ",1,1,\n"], end)?;
-        let files = [("CAT", catalogue.as_slice()), ("S1", session)];
-        try_files(&rt, alloc, "quote CAT S1 ann 10 8", &files, answers)?;
-    }
-    Ok(())
-}
-
-// What stands behind two thousand students, the session's name, and what is told then.
-const ROLLS: [(&str, &str, &str); 2] = [
+const SECTIONS: [Part; 3] = [
     (
+        "== four hundred sections
+quote CAT S1 ann 10 8
+-- CAT
+section,course,seats,credits,meetings
+",
+        (0, 400),
+        "S",
+        &[",C", ",1,1,\n"],
+    ),
+    (
+        "-- S1
+rate ann S399 7
+rate ann S400 8
+=> 0
+bundle ann [S399]
+utility 7
+== one more
+quote CAT S1 ann 10 8
+-- CAT
+section,course,seats,credits,meetings
+",
+        (0, 400),
+        "S",
+        &[",C", ",1,1,\n"],
+    ),
+    (
+        "S0
+-- S1
+rate ann S399 7
+rate ann S400 8
+=> 3
+input 1 row 402: too many rows
+",
+        (0, 0),
         "",
-        "prefer TWO STU S1",
-        "0\nentry 1 done rate t1999 B 100\nrate t1999 B 100\n",
-    ),
-    (
-        "t2000,1,1,1\n",
-        "prefer TWO STU NONE",
-        "3\ninput 2 row 2002: too many rows\n",
+        &[],
     ),
 ];
 
-#[test]
-fn two_thousand_students(rt: HostRuntime) -> Result<(), Fail> {
-    let alloc = rt.alloc();
-    let session: &[u8] = b"rate t1999 B 100\n";
-    for (end, line, answers) in ROLLS {
-        let roll = with_rows(alloc, ROLL, (0, 2000), "t", &[",900000,800,8\n"], end)?;
-        let files = [("STU", roll.as_slice()), ("S1", session)];
-        try_files(&rt, alloc, line, &files, answers)?;
-    }
-    Ok(())
-}
+const STUDENTS: [Part; 3] = [
+    (
+        "== two thousand students
+prefer TWO STU S1
+-- STU
+student,budget,credits,courses
+",
+        (0, 2000),
+        "t",
+        &[",900000,800,8\n"],
+    ),
+    (
+        "-- S1
+rate t1999 B 100
+=> 0
+entry 1 done rate t1999 B 100
+rate t1999 B 100
+== one more
+prefer TWO STU NONE
+-- STU
+student,budget,credits,courses
+",
+        (0, 2000),
+        "t",
+        &[",900000,800,8\n"],
+    ),
+    (
+        "t2000,1,1,1
+=> 3
+input 2 row 2002: too many rows
+",
+        (0, 0),
+        "",
+        &[],
+    ),
+];
 
-const BEHIND_SIXTY: &str = "rate ann X61 1
+// A student rates at most sixty sections; one that goes makes room for another.
+const RATINGS: [Part; 5] = [
+    (
+        "== sixty rated sections
+prefer CAT ANN S1
+-- CAT
+section,course,seats,credits,meetings
+",
+        (1, 62),
+        "X",
+        &[",K", ",1,1,\n"],
+    ),
+    ("-- S1\n", (1, 61), "rate ann X", &[" 1\n"]),
+    (
+        "rate ann X61 1
 rate ann X1 2
 rate ann X1 0
 rate ann X61 3
@@ -98,9 +144,14 @@ rate ann Q 1
 pair ann X2 X2 5
 rate ann X2 101
 pair ann X2 X3 201
-";
-
-const REPLIES_BEHIND_SIXTY: &str = "entry 1 too-many rate ann X61 1
+=> 0
+",
+        (1, 61),
+        "entry 1 done rate ann X",
+        &[" 1\n"],
+    ),
+    (
+        "entry 1 too-many rate ann X61 1
 entry 1 done rate ann X1 2
 entry 1 done rate ann X1 0
 entry 1 done rate ann X61 3
@@ -110,33 +161,28 @@ entry 1 no-section rate ann Q 1
 entry 1 same-pair pair ann X2 X2 5
 entry 1 out-of-range rate ann X2 101
 entry 1 out-of-range pair ann X2 X3 201
-";
-
-// A student rates at most sixty sections; one that goes makes room for another.
-#[test]
-fn sixty_rated_sections(rt: HostRuntime) -> Result<(), Fail> {
-    let alloc = rt.alloc();
-    let catalogue = with_rows(alloc, CATALOGUE, (1, 62), "X", &[",K", ",1,1,\n"], "")?;
-    let session = with_rows(alloc, "", (1, 61), "rate ann X", &[" 1\n"], BEHIND_SIXTY)?;
-    let head = "entry 1 done rate ann X";
-    let entries = with_rows(alloc, "0\n", (1, 61), head, &[" 1\n"], REPLIES_BEHIND_SIXTY)?;
-    let closed = with_rows(
-        alloc,
-        "",
+",
         (2, 61),
         "rate ann X",
         &[" 1\n"],
-        "rate ann X61 3\n",
-    )?;
-    let files = [("CAT", catalogue.as_slice()), ("S1", session.as_slice())];
-    let answers = joined(alloc, &entries, &closed)?;
-    try_files(&rt, alloc, "prefer CAT ANN S1", &files, answers.as_str())
+    ),
+    ("rate ann X61 3\n", (0, 0), "", &[]),
+];
+
+fn try_parts<R: Threads + Wait + Sync + Abort>(
+    rt: &R,
+    alloc: Global,
+    parts: &[Part],
+) -> Result<(), Fail> {
+    let cases = made_of(alloc, parts)?;
+    try_cases(rt, alloc, cases.as_str())
 }
 
-fn joined(alloc: Global, first: &[u8], second: &[u8]) -> Result<String, Fail> {
-    let mut bytes = first.to_vec(alloc)?;
-    bytes.extend_from_slice(second)?;
-    String::from_utf8(bytes).map_err(|_| Fail::from("no text"))
+#[test]
+fn tables_at_their_limit(rt: HostRuntime) -> Result<(), Fail> {
+    try_parts(&rt, rt.alloc(), &SECTIONS)?;
+    try_parts(&rt, rt.alloc(), &STUDENTS)?;
+    try_parts(&rt, rt.alloc(), &RATINGS)
 }
 
 // The commands of all sessions together are counted, and so are the requests of all streams; the one that brings too many is told. A name ends in how
@@ -162,7 +208,7 @@ fn two_hundred_thousand_lines(rt: HostRuntime) -> Result<(), Fail> {
     let more = more.as_slice().as_flattened();
     for (line, answers) in MANY_LINES {
         let files = [("L1", more), ("L0", &more[2..])];
-        try_files(&rt, alloc, line, &files, answers)?;
+        try_run(&rt, alloc, line, &files, answers)?;
     }
     Ok(())
 }
@@ -231,7 +277,7 @@ fn try_long<R: Threads + Wait + Sync + Abort>(
         let Some(long) = bytes.get(*from..) else {
             return Err(Fail::from("no bytes"));
         };
-        try_files(rt, alloc, line, &[("LONG", long)], answers)?;
+        try_run(rt, alloc, line, &[("LONG", long)], answers)?;
     }
     Ok(())
 }

@@ -3,7 +3,7 @@ use super::*;
 
 const QUOTED: &str = "\
 == adjustment joins two sections
-quote beyond.cat S1 ann 10 2
+quote THREE S1 ann 10 2
 -- S1
 rate ann A 90
 rate ann B 1
@@ -13,7 +13,7 @@ pair ann C B 200
 bundle ann [B,C]
 utility 202
 == bundle of no worth stays empty
-quote single.cat S1 ann 10 8
+quote TWO S1 ann 10 8
 -- S1
 rate ann A 0
 rate ann B 0
@@ -34,7 +34,7 @@ rate ssssssssssssssssssssssssssssssss a-Z_0.9 100
 bundle ssssssssssssssssssssssssssssssss [NNNNNNNNNNNNNNNNNNNNNNNNNNNNNNNN,a-Z_0.9]
 utility 200
 == nothing counts after close
-quote single.cat S1 ann 10 8
+quote TWO S1 ann 10 8
 -- S1
 rate ann B 5
 close
@@ -55,7 +55,7 @@ rate ann B 10
 bundle ann [A]
 utility 10
 == other students have no effect
-quote single.cat S1 ann 10 8
+quote TWO S1 ann 10 8
 -- S1
 rate bob A 90
 rate ann B 5
@@ -88,7 +88,7 @@ rate ann C 100
 bundle ann [A,B]
 utility 100
 == tie takes lowest ordinal
-quote single.cat single.s1 ann 10 1
+quote TWO TIE ann 10 1
 => 0
 bundle ann [A]
 utility 50
@@ -102,7 +102,7 @@ rate ann A 50
 => 2
 input 1 can not be read
 == refusal comes before missing session
-quote nobody.s1 NONE ann 10 8
+quote EMPTY NONE ann 10 8
 => 3
 input 1 row 1: header
 == refused catalogue with two byte order marks
@@ -207,7 +207,7 @@ input 1 row 2: fields
 // Clashes and caps, and what plays no part.
 const BOUNDED: &str = "\
 == adjustment keeps two sections apart
-quote single.cat S1 ann 10 8
+quote TWO S1 ann 10 8
 -- S1
 rate ann A 80
 rate ann B 50
@@ -276,7 +276,7 @@ rate ann B 10
 bundle ann [A]
 utility 10
 == no course allowed
-quote single.cat S1 ann 10 0
+quote TWO S1 ann 10 0
 -- S1
 rate ann A 10
 rate ann B 10
@@ -296,7 +296,7 @@ rate ann B 10
 bundle ann [B]
 utility 10
 == tie with the empty bundle takes sections
-quote single.cat S1 ann 10 8
+quote TWO S1 ann 10 8
 -- S1
 rate ann A 10
 rate ann B 10
@@ -317,12 +317,12 @@ rate ann B 10
 bundle ann [A,B]
 utility 20
 == empty session
-quote single.cat EMPTY ann 10 1
+quote TWO EMPTY ann 10 1
 => 0
 bundle ann []
 utility 0
 == missing session
-quote single.cat NONE ann 10 8
+quote TWO NONE ann 10 8
 => 2
 input 2 can not be read
 ";

@@ -123,7 +123,7 @@ v,105,10,1
 5 start X 101
 6 error 0
 == ties of excess raise the lowest ordinal
-run 2 single.cat STU ACCEPT99 S1
+run 2 TWO STU ACCEPT99 S1
 -- STU
 student,budget,credits,courses
 u,100,10,2
@@ -194,7 +194,7 @@ final w [X]
 used X 2 2
 end
 == aftermarket swaps in later passes
-run 2 beyond.cat STU SET S1
+run 2 THREE STU SET S1
 -- STU
 student,budget,credits,courses
 u,100,10,1
@@ -239,7 +239,7 @@ used B 1 1
 used C 1 1
 end
 == restarts draw prices
-run 2 beyond.cat STU SET S1
+run 2 THREE STU SET S1
 -- STU
 student,budget,credits,courses
 u,100,10,2
