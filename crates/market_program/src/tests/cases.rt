@@ -1,6 +1,7 @@
-// Cases as text. Each begins with `== ` and what it shows. Below stand its commands, one a line; then its files, each below a line of `-- ` and the
-// file's name; and then each lawful answer, below a line of `=> ` and the number of the status, or of the status as it prints itself. Where such a line
-// names a text of the shelf too, the file or the answer is that text, but for the lines that stand below it (`changes`).
+// Cases as text. A case begins with `== ` and what it shows; below stand its commands, one a line. Then come its files, each below a line of `-- ` and
+// the file's name, and its lawful answers, each below a line of `=> ` and the number of the status, or the status as it prints itself. A file that does
+// not end in a line feed is followed by the next mark at once. Where a line of a file or of an answer names a text of the shelf too, it is that text, but
+// for the lines that stand below (`changes`). A command may name what stands on the shelf, too.
 use super::changes::text_with;
 use super::shelf::text_named;
 use super::*;
@@ -28,9 +29,12 @@ fn try_case<R: Threads + Wait + Sync + Abort>(
         return Err(Fail::from("a case without an answer"));
     };
     let Some((shows, given)) = given.split_once('\n') else {
-        return Err(Fail::from("a case without a command"));
+        return Err(Fail::from("a case of one line"));
     };
     let (commands, files) = given.split_once("-- ").unwrap_or((given, ""));
+    if commands.is_empty() {
+        return Err(Fail::from("a case without a command"));
+    }
     for command in commands.split_terminator('\n') {
         let mut held = named_files(alloc, command)?;
         put_files(&mut held, alloc, files)?;
