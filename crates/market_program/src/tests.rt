@@ -11,43 +11,39 @@ use std::test::Fail;
 use std::thread::Threads;
 
 mod audit;
+mod cases;
 mod changes;
 mod check;
 mod cuts;
 mod demand;
 mod every_fault;
 mod explain;
-mod faults;
 mod gates;
 mod hall;
 mod limits;
 mod make;
+mod order;
 mod prefer;
 mod quote;
 mod runs;
-mod term;
+mod shelf;
 mod workers;
+
+use cases::{assert_told, try_cases, try_run};
 
 const USAGE: &str = "usage: run, check, prefer, demand, quote, make, explain, hall, audit\n";
 
-const HEADER: &[u8] = b"section,course,seats,credits,meetings\n";
-
-const ONE: &[u8] = b"section,course,seats,credits,meetings\nA,AA,1,1,\n";
-
-const TWO: &[u8] = b"section,course,seats,credits,meetings\nA,AA,1,1,\nB,BB,1,1,\n";
-
-const THREE: &[u8] = b"section,course,seats,credits,meetings\nA,AA,1,1,\nB,BB,1,1,\nC,CC,1,1,\n";
-
-const TIE: &[u8] = b"rate ann A 50\nrate ann B 50\n";
-
-const STUDENTS: &[u8] = b"student,budget,credits,courses\n";
-
-const ANN: &[u8] = b"student,budget,credits,courses\nann,100,10,1\n";
-
-const ANN_AND_BOB: &[u8] = b"student,budget,credits,courses\nann,100,10,1\nbob,100,10,1\n";
+// Room for each text that is written.
+const ROOM: usize = 30_000;
 
 // A file's name and its bytes.
 type File<'a> = (&'a str, &'a [u8]);
+
+// A file that stands on a shelf.
+type Held = (String, Vec<u8>);
+
+// A status, and what was written.
+type Answer = (Status, String);
 
 fn words_of(alloc: Global, line: &str) -> Result<Vec<String>, Fail> {
     let mut words = Vec::new(alloc);
@@ -57,58 +53,71 @@ fn words_of(alloc: Global, line: &str) -> Result<Vec<String>, Fail> {
     Ok(words)
 }
 
-// The status of a command over these files, and what it wrote.
+fn held_of(alloc: Global, name: &str, bytes: &[u8]) -> Result<Held, Fail> {
+    let name = String::from_str(alloc, name)?;
+    Ok((name, bytes.to_vec(alloc)?))
+}
+
+// The texts of the shelf that the command names.
+fn named_files(alloc: Global, line: &str) -> Result<Vec<Held>, Fail> {
+    let mut held = Vec::new(alloc);
+    for word in line.split(' ') {
+        if let Some(bytes) = shelf::text_named(word) {
+            held.push(held_of(alloc, word, bytes)?)?;
+        }
+    }
+    Ok(held)
+}
+
+// These files, beside those of the shelf that the command names.
+fn all_files(alloc: Global, line: &str, files: &[File]) -> Result<Vec<Held>, Fail> {
+    let mut held = named_files(alloc, line)?;
+    for (name, bytes) in files {
+        held.push(held_of(alloc, name, bytes)?)?;
+    }
+    Ok(held)
+}
+
+// The status of a command over such files, and what it wrote.
 fn run<R: Threads + Wait + Sync + Abort>(
     rt: &R,
     alloc: Global,
     line: &str,
     files: &[File],
-) -> Result<(Status, String), Fail> {
-    run_by(rt, alloc, line, files, (0, 0), 30_000, &OpenGate)
+) -> Result<Answer, Fail> {
+    let held = all_files(alloc, line, files)?;
+    run_held(rt, alloc, line, held, (0, 0), ROOM, &OpenGate)
 }
 
-// The same where the shelf's call and the sink's write of these numbers fail, 0 being none, the sink has so much room,
-// and the sessions pass this gate.
+// The same over the shelf alone, where its call and the sink's write of these numbers fail, 0 being none, the sink has so
+// much room, and the sessions and workers pass this gate.
 fn run_by<R: Threads + Wait + Sync + Abort>(
     rt: &R,
     alloc: Global,
     line: &str,
-    files: &[File],
     failing: (u64, u64),
     room: usize,
     gate: &(dyn Gate + Sync),
-) -> Result<(Status, String), Fail> {
-    let mut held = Vec::new(alloc);
-    for (name, bytes) in files {
-        held.push((String::from_str(alloc, name)?, bytes.to_vec(alloc)?))?;
-    }
+) -> Result<Answer, Fail> {
+    let held = named_files(alloc, line)?;
+    run_held(rt, alloc, line, held, failing, room, gate)
+}
+
+fn run_held<R: Threads + Wait + Sync + Abort>(
+    rt: &R,
+    alloc: Global,
+    line: &str,
+    held: Vec<Held>,
+    failing: (u64, u64),
+    room: usize,
+    gate: &(dyn Gate + Sync),
+) -> Result<Answer, Fail> {
     let mut shelf = MemoryShelf::make(alloc, held, vec![in alloc; failing.0]?).expect(rt, "room");
     let mut sink = MemorySink::make(alloc, room, vec![in alloc; failing.1]?).expect(rt, "room");
     let words = words_of(alloc, line)?;
     let status = course_match(rt, alloc, &words, &mut shelf, &mut sink, gate);
-    Ok((
-        status,
-        String::from_utf8(sink.taken().to_vec(alloc)?).expect(rt, "text"),
-    ))
-}
-
-// Puts a row behind the text for each number from the first to before the last: the head, and each of the pieces behind the number.
-fn put_rows(
-    text: &mut Vec<u8>,
-    alloc: Global,
-    numbers: (u32, u32),
-    head: &str,
-    pieces: &[&str],
-) -> Result<(), Fail> {
-    for number in numbers.0..numbers.1 {
-        let digits = format!(in alloc; "{number}")?;
-        text.extend_from_slice(head.as_bytes())?;
-        for piece in pieces {
-            text.extend_from_slice(digits.as_bytes())?;
-            text.extend_from_slice(piece.as_bytes())?;
-        }
-    }
-    Ok(())
+    let written = String::from_utf8(sink.taken().to_vec(alloc)?).expect(rt, "text");
+    Ok((status, written))
 }
 
 // Each status has its number.
@@ -139,80 +148,94 @@ fn each_status_has_its_number(rt: HostRuntime) {
     }
 }
 
+// The words behind the program's name, or why there are none, the number with which the process ends, and what is written.
+type End = (Result<&'static str, ErrorKind>, u8, &'static str);
+
+const ENDS: [End; 6] = [
+    (
+        Ok("course-match quote TWO TIE ann 10 1"),
+        0,
+        "bundle ann [A]\nutility 50\n",
+    ),
+    (
+        Ok("course-match quote TWO NONE ann 10 1"),
+        2,
+        "input 2 can not be read\n",
+    ),
+    (
+        Ok("course-match make 2 7 40 15 0"),
+        5,
+        "no prices: least error 3\n",
+    ),
+    (Ok("course-match"), 1, USAGE),
+    (Err(ErrorKind::InvalidData), 1, USAGE),
+    (Err(ErrorKind::OutOfMemory), 7, "out of memory\n"),
+];
+
 // The process ends with the number of the status: for words behind the program's name, for none, and where the system has
 // none that are text or no memory for them.
 #[test]
 fn the_process_ends_with_the_number(rt: HostRuntime) -> Result<(), Fail> {
-    let alloc = rt.alloc();
-    let cases: [(Result<&str, ErrorKind>, u8, &str); 6] = [
-        (
-            Ok("course-match quote CAT S1 ann 10 1"),
-            0,
-            "bundle ann [A]\nutility 50\n",
-        ),
-        (
-            Ok("course-match quote CAT S2 ann 10 1"),
-            2,
-            "input 2 can not be read\n",
-        ),
-        (
-            Ok("course-match make 2 7 40 15 0"),
-            5,
-            "no prices: least error 3\n",
-        ),
-        (Ok("course-match"), 1, USAGE),
-        (Err(ErrorKind::InvalidData), 1, USAGE),
-        (Err(ErrorKind::OutOfMemory), 7, "out of memory\n"),
-    ];
-    for (given, number, text) in cases {
-        let mut files = Vec::new(alloc);
-        files.push((String::from_str(alloc, "CAT")?, TWO.to_vec(alloc)?))?;
-        files.push((String::from_str(alloc, "S1")?, TIE.to_vec(alloc)?))?;
-        let mut shelf = MemoryShelf::make(alloc, files, Vec::new(alloc)).expect(&rt, "room");
-        let mut sink = MemorySink::make(alloc, 100, Vec::new(alloc)).expect(&rt, "room");
-        let args = match given {
-            Ok(line) => Ok(words_of(alloc, line)?.into_iter()),
-            Err(kind) => Err(io::Error::from(kind)),
-        };
-        let code = exit_code(&rt, alloc, args, &mut shelf, &mut sink, &OpenGate);
-        assert_eq!(rt; code, ExitCode::from(number), "{text}");
-        assert_eq!(rt; sink.taken(), text.as_bytes());
+    for (given, number, text) in ENDS {
+        try_end(&rt, rt.alloc(), given, number, text)?;
     }
     Ok(())
 }
 
-// Words that are no form, and words for which there is no memory.
+fn try_end<R: Threads + Wait + Sync + Abort>(
+    rt: &R,
+    alloc: Global,
+    given: Result<&str, ErrorKind>,
+    number: u8,
+    text: &str,
+) -> Result<(), Fail> {
+    let held = named_files(alloc, "TWO TIE")?;
+    let mut shelf = MemoryShelf::make(alloc, held, Vec::new(alloc)).expect(rt, "room");
+    let mut sink = MemorySink::make(alloc, 100, Vec::new(alloc)).expect(rt, "room");
+    let args = match given {
+        Ok(line) => Ok(words_of(alloc, line)?.into_iter()),
+        Err(kind) => Err(io::Error::from(kind)),
+    };
+    let code = exit_code(rt, alloc, args, &mut shelf, &mut sink, &OpenGate);
+    assert_eq!(rt; code, ExitCode::from(number), "{text}");
+    assert_eq!(rt; sink.taken(), text.as_bytes());
+    Ok(())
+}
+
+const NO_FORMS: &str = "\
+== words that are no form
+quote TWO TIE ann 010 1
+quote TWO TIE ann 10 9
+quote TWO TIE
+prefer TWO ANN
+demand 0 TWO ANN SET PRICES TIE
+demand 17 TWO ANN SET PRICES TIE
+demand 02 TWO ANN SET PRICES TIE
+demand 2 TWO ANN SET PRICES
+run 0 TWO ANN SET TIE
+run 2 TWO ANN SET
+make 2 7 0 2 0
+make 2 7 2 2 1000000000001
+explain TWO ANN SET TEXT ann A
+explain TWO ANN SET TEXT ann B/C TIE
+hall TWO ANN TEXT
+audit 0 TWO ANN SET TEXT TIE
+audit 17 TWO ANN SET TEXT TIE
+audit 2 TWO ANN SET TEXT
+=> 1
+usage: run, check, prefer, demand, quote, make, explain, hall, audit
+";
+
 #[test]
 fn no_form(rt: HostRuntime) -> Result<(), Fail> {
-    let alloc = rt.alloc();
-    for line in [
-        "quote CAT S1 ann 010 1",
-        "quote CAT S1 ann 10 9",
-        "quote CAT S1",
-        "prefer CAT STU",
-        "demand 0 CAT STU SET PRICES S1",
-        "demand 17 CAT STU SET PRICES S1",
-        "demand 02 CAT STU SET PRICES S1",
-        "demand 2 CAT STU SET PRICES",
-        "run 0 CAT STU SET S1",
-        "run 2 CAT STU SET",
-        "make 2 7 0 2 0",
-        "make 2 7 2 2 1000000000001",
-        "explain CAT STU SET TEXT ann A",
-        "explain CAT STU SET TEXT ann B/C S1",
-        "hall CAT STU TEXT",
-        "audit 0 CAT STU SET TEXT S1",
-        "audit 17 CAT STU SET TEXT S1",
-        "audit 2 CAT STU SET TEXT",
-    ] {
-        let files = [("CAT", TWO), ("STU", ANN), ("S1", TIE)];
-        let (found, written) = run(&rt, alloc, line, &files)?;
-        assert_eq!(rt; found, Status::Usage);
-        assert_eq!(rt; written.as_str(), USAGE);
-    }
-    let mut sink = MemorySink::make(alloc, 14, Vec::new(alloc)).expect(&rt, "room");
+    try_cases(&rt, rt.alloc(), NO_FORMS)
+}
+
+// Words for which there is no memory.
+#[test]
+fn no_memory_for_the_words(rt: HostRuntime) {
+    let mut sink = MemorySink::make(rt.alloc(), 14, Vec::new(rt.alloc())).expect(&rt, "room");
     assert_eq!(rt; no_memory_for_words(&mut sink), Status::OutOfMemory);
     assert_eq!(rt; sink.taken(), b"out of memory\n".as_slice());
     assert_eq!(rt; no_memory_for_words(&mut sink), Status::SinkFault);
-    Ok(())
 }

@@ -1,41 +1,46 @@
-// Texts with other lines, and behind a byte order mark.
+// Texts with other lines.
 use super::*;
 
-// The number of a line, from 1, and what stands in its place, or nothing where the line is left out.
-pub(super) type Change = (usize, &'static str);
-
-// The text with these changes.
-pub(super) fn text_with(alloc: Global, text: &[u8], changes: &[Change]) -> Result<Vec<u8>, Fail> {
+// The text with these changes, one a line: the number of a line, from 1, and what stands in its place, or nothing where the line is left out. More
+// lines than one may stand in the place of one.
+pub(super) fn text_with(alloc: Global, text: &[u8], changes: &str) -> Result<Vec<u8>, Fail> {
     let mut made = Vec::new(alloc);
     for (place, line) in text.split(|byte| *byte == b'\n').enumerate() {
-        let Some(line) = line_with(line, place, changes) else {
-            continue;
-        };
-        if place > 0 {
-            made.push(b'\n')?;
-        }
-        made.extend_from_slice(line)?;
+        let number = format!(in alloc; "{}", place.wrapping_add(1))?;
+        put_changed(&mut made, line, number.as_str(), changes)?;
     }
     Ok(made)
 }
 
-// The line that stands in this place, from 0, if one does.
-fn line_with<'a>(line: &'a [u8], place: usize, changes: &[Change]) -> Option<&'a [u8]> {
-    for (number, with) in changes {
-        if *number == place.wrapping_add(1) {
-            return if with.is_empty() {
-                None
-            } else {
-                Some(with.as_bytes())
-            };
+// Puts the line of this number, or what stands in its place.
+fn put_changed(made: &mut Vec<u8>, line: &[u8], number: &str, changes: &str) -> Result<(), Fail> {
+    let mut is_changed = false;
+    for change in changes.split_terminator('\n') {
+        if let Some(with) = change_of(change, number) {
+            is_changed = true;
+            if !with.is_empty() {
+                put_line(made, with.as_bytes())?;
+            }
         }
     }
-    Some(line)
+    if !is_changed {
+        put_line(made, line)?;
+    }
+    Ok(())
 }
 
-// The text behind a byte order mark.
-pub(super) fn marked(alloc: Global, text: &[u8]) -> Result<Vec<u8>, Fail> {
-    let mut made = b"\xef\xbb\xbf".to_vec(alloc)?;
-    made.extend_from_slice(text)?;
-    Ok(made)
+// What the change puts in the place of the line of this number, if it is a change of it.
+fn change_of<'a>(change: &'a str, number: &str) -> Option<&'a str> {
+    let with = change.strip_prefix(number)?;
+    if with.is_empty() {
+        return Some(with);
+    }
+    with.strip_prefix(' ')
+}
+
+fn put_line(made: &mut Vec<u8>, line: &[u8]) -> Result<(), Fail> {
+    if !made.is_empty() {
+        made.push(b'\n')?;
+    }
+    Ok(made.extend_from_slice(line)?)
 }

@@ -1,157 +1,267 @@
 // `check` over texts in memory: forged texts, each with its finding, and texts with one byte changed.
-use super::changes::{Change, marked, text_with};
-use super::term::answer_with;
+use super::changes::text_with;
+use super::shelf::text_named;
 use super::*;
-use worked_terms::{EQUAL_MARKET, FOUR_MARKET, ORDINARY_MARKET, ORDINARY_TEXT, WorkedMarket};
+use worked_terms::ORDINARY_TEXT;
 
-const LINE: &str = "check CAT STU SET TEXT S1";
-
-// The lines that are changed, and what is written then.
-type Forged = (&'static [Change], &'static str);
+const OF_TERM: &str = "check term.cat term.stu term.set TEXT term.s1";
 
 // Changes of the ordinary term.
-const FORGED_TERM: [Forged; 39] = [
-    (&[(1, "course-match 3")], "finding: line 1 form\n"),
-    (&[(4, "budget bob 0103")], "finding: line 4 form\n"),
-    (
-        &[(6, "start B 0"), (7, "start A 0")],
-        "finding: line 6 form\n",
-    ),
-    (&[(10, "error 01")], "finding: line 10 form\n"),
-    (&[(28, "end\r")], "finding: line 28 form\n"),
-    (&[(29, "")], "finding: line 28 missing\n"),
-    (&[(28, "end\nend")], "finding: line 29 rest\n"),
-    (&[(2, "order 1 1 1 1 1 1 1 2")], "finding: journal at 8\n"),
-    (&[(2, "order 1 1 1 1 1 1 1 1 1")], "finding: journal at 9\n"),
-    (&[(5, "budget cat 103")], "finding: budget cat\n"),
-    (
-        &[(11, "price A 105")],
-        "finding: student ann unaffordable\n",
-    ),
-    (&[(12, "price B 1")], "finding: student ann unaffordable\n"),
-    (
-        &[(13, "price C 104")],
-        "finding: student bob unaffordable\n",
-    ),
-    (
-        &[(16, "bundle bob [A,C] ++*nn")],
-        "finding: student bob unaffordable\n",
-    ),
-    (
-        &[(17, "bundle cat [B] -+*n")],
-        "finding: student cat infeasible\n",
-    ),
-    (
-        &[(17, "bundle cat [] -+*n")],
-        "finding: student cat tree open at 2\n",
-    ),
-    (
-        &[(15, "bundle ann [A,B] n")],
-        "finding: student ann tree open at 0\n",
-    ),
-    (
-        &[(15, "bundle ann [A,B] ++*n")],
-        "finding: student ann tree syntax at 4\n",
-    ),
-    (
-        &[(15, "bundle ann [A,B] ++*nnn")],
-        "finding: student ann tree rest at 5\n",
-    ),
-    (
-        &[(15, "bundle ann [A,B] ++*nb0")],
-        "finding: student ann tree leaf at 4\n",
-    ),
-    (
-        &[(15, "bundle ann [A,B] +-*nn")],
-        "finding: student ann tree branch at 1\n",
-    ),
-    (
-        &[(18, "turn 1 bob [C] -+*n"), (19, "turn 1 ann [A,B] ++*nn")],
-        "finding: turn 1 order\n",
-    ),
-    (
-        &[(21, "turn 2 ann [A,B] ++*nn\nfinal ann [A,B]")],
-        "finding: turn 4 order\n",
-    ),
-    (&[(19, "turn 1 bob [A,C] ++*nn")], "finding: turn 2 taken\n"),
-    (
-        &[(20, "turn 1 cat [B] -+*n")],
-        "finding: turn 3 infeasible\n",
-    ),
-    (
-        &[(18, "turn 1 ann [A] ++*nn")],
-        "finding: turn 1 tree open at 2\n",
-    ),
-    (&[(20, "")], "finding: not quiet after 2 turns\n"),
-    (&[(22, "final bob []")], "finding: final bob\n"),
-    (&[(24, "used A 1 2")], "finding: used A\n"),
-    (&[(6, "start A 7")], "accepted\n"),
-    (&[(10, "error 5")], "accepted\n"),
-    (&[(14, "price D 1")], "accepted\n"),
-    (
-        &[(16, "bundle bob [C] -+**")],
-        "finding: student bob tree redundant at 3\n",
-    ),
-    (
-        &[(11, "price A 103")],
-        "finding: student bob tree branch at 0\n",
-    ),
-    (&[(25, "used B 2 2")], "finding: used B\n"),
-    (
-        &[(18, ""), (19, ""), (20, "")],
-        "finding: not quiet after 0 turns\n",
-    ),
-    (&[(2, "order 1 1 1 1 1 1 1")], "finding: journal at 8\n"),
-    (&[(3, "budget ann 105")], "finding: budget ann\n"),
-    (&[], "accepted\n"),
-];
+const FORGED_TERM: &str = "\
+1 course-match 3
+=> 8
+finding: line 1 form
+== 4 budget bob 0103
+=> 8
+finding: line 4 form
+== 6 start B 0
+7 start A 0
+=> 8
+finding: line 6 form
+== 10 error 01
+=> 8
+finding: line 10 form
+== 28 end\r
+=> 8
+finding: line 28 form
+== 29
+=> 8
+finding: line 28 missing
+== 28 end
+28 end
+=> 8
+finding: line 29 rest
+== 2 order 1 1 1 1 1 1 1 2
+=> 8
+finding: journal at 8
+== 2 order 1 1 1 1 1 1 1 1 1
+=> 8
+finding: journal at 9
+== 5 budget cat 103
+=> 8
+finding: budget cat
+== 11 price A 105
+=> 8
+finding: student ann unaffordable
+== 12 price B 1
+=> 8
+finding: student ann unaffordable
+== 13 price C 104
+=> 8
+finding: student bob unaffordable
+== 16 bundle bob [A,C] ++*nn
+=> 8
+finding: student bob unaffordable
+== 17 bundle cat [B] -+*n
+=> 8
+finding: student cat infeasible
+== 17 bundle cat [] -+*n
+=> 8
+finding: student cat tree open at 2
+== 15 bundle ann [A,B] n
+=> 8
+finding: student ann tree open at 0
+== 15 bundle ann [A,B] ++*n
+=> 8
+finding: student ann tree syntax at 4
+== 15 bundle ann [A,B] ++*nnn
+=> 8
+finding: student ann tree rest at 5
+== 15 bundle ann [A,B] ++*nb0
+=> 8
+finding: student ann tree leaf at 4
+== 15 bundle ann [A,B] +-*nn
+=> 8
+finding: student ann tree branch at 1
+== 18 turn 1 bob [C] -+*n
+19 turn 1 ann [A,B] ++*nn
+=> 8
+finding: turn 1 order
+== 21 turn 2 ann [A,B] ++*nn
+21 final ann [A,B]
+=> 8
+finding: turn 4 order
+== 19 turn 1 bob [A,C] ++*nn
+=> 8
+finding: turn 2 taken
+== 20 turn 1 cat [B] -+*n
+=> 8
+finding: turn 3 infeasible
+== 18 turn 1 ann [A] ++*nn
+=> 8
+finding: turn 1 tree open at 2
+== 20
+=> 8
+finding: not quiet after 2 turns
+== 22 final bob []
+=> 8
+finding: final bob
+== 24 used A 1 2
+=> 8
+finding: used A
+== 6 start A 7
+=> 0
+accepted
+== 10 error 5
+=> 0
+accepted
+== 14 price D 1
+=> 0
+accepted
+== 16 bundle bob [C] -+**
+=> 8
+finding: student bob tree redundant at 3
+== 11 price A 103
+=> 8
+finding: student bob tree branch at 0
+== 25 used B 2 2
+=> 8
+finding: used B
+== 18
+19
+20
+=> 8
+finding: not quiet after 0 turns
+== 2 order 1 1 1 1 1 1 1
+=> 8
+finding: journal at 8
+== 3 budget ann 105
+=> 8
+finding: budget ann
+== => 0
+accepted
+== 1 \u{feff}course-match 1
+=> 8
+finding: line 1 form
+";
 
 // Changes of the four students of one seat.
-const FORGED_SEAT: [Forged; 2] = [
-    (
-        &[(9, "price X 102"), (12, "bundle s3 [X] +*n")],
-        "finding: seats X 2 of 1\n",
-    ),
-    (&[], "accepted\n"),
-];
+const FORGED_SEAT: &str = "\
+9 price X 102
+12 bundle s3 [X] +*n
+=> 8
+finding: seats X 2 of 1
+== => 0
+accepted
+";
 
 // Changes of the seat that is filled.
-const FORGED_AFTERMARKET: [Forged; 3] = [
-    (
-        &[(10, "turn 1 u [] -*")],
-        "finding: turn 1 tree branch at 0\n",
-    ),
-    (&[(12, ""), (13, "")], "finding: not quiet after 2 turns\n"),
-    (&[], "accepted\n"),
-];
+const FORGED_AFTERMARKET: &str = "\
+10 turn 1 u [] -*
+=> 8
+finding: turn 1 tree branch at 0
+== 12
+13
+=> 8
+finding: not quiet after 2 turns
+== => 0
+accepted
+";
 
-// Each forged text has its line.
-fn try_each<R: Threads + Wait + Sync + Abort>(
+// Whole texts: of tables with carried tokens, of another market, of a market whose worker is delayed, and none.
+const TEXTS: &str = "\
+== carried tokens accepted
+check carried.cat carried.stu ACCEPT1 carried.text equal.s1
+=> 0
+accepted
+== carried tokens roll with the text of version one
+check equal.cat carried.stu equal.set equal.text equal.s1
+=> 8
+finding: line 1 form
+== carried tokens text with the roll of version one
+check equal.cat equal.stu equal.set carried.text equal.s1
+=> 8
+finding: line 1 form
+== text of another market
+check term.cat term.stu term.set four.text term.s1
+=> 8
+finding: line 3 form
+== four students one seat accepted
+check four.cat four.stu four.set four.text four.s1
+=> 0
+accepted
+== missing text
+check term.cat term.stu term.set NONE term.s1
+=> 2
+input 4 can not be read
+== bad settings come before missing text
+check term.cat term.stu EMPTY NONE term.s1
+=> 3
+input 3 row 0: not json
+== order decides the preferences
+check equal.cat equal.stu equal.set TEXT equal.s1 S2
+-- TEXT equal.text
+2 order 1 1 2
+-- S2
+clear u
+=> 8
+finding: student u tree branch at 0
+== two sessions in turn accepted
+check four.cat four.stu four.set TEXT S1 S2
+-- TEXT four.text
+2 order 2 1 2 1
+-- S1
+rate s1 X 50
+rate s2 X 50
+-- S2
+rate s3 X 50
+rate s4 X 50
+=> 0
+accepted
+";
+
+// Each text with such changes has its answer. The changes of the next text stand behind `== `.
+fn try_forged<R: Threads + Wait + Sync + Abort>(
     rt: &R,
     alloc: Global,
-    market: &WorkedMarket,
-    forged: &[Forged],
+    line: &str,
+    text: &str,
+    forged: &str,
 ) -> Result<(), Fail> {
-    for (changes, line) in forged {
-        let text = text_with(alloc, market.term.text.as_bytes(), changes)?;
-        let (status, written) = answer_with(rt, alloc, LINE, market, &text)?;
-        let number = if *line == "accepted\n" { 0 } else { 8 };
-        assert_eq!(rt; status.number(), number, "{line}");
-        assert_eq!(rt; written.as_str(), *line);
+    let Some(text) = text_named(text) else {
+        return Err(Fail::from("no text"));
+    };
+    for case in forged.split("== ") {
+        let Some((changes, answers)) = case.split_once("=> ") else {
+            return Err(Fail::from("a text without an answer"));
+        };
+        let text = text_with(alloc, text, changes)?;
+        try_run(rt, alloc, line, &[("TEXT", &text)], answers)?;
     }
     Ok(())
 }
 
 #[test]
 fn forged_texts(rt: HostRuntime) -> Result<(), Fail> {
-    let alloc = rt.alloc();
-    try_each(&rt, alloc, &ORDINARY_MARKET, &FORGED_TERM)?;
-    try_each(&rt, alloc, &FOUR_MARKET, &FORGED_SEAT)?;
-    try_each(&rt, alloc, &EQUAL_MARKET, &FORGED_AFTERMARKET)
+    for (line, text, forged) in [
+        (OF_TERM, "term.text", FORGED_TERM),
+        (
+            "check four.cat four.stu four.set TEXT four.s1",
+            "four.text",
+            FORGED_SEAT,
+        ),
+        (
+            "check equal.cat equal.stu equal.set TEXT equal.s1",
+            "equal.text",
+            FORGED_AFTERMARKET,
+        ),
+    ] {
+        try_forged(&rt, rt.alloc(), line, text, forged)?;
+    }
+    try_cases(&rt, rt.alloc(), TEXTS)
 }
 
 // What stands in the place of a byte.
 const OTHERS: [u8; 12] = *b"019 A\n[],+*n";
+
+// The text with another byte in this place.
+fn with_byte(alloc: Global, place: usize, other: u8) -> Result<Vec<u8>, Fail> {
+    let mut text = ORDINARY_TEXT.as_bytes().to_vec(alloc)?;
+    if let Some(byte) = text.get_mut(place) {
+        *byte = other;
+    }
+    Ok(text)
+}
 
 // Where another byte stands in this place, the text is accepted only if the line is one that is only read.
 fn try_byte<R: Threads + Wait + Sync + Abort>(
@@ -161,11 +271,9 @@ fn try_byte<R: Threads + Wait + Sync + Abort>(
     is_only_read: bool,
 ) -> Result<(), Fail> {
     for other in OTHERS {
-        let mut text = ORDINARY_TEXT.as_bytes().to_vec(alloc)?;
-        assert!(rt; place < text.len());
-        let is_other = text[place] != other;
-        text[place] = other;
-        let (status, _) = answer_with(rt, alloc, LINE, &ORDINARY_MARKET, &text)?;
+        let text = with_byte(alloc, place, other)?;
+        let is_other = text.as_slice() != ORDINARY_TEXT.as_bytes();
+        let (status, _) = run(rt, alloc, OF_TERM, &[("TEXT", &text)])?;
         let is_accepted = status == Status::Done;
         assert!(rt;
             !is_accepted || !is_other || is_only_read,
@@ -183,43 +291,16 @@ fn is_only_read(line: &[u8]) -> bool {
 // A text with one byte changed is accepted only where the byte is of a start, an error or a price line.
 #[test]
 fn texts_with_one_byte_changed(rt: HostRuntime) -> Result<(), Fail> {
-    let alloc = rt.alloc();
     let mut place: usize = 0;
     for line in ORDINARY_TEXT.as_bytes().split(|byte| *byte == b'\n') {
         for _ in line {
-            try_byte(&rt, alloc, place, is_only_read(line))?;
+            try_byte(&rt, rt.alloc(), place, is_only_read(line))?;
             place = place.wrapping_add(1);
         }
         if place < ORDINARY_TEXT.len() {
-            try_byte(&rt, alloc, place, false)?;
+            try_byte(&rt, rt.alloc(), place, false)?;
         }
         place = place.wrapping_add(1);
     }
-    Ok(())
-}
-
-// A text at its limit is read, and one byte more is too long, whatever the bytes.
-#[test]
-fn texts_at_their_limit(rt: HostRuntime) -> Result<(), Fail> {
-    let alloc = rt.alloc();
-    let bytes = vec![in alloc; b'x'; 67_108_865]?;
-    let long = bytes.as_slice();
-    let (status, written) = answer_with(&rt, alloc, LINE, &ORDINARY_MARKET, long)?;
-    assert_eq!(rt; status, Status::TooLong { input: 4 });
-    assert_eq!(rt; written.as_str(), "input 4 is too long\n");
-    let (status, written) = answer_with(&rt, alloc, LINE, &ORDINARY_MARKET, &long[1..])?;
-    assert_eq!(rt; status.number(), 8);
-    assert_eq!(rt; written.as_str(), "finding: line 1 missing\n");
-    Ok(())
-}
-
-// A byte order mark is no part of a published text.
-#[test]
-fn a_byte_order_mark_is_a_fault_of_line_1(rt: HostRuntime) -> Result<(), Fail> {
-    let alloc = rt.alloc();
-    let text = marked(alloc, ORDINARY_TEXT.as_bytes())?;
-    let (status, written) = answer_with(&rt, alloc, LINE, &ORDINARY_MARKET, &text)?;
-    assert_eq!(rt; status.number(), 8);
-    assert_eq!(rt; written.as_str(), "finding: line 1 form\n");
     Ok(())
 }

@@ -1,308 +1,307 @@
 // `demand` over texts in memory.
 use super::*;
-use worked_terms::{
-    ACCEPT_9, FOUR_ROLL, FOUR_SESSION, ONE_SEAT_CATALOGUE, ORDINARY_CATALOGUE, ORDINARY_ROLL,
-    ORDINARY_SESSION, ORDINARY_SETTINGS,
-};
 
-// Each number of workers gives the same bytes.
-const LINES: [&str; 3] = [
-    "demand 1 CAT STU SET PRICES S1",
-    "demand 2 CAT STU SET PRICES S1",
-    "demand 16 CAT STU SET PRICES S1",
-];
+const OF_ONE_SEAT: &str = "\
+== four students of one seat
+demand 1 four.cat four.stu four.set X=102 four.s1
+demand 2 four.cat four.stu four.set X=102 four.s1
+demand 16 four.cat four.stu four.set X=102 four.s1
+=> 0
+order 1 1 1 1
+bundle s1 []
+bundle s2 []
+bundle s3 [X]
+bundle s4 [X]
+count X 2
+error 1
+== a price that is the budget is affordable
+demand 1 four.cat four.stu four.set PRICES four.s1
+demand 2 four.cat four.stu four.set PRICES four.s1
+demand 16 four.cat four.stu four.set PRICES four.s1
+-- PRICES
+section,price
+X,103
+=> 0
+order 1 1 1 1
+bundle s1 []
+bundle s2 []
+bundle s3 []
+bundle s4 [X]
+count X 1
+error 0
+== the greatest price
+demand 1 four.cat four.stu four.set PRICES four.s1
+demand 2 four.cat four.stu four.set PRICES four.s1
+demand 16 four.cat four.stu four.set PRICES four.s1
+-- PRICES
+section,price
+X,1000001
+=> 0
+order 1 1 1 1
+bundle s1 []
+bundle s2 []
+bundle s3 []
+bundle s4 []
+count X 0
+error 1
+== a section without a price has price 0
+demand 1 four.cat four.stu four.set PRICES four.s1
+demand 2 four.cat four.stu four.set PRICES four.s1
+demand 16 four.cat four.stu four.set PRICES four.s1
+-- PRICES
+section,price
+=> 0
+order 1 1 1 1
+bundle s1 [X]
+bundle s2 [X]
+bundle s3 [X]
+bundle s4 [X]
+count X 4
+error 9
+== carried tokens are budget
+demand 1 four.cat STU four.set PRICES four.s1
+demand 2 four.cat STU four.set PRICES four.s1
+demand 16 four.cat STU four.set PRICES four.s1
+-- STU
+student,budget,credits,courses,carry
+s1,100,10,1,3
+s2,101,10,1,0
+s3,102,10,1,0
+s4,103,10,1,0
+-- PRICES
+section,price
+X,103
+=> 0
+order 1 1 1 1
+bundle s1 [X]
+bundle s2 []
+bundle s3 []
+bundle s4 [X]
+count X 2
+error 1
+== settings with a byte order mark
+demand 1 four.cat four.stu SET X=102 four.s1
+demand 2 four.cat four.stu SET X=102 four.s1
+demand 16 four.cat four.stu SET X=102 four.s1
+-- SET
+\u{feff}{\"seed\":0,\"spread\":0,\"accept\":9,\"turns\":0,\"tabu\":5,\"patience\":3,\"steps\":[1],\"raise\":10}=> 0
+order 1 1 1 1
+bundle s1 []
+bundle s2 []
+bundle s3 [X]
+bundle s4 [X]
+count X 2
+error 1
+";
 
-const CARRIED: &[u8] =
-    b"student,budget,credits,courses,carry\ns1,100,10,1,3\ns2,101,10,1,0\ns3,102,10,1,0\ns4,103,10,1,0\n";
+const REFUSED_PRICES: &str = "\
+== an empty price file
+demand 1 four.cat four.stu four.set EMPTY four.s1
+demand 2 four.cat four.stu four.set EMPTY four.s1
+demand 16 four.cat four.stu four.set EMPTY four.s1
+=> 3
+input 4 row 1: header
+== a price above its limit
+demand 1 four.cat four.stu four.set PRICES four.s1
+demand 2 four.cat four.stu four.set PRICES four.s1
+demand 16 four.cat four.stu four.set PRICES four.s1
+-- PRICES
+section,price
+X,1000002
+=> 3
+input 4 row 2: number in column 2
+== a price that is given twice
+demand 1 four.cat four.stu four.set PRICES four.s1
+demand 2 four.cat four.stu four.set PRICES four.s1
+demand 16 four.cat four.stu four.set PRICES four.s1
+-- PRICES
+section,price
+X,1
+X,1
+=> 3
+input 4 row 3: repeats row 2
+== a price of no section
+demand 1 four.cat four.stu four.set PRICES four.s1
+demand 2 four.cat four.stu four.set PRICES four.s1
+demand 16 four.cat four.stu four.set PRICES four.s1
+-- PRICES
+section,price
+X,1
+Y,2
+=> 3
+input 4 row 3: name in column 1
+== a price with three fields
+demand 1 four.cat four.stu four.set PRICES four.s1
+demand 2 four.cat four.stu four.set PRICES four.s1
+demand 16 four.cat four.stu four.set PRICES four.s1
+-- PRICES
+section,price
+X,1,2
+=> 3
+input 4 row 2: fields
+";
 
-const MARKED: &[u8] =
-    b"\xef\xbb\xbf{\"seed\":0,\"spread\":0,\"accept\":9,\"turns\":0,\"tabu\":5,\"patience\":3,\"steps\":[1],\"raise\":10}";
+const REFUSED_SETTINGS: &str = "\
+== settings come before prices
+demand 1 four.cat four.stu SET EMPTY four.s1
+demand 2 four.cat four.stu SET EMPTY four.s1
+demand 16 four.cat four.stu SET EMPTY four.s1
+-- SET
+{\"seed\":0,\"spread\":2,\"accept\":1,\"turns\":10001,\"tabu\":5,\"patience\":3,\"steps\":[1],\"raise\":10}=> 3
+input 3 row 0: range of turns
+== no settings
+demand 1 four.cat four.stu EMPTY EMPTY four.s1
+demand 2 four.cat four.stu EMPTY EMPTY four.s1
+demand 16 four.cat four.stu EMPTY EMPTY four.s1
+=> 3
+input 3 row 0: not json
+== two byte order marks
+demand 1 four.cat four.stu SET EMPTY four.s1
+demand 2 four.cat four.stu SET EMPTY four.s1
+demand 16 four.cat four.stu SET EMPTY four.s1
+-- SET
+\u{feff}\u{feff}{\"seed\":0,\"spread\":2,\"accept\":1,\"turns\":5,\"tabu\":5,\"patience\":3,\"steps\":[1],\"raise\":10}=> 3
+input 3 row 0: not json
+== settings that are no object
+demand 1 four.cat four.stu SET EMPTY four.s1
+demand 2 four.cat four.stu SET EMPTY four.s1
+demand 16 four.cat four.stu SET EMPTY four.s1
+-- SET
+[]=> 3
+input 3 row 0: not an object
+== a missing key comes before an unknown one
+demand 1 four.cat four.stu SET EMPTY four.s1
+demand 2 four.cat four.stu SET EMPTY four.s1
+demand 16 four.cat four.stu SET EMPTY four.s1
+-- SET
+{\"seed\":0,\"spread\":2,\"accept\":1,\"turns\":5,\"tabu\":5,\"patience\":3,\"steps\":[1],\"Raise\":10}=> 3
+input 3 row 0: missing raise
+== an unknown key comes before a range
+demand 1 four.cat four.stu SET EMPTY four.s1
+demand 2 four.cat four.stu SET EMPTY four.s1
+demand 16 four.cat four.stu SET EMPTY four.s1
+-- SET
+{\"seed\":0,\"spread\":50,\"accept\":1,\"turns\":5,\"tabu\":5,\"patience\":3,\"steps\":[1],\"raise\":10,\"note\":\"x\"}=> 3
+input 3 row 0: unknown key
+== the first key out of range
+demand 1 four.cat four.stu SET EMPTY four.s1
+demand 2 four.cat four.stu SET EMPTY four.s1
+demand 16 four.cat four.stu SET EMPTY four.s1
+-- SET
+{\"seed\":0,\"spread\":2,\"accept\":1000000000001,\"turns\":5,\"tabu\":5,\"patience\":3,\"steps\":[1],\"raise\":51}=> 3
+input 3 row 0: range of accept
+";
 
-// What the case shows, the roll, the settings, the prices, the number of the status, and the text.
-type Case = (
-    &'static str,
-    &'static [u8],
-    &'static [u8],
-    &'static [u8],
-    u8,
-    &'static str,
-);
+const OF_A_TERM: &str = "\
+== an ordinary term at its last prices
+demand 1 term.cat term.stu term.set PRICES term.s1
+demand 2 term.cat term.stu term.set PRICES term.s1
+demand 16 term.cat term.stu term.set PRICES term.s1
+-- PRICES
+section,price
+A,104
+=> 0
+order 1 1 1 1 1 1 1 1
+bundle ann [A,B]
+bundle bob [C]
+bundle cat [D]
+count A 1
+count B 1
+count C 1
+count D 1
+error 0
+== free seats at price 0 are no error
+demand 1 term.cat term.stu term.set PRICES term.s1
+demand 2 term.cat term.stu term.set PRICES term.s1
+demand 16 term.cat term.stu term.set PRICES term.s1
+-- PRICES
+section,price
+A,104
+B,1
+C,1
+D,1
+=> 0
+order 1 1 1 1 1 1 1 1
+bundle ann [A]
+bundle bob [C]
+bundle cat [D]
+count A 1
+count B 0
+count C 1
+count D 1
+error 5
+";
 
-const OF_ONE_SEAT: [Case; 6] = [
-    (
-        "four students of one seat",
-        FOUR_ROLL,
-        ACCEPT_9,
-        b"section,price\nX,102\n",
-        0,
-        "order 1 1 1 1\nbundle s1 []\nbundle s2 []\nbundle s3 [X]\nbundle s4 [X]\ncount X 2\nerror 1\n",
-    ),
-    (
-        "a price that is the budget is affordable",
-        FOUR_ROLL,
-        ACCEPT_9,
-        b"section,price\nX,103\n",
-        0,
-        "order 1 1 1 1\nbundle s1 []\nbundle s2 []\nbundle s3 []\nbundle s4 [X]\ncount X 1\nerror 0\n",
-    ),
-    (
-        "the greatest price",
-        FOUR_ROLL,
-        ACCEPT_9,
-        b"section,price\nX,1000001\n",
-        0,
-        "order 1 1 1 1\nbundle s1 []\nbundle s2 []\nbundle s3 []\nbundle s4 []\ncount X 0\nerror 1\n",
-    ),
-    (
-        "a section without a price has price 0",
-        FOUR_ROLL,
-        ACCEPT_9,
-        b"section,price\n",
-        0,
-        "order 1 1 1 1\nbundle s1 [X]\nbundle s2 [X]\nbundle s3 [X]\nbundle s4 [X]\ncount X 4\nerror 9\n",
-    ),
-    (
-        "carried tokens are budget",
-        CARRIED,
-        ACCEPT_9,
-        b"section,price\nX,103\n",
-        0,
-        "order 1 1 1 1\nbundle s1 [X]\nbundle s2 []\nbundle s3 []\nbundle s4 [X]\ncount X 2\nerror 1\n",
-    ),
-    (
-        "settings with a byte order mark",
-        FOUR_ROLL,
-        MARKED,
-        b"section,price\nX,102\n",
-        0,
-        "order 1 1 1 1\nbundle s1 []\nbundle s2 []\nbundle s3 [X]\nbundle s4 [X]\ncount X 2\nerror 1\n",
-    ),
-];
+// Each answer has an order of two sessions with two commands each.
+const TWO_SESSIONS: &str = "\
+== two sessions in any order
+demand 2 four.cat four.stu four.set X=102 S1 S2
+-- S1
+rate s1 X 50
+rate s2 X 50
+-- S2
+rate s3 X 50
+rate s4 X 50
+=> 0
+order 1 1 2 2
+bundle s1 []
+bundle s2 []
+bundle s3 [X]
+bundle s4 [X]
+count X 2
+error 1
+=> 0
+order 1 2 1 2
+bundle s1 []
+bundle s2 []
+bundle s3 [X]
+bundle s4 [X]
+count X 2
+error 1
+=> 0
+order 1 2 2 1
+bundle s1 []
+bundle s2 []
+bundle s3 [X]
+bundle s4 [X]
+count X 2
+error 1
+=> 0
+order 2 1 1 2
+bundle s1 []
+bundle s2 []
+bundle s3 [X]
+bundle s4 [X]
+count X 2
+error 1
+=> 0
+order 2 1 2 1
+bundle s1 []
+bundle s2 []
+bundle s3 [X]
+bundle s4 [X]
+count X 2
+error 1
+=> 0
+order 2 2 1 1
+bundle s1 []
+bundle s2 []
+bundle s3 [X]
+bundle s4 [X]
+count X 2
+error 1
+";
 
-const REFUSED_PRICES: [Case; 5] = [
-    (
-        "an empty price file",
-        FOUR_ROLL,
-        ACCEPT_9,
-        b"",
-        3,
-        "input 4 row 1: header\n",
-    ),
-    (
-        "a price above its limit",
-        FOUR_ROLL,
-        ACCEPT_9,
-        b"section,price\nX,1000002\n",
-        3,
-        "input 4 row 2: number in column 2\n",
-    ),
-    (
-        "a price that is given twice",
-        FOUR_ROLL,
-        ACCEPT_9,
-        b"section,price\nX,1\nX,1\n",
-        3,
-        "input 4 row 3: repeats row 2\n",
-    ),
-    (
-        "a price of no section",
-        FOUR_ROLL,
-        ACCEPT_9,
-        b"section,price\nX,1\nY,2\n",
-        3,
-        "input 4 row 3: name in column 1\n",
-    ),
-    (
-        "a price with three fields",
-        FOUR_ROLL,
-        ACCEPT_9,
-        b"section,price\nX,1,2\n",
-        3,
-        "input 4 row 2: fields\n",
-    ),
-];
-
-const REFUSED_SETTINGS: [Case; 7] = [
-    (
-        "settings come before prices",
-        FOUR_ROLL,
-        br#"{"seed":0,"spread":2,"accept":1,"turns":10001,"tabu":5,"patience":3,"steps":[1],"raise":10}"#,
-        b"",
-        3,
-        "input 3 row 0: range of turns\n",
-    ),
-    (
-        "no settings",
-        FOUR_ROLL,
-        b"",
-        b"",
-        3,
-        "input 3 row 0: not json\n",
-    ),
-    (
-        "two byte order marks",
-        FOUR_ROLL,
-        b"\xef\xbb\xbf\xef\xbb\xbf{\"seed\":0,\"spread\":2,\"accept\":1,\"turns\":5,\"tabu\":5,\"patience\":3,\"steps\":[1],\"raise\":10}",
-        b"",
-        3,
-        "input 3 row 0: not json\n",
-    ),
-    (
-        "settings that are no object",
-        FOUR_ROLL,
-        b"[]",
-        b"",
-        3,
-        "input 3 row 0: not an object\n",
-    ),
-    (
-        "a missing key comes before an unknown one",
-        FOUR_ROLL,
-        br#"{"seed":0,"spread":2,"accept":1,"turns":5,"tabu":5,"patience":3,"steps":[1],"Raise":10}"#,
-        b"",
-        3,
-        "input 3 row 0: missing raise\n",
-    ),
-    (
-        "an unknown key comes before a range",
-        FOUR_ROLL,
-        br#"{"seed":0,"spread":50,"accept":1,"turns":5,"tabu":5,"patience":3,"steps":[1],"raise":10,"note":"x"}"#,
-        b"",
-        3,
-        "input 3 row 0: unknown key\n",
-    ),
-    (
-        "the first key out of range",
-        FOUR_ROLL,
-        br#"{"seed":0,"spread":2,"accept":1000000000001,"turns":5,"tabu":5,"patience":3,"steps":[1],"raise":51}"#,
-        b"",
-        3,
-        "input 3 row 0: range of accept\n",
-    ),
-];
-
-const OF_A_TERM: [Case; 2] = [
-    (
-        "an ordinary term at its last prices",
-        ORDINARY_ROLL,
-        ORDINARY_SETTINGS,
-        b"section,price\nA,104\n",
-        0,
-        "order 1 1 1 1 1 1 1 1\nbundle ann [A,B]\nbundle bob [C]\nbundle cat [D]\ncount A 1\ncount B 1\ncount C 1\ncount D 1\nerror 0\n",
-    ),
-    (
-        "free seats at price 0 are no error",
-        ORDINARY_ROLL,
-        ORDINARY_SETTINGS,
-        b"section,price\nA,104\nB,1\nC,1\nD,1\n",
-        0,
-        "order 1 1 1 1 1 1 1 1\nbundle ann [A]\nbundle bob [C]\nbundle cat [D]\ncount A 1\ncount B 0\ncount C 1\ncount D 1\nerror 5\n",
-    ),
-];
-
-// Each case has its answer, with each number of workers.
-fn try_each<R: Threads + Wait + Sync + Abort>(
-    rt: &R,
-    alloc: Global,
-    catalogue: &[u8],
-    session: &[u8],
-    cases: &[Case],
-) -> Result<(), Fail> {
-    for (shows, roll, settings, prices, status, text) in cases {
-        let files = [
-            ("CAT", catalogue),
-            ("STU", *roll),
-            ("SET", *settings),
-            ("PRICES", *prices),
-            ("S1", session),
-        ];
-        for line in LINES {
-            let (found, written) = run(rt, alloc, line, &files)?;
-            assert_eq!(rt; found.number(), *status, "{shows}: {line}");
-            assert_eq!(rt; written.as_str(), *text, "{shows}: {line}");
-        }
+#[test]
+fn demands(rt: HostRuntime) -> Result<(), Fail> {
+    for cases in [
+        OF_ONE_SEAT,
+        REFUSED_PRICES,
+        REFUSED_SETTINGS,
+        OF_A_TERM,
+        TWO_SESSIONS,
+    ] {
+        try_cases(&rt, rt.alloc(), cases)?;
     }
-    Ok(())
-}
-
-#[test]
-fn demands_of_one_seat(rt: HostRuntime) -> Result<(), Fail> {
-    try_each(
-        &rt,
-        rt.alloc(),
-        ONE_SEAT_CATALOGUE,
-        FOUR_SESSION,
-        &OF_ONE_SEAT,
-    )
-}
-
-#[test]
-fn demands_of_an_ordinary_term(rt: HostRuntime) -> Result<(), Fail> {
-    try_each(
-        &rt,
-        rt.alloc(),
-        ORDINARY_CATALOGUE,
-        ORDINARY_SESSION,
-        &OF_A_TERM,
-    )
-}
-
-#[test]
-fn refused_settings_and_prices(rt: HostRuntime) -> Result<(), Fail> {
-    try_each(
-        &rt,
-        rt.alloc(),
-        ONE_SEAT_CATALOGUE,
-        FOUR_SESSION,
-        &REFUSED_PRICES,
-    )?;
-    try_each(
-        &rt,
-        rt.alloc(),
-        ONE_SEAT_CATALOGUE,
-        FOUR_SESSION,
-        &REFUSED_SETTINGS,
-    )
-}
-
-// The orders of two sessions with two commands each.
-pub(super) const ORDERS: [&str; 6] = [
-    "order 1 1 2 2\n",
-    "order 1 2 1 2\n",
-    "order 1 2 2 1\n",
-    "order 2 1 1 2\n",
-    "order 2 1 2 1\n",
-    "order 2 2 1 1\n",
-];
-
-pub(super) const FIRST: &[u8] = b"rate s1 X 50\nrate s2 X 50\n";
-
-pub(super) const SECOND: &[u8] = b"rate s3 X 50\nrate s4 X 50\n";
-
-const TAKEN: &str =
-    "bundle s1 []\nbundle s2 []\nbundle s3 [X]\nbundle s4 [X]\ncount X 2\nerror 1\n";
-
-// Whether a text has a lawful order, and behind it what is taken.
-pub(super) fn is_lawful(text: &str) -> bool {
-    ORDERS
-        .iter()
-        .any(|order| text.strip_prefix(*order) == Some(TAKEN))
-}
-
-#[test]
-fn demands_of_two_sessions(rt: HostRuntime) -> Result<(), Fail> {
-    let alloc = rt.alloc();
-    let files = [
-        ("CAT", ONE_SEAT_CATALOGUE),
-        ("STU", FOUR_ROLL),
-        ("SET", ACCEPT_9),
-        ("PRICES", b"section,price\nX,102\n".as_slice()),
-        ("S1", FIRST),
-        ("S2", SECOND),
-    ];
-    let line = "demand 2 CAT STU SET PRICES S1 S2";
-    let (status, written) = run(&rt, alloc, line, &files)?;
-    assert_eq!(rt; status, Status::Done);
-    assert!(rt; is_lawful(written.as_str()), "{written}");
     Ok(())
 }

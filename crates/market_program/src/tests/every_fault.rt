@@ -1,61 +1,102 @@
-// Each call of the shelf in turn fails, and each place of the text at which the sink has no more room.
+// Each call of the shelf in turn fails, each write of the sink, and each place of the text at which the sink has no more room.
+use super::cases::text_of;
 use super::*;
-use worked_terms::{
-    ACCEPT_9, EQUAL_TERM, FOUR_ROLL, ONE_SEAT_CATALOGUE, ORDINARY_CATALOGUE, ORDINARY_ENVY,
-    ORDINARY_ROLL, ORDINARY_SESSION, ORDINARY_SETTINGS, ORDINARY_TEXT,
-};
 
 // An input of a few bytes takes so many calls of the shelf: its begin, its reading, its end.
 const CALLS: u64 = 3;
 
-// The call of this number fails, and a first write as well where so many of them do; the call's answer, whose text is
-// the sink's.
-fn answer_without<R: Threads + Wait + Sync + Abort>(
+// A command, how many inputs it reads, and its answer.
+type Command = (&'static str, u16, &'static str);
+
+const RUNS: [Command; 2] = [
+    (
+        "run 2 term.cat term.stu term.set term.s1",
+        4,
+        "0 term.text\n",
+    ),
+    (
+        "run 2 four.cat four.stu ACCEPT8 four.s1",
+        4,
+        "5\norder 1 1 1 1\nno prices: least error 9\n",
+    ),
+];
+
+const OF_PUBLISHED_TEXTS: [Command; 4] = [
+    (
+        "check term.cat term.stu term.set term.text term.s1",
+        5,
+        "0\naccepted\n",
+    ),
+    (
+        "explain term.cat term.stu term.set term.text bob A term.s1",
+        5,
+        "0\nbob A alone price\n",
+    ),
+    (
+        "audit 2 term.cat term.stu term.set term.text term.s1",
+        5,
+        "0 term.envy\n",
+    ),
+    (
+        "hall equal.cat equal.stu equal.text DROP-X BLANK",
+        5,
+        "0\nentry 1 drop u X: dropped 0\nfinal u []\nfinal v []\nused X 0 1\n",
+    ),
+];
+
+// Each input is read to its end, also the comment line of a first session.
+const OF_WISHES: [Command; 5] = [
+    (
+        "demand 2 four.cat four.stu four.set X=102 four.s1",
+        5,
+        "0\norder 1 1 1 1\nbundle s1 []\nbundle s2 []\nbundle s3 [X]\nbundle s4 [X]\ncount X 2\nerror 1\n",
+    ),
+    (
+        "prefer four.cat four.stu RATE-X",
+        3,
+        "0\nentry 1 done rate s1 X 50\nrate s1 X 50\n",
+    ),
+    (
+        "prefer TWO ANN COMMENT RATE-A",
+        4,
+        "0\nentry 2 done rate ann A 9\nrate ann A 9\n",
+    ),
+    (
+        "quote four.cat RATE-X s1 10 1",
+        2,
+        "0\nbundle s1 [X]\nutility 50\n",
+    ),
+    (
+        "quote TWO TIE ann 10 1",
+        2,
+        "0\nbundle ann [A]\nutility 50\n",
+    ),
+];
+
+// The answer where the shelf's call and the sink's write of these numbers fail.
+pub(super) fn try_failing<R: Threads + Wait + Sync + Abort>(
     rt: &R,
     alloc: Global,
     line: &str,
-    files: &[File],
     failing: (u64, u64),
-) -> Result<(Status, String), Fail> {
-    run_by(rt, alloc, line, files, failing, 30_000, &OpenGate)
+    answers: &str,
+) -> Result<(), Fail> {
+    let answer = run_by(rt, alloc, line, failing, ROOM, &OpenGate)?;
+    assert_told(rt, alloc, line, answers, &answer)
 }
 
-// The input that is being read is told, and nothing else is written.
-pub(super) fn try_fault<R: Threads + Wait + Sync + Abort>(
+// The input that is being read is told, and nothing else is written; where the first write fails as well, nothing is.
+fn try_fault<R: Threads + Wait + Sync + Abort>(
     rt: &R,
     alloc: Global,
     line: &str,
-    files: &[File],
     input: u16,
     call: u64,
 ) -> Result<(), Fail> {
-    let (status, written) = answer_without(rt, alloc, line, files, (call, 0))?;
-    let told = format!(in alloc; "input {input} can not be read\n")?;
-    assert_eq!(rt; status, Status::ShelfFault { input }, "{line}: call {call}");
-    assert_eq!(rt; written.as_str(), told.as_str(), "{line}: call {call}");
-    let (status, written) = answer_without(rt, alloc, line, files, (call, 1))?;
-    assert_eq!(rt;
-        status,
-        Status::SinkFault,
-        "{line}: call {call} and a write"
-    );
-    assert_eq!(rt; written.as_str(), "", "{line}: call {call} and a write");
-    Ok(())
-}
-
-// Each of the calls that read one input.
-fn try_input<R: Threads + Wait + Sync + Abort>(
-    rt: &R,
-    alloc: Global,
-    line: &str,
-    files: &[File],
-    input: u16,
-) -> Result<(), Fail> {
-    let before = CALLS.saturating_mul(u64::from(input.saturating_sub(1)));
-    for call in 1..=CALLS {
-        try_fault(rt, alloc, line, files, input, before.saturating_add(call))?;
-    }
-    Ok(())
+    let status = Status::ShelfFault { input };
+    let told = format!(in alloc; "{status:?}\ninput {input} can not be read\n")?;
+    try_failing(rt, alloc, line, (call, 0), told.as_str())?;
+    try_failing(rt, alloc, line, (call, 1), "6\n")
 }
 
 // Each of the calls that read so many inputs; where the next one would fail, there is none.
@@ -63,16 +104,28 @@ fn try_faults<R: Threads + Wait + Sync + Abort>(
     rt: &R,
     alloc: Global,
     line: &str,
-    files: &[File],
     inputs: u16,
+    answer: &str,
 ) -> Result<(), Fail> {
     for input in 1..=inputs {
-        try_input(rt, alloc, line, files, input)?;
+        let before = CALLS.saturating_mul(u64::from(input.saturating_sub(1)));
+        for call in 1..=CALLS {
+            try_fault(rt, alloc, line, input, before.saturating_add(call))?;
+        }
     }
     let next = CALLS.saturating_mul(u64::from(inputs)).saturating_add(1);
-    let (status, _) = answer_without(rt, alloc, line, files, (next, 0))?;
-    assert_eq!(rt; status, Status::Done, "{line}");
-    Ok(())
+    try_failing(rt, alloc, line, (next, 0), answer)
+}
+
+// Where the first write fails nothing is written; a second one is not made.
+fn try_writes<R: Threads + Wait + Sync + Abort>(
+    rt: &R,
+    alloc: Global,
+    line: &str,
+    answer: &str,
+) -> Result<(), Fail> {
+    try_failing(rt, alloc, line, (0, 1), "6\n")?;
+    try_failing(rt, alloc, line, (0, 2), answer)
 }
 
 // A sink that has less room than the text takes the first bytes of it.
@@ -80,107 +133,72 @@ fn try_rooms<R: Threads + Wait + Sync + Abort>(
     rt: &R,
     alloc: Global,
     line: &str,
-    files: &[File],
-    text: &str,
+    answer: &str,
 ) -> Result<(), Fail> {
+    let Some((title, text)) = answer.split_once('\n') else {
+        return Err(Fail::from("an answer without a text"));
+    };
+    let text = text_of(alloc, title, text)?;
     for room in 0..text.len() {
-        let (status, written) = run_by(rt, alloc, line, files, (0, 0), room, &OpenGate)?;
-        assert_eq!(rt; status, Status::SinkFault, "{line}: room {room}");
-        assert!(rt;
-            text.as_bytes().get(..room) == Some(written.as_bytes()),
-            "{line}: room {room}"
-        );
+        let (status, written) = run_by(rt, alloc, line, (0, 0), room, &OpenGate)?;
+        assert_front(rt, line, &text, room, status, written.as_str());
     }
     Ok(())
 }
 
-// What a term says, with its published text.
-fn whole_term() -> [File<'static>; 5] {
-    [
-        ("CAT", ORDINARY_CATALOGUE),
-        ("STU", ORDINARY_ROLL),
-        ("SET", ORDINARY_SETTINGS),
-        ("S1", ORDINARY_SESSION),
-        ("TEXT", ORDINARY_TEXT.as_bytes()),
-    ]
+fn assert_front<R: Abort>(
+    rt: &R,
+    line: &str,
+    text: &[u8],
+    room: usize,
+    status: Status,
+    written: &str,
+) {
+    assert_eq!(rt; status, Status::SinkFault, "{line}: room {room}");
+    assert!(rt;
+        text.get(..room) == Some(written.as_bytes()),
+        "{line}: room {room}"
+    );
+}
+
+// Each call of the shelf and each write of the sink.
+fn try_calls<R: Threads + Wait + Sync + Abort>(
+    rt: &R,
+    alloc: Global,
+    commands: &[Command],
+) -> Result<(), Fail> {
+    for (line, inputs, answer) in commands {
+        try_faults(rt, alloc, line, *inputs, answer)?;
+        try_writes(rt, alloc, line, answer)?;
+    }
+    Ok(())
 }
 
 #[test]
-fn faults_of_a_whole_term(rt: HostRuntime) -> Result<(), Fail> {
-    let alloc = rt.alloc();
-    let files = whole_term();
-    try_faults(&rt, alloc, "run 2 CAT STU SET S1", &files, 4)?;
-    try_faults(&rt, alloc, "check CAT STU SET TEXT S1", &files, 5)?;
-    try_rooms(&rt, alloc, "run 2 CAT STU SET S1", &files, ORDINARY_TEXT)?;
-    try_rooms(
-        &rt,
-        alloc,
-        "check CAT STU SET TEXT S1",
-        &files,
-        "accepted\n",
-    )
+fn every_call_that_fails(rt: HostRuntime) -> Result<(), Fail> {
+    try_calls(&rt, rt.alloc(), &RUNS)?;
+    try_calls(&rt, rt.alloc(), &OF_PUBLISHED_TEXTS)?;
+    try_calls(&rt, rt.alloc(), &OF_WISHES)
 }
 
 #[test]
-fn faults_of_an_explanation(rt: HostRuntime) -> Result<(), Fail> {
-    let alloc = rt.alloc();
-    let files = whole_term();
-    let line = "explain CAT STU SET TEXT bob A S1";
-    try_faults(&rt, alloc, line, &files, 5)?;
-    try_rooms(&rt, alloc, line, &files, "bob A alone price\n")
+fn every_room_of_a_run(rt: HostRuntime) -> Result<(), Fail> {
+    try_all_rooms(&rt, rt.alloc(), &RUNS)
 }
 
 #[test]
-fn faults_of_an_audit(rt: HostRuntime) -> Result<(), Fail> {
-    let alloc = rt.alloc();
-    let files = whole_term();
-    let line = "audit 2 CAT STU SET TEXT S1";
-    try_faults(&rt, alloc, line, &files, 5)?;
-    try_rooms(&rt, alloc, line, &files, ORDINARY_ENVY)
+fn every_room_of_the_other_forms(rt: HostRuntime) -> Result<(), Fail> {
+    try_all_rooms(&rt, rt.alloc(), &OF_PUBLISHED_TEXTS)?;
+    try_all_rooms(&rt, rt.alloc(), &OF_WISHES)
 }
 
-#[test]
-fn faults_of_the_other_forms(rt: HostRuntime) -> Result<(), Fail> {
-    let alloc = rt.alloc();
-    let files: [File; 5] = [
-        ("CAT", ONE_SEAT_CATALOGUE),
-        ("STU", FOUR_ROLL),
-        ("SET", ACCEPT_9),
-        ("PRICES", b"section,price\nX,102\n"),
-        ("S1", b"rate s1 X 50\n"),
-    ];
-    try_faults(&rt, alloc, "demand 2 CAT STU SET PRICES S1", &files, 5)?;
-    try_faults(&rt, alloc, "prefer CAT STU S1", &files, 3)?;
-    try_faults(&rt, alloc, "quote CAT S1 s1 10 1", &files, 2)?;
-    try_rooms(
-        &rt,
-        alloc,
-        "prefer CAT STU S1",
-        &files,
-        "entry 1 done rate s1 X 50\nrate s1 X 50\n",
-    )?;
-    try_rooms(
-        &rt,
-        alloc,
-        "quote CAT S1 s1 10 1",
-        &files,
-        "bundle s1 [X]\nutility 50\n",
-    )
-}
-
-// The faults and the rooms of a hall with two streams.
-#[test]
-fn faults_of_a_hall(rt: HostRuntime) -> Result<(), Fail> {
-    let alloc = rt.alloc();
-    let files = [
-        ("CAT", EQUAL_TERM.catalogue),
-        ("STU", EQUAL_TERM.roll),
-        ("TEXT", EQUAL_TERM.text.as_bytes()),
-        ("R1", b"drop u X\n".as_slice()),
-        ("R2", b"\n".as_slice()),
-    ];
-    let line = "hall CAT STU TEXT R1 R2";
-    try_faults(&rt, alloc, line, &files, 5)?;
-    let told = "entry 1 drop u X: dropped 0\nfinal u []\nfinal v []\nused X 0 1\n";
-    try_rooms(&rt, alloc, line, &files, told)
+fn try_all_rooms<R: Threads + Wait + Sync + Abort>(
+    rt: &R,
+    alloc: Global,
+    commands: &[Command],
+) -> Result<(), Fail> {
+    for (line, _, answer) in commands {
+        try_rooms(rt, alloc, line, answer)?;
+    }
+    Ok(())
 }

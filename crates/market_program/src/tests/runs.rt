@@ -1,152 +1,448 @@
 // `run` over texts in memory.
-use super::demand::{FIRST, ORDERS, SECOND};
 use super::*;
-use worked_terms::{
-    ACCEPT_1, ACCEPT_8, ACCEPT_9, CARRIED_ROLL, CARRIED_TEXT, EQUAL_SESSION, FOUR_ROLL,
-    FOUR_SESSION, FOUR_TEXT, NO_SECTIONS_CATALOGUE, NO_SECTIONS_TEXT, ONE_SEAT_CATALOGUE,
-    ORDINARY_CATALOGUE, ORDINARY_ROLL, ORDINARY_SESSION, ORDINARY_SETTINGS, ORDINARY_TEXT,
-};
 
-// Each number of workers gives the same bytes.
-const LINES: [&str; 3] = [
-    "run 1 CAT STU SET S1",
-    "run 2 CAT STU SET S1",
-    "run 16 CAT STU SET S1",
-];
+const MARKETS: &str = "\
+== an ordinary term
+run 1 term.cat term.stu term.set term.s1
+run 2 term.cat term.stu term.set term.s1
+run 16 term.cat term.stu term.set term.s1
+=> 0 term.text
+== four students of one seat
+run 1 four.cat four.stu four.set four.s1
+run 2 four.cat four.stu four.set four.s1
+run 16 four.cat four.stu four.set four.s1
+=> 0 four.text
+== the least error is not accepted
+run 1 four.cat four.stu ACCEPT8 four.s1
+run 2 four.cat four.stu ACCEPT8 four.s1
+run 16 four.cat four.stu ACCEPT8 four.s1
+=> 5
+order 1 1 1 1
+no prices: least error 9
+== carried tokens raise the budget
+run 1 carried.cat carried.stu ACCEPT1 equal.s1
+run 2 carried.cat carried.stu ACCEPT1 equal.s1
+run 16 carried.cat carried.stu ACCEPT1 equal.s1
+=> 0 carried.text
+== no sections
+run 1 none.cat none.stu term.set term.s1
+run 2 none.cat none.stu term.set term.s1
+run 16 none.cat none.stu term.set term.s1
+=> 0 none.text
+== settings that are no object
+run 1 four.cat four.stu SET four.s1
+run 2 four.cat four.stu SET four.s1
+run 16 four.cat four.stu SET four.s1
+-- SET
+[]=> 3
+input 3 row 0: not an object
+== two sessions without prices
+run 2 four.cat four.stu ACCEPT8 S1 S2
+-- S1
+rate s1 X 50
+rate s2 X 50
+-- S2
+rate s3 X 50
+rate s4 X 50
+=> NoPrices { least: 9 }
+order 1 1 2 2
+no prices: least error 9
+=> NoPrices { least: 9 }
+order 1 2 1 2
+no prices: least error 9
+=> NoPrices { least: 9 }
+order 1 2 2 1
+no prices: least error 9
+=> NoPrices { least: 9 }
+order 2 1 1 2
+no prices: least error 9
+=> NoPrices { least: 9 }
+order 2 1 2 1
+no prices: least error 9
+=> NoPrices { least: 9 }
+order 2 2 1 1
+no prices: least error 9
+";
 
-// What the case shows, the catalogue, the roll, the settings, the session, the number of the status, and the text.
-type Case = (
-    &'static str,
-    &'static [u8],
-    &'static [u8],
-    &'static [u8],
-    &'static [u8],
-    u8,
-    &'static str,
-);
+// Small terms: seats that nobody takes or that there are not, ties, carried tokens, the moves of the search.
+const SMALL_TERMS: &str = "\
+== empty roll
+run 2 nobody.cat nobody.stu nobody.set nobody.s1
+=> 0 nobody.text
+== student without ratings
+run 2 nobody.cat STU nobody.set nobody.s1
+-- STU
+student,budget,credits,courses
+ann,100,10,2
+=> 0
+course-match 1
+order
+budget ann 100
+start A 0
+error 0
+price A 0
+bundle ann [] *
+turn 1 ann [] *
+final ann []
+used A 0 2
+end
+== section without seats
+run 2 CAT equal.stu SET equal.s1
+-- CAT
+section,course,seats,credits,meetings
+X,XX,0,1,
+-- SET
+{\"seed\":0,\"spread\":0,\"accept\":4,\"turns\":0,\"tabu\":5,\"patience\":3,\"steps\":[1],\"raise\":10}=> 0
+course-match 1
+order 1 1
+budget u 100
+budget v 100
+start X 0
+error 4
+price X 101
+bundle u [] -*
+bundle v [] -*
+turn 1 u [] -*
+turn 1 v [] -*
+final u []
+final v []
+used X 0 0
+end
+== aftermarket fills a free seat
+run 2 equal.cat equal.stu equal.set equal.s1
+=> 0 equal.text
+== search moves by own price
+run 2 equal.cat STU SET equal.s1
+-- STU
+student,budget,credits,courses
+u,100,10,1
+v,105,10,1
+-- SET
+{\"seed\":0,\"spread\":0,\"accept\":0,\"turns\":3,\"tabu\":5,\"patience\":3,\"steps\":[1],\"raise\":10}=> 0 carried.text
+1 course-match 1
+5 start X 101
+6 error 0
+== ties of excess raise the lowest ordinal
+run 2 TWO STU ACCEPT99 S1
+-- STU
+student,budget,credits,courses
+u,100,10,2
+v,101,10,2
+w,102,10,2
+-- S1
+rate u A 50
+rate u B 50
+rate v A 50
+rate v B 50
+rate w A 50
+rate w B 50
+=> 0
+course-match 1
+order 1 1 1 1 1 1
+budget u 100
+budget v 101
+budget w 102
+start A 0
+start B 0
+error 8
+price A 102
+price B 101
+bundle u [] --*
+bundle v [B] -+*n
+bundle w [A] +-*n
+turn 1 w [A] +-*n
+turn 1 v [B] -+*n
+turn 1 u [] --*
+final u []
+final v [B]
+final w [A]
+used A 1 1
+used B 1 1
+end
+== aftermarket order by unraised budget
+run 2 CAT STU equal.set S1
+-- CAT
+section,course,seats,credits,meetings
+X,XX,2,1,
+-- STU
+student,budget,credits,courses
+u,100,10,1
+v,120,10,1
+w,120,10,1
+-- S1
+rate u X 5
+rate v X 5
+rate w X 5
+=> 0
+course-match 1
+order 1 1 1
+budget u 100
+budget v 120
+budget w 120
+start X 0
+error 1
+price X 101
+bundle u [] -*
+bundle v [X] +*n
+bundle w [X] +*n
+turn 1 v [X] +*n
+turn 1 w [X] +*n
+turn 1 u [] -*
+final u []
+final v [X]
+final w [X]
+used X 2 2
+end
+== aftermarket swaps in later passes
+run 2 THREE STU SET S1
+-- STU
+student,budget,credits,courses
+u,100,10,1
+v,100,10,1
+w,99,10,1
+-- SET
+{\"seed\":0,\"spread\":0,\"accept\":20,\"turns\":0,\"tabu\":5,\"patience\":3,\"steps\":[1],\"raise\":10}-- S1
+rate u A 60
+rate u B 50
+rate v A 60
+rate v C 30
+rate w B 60
+rate w C 50
+rate w A 70
+=> 0
+course-match 1
+order 1 1 1 1 1 1 1
+budget u 100
+budget v 100
+budget w 99
+start A 0
+start B 0
+start C 0
+error 4
+price A 101
+price B 100
+price C 100
+bundle u [B] -+*n
+bundle v [C] -+*n
+bundle w [] ---*
+turn 1 u [A] +-*n
+turn 1 v [C] -+*n
+turn 1 w [B] -+-*n
+turn 2 u [A] +-*n
+turn 2 v [C] -+*n
+turn 2 w [B] -+-*n
+final u [A]
+final v [C]
+final w [B]
+used A 1 1
+used B 1 1
+used C 1 1
+end
+== restarts draw prices
+run 2 THREE STU SET S1
+-- STU
+student,budget,credits,courses
+u,100,10,2
+v,101,10,2
+w,102,10,2
+x,103,10,2
+-- SET
+{\"seed\":5,\"spread\":1,\"accept\":1,\"turns\":60,\"tabu\":2,\"patience\":1,\"steps\":[40],\"raise\":20}-- S1
+rate u A 50
+rate u B 40
+rate v A 50
+rate v C 45
+rate w B 50
+rate w C 20
+rate x A 60
+rate x B 61
+pair x A B -30
+=> 0
+course-match 1
+order 1 1 1 1 1 1 1 1 1
+budget u 100
+budget v 103
+budget w 103
+budget x 106
+start A 80
+start B 104
+start C 40
+error 1
+price A 101
+price B 104
+price C 40
+bundle u [] --*
+bundle v [A] +-*n
+bundle w [C] -+*n
+bundle x [B] +n+*n
+turn 1 x [B] -+*n
+turn 1 v [A] +-*n
+turn 1 w [C] -+*n
+turn 1 u [] --*
+final u []
+final v [A]
+final w [C]
+final x [B]
+used A 1 1
+used B 1 1
+used C 1 1
+end
+== no prices after restarts
+run 2 CAT STU SET S1
+-- CAT
+section,course,seats,credits,meetings
+X,XX,1,1,
+Y,YY,1,1,
+-- STU
+student,budget,credits,courses
+u,100,10,1
+v,100,10,1
+w,100,10,1
+x,100,10,1
+-- SET
+{\"seed\":3,\"spread\":0,\"accept\":0,\"turns\":30,\"tabu\":1,\"patience\":1,\"steps\":[7,1],\"raise\":10}-- S1
+rate u X 50
+rate v X 50
+rate w X 50
+rate x X 50
+rate u Y 2
+rate v Y 2
+=> 5
+order 1 1 1 1 1 1
+no prices: least error 2
+== carried tokens at the limit
+run 2 equal.cat STU equal.set equal.s1
+-- STU
+student,budget,credits,courses,carry
+u,100,10,1,0
+v,100,10,1,899900
+=> 0 carried.text
+4 budget v 900000
+== carried tokens of nobody still version two
+run 2 equal.cat STU equal.set equal.s1
+-- STU
+student,budget,credits,courses,carry
+u,100,10,1,0
+v,100,10,1,0
+=> 0 equal.text
+1 course-match 2
+== part terms make version two
+run 2 CAT equal.stu equal.set equal.s1
+-- CAT
+section,course,seats,credits,meetings,parts
+X,XX,1,1,,12
+=> 0 equal.text
+1 course-match 2
+";
 
-const CASES: [Case; 6] = [
-    (
-        "an ordinary term",
-        ORDINARY_CATALOGUE,
-        ORDINARY_ROLL,
-        ORDINARY_SETTINGS,
-        ORDINARY_SESSION,
-        0,
-        ORDINARY_TEXT,
-    ),
-    (
-        "four students of one seat",
-        ONE_SEAT_CATALOGUE,
-        FOUR_ROLL,
-        ACCEPT_9,
-        FOUR_SESSION,
-        0,
-        FOUR_TEXT,
-    ),
-    (
-        "the least error is not accepted",
-        ONE_SEAT_CATALOGUE,
-        FOUR_ROLL,
-        ACCEPT_8,
-        FOUR_SESSION,
-        5,
-        "order 1 1 1 1\nno prices: least error 9\n",
-    ),
-    (
-        "carried tokens raise the budget",
-        ONE_SEAT_CATALOGUE,
-        CARRIED_ROLL,
-        ACCEPT_1,
-        EQUAL_SESSION,
-        0,
-        CARRIED_TEXT,
-    ),
-    (
-        "no sections",
-        NO_SECTIONS_CATALOGUE,
-        ORDINARY_ROLL,
-        ORDINARY_SETTINGS,
-        ORDINARY_SESSION,
-        0,
-        NO_SECTIONS_TEXT,
-    ),
-    (
-        "settings that are no object",
-        ONE_SEAT_CATALOGUE,
-        FOUR_ROLL,
-        b"[]",
-        FOUR_SESSION,
-        3,
-        "input 3 row 0: not an object\n",
-    ),
-];
+// Byte order marks, and lines that end in CR LF.
+const OF_SPREADSHEETS: &str = "\
+== ordinary term as a spreadsheet writes it
+run 2 CAT term.stu term.set term.s1
+-- CAT
+\u{feff}section,course,seats,credits,meetings\r
+A,ACCT,1,1,M0900-1020;W0900-1020\r
+B,BIOL,2,1,M1020-1140\r
+C,CHEM,2,1,T0900-1020\r
+D,ACCT,1,1,M1000-1100\r
+=> 0 term.text
+== every input as a spreadsheet writes it
+run 2 CAT STU SET S1
+-- CAT
+\u{feff}section,course,seats,credits,meetings\r
+A,ACCT,1,1,M0900-1020;W0900-1020\r
+B,BIOL,2,1,M1020-1140\r
+C,CHEM,2,1,T0900-1020\r
+D,ACCT,1,1,M1000-1100\r
+-- STU
+\u{feff}student,budget,credits,courses\r
+ann,100,10,2\r
+bob,101,10,2\r
+cat,102,10,2\r
+-- SET
+\u{feff}{\"seed\":0,\"spread\":2,\"accept\":1,\"turns\":5,\"tabu\":5,\"patience\":3,\"steps\":[1],\"raise\":10}-- S1
+\u{feff}rate ann A 60\r
+rate ann B 30\r
+rate bob A 50\r
+rate bob C 40\r
+pair bob A C 10\r
+rate cat A 20\r
+rate cat D 45\r
+close\r
+=> 0 term.text
+";
 
-// Each case has its answer, with each number of workers.
+// What is refused.
+const REFUSED: &str = "\
+== refused unclosed quote hides bad meetings
+run 2 CAT term.stu term.set term.s1
+-- CAT
+section,course,seats,credits,meetings
+A,AA,2,1,\"M0900-10=> 3
+input 1 row 2: meetings
+== refused repeated section
+run 2 CAT term.stu term.set term.s1
+-- CAT
+section,course,seats,credits,meetings
+A,AA,2,1,
+A,BB,2,1,
+=> 3
+input 1 row 3: repeats row 2
+== refused leading zeros in seats
+run 2 CAT term.stu term.set term.s1
+-- CAT
+section,course,seats,credits,meetings
+A,AA,007,1,
+=> 3
+input 1 row 2: number in column 3
+== refused too few fields
+run 2 CAT term.stu term.set term.s1
+-- CAT
+section,course,seats,credits,meetings
+A,AA,2,1
+=> 3
+input 1 row 2: fields
+== refused empty catalogue file
+run 2 EMPTY term.stu term.set term.s1
+=> 3
+input 1 row 1: header
+== refused spread out of range
+run 2 term.cat term.stu SET term.s1
+-- SET
+{\"seed\":0,\"spread\":50,\"accept\":0,\"turns\":0,\"tabu\":5,\"patience\":3,\"steps\":[1],\"raise\":10}=> 3
+input 3 row 0: range of spread
+== carried tokens beyond the limit
+run 2 equal.cat STU equal.set equal.s1
+-- STU
+student,budget,credits,courses,carry
+u,100,10,1,0
+v,100,10,1,899901
+=> 3
+input 2 row 3: number in column 5
+== first bad input is told
+run 2 term.cat EMPTY SET term.s1
+-- SET
+[]=> 3
+input 2 row 1: header
+== missing catalogue
+run 2 NONE term.stu term.set term.s1
+=> 2
+input 1 can not be read
+== missing session
+run 2 term.cat term.stu term.set NONE
+=> 2
+input 4 can not be read
+== refusal comes before missing session
+run 2 term.cat term.stu SET NONE
+-- SET
+[]=> 3
+input 3 row 0: not an object
+";
+
 #[test]
 fn markets_are_run(rt: HostRuntime) -> Result<(), Fail> {
-    let alloc = rt.alloc();
-    for (shows, catalogue, roll, settings, session, status, text) in CASES {
-        let files = [
-            ("CAT", catalogue),
-            ("STU", roll),
-            ("SET", settings),
-            ("S1", session),
-        ];
-        for line in LINES {
-            let (found, written) = run(&rt, alloc, line, &files)?;
-            assert_eq!(rt; found.number(), status, "{shows}: {line}");
-            assert_eq!(rt; written.as_str(), text, "{shows}: {line}");
-        }
+    for cases in [MARKETS, SMALL_TERMS, OF_SPREADSHEETS, REFUSED] {
+        try_cases(&rt, rt.alloc(), cases)?;
     }
-    Ok(())
-}
-
-// The order and the least error of two sessions.
-#[test]
-fn two_sessions_without_prices(rt: HostRuntime) -> Result<(), Fail> {
-    let alloc = rt.alloc();
-    let files = [
-        ("CAT", ONE_SEAT_CATALOGUE),
-        ("STU", FOUR_ROLL),
-        ("SET", ACCEPT_8),
-        ("S1", FIRST),
-        ("S2", SECOND),
-    ];
-    let (status, written) = run(&rt, alloc, "run 2 CAT STU SET S1 S2", &files)?;
-    assert_eq!(rt; status, Status::NoPrices { least: 9 });
-    let is_lawful = ORDERS.iter().any(|order| {
-        written.as_str().strip_prefix(*order) == Some("no prices: least error 9\n")
-    });
-    assert!(rt; is_lawful, "{written}");
-    Ok(())
-}
-
-// Each input that fails at its last read, and a sink that fails behind the line of the order.
-#[test]
-fn failures_of_run(rt: HostRuntime) -> Result<(), Fail> {
-    let alloc = rt.alloc();
-    let files = [
-        ("CAT", ONE_SEAT_CATALOGUE),
-        ("STU", FOUR_ROLL),
-        ("SET", ACCEPT_8),
-        ("S1", FOUR_SESSION),
-    ];
-    let line = "run 2 CAT STU SET S1";
-    let texts = [
-        (3, 2, "input 1 can not be read\n"),
-        (6, 2, "input 2 can not be read\n"),
-        (9, 2, "input 3 can not be read\n"),
-        (12, 2, "input 4 can not be read\n"),
-        (13, 5, "order 1 1 1 1\nno prices: least error 9\n"),
-    ];
-    for (call, number, text) in texts {
-        let (status, written) = run_by(&rt, alloc, line, &files, (call, 0), 1000, &OpenGate)?;
-        assert_eq!(rt; status.number(), number, "{call}");
-        assert_eq!(rt; written.as_str(), text, "{call}");
-    }
-    let (status, written) = run_by(&rt, alloc, line, &files, (0, 0), 14, &OpenGate)?;
-    assert_eq!(rt; status, Status::SinkFault);
-    assert_eq!(rt; written.as_str(), "order 1 1 1 1\n");
     Ok(())
 }
