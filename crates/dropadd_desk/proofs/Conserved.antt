@@ -1,4 +1,4 @@
--- Histories of steps from an opening where nobody waits, no section is over its seats, and each student's sections keep timetable and caps.
+-- Histories of steps from an opening that keeps the rules.
 use Rattle.std.proofs.Common.{ℕ, ◌≡◌, ◌≢◌, ◌<◌, ◌≤◌, ◌+◌, ◌++◌, ◌==◌, ◌&&◌, ◌∙◌, ◌⊎◌, Bool, true, false, List, [], ◌∷◌, length, map, arith, refl, sym, ap, subst, inl, inr, Some, None, cond}
 use Rattle.std.specs.Prelude.{slice_get, slice_index, nat_lt, Option, if◌then◌else◌}
 use Rattle.std.specs.List.{position_or_len}

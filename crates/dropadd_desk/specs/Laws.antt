@@ -48,7 +48,8 @@ pub record IsConserved (market : Market) (opening : HallState) (history : List H
       → names_section market s step.request ≡ true → step.reply ≡ reply.Dropped lapsed (Some next)
       → slice_get (map (λ (ticket : Ticket). ticket.student) (line_of market s before).waiting) lapsed ≡ Some next.0
 
--- Whatever is requested from an opening where nobody waits, no section is over its seats, and each student's sections keep timetable and caps, it is so of each section, and student by student. A beginning of a history is a history, so this holds at each time.
+-- Whatever is requested from an opening where nobody waits, no section is over its seats, and each student's sections keep timetable and
+-- caps, it is so of each section, and student by student. A beginning of a history is a history, so this holds at each time.
 abbrev pub ConservationLaw : Type 0
 ConservationLaw = (market : Market) (opening : HallState) (history : List HallStep) → IsHall market opening → IsLawful market opening
     → IsLegal is_sound state_after reply_to market opening history → (s : ℕ) → s < section_count market → IsConserved market opening history s
