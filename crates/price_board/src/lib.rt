@@ -19,6 +19,3 @@ pub use place::Place;
 pub use round::{Ask, Round};
 pub use shared::{Progress, Terms};
 pub use state::BoardState;
-
-#[cfg(test)]
-mod tests;
