@@ -12,5 +12,4 @@ pub mod PlaceChanges
 pub mod Shapes
 pub mod SoundCalls
 pub mod Tallying
-pub mod TestRounds
 pub mod Turns

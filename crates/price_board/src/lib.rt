@@ -22,6 +22,3 @@ pub use place::Place;
 pub use round::{Ask, Round};
 pub use shared::{Progress, Terms};
 pub use state::BoardState;
-
-#[cfg(test)]
-mod tests;

@@ -2,7 +2,7 @@ use Rattle.std.specs.FinSet as set
 use Rattle.bundle_rules.specs.Demand.{price_in}
 use Rattle.bundle_rules.specs.Bundles.{sections_of}
 use Rattle.demand_api.proofs.Takers.{priced_at, found_demand}
-use Rattle.price_board.proofs.tests.taken.Goals as goal
+use Rattle.demand_tests.proofs.board.taken.Goals as goal
 
 pub best_plain-requires : goal.best_plain-requires
 best_plain-requires c = priced_at c.args.crowd.now.menus.items c.args.crowd.now.budgets.items c.args.crowd.now.sections c.args.prices.now c.args.student.0 c.index.result.now c.requires.crowd c.requires.prices c.requires.student c.index.ensures
