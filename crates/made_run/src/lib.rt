@@ -5,3 +5,6 @@ pub mod laws;
 mod summary;
 
 pub use summary::made_summary;
+
+#[cfg(test)]
+mod tests;

@@ -22,12 +22,17 @@ fn put_word_and_numbers(rt: &impl Abort, alloc: Global, text: &mut Vec<u8>) {
     }
 }
 
-// The bundle of these sections behind a text.
-fn put_bundle(rt: &impl Abort, text: &mut Vec<u8>, catalog: &Catalog, sections: &[SectionNo]) {
-    let bundle = Bundle::of(sections).expect(rt, "ascending");
-    let count = catalog.len();
-    assert!(rt; bundle.sections().iter().all(|section| section.0 < count));
-    put_bundle_field(text, catalog, &bundle).expect(rt, "memory");
+// Three bundles behind a text.
+fn put_bundles(rt: &impl Abort, text: &mut Vec<u8>, catalog: &Catalog) {
+    assert!(rt; catalog.len() == 3);
+    for sections in [
+        [].as_slice(),
+        &[SectionNo(1)],
+        &[SectionNo(0), SectionNo(2)],
+    ] {
+        let bundle = Bundle::of(sections).expect(rt, "ascending");
+        put_bundle_field(text, catalog, &bundle).expect(rt, "memory");
+    }
 }
 
 #[test]
@@ -36,9 +41,7 @@ fn fields_stand_behind_the_text(rt: HostRuntime) -> Result<(), Fail> {
     let catalog = catalog_in(&rt, alloc, CATALOG);
     let mut text = b"line".to_vec(alloc)?;
     put_word_and_numbers(&rt, alloc, &mut text);
-    put_bundle(&rt, &mut text, &catalog, &[]);
-    put_bundle(&rt, &mut text, &catalog, &[SectionNo(1)]);
-    put_bundle(&rt, &mut text, &catalog, &[SectionNo(0), SectionNo(2)]);
+    put_bundles(&rt, &mut text, &catalog);
     assert_eq!(rt;
         text.as_slice(),
         b"line word 0 18446744073709551615 -200 59 [] [B-2] [A,C]".as_slice()
