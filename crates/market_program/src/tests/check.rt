@@ -270,6 +270,7 @@ fn try_byte<R: Threads + Wait + Sync + Abort>(
     place: usize,
     is_only_read: bool,
 ) -> Result<(), Fail> {
+    assert!(rt; place < ORDINARY_TEXT.len());
     for other in OTHERS {
         let text = with_byte(alloc, place, other)?;
         let is_other = text.as_slice() != ORDINARY_TEXT.as_bytes();

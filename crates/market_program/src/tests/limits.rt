@@ -234,7 +234,7 @@ const LONG_CATALOGUES: [Long; 1] = [("run 2 LONG STU SET S1", 0, "4\ninput 1 is 
 
 // A published text at its limit is read, and one byte more is too long, and is told before a session that
 // can not be read and before a name that is not known.
-const LONG_TEXTS: [Long; 6] = [
+const LONG_TEXTS: [Long; 3] = [
     (
         "check term.cat term.stu term.set LONG NONE",
         0,
@@ -250,6 +250,9 @@ const LONG_TEXTS: [Long; 6] = [
         1,
         "8\nfinding: line 1 missing\n",
     ),
+];
+
+const LONG_TEXTS_OF_OTHER_FORMS: [Long; 3] = [
     (
         "hall equal.cat equal.stu LONG EMPTY",
         0,
@@ -298,4 +301,10 @@ fn catalogues_beyond_their_limit(rt: HostRuntime) -> Result<(), Fail> {
 fn published_texts_at_their_limit(rt: HostRuntime) -> Result<(), Fail> {
     let bytes = vec![in rt.alloc(); b'x'; 67_108_865]?;
     try_long(&rt, rt.alloc(), &bytes, &LONG_TEXTS)
+}
+
+#[test]
+fn published_texts_of_other_forms_at_their_limit(rt: HostRuntime) -> Result<(), Fail> {
+    let bytes = vec![in rt.alloc(); b'x'; 67_108_865]?;
+    try_long(&rt, rt.alloc(), &bytes, &LONG_TEXTS_OF_OTHER_FORMS)
 }

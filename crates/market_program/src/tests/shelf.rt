@@ -36,7 +36,7 @@ const TWO: &[u8] = b"section,course,seats,credits,meetings\nA,AA,1,1,\nB,BB,1,1,
 
 const TIE: &[u8] = b"rate ann A 50\nrate ann B 50\n";
 
-const TABLES: [File<'static>; 19] = [
+static TABLES: [File<'static>; 19] = [
     ("ONE", b"section,course,seats,credits,meetings\nA,AA,1,1,\n"),
     ("TWO", TWO),
     (
@@ -64,7 +64,7 @@ const TABLES: [File<'static>; 19] = [
     ("BLANK", b"\n"),
 ];
 
-const MARKETS: [(&str, WorkedMarket); 8] = [
+static MARKETS: [(&str, WorkedMarket); 8] = [
     ("single", SINGLE),
     ("term", ORDINARY_MARKET),
     ("four", FOUR_MARKET),
@@ -75,14 +75,14 @@ const MARKETS: [(&str, WorkedMarket); 8] = [
     ("nobody", NOBODY_MARKET),
 ];
 
-const TERMS: [(&str, WorkedTerm); 4] = [
+static TERMS: [(&str, WorkedTerm); 4] = [
     ("carried", CARRIED_TERM),
     ("none", NO_SECTIONS_TERM),
     ("five", FIVE_SECTIONS_TERM),
     ("wait", FIVE_STUDENTS_TERM),
 ];
 
-const AUDITS: [(&str, &str); 5] = [
+static AUDITS: [(&str, &str); 5] = [
     ("term", ORDINARY_ENVY),
     ("four", FOUR_ENVY),
     ("equal", EQUAL_ENVY),
@@ -99,8 +99,8 @@ pub(super) fn text_named(name: &str) -> Option<&'static [u8]> {
 }
 
 fn table_named(name: &str) -> Option<&'static [u8]> {
-    for (held, bytes) in TABLES {
-        if held == name {
+    for (held, bytes) in &TABLES {
+        if *held == name {
             return Some(bytes);
         }
     }
@@ -111,22 +111,33 @@ fn part_named(of: &str, part: &str) -> Option<&'static [u8]> {
     if part == "envy" {
         return audit_named(of);
     }
-    for (held, market) in MARKETS {
-        if held == of {
-            return part_of_market(&market, part);
+    match market_named(of) {
+        Some(market) => part_of_market(market, part),
+        None => part_of_term(term_named(of)?, part),
+    }
+}
+
+fn market_named(of: &str) -> Option<&'static WorkedMarket> {
+    for (held, market) in &MARKETS {
+        if *held == of {
+            return Some(market);
         }
     }
-    for (held, term) in TERMS {
-        if held == of {
-            return part_of_term(&term, part);
+    None
+}
+
+fn term_named(of: &str) -> Option<&'static WorkedTerm> {
+    for (held, term) in &TERMS {
+        if *held == of {
+            return Some(term);
         }
     }
     None
 }
 
 fn audit_named(of: &str) -> Option<&'static [u8]> {
-    for (held, text) in AUDITS {
-        if held == of {
+    for (held, text) in &AUDITS {
+        if *held == of {
             return Some(text.as_bytes());
         }
     }
