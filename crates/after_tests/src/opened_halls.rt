@@ -8,7 +8,7 @@ use dropadd_hall::read_requests;
 use market_certificate::LineFault;
 use market_edge::{Gate, OpenGate};
 use market_units::SectionNo;
-use published_halls::published_hall;
+use dropadd_hall::published_hall;
 use std::alloc::Global;
 use std::process::Abort;
 use std::sync::Wait;

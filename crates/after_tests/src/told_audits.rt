@@ -5,7 +5,7 @@ use crate::tables::{settings_of, streams_of, tables_of};
 use certificate_checker::{CheckEnd, Finding};
 use market_edge::{Gate, OpenGate};
 use market_units::SectionNo;
-use published_envy::published_audit;
+use fairness_audit::published_audit;
 use std::alloc::Global;
 use std::process::Abort;
 use std::sync::Wait;

@@ -5,7 +5,7 @@ use crate::tables::{settings_of, streams_of, tables_of};
 use certificate_checker::{CheckEnd, Finding};
 use market_certificate::LineFault;
 use market_units::{SectionNo, StudentNo};
-use published_reasons::published_reason;
+use explain_desk::published_reason;
 use std::alloc::Global;
 use std::process::Abort;
 use std::test::Fail;

@@ -1,6 +1,13 @@
-pub mod Goodness
-pub mod Searching
+pub mod Additions
+pub mod Beside
 pub mod Branches
+pub mod Closing
+pub mod Covering
+pub mod Goodness
+pub mod Growing
+pub mod Hoping
+pub mod Openings
+pub mod Searching
+pub mod Sound
 pub mod Stepping
 pub mod Wanting
-pub mod Beside

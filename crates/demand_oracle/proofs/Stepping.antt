@@ -11,8 +11,8 @@ use Rattle.bundle_bounds.specs.Offers.{Offer}
 use Rattle.bundle_bounds.specs.Laws.{IsTakable, Completes}
 use Rattle.bundle_bounds.proofs.NodeFacts.{nothing_chosen}
 use Rattle.bundle_bounds.proofs.Openings.{node_with, node_without}
-use Rattle.bundle_reach.specs.declared.branch.Branch.{Branch}
-use Rattle.bundle_reach.specs.Branches.{chosen_of, with_next_of, IsBranch}
+use Rattle.demand_oracle.specs.declared.branch.Branch.{Branch}
+use Rattle.demand_oracle.specs.Branches.{chosen_of, with_next_of, IsBranch}
 use Rattle.bundle_bounds.specs.Closings.{MayClose}
 use Rattle.demand_oracle.specs.Search.{IsSearched}
 use Rattle.demand_oracle.specs.Waiting.{AreSearched, MayWait, before_waiting, nodes_below, HasStepped}

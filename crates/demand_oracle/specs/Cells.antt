@@ -1,6 +1,6 @@
 -- How the waiting branches are kept: in the first cells, the last that was put in the last of them.
 use Rattle.std.specs.Prelude.{◌≡◌, ◌≤◌, List, length, reverse, take}
-use Rattle.bundle_reach.specs.declared.branch.Branch.{Branch}
+use Rattle.demand_oracle.specs.declared.branch.Branch.{Branch}
 use Rattle.demand_oracle.specs.declared.pending.Pending.TheInside.{Inside}
 
 -- the waiting branches, the last that was put first

@@ -1,5 +1,9 @@
-pub mod Search
-pub mod Laws
-pub mod Cells
-pub mod Waiting
 pub mod Beside
+pub mod Branches
+pub mod Cells
+pub mod Covers
+pub mod Laws
+pub mod Reaches
+pub mod Search
+pub mod Values
+pub mod Waiting

@@ -3,8 +3,8 @@ use Rattle.std.specs.Prelude.{ℕ, zero, suc, ◌+◌, ◌-◌, ◌<◌, ◌≤�
 use Rattle.bundle_rules.specs.Places.{menu_sections}
 use Rattle.bundle_bounds.specs.Offers.{Offer}
 use Rattle.bundle_bounds.specs.Laws.{IsTakable, IsNode}
-use Rattle.bundle_reach.specs.declared.branch.Branch.{Branch}
-use Rattle.bundle_reach.specs.Branches.{chosen_of, IsBranch}
+use Rattle.demand_oracle.specs.declared.branch.Branch.{Branch}
+use Rattle.demand_oracle.specs.Branches.{chosen_of, IsBranch}
 use Rattle.demand_oracle.specs.Search.{IsSearched}
 
 -- the champion after each of these branches was searched in turn, each with the champion that the one before it left

@@ -10,14 +10,15 @@ ghost use Rattle.bundle_rules.specs.Wishes.{IsFeasible};
 ghost use Rattle.bundle_bounds.specs.Closings.{MayClose};
 ghost use Rattle.bundle_bounds.specs.Laws.{IsNode, IsTakable};
 ghost use Rattle.bundle_bounds.specs.Offers.{offer_of};
-ghost use Rattle.bundle_reach.specs.Branches.{chosen_of, IsBranch};
-ghost use Rattle.bundle_reach.specs.Reaches.{IsReach};
+ghost use Rattle.demand_oracle.specs.Branches.{chosen_of, IsBranch};
+ghost use Rattle.demand_oracle.specs.Reaches.{IsReach};
 ghost use Rattle.demand_oracle.specs.Beside.{LeadsThoseWithout};
 ghost use Rattle.demand_oracle.specs.Search.{wanted_by, IsBetter, LeadsWanted};
 ghost use Rattle.demand_oracle.specs.Waiting.{IsChampion, MayWait, before_waiting, HasStepped};
 
+use crate::branch::Branch;
 use crate::pending::Pending;
-use bundle_reach::{Branch, Reach, begun_with};
+use crate::reach::{Reach, begun_with};
 use bundle_rules::{Bundle, Menu, prefers};
 use market_units::{NoMemory, SectionNo, SectionSet, Tokens};
 use std::alloc::Global;

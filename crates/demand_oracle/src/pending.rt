@@ -1,7 +1,7 @@
 // The branches that wait to be searched, in a row of cells.
 ghost use Rattle.std.specs.Prelude.{◌≡◌, ◌<◌, [], ◌∷◌, length, IfOk, MatchOption};
 
-use bundle_reach::Branch;
+use crate::branch::Branch;
 use market_units::NoMemory;
 use std::alloc::Global;
 use std::marker::Model;
@@ -21,8 +21,8 @@ pub struct Pending {
 impl Model for Pending {
     ghost use Rattle.std.specs.Prelude.{List};
     ghost use Rattle.std.specs.Coded.{codes};
-    ghost use Rattle.bundle_reach.specs.declared.branch.Branch.{Branch};
-    ghost use Rattle.bundle_reach.specs.contracts.branch.Branch as branch;
+    ghost use Rattle.demand_oracle.specs.declared.branch.Branch.{Branch};
+    ghost use Rattle.demand_oracle.specs.contracts.branch.Branch as branch;
 
     ghost Value = { List Branch };
 

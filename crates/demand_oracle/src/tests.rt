@@ -3,8 +3,8 @@ ghost use Rattle.std.specs.Prelude.{◌<◌, ◌≤◌};
 ghost use Rattle.bundle_rules.specs.Demand.{HasPrices};
 
 use super::*;
+use crate::branch::Branch;
 use crate::pending::Pending;
-use bundle_reach::Branch;
 use bundle_rules::{Bundle, Menu, Rated, best_plain, feasible, has_prices, prefers};
 use market_units::{SectionNo, SectionSet, Tokens};
 use std::alloc::Global;

@@ -11,7 +11,7 @@ use Rattle.market_certificate.specs.Texts.{each_line}
 use Rattle.market_certificate.proofs.Joins.{each_more, joined_append, text_more, value_at}
 use Rattle.market_units.proofs.NameLists.{read_at}
 use Rattle.student_roll.specs.Students.{Student, names_of, no_student}
-use Rattle.text_fields.proofs.SectionNames.{section_name}
+use Rattle.market_certificate.proofs.SectionNames.{section_name}
 use Rattle.demand_text.specs.Texts.{count_line, taken_line}
 
 -- the name of a student is that of its place

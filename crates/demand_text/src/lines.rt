@@ -14,7 +14,7 @@ use bundle_rules::Bundle;
 use course_catalog::Catalog;
 use market_units::{Name, NoMemory};
 use preference_desk::Entry;
-use text_fields::{put_bundle_field, put_field, put_number_field};
+use market_certificate::{put_bundle_field, put_field, put_number_field};
 
 /// Puts the line of a journal's order behind the text: the session of each entry. The error is want of memory.
 pub fn put_order(text: &mut Vec<u8>, journal: &[Entry]) -> Result<(), NoMemory>

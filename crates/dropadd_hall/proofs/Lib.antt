@@ -1,3 +1,5 @@
+pub mod Finals
+pub mod Findings
 pub mod LineJoins
 pub mod Openings
 pub mod Requested

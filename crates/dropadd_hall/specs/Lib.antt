@@ -1,4 +1,8 @@
+pub mod Desks
 pub mod Faults
+pub mod Laws
+pub mod Openings
 pub mod Requests
 pub mod Streams
 pub mod Texts
+pub mod Told

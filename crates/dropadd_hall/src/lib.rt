@@ -1,5 +1,5 @@
-//! The drop-add hall: what stands against opening a desk; sessions that make their requests to one desk, each from a thread of its own;
-//! and the text that tells what was replied and what is held after it.
+//! Dropping and adding sections after a text is published: what stands against opening a desk; sessions that make their
+//! requests to one desk, each from a thread of its own; and the text that tells what was replied and what is held after it.
 //!
 //! A line of a stream is a request: `add STUDENT SECTION`, `drop STUDENT SECTION`, `leave STUDENT SECTION`; lines and words are cut as
 //! those of sessions (`utility_language`). The text has a line for each request in its order, `entry SESSION REQUEST: REPLY`; then the
@@ -9,12 +9,16 @@
 #![tactic(auto)]
 
 mod hall;
+mod halls;
+pub mod laws;
 mod lines;
 mod opening;
+mod reopening;
 mod requests;
 mod text;
 
 pub use hall::{ClosedHall, open_hall};
+pub use halls::published_hall;
 pub use opening::{OpeningFault, opening_fault};
 pub use requests::{read_request, read_requests};
 pub use text::put_hall;

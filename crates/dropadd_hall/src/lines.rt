@@ -15,9 +15,9 @@ use bundle_rules::Bundle;
 use chronicle::Step;
 use course_catalog::Catalog;
 use dropadd_desk::{HallCommand, HallDesk, HallReply};
+use market_certificate::{put_bundle_field, put_field, put_number_field};
 use market_units::{Name, NoMemory, StudentNo};
 use student_roll::Roll;
-use text_fields::{put_bundle_field, put_field, put_number_field};
 
 // Puts the line of a step behind the text.
 pub(crate) fn put_entry(

@@ -1,9 +1,10 @@
-pub mod Passing
 pub mod Clashing
-pub mod Reasoning
-pub mod OneReasons
 pub mod Leaving
-pub mod Telling
-pub mod Offering
 pub mod LinesBehind
+pub mod Offering
+pub mod OneReasons
+pub mod Passing
 pub mod Printing
+pub mod Reasoning
+pub mod Students
+pub mod Telling

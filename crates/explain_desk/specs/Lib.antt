@@ -1,6 +1,8 @@
+pub mod Checked
+pub mod Explanations
+pub mod Laws
 pub mod Limits
 pub mod Reasons
-pub mod Explanations
-pub mod Views
 pub mod Texts
-pub mod Laws
+pub mod Told
+pub mod Views

@@ -8,9 +8,9 @@ ghost use Rattle.explain_desk.specs.Texts.{best_line, limit_word, lost_line, Nam
 use crate::{Limit, Reason};
 use bundle_rules::Bundle;
 use course_catalog::Catalog;
+use market_certificate::{put_bundle_field, put_field, put_signed_field};
 use market_units::{Name, NoMemory, SectionNo};
 use std::alloc::Global;
-use text_fields::{put_bundle_field, put_field, put_signed_field};
 
 // Puts the first line behind the text: the student, the section and the reason.
 pub(crate) fn put_reason(

@@ -1,12 +1,15 @@
 pub mod Allocated
+pub mod Allocating
 pub mod Bounds
 pub mod ButFor
 pub mod Endings
+pub mod Fairness
 pub mod Histories
+pub mod Joining
 pub mod Naming
 pub mod OneMore
 pub mod Places
 pub mod Prices
-pub mod Seeing
 pub mod RowTexts
 pub mod SeatTurns
+pub mod Seeing

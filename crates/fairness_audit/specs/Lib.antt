@@ -1,4 +1,6 @@
 pub mod Allocations
+pub mod Audits
+pub mod Checked
 pub mod Drawing
 pub mod Envy
 pub mod Laws

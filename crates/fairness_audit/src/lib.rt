@@ -1,9 +1,11 @@
-//! Envy between students: what each sees in the bundles of the others, and whom it envies.
+//! Envy between students: what each sees in the bundles of the others, and whom it envies; the audit of an accepted text;
+//! and the law that in stage two nobody envies one whose budget is no greater.
 // Neither: how long it takes.
 #![tactic(auto)]
 
 mod allocation;
 mod auditing;
+mod audits;
 mod calls;
 mod counting;
 mod counts;
@@ -21,6 +23,7 @@ mod worker;
 
 pub use allocation::is_allocation;
 pub use auditing::audit;
+pub use audits::published_audit;
 pub use calls::{AuditCall, AuditReply};
 pub use counting::count_envy;
 pub use place::Place;

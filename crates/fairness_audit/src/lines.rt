@@ -10,9 +10,9 @@ ghost use Rattle.fairness_audit.specs.Views.{seen_of};
 use crate::counts::Counts;
 use crate::row::Seen;
 use course_catalog::Catalog;
+use market_certificate::{put_bundle_field, put_field, put_number_field};
 use market_units::{NoMemory, SectionNo};
 use student_roll::Roll;
-use text_fields::{put_bundle_field, put_field, put_number_field};
 
 // Puts the line of three counts behind the text: the word of the part, whose they are, and the counts.
 pub(crate) fn put_counts(

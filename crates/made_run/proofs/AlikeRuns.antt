@@ -8,7 +8,7 @@ use Rattle.market_certificate.specs.Publications.{Publication}
 use Rattle.market_crowd.specs.Crowds.{IsCrowdOf}
 use Rattle.market_run.specs.Held.{IsSummaryText}
 use Rattle.market_settings.specs.declared.reader.Settings.{Settings}
-use Rattle.market_summary.specs.Summaries.{summary_text}
+use Rattle.market_run.specs.Summaries.{summary_text}
 use Rattle.preference_desk.specs.declared.entry.Entry.{Entry}
 use Rattle.preference_desk.specs.StudentPreferences.{StudentPreferences}
 use Rattle.published_market.specs.Laws.{OneLeastError, OnePublication, PublishedIsPriced}

@@ -16,9 +16,9 @@ use Rattle.market_maker.specs.Rolls.{student_name}
 use Rattle.market_units.specs.declared.names.Name.{Name}
 use Rattle.market_units.specs.Name.{name_bytes}
 use Rattle.preference_desk.specs.DeskNames.{DeskNames, has_name, ordinal_of}
-use Rattle.apart_sessions.specs.Apart.{AreApart, AreSilentOn, LeavesOpen, is_about, is_named}
-use Rattle.made_market.specs.Tables.{made_roll, made_student}
-use Rattle.made_market.proofs.AllRead.{texts_read}
+use Rattle.made_run.specs.Apart.{AreApart, AreSilentOn, LeavesOpen, is_about, is_named}
+use Rattle.made_run.specs.Tables.{made_roll, made_student}
+use Rattle.made_run.proofs.AllRead.{texts_read}
 use Rattle.market_maker.specs.Sessions.{is_even, is_odd}
 use Rattle.published_parts.specs.Markets.{Market, names_in}
 use Rattle.student_roll.specs.Students.{RollData, Student}

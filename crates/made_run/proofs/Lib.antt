@@ -1,6 +1,17 @@
 pub mod AlikeRuns
+pub mod AllRead
 pub mod Apart
+pub mod CatalogText
 pub mod Counts
+pub mod Fields
 pub mod MadeOnce
 pub mod Making
+pub mod Merging
+pub mod Names
+pub mod OneStudent
+pub mod Records
+pub mod RollText
 pub mod Saids
+pub mod SessionLines
+pub mod SettingsText
+pub mod Steps

@@ -7,7 +7,7 @@ use Rattle.market_settings.specs.declared.reader.Settings.{Settings}
 use Rattle.student_roll.specs.Students.{RollData}
 use Rattle.tabu_search.specs.Laws.{OneIsFound}
 use Rattle.aftermarket_stage.specs.Laws.{OneAftermarket}
-use Rattle.apart_sessions.specs.Laws.{OrdersCloseAlike}
+use Rattle.made_run.specs.Laws.{OrdersCloseAlike}
 use Rattle.market_maker.specs.Sessions.{first_text, second_text}
 use Rattle.market_run.specs.Held.{IsSummaryText}
 use Rattle.preference_desk.specs.declared.entry.Entry.{Entry}

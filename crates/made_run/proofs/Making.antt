@@ -3,10 +3,10 @@ use Rattle.std.proofs.Common.{ℕ, ◌≡◌, ◌≤◌, ◌∙◌, List, [], �
 use Rattle.std.specs.Prelude.{Ok}
 use Rattle.std.specs.List.{AllZip}
 use Rattle.course_catalog.specs.Catalog.{CatalogData}
-use Rattle.made_market.specs.Settings.{made_settings}
-use Rattle.made_market.specs.Streams.{session_texts}
-use Rattle.made_market.specs.Tables.{made_catalog, made_roll}
-use Rattle.made_market.proofs.AllRead.{texts_read}
+use Rattle.made_run.specs.Settings.{made_settings}
+use Rattle.made_run.specs.Streams.{session_texts}
+use Rattle.made_run.specs.Tables.{made_catalog, made_roll}
+use Rattle.made_run.proofs.AllRead.{texts_read}
 use Rattle.market_settings.specs.declared.reader.Settings.{Settings}
 use Rattle.published_parts.specs.Markets.{market_of}
 use Rattle.student_roll.specs.Students.{RollData}

@@ -12,8 +12,8 @@ use Rattle.market_maker.specs.Lines.{numbers_to, text_of}
 use Rattle.market_maker.specs.Catalogs.{section_name}
 use Rattle.market_maker.specs.Rolls.{student_name}
 use Rattle.market_maker.specs.Sessions.{adjustment_line, adjustment_lines, adjustment_of, lines_of, rated_count, rated_section, rating_behind, rating_line, rating_of, student_lines}
-use Rattle.made_market.proofs.Fields.{AreFrom, from_decimal}
-use Rattle.made_market.proofs.SessionLines.{AreWhole, one_line, session_whole}
+use Rattle.made_run.proofs.Fields.{AreFrom, from_decimal}
+use Rattle.made_run.proofs.SessionLines.{AreWhole, one_line, session_whole}
 use Rattle.utility_language.specs.declared.commands.Command.{Command}
 use Rattle.utility_language.specs.declared.commands.Command.TheVariants.{Rate, Pair, Clear, Close, Unreadable}
 use Rattle.utility_language.specs.Commands.{AreCommands, IsCommandOf, Spells, command_lines, is_command, words_by}

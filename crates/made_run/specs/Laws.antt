@@ -1,6 +1,21 @@
 -- The laws of made markets that are run: what is told of them is a function of their numbers.
-use Rattle.std.specs.Prelude.{ℕ, ◌≡◌, ◌≤◌, ◌<◌, ◌^◌, List}
+use Rattle.std.specs.Prelude.{ℕ, ◌≡◌, ◌≤◌, ◌<◌, ◌^◌, List, ◌+◌, Ok, length}
 use Rattle.made_run.specs.Made.{IsMadeSummary, IsMadeUnpriced}
+use Rattle.course_catalog.specs.Reading.{catalog_of}
+use Rattle.made_run.specs.Settings.{made_settings}
+use Rattle.made_run.specs.Tables.{made_catalog, made_roll}
+use Rattle.market_maker.specs.Catalogs.{catalog_text}
+use Rattle.market_maker.specs.Rolls.{roll_text}
+use Rattle.market_maker.specs.Sessions.{first_text, second_text}
+use Rattle.market_maker.specs.Settings.{settings_text}
+use Rattle.market_settings.specs.Settings.{settings_of}
+use Rattle.student_roll.specs.Rolls.{roll_of}
+use Rattle.utility_language.specs.Commands.{command_lines}
+use Rattle.utility_language.specs.declared.commands.Command.{Command}
+use Rattle.preference_desk.specs.declared.entry.Entry.{Entry}
+use Rattle.preference_desk.specs.DeskNames.{DeskNames}
+use Rattle.preference_desk.specs.Journals.{MergesStreams, closed_preferences}
+use Rattle.made_run.specs.Apart.{AreApart}
 
 -- the numbers of made markets
 pub record AreNumbers (seed students sections accept : ℕ) : Type 0 where
@@ -21,3 +36,19 @@ OneMadeError = (seed students sections accept one other : ℕ) → AreNumbers se
 -- it never has both
 abbrev pub SummaryIsPriced : Type 0
 SummaryIsPriced = (seed students sections accept : ℕ) (text : List ℕ) (least : ℕ) → AreNumbers seed students sections accept → IsMadeSummary seed students sections accept text → ¬ IsMadeUnpriced seed students sections accept least
+
+-- each text is of its grammar, and this is what it says; the sessions have at most so many commands together
+pub record AreOfTheirGrammars (seed students sections accept : ℕ) : Type 0 where
+  pub catalog : catalog_of (catalog_text students sections) ≡ Ok (made_catalog students sections)
+  pub roll : roll_of (roll_text students) ≡ Ok (made_roll students)
+  pub settings : settings_of (settings_text seed accept) ≡ Ok (made_settings seed accept)
+  pub commands : length (command_lines (first_text seed students sections)) + length (command_lines (second_text seed students sections)) ≤ 200000
+
+-- so it is with every made market
+abbrev pub MadeTextsAreOfTheirGrammars : Type 0
+MadeTextsAreOfTheirGrammars = (seed students sections accept : ℕ) → seed < 2 ^ 64 → students ≤ 2000 → 1 ≤ sections → sections ≤ 400 → accept ≤ 10 ^ 12 → AreOfTheirGrammars seed students sections accept
+
+-- two journals that merge such streams close with the same preferences
+abbrev pub OrdersCloseAlike : Type 0
+OrdersCloseAlike = (names : DeskNames) (streams : List (List Command)) (one other : List Entry) → AreApart names streams → MergesStreams streams one → MergesStreams streams other
+    → closed_preferences names one ≡ closed_preferences names other

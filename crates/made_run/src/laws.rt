@@ -1,8 +1,7 @@
 //! What holds of made markets that are run: each call here does nothing, and its contract is a law.
-ghost use Rattle.made_run.specs.Laws.{OneMadeError, OneMadeSummary, SummaryIsPriced};
+ghost use Rattle.made_run.specs.Laws.{OneMadeError, OneMadeSummary, SummaryIsPriced, MadeTextsAreOfTheirGrammars, OrdersCloseAlike};
 
 use aftermarket_stage::laws::one_aftermarket;
-use apart_sessions::laws::orders_close_alike;
 use published_market::laws::{one_least_error, one_publication, published_is_priced};
 use tabu_search::laws::one_is_found;
 
@@ -31,3 +30,13 @@ pub fn summary_is_priced()
     published_is_priced();
     orders_close_alike();
 }
+
+/// The texts of a made market are read as its catalogue, its roll, its settings and at most 200,000 commands.
+pub fn made_texts_are_of_their_grammars()
+    ensures { MadeTextsAreOfTheirGrammars }
+{}
+
+/// Every order of such sessions closes with the same preferences.
+pub fn orders_close_alike()
+    ensures { OrdersCloseAlike }
+{}

@@ -2,7 +2,7 @@
 ghost use Rattle.std.specs.Prelude.{◌≡◌, ◌≤◌, ◌^◌, ℕ, Err, IfOk};
 ghost use Rattle.made_run.specs.Made.{IsMadeSummary, IsMadeUnpriced};
 
-use made_market::make_market;
+use crate::make_market;
 use market_edge::Gate;
 use market_run::held_summary;
 use published_market::PublishEnd;

@@ -9,6 +9,7 @@ pub mod NamesOf
 pub mod OneText
 pub mod Parts
 pub mod Places
+pub mod SectionNames
 pub mod Steps
 pub mod Unformed
 pub mod Wholes

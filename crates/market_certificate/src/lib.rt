@@ -1,8 +1,11 @@
-//! The published text of a market: how a publication is written, and what a text is read as.
+//! The published text of a market: how a publication is written, what a text is read as, and the fields of printed
+//! lines.
 // Neither: how much time and memory writing and reading take.
 #![tactic(auto)]
 
 mod amounts;
+mod bundles;
+mod fields;
 pub mod laws;
 mod publication;
 mod reading;
@@ -10,6 +13,8 @@ mod refusals;
 mod tables;
 mod writing;
 
+pub use bundles::put_bundle_field;
+pub use fields::put_signed_field;
 pub use publication::{Proved, ProvedTurn, Publication};
 pub use reading::read_publication;
 pub use refusals::{LineFault, TextRefusal};

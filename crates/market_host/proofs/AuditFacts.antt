@@ -14,7 +14,7 @@ use Rattle.market_settings.specs.Settings.{settings_of}
 use Rattle.market_words.specs.declared.words.Form.{Form}
 use Rattle.market_words.specs.declared.words.Form.TheVariants.{Audit}
 use Rattle.market_words.specs.Forms.{HasForm, inputs_of}
-use Rattle.published_envy.specs.Audits.{IsAuditOf}
+use Rattle.fairness_audit.specs.Audits.{IsAuditOf}
 use Rattle.published_parts.specs.Markets.{market_of, tables_in}
 use Rattle.session_hall.specs.Streams.{command_lists}
 use Rattle.student_roll.specs.Rolls.{roll_of}

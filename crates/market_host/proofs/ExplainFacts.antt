@@ -29,7 +29,7 @@ use Rattle.market_words.specs.declared.words.Form.{Form}
 use Rattle.market_words.specs.declared.words.Form.TheVariants.{Explain}
 use Rattle.market_words.specs.Forms.{HasForm, inputs_of}
 use Rattle.published_parts.specs.Markets.{Market, market_of}
-use Rattle.published_reasons.specs.Told.{IsToldOf}
+use Rattle.explain_desk.specs.Told.{IsToldOf}
 use Rattle.session_hall.specs.Streams.{command_lists}
 use Rattle.student_roll.specs.Rolls.{roll_of}
 use Rattle.student_roll.specs.Students.{RollData, names_of}

@@ -14,8 +14,8 @@ use Rattle.market_edge.specs.Holdings.{Holding}
 use Rattle.market_words.specs.declared.words.Form.{Form}
 use Rattle.market_words.specs.declared.words.Form.TheVariants.{Hall}
 use Rattle.market_words.specs.Forms.{HasForm, inputs_of}
-use Rattle.published_halls.specs.Openings.{CanOpen, IsOpeningFinding, tables_in}
-use Rattle.published_halls.specs.Told.{IsToldHall}
+use Rattle.dropadd_hall.specs.Openings.{CanOpen, IsOpeningFinding, tables_in}
+use Rattle.dropadd_hall.specs.Told.{IsToldHall}
 use Rattle.student_roll.specs.Rolls.{roll_of}
 use Rattle.student_roll.specs.Students.{RollData}
 use Rattle.market_host.specs.declared.status.Status.TheVariants.{Done, Found}

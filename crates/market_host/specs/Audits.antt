@@ -1,6 +1,6 @@
 -- What `audit` prints.
 use Rattle.std.specs.Prelude.{ℕ, List, ◌∷◌}
-use Rattle.published_envy.specs.Audits.{IsAuditOf}
+use Rattle.fairness_audit.specs.Audits.{IsAuditOf}
 use Rattle.published_parts.specs.Markets.{Market}
 use Rattle.utility_language.specs.declared.commands.Command.{Command}
 use Rattle.market_host.specs.Markets.{IsMarketOf}

@@ -5,8 +5,8 @@ use Rattle.certificate_checker.specs.Words.{finding_line}
 use Rattle.course_catalog.specs.Reading.{catalog_of}
 use Rattle.dropadd_desk.specs.declared.command.HallCommand.{HallCommand}
 use Rattle.dropadd_desk.specs.Market.{Market}
-use Rattle.published_halls.specs.Openings.{CanOpen, IsOpeningFinding, tables_in}
-use Rattle.published_halls.specs.Told.{IsToldHall}
+use Rattle.dropadd_hall.specs.Openings.{CanOpen, IsOpeningFinding, tables_in}
+use Rattle.dropadd_hall.specs.Told.{IsToldHall}
 use Rattle.student_roll.specs.Rolls.{roll_of}
 use Rattle.market_host.specs.Requests.{AreRequestStreams}
 

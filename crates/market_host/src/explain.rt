@@ -19,10 +19,10 @@ use crate::line::unknown_name;
 use crate::published::{Published, take_published};
 use crate::trouble::Trouble;
 use certificate_checker::{CheckEnd, finding_line};
+use explain_desk::published_reason;
 use market_edge::Shelf;
 use market_units::{Name, NoMemory};
 use market_words::Form;
-use published_reasons::published_reason;
 use std::alloc::Global;
 
 /// Why the student that `explain` names does not have the section, by the published text that it names, or that one of

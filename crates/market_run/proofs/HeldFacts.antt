@@ -5,7 +5,7 @@ use Rattle.std.proofs.lemmas.List.{length-map}
 use Rattle.demand_api.specs.Crowds.{CrowdData}
 use Rattle.market_certificate.specs.Publications.{IsPublication, IsSession, Publication}
 use Rattle.market_certificate.specs.Texts.{text_of}
-use Rattle.market_summary.specs.Summaries.{summary_text}
+use Rattle.market_run.specs.Summaries.{summary_text}
 use Rattle.preference_desk.specs.declared.entry.Entry.{Entry}
 use Rattle.preference_desk.specs.Journals.{IsLegalJournal, MergesStreams, sessions_of}
 use Rattle.published_market.specs.Publishing.{HasNoPrices, IsPublicationOf, IsPublishedText, IsUnpriced, Lengths}

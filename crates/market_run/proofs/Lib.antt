@@ -1,1 +1,5 @@
 pub mod HeldFacts
+pub mod SomeOutcomes
+pub mod TenLines
+pub mod Totals
+pub mod Worths

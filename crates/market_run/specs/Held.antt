@@ -2,7 +2,7 @@
 use Rattle.std.specs.Prelude.{ℕ, ◌≡◌, List}
 use Rattle.demand_api.specs.Crowds.{CrowdData}
 use Rattle.market_certificate.specs.Publications.{Publication}
-use Rattle.market_summary.specs.Summaries.{summary_text}
+use Rattle.market_run.specs.Summaries.{summary_text}
 use Rattle.preference_desk.specs.declared.entry.Entry.{Entry}
 use Rattle.published_market.specs.Publishing.{IsPublicationOf, Lengths}
 use Rattle.published_parts.specs.Crowds.{IsCrowdIn}

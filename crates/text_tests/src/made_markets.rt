@@ -1,6 +1,6 @@
 // Made markets, as their texts are read.
 use course_catalog::Catalog;
-use made_market::{MadeMarket, make_market};
+use made_run::{MadeMarket, make_market};
 use market_settings::Settings;
 use market_units::{Name, SectionNo, StudentNo, read_name};
 use std::process::Abort;

@@ -10,7 +10,7 @@ use crate::desks::{Said, two_students};
 use course_catalog::Catalog;
 use demand_api::PlainDemands;
 use market_settings::Settings;
-use market_summary::summary_text;
+use market_run::summary_text;
 use preference_desk::Desk;
 use published_market::{are_sessions, crowd_after, publish};
 use std::alloc::Global;

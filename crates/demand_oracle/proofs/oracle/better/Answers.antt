@@ -3,7 +3,7 @@ use Rattle.std.specs.Prelude.{◌<ℤ◌}
 use Rattle.std.proofs.lemmas.Int.{ints}
 use Rattle.bundle_rules.specs.Menus.{wishes_of}
 use Rattle.bundle_rules.specs.Wishes.{utility}
-use Rattle.bundle_reach.specs.Branches.{chosen_of}
+use Rattle.demand_oracle.specs.Branches.{chosen_of}
 use Rattle.demand_oracle.proofs.Stepping.{worth_less}
 use Rattle.demand_oracle.proofs.oracle.better.Goals as goal
 

@@ -5,7 +5,7 @@ use Rattle.bundle_rules.specs.Sets.{has}
 use Rattle.bundle_rules.specs.Menus.{section_at}
 use Rattle.bundle_bounds.specs.Offers.{offer_of}
 use Rattle.bundle_bounds.specs.Laws.{IsTakable}
-use Rattle.bundle_reach.specs.Branches.{chosen_of}
+use Rattle.demand_oracle.specs.Branches.{chosen_of}
 use Rattle.demand_oracle.proofs.Wanting.{lacks_lost}
 use Rattle.demand_oracle.proofs.oracle.is_lost.Goals as goal
 

@@ -2,7 +2,7 @@ use Rattle.std.proofs.Common.{◌≡◌, [], Option, None, Some, refl, sym, subs
 use Rattle.std.specs.Prelude.{IfNone}
 use Rattle.bundle_rules.specs.Demand.{price_in}
 use Rattle.bundle_bounds.specs.Offers.{offer_of}
-use Rattle.bundle_reach.specs.Branches.{chosen_of}
+use Rattle.demand_oracle.specs.Branches.{chosen_of}
 use Rattle.demand_oracle.specs.Search.{wanted_by}
 use Rattle.demand_oracle.specs.Waiting.{AreSearched, before_waiting}
 use Rattle.demand_oracle.proofs.Searching.{leads_wanted, wanted_at_end}

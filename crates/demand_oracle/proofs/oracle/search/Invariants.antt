@@ -3,8 +3,8 @@ use Rattle.std.specs.Prelude.{IfNone}
 use Rattle.bundle_rules.specs.Places.{menu_sections}
 use Rattle.bundle_rules.specs.Menus.{IsMenu}
 use Rattle.bundle_bounds.specs.Offers.{offer_of}
-use Rattle.bundle_reach.specs.Branches.{chosen_of}
-use Rattle.bundle_reach.specs.Reaches.{IsReach}
+use Rattle.demand_oracle.specs.Branches.{chosen_of}
+use Rattle.demand_oracle.specs.Reaches.{IsReach}
 use Rattle.demand_oracle.specs.Search.{wanted_by, IsSearched}
 use Rattle.demand_oracle.specs.Waiting.{AreSearched, before_waiting, IsChampion, MayWait, nodes_left}
 use Rattle.demand_oracle.proofs.oracle.search.Given as goal

@@ -2,7 +2,7 @@ use Rattle.std.proofs.Common.{◌∷◌, ◌∙◌, length, sym, subst, ap, inl,
 use Rattle.std.proofs.lemmas.Bool.{true≢false}
 use Rattle.bundle_rules.specs.Demand.{price_in}
 use Rattle.bundle_bounds.specs.Offers.{offer_of}
-use Rattle.bundle_reach.specs.Branches.{chosen_of}
+use Rattle.demand_oracle.specs.Branches.{chosen_of}
 use Rattle.demand_oracle.specs.Search.{wanted_by}
 use Rattle.demand_oracle.specs.Waiting.{HasStepped}
 use Rattle.demand_oracle.proofs.Wanting.{lacks_passed}

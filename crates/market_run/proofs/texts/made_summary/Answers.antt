@@ -4,7 +4,7 @@ use Rattle.preference_desk.specs.DeskView.{entries_of}
 use Rattle.published_parts.specs.Crowds.{IsCrowdIn}
 use Rattle.published_parts.specs.Markets.{market_of}
 use Rattle.published_market.specs.Publishing.{lengths_of}
-use Rattle.market_summary.proofs.SomeOutcomes.{some_outcome}
+use Rattle.market_run.proofs.SomeOutcomes.{some_outcome}
 use Rattle.market_run.proofs.texts.made_summary.Goals as goal
 
 pub summary_text-requires-clause-outcome : goal.summary_text-requires-clause-outcome

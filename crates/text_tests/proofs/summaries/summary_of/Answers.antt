@@ -4,7 +4,7 @@ use Rattle.market_certificate.specs.Views.{publication_of}
 use Rattle.published_parts.specs.Crowds.{IsCrowdIn}
 use Rattle.published_parts.specs.Markets.{market_of}
 use Rattle.published_market.specs.Publishing.{IsPublicationOf, lengths_of}
-use Rattle.market_summary.proofs.SomeOutcomes.{some_outcome}
+use Rattle.market_run.proofs.SomeOutcomes.{some_outcome}
 use Rattle.text_tests.proofs.summaries.summary_of.Goals as goal
 
 pub summary_text-requires-clause-outcome : goal.summary_text-requires-clause-outcome

@@ -1,5 +1,0 @@
-use Rattle.bundle_reach.proofs.Sound.{reach_is_sound}
-use Rattle.bundle_reach.proofs.laws.reach_is_sound.Goals as goal
-
-pub returns : goal.returns
-returns c = reach_is_sound

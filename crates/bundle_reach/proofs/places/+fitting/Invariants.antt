@@ -1,4 +1,0 @@
-use Rattle.bundle_reach.proofs.places.+fitting.Given as goal
-
-abbrev pub decreases-fitting : goal.decreases-fitting
-decreases-fitting l = l.courses

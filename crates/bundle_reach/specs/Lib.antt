@@ -1,5 +1,0 @@
-pub mod Branches
-pub mod Values
-pub mod Covers
-pub mod Reaches
-pub mod Laws

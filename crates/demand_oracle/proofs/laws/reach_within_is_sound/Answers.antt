@@ -1,0 +1,5 @@
+use Rattle.demand_oracle.proofs.Sound.{reach_within_is_sound}
+use Rattle.demand_oracle.proofs.laws.reach_within_is_sound.Goals as goal
+
+pub returns : goal.returns
+returns c = reach_within_is_sound

@@ -1,0 +1,13 @@
+use Rattle.std.proofs.Common.{sym}
+use Rattle.bundle_rules.specs.Demand.{price_in}
+use Rattle.bundle_bounds.specs.Offers.{offer_of}
+use Rattle.bundle_bounds.proofs.NodeFacts.{nothing_chosen}
+use Rattle.bundle_bounds.proofs.Openings.{node_same}
+use Rattle.demand_oracle.proofs.reach.Reach.first_champion.Goals as goal
+
+pub loop-branch-init : goal.loop-branch-init
+loop-branch-init c =
+    let offer = offer_of c.args.menu.now c.args.prices.now c.args.budget.0 c.args.allowed.now in record {
+      branch = c.root-branch.ensures.branch c.args.menu.now (price_in c.args.prices.now);
+      node = node_same offer _ _ _ _ (sym c.root-branch.ensures.place) (sym c.root-branch.ensures.chosen) (nothing_chosen offer 0);
+    }

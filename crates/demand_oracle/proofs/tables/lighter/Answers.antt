@@ -1,0 +1,14 @@
+use Rattle.std.proofs.Common.{◌≡◌, sym, ◌∙◌, arith}
+use Rattle.std.proofs.lemmas.Bool.{true≢false}
+use Rattle.bundle_rules.specs.Existence.Places.{credits_at-is}
+use Rattle.bundle_rules.specs.Menus.{credits_at}
+use Rattle.demand_oracle.proofs.Hoping.{allowed_read}
+use Rattle.demand_oracle.proofs.tables.lighter.Goals as goal
+
+pub returns-then-not-has-clause-lightest : goal.returns-then-not-has-clause-lightest
+returns-then-not-has-clause-lightest c prices budget on =
+    absurd (true≢false (sym on ∙ allowed_read c.args.menu.now prices budget c.args.allowed.now c.args.place c.rated-rated.result.now c.rated-rated.ensures.value ∙ sym c.has.ensures ∙ c.if-not-has.true))
+
+pub returns-clause-lightest : goal.returns-clause-lightest
+returns-clause-lightest c prices budget on =
+    let is : credits_at c.args.menu.now.places c.args.place ≡ c.rated-rated.result.now.credits = credits_at-is c.args.menu.now.places c.args.place c.rated-rated.result.now c.rated-rated.ensures.value in omega arith

@@ -1,0 +1,244 @@
+// The most that can still be reached from a node, looked up.
+ghost use Rattle.std.specs.Prelude.{◌≡◌, ◌↔◌, ◌<◌, ◌≤◌, ◌+◌, ◌*◌, ◌-◌, ◌^◌, ◌-ℤ◌, ◌*ℤ◌, ◌≤ℤ◌, ◌<ℤ◌, pos, neg_ℤ, ℕ, Bool, List, IsTrue, length};
+ghost use Rattle.std.specs.Ordering.{nat_cmp};
+ghost use Rattle.std.specs.FinSet as set;
+ghost use Rattle.market_units.specs.declared.units.Tokens.{Tokens};
+ghost use Rattle.bundle_rules.specs.Demand.{price_in, HasPrices};
+ghost use Rattle.bundle_rules.specs.Menus.{IsMenu};
+ghost use Rattle.bundle_bounds.specs.Offers.{offer_of};
+ghost use Rattle.bundle_bounds.specs.Laws.{IsTakable, IsNode};
+ghost use Rattle.demand_oracle.specs.Branches.{chosen_of, IsBranch};
+ghost use Rattle.bundle_bounds.specs.Closings.{MayClose};
+ghost use Rattle.demand_oracle.specs.Covers.{IsAdded};
+
+use crate::branch::Branch;
+use crate::draft::Draft;
+use crate::multipliers::{Multipliers, multipliers_at};
+use crate::places::{fitting, hopes_of};
+use crate::tables::{
+    COUNTS, MILLION, PLACES, ROWS, THOUSAND, Table, UNITS, in_units, lightest, put_hopes, put_most,
+    shift_for,
+};
+use bundle_rules::{Bundle, Menu};
+use market_units::{SectionSet, Tokens};
+
+// More than can be added at any node, in millionths of a point of utility.
+const ENOUGH: u64 = 1 << 62;
+
+/// What the places from each one on can still add at one demand.
+#[derive(Drop)]
+pub struct Reach {
+    lightest: u32,
+    hopes: [[u16; PLACES]; ROWS],
+    multipliers: Multipliers,
+    // What can be added where money is counted in units of so many tokens, and not at a multiplier.
+    credits: Multipliers,
+    shift: u32,
+    most: Table,
+    ghost light: { lightest ≤ 100 },
+    ghost short: { shift < 32 },
+}
+
+impl Reach {
+    ghost use Rattle.demand_oracle.specs.Reaches.{IsReach};
+
+    /// A table that was measured for no demand yet: `closes` promises nothing before `measure`.
+    pub fn empty() -> Reach {
+        let nothing = Multipliers {
+            money: 0,
+            credits: 0,
+        };
+        Reach {
+            lightest: 0,
+            hopes: [[0; PLACES]; ROWS],
+            multipliers: nothing,
+            credits: nothing,
+            shift: 0,
+            most: [[0; UNITS]; ROWS * COUNTS],
+        }
+    }
+
+    /// Measures what can be reached at these prices with this budget and these allowed sections. There is a price for
+    /// each section of the menu, each at most 1,000,001.
+    pub fn measure(&mut self, menu: &Menu, prices: &[Tokens], budget: Tokens, allowed: &SectionSet)
+        requires { HasPrices menu.now prices.now }
+        ensures { IsReach (offer_of menu.now prices.now budget.0 allowed.now) self.new }
+    {
+        self.lightest = lightest(menu, allowed);
+        put_hopes(menu, allowed, &mut self.hopes);
+        self.multipliers = multipliers_at(
+            menu,
+            prices,
+            budget,
+            allowed,
+            &self.hopes,
+            self.lightest,
+        );
+        self.credits = Multipliers {
+            money: 0,
+            credits: self.multipliers.credits,
+        };
+        self.shift = shift_for(budget);
+        put_most(
+            menu,
+            prices,
+            allowed,
+            self.credits,
+            self.shift,
+            &self.hopes,
+            &mut self.most,
+        );
+    }
+
+    /// Whether nothing that completes the branch's node can be better than the champion: less can be reached than its
+    /// utility, or less than one more, and the first decided section on which they differ is the champion's. So nothing
+    /// that is wanted can, whatever bundles are wanted. The table is one that was measured for the same menu and budget.
+    #[inline(always)]
+    pub fn closes(&self, menu: &Menu, budget: Tokens, branch: &Branch, champion: &Branch) -> bool
+        requires branch { (price : ℕ → ℕ) × IsBranch menu.now price branch.now }
+        requires place { branch.now.node.place ≤ length menu.now.places }
+        ensures { (wanted : List ℕ → Bool) (prices : List Tokens) (allowed : set.FinSet nat_cmp) → IsReach (offer_of menu.now prices budget.0 allowed) self.now
+            → IsBranch menu.now (price_in prices) branch.now → IsNode (offer_of menu.now prices budget.0 allowed) branch.now.node.place (chosen_of branch.now)
+            → IsBranch menu.now (price_in prices) champion.now → IsTakable (offer_of menu.now prices budget.0 allowed) (chosen_of champion.now)
+            → IsTrue result → MayClose (offer_of menu.now prices budget.0 allowed) wanted branch.now.node.place (chosen_of branch.now) (chosen_of champion.now) }
+    {
+        prove!(branch.node.place <= menu.len());
+        let added = self.added(menu, budget, branch);
+        let hoped = hopes_of(&self.hopes[usize::from(branch.node.place)], branch.places());
+        let lacking = lacking(champion.utility(), branch.utility(), hoped);
+        if is_below(added, lacking) {
+            return true;
+        }
+        is_below(added, lacking + 1) && branch.is_behind(champion)
+    }
+
+    /// A branch that begins well: its sections are chosen one after another, each the one that adds most for what it
+    /// takes, of those that fit. A search that begins with it as its champion closes most nodes at once. The table is one
+    /// that was measured for the same menu, prices, budget and allowed sections; with another the branch may be worth
+    /// little.
+    pub fn first_champion(
+        &self,
+        menu: &Menu,
+        prices: &[Tokens],
+        budget: Tokens,
+        allowed: &SectionSet,
+    ) -> Branch
+        requires { HasPrices menu.now prices.now }
+        ensures branch { IsBranch menu.now (price_in prices.now) result }
+        ensures takable { IsTakable (offer_of menu.now prices.now budget.0 allowed.now) (chosen_of result) }
+    {
+        let draft = Draft::of(menu, prices, budget, allowed, self.multipliers);
+        let mut branch = Branch::root();
+        while branch.node.place < menu.len() {
+            let is_wanted = draft.has(branch.node.place);
+            branch = followed(menu, prices, budget, allowed, is_wanted, branch);
+        }
+        branch
+    }
+
+    // How many more sections fit the course cap and the credits of the lightest.
+    #[inline(always)]
+    fn fitting(&self, menu: &Menu, branch: &Branch) -> usize
+        requires { IsMenu menu.now }
+        ensures within { result ≤ menu.now.courses }
+        ensures enough { (count : ℕ) → count ≤ menu.now.courses - length (chosen_of branch.now) → count * self.now.lightest ≤ menu.now.credits - branch.now.credits → count ≤ result }
+    {
+        fitting(
+            branch.courses_left(menu),
+            branch.credits_left(menu),
+            self.lightest,
+        ) as usize
+    }
+
+    // A million times the most that can be added to what is hoped for at the branch's node.
+    #[inline(always)]
+    fn added(&self, menu: &Menu, budget: Tokens, branch: &Branch) -> i64
+        requires menu { IsMenu menu.now }
+        requires place { branch.now.node.place ≤ length menu.now.places }
+        ensures value { (prices : List Tokens) (allowed : set.FinSet nat_cmp) → IsReach (offer_of menu.now prices budget.0 allowed) self.now
+            → IsBranch menu.now (price_in prices) branch.now → IsNode (offer_of menu.now prices budget.0 allowed) branch.now.node.place (chosen_of branch.now)
+            → IsAdded (offer_of menu.now prices budget.0 allowed) branch.now.node.place (chosen_of branch.now) result }
+        ensures low { pos 0 ≤ℤ result }
+    {
+        let budget_left = branch.budget_left(budget);
+        let units = in_units(budget_left, self.shift);
+        if units >= UNITS as u32 {
+            return ENOUGH as i64;
+        }
+        let credits_left = branch.credits_left(menu);
+        let count = self.fitting(menu, branch);
+        let paid = self.credits.money * u64::from(budget_left)
+            + self.credits.credits * u64::from(credits_left);
+        let most = self.most[usize::from(branch.node.place) * COUNTS + count][units as usize];
+        paid.saturating_add(THOUSAND * u64::from(most)).min(ENOUGH) as i64
+    }
+}
+
+/// A branch that has of a bundle what may be taken, place by place. A search that begins with it as its champion is
+/// short where the bundle is nearly the best.
+pub fn begun_with(
+    menu: &Menu,
+    prices: &[Tokens],
+    budget: Tokens,
+    allowed: &SectionSet,
+    bundle: &Bundle,
+) -> Branch
+    requires { HasPrices menu.now prices.now }
+    ensures branch { IsBranch menu.now (price_in prices.now) result }
+    ensures takable { IsTakable (offer_of menu.now prices.now budget.0 allowed.now) (chosen_of result) }
+{
+    let mut branch = Branch::root();
+    while branch.node.place < menu.len() {
+        let is_wanted = bundle.has(menu.rated(branch.node.place).section);
+        branch = followed(menu, prices, budget, allowed, is_wanted, branch);
+    }
+    branch
+}
+
+// The branch with the next section, where it is wanted and may be taken, and else without it.
+fn followed(
+    menu: &Menu,
+    prices: &[Tokens],
+    budget: Tokens,
+    allowed: &SectionSet,
+    is_wanted: bool,
+    branch: Branch,
+) -> Branch
+    requires prices { HasPrices menu.now prices.now }
+    requires branch { IsBranch menu.now (price_in prices.now) branch }
+    requires node { IsNode (offer_of menu.now prices.now budget.0 allowed.now) branch.node.place (chosen_of branch) }
+    requires next { branch.node.place < length menu.now.places }
+    ensures branch { IsBranch menu.now (price_in prices.now) result }
+    ensures node { IsNode (offer_of menu.now prices.now budget.0 allowed.now) result.node.place (chosen_of result) }
+    ensures place { result.node.place ≡ branch.node.place + 1 }
+{
+    prove!(branch.node.place < menu.len());
+    if !is_wanted {
+        return branch.without_next();
+    }
+    if !branch.may_take(menu, prices, budget, allowed, branch.node.place) {
+        return branch.without_next();
+    }
+    branch.with_next(menu, prices)
+}
+
+// What a champion's worth has more than a utility and what is hoped for.
+fn lacking(worth: i32, utility: i32, hoped: u32) -> i64
+    ensures value { result ≡ (worth -ℤ utility) -ℤ pos hoped }
+    ensures high { result ≤ℤ pos (2 ^ 32) }
+    ensures low { neg_ℤ (pos (2 ^ 34)) ≤ℤ result }
+{
+    i64::from(worth) - i64::from(utility) - i64::from(hoped)
+}
+
+// Whether so many millionths are less than so many points.
+fn is_below(millionths: i64, points: i64) -> bool
+    requires high { points ≤ℤ pos (2 ^ 33) }
+    requires low { neg_ℤ (pos (2 ^ 34)) ≤ℤ points }
+    ensures { IsTrue result ↔ (millionths <ℤ (pos 1000000 *ℤ points)) }
+{
+    millionths < MILLION as i64 * points
+}
+
+#[cfg(test)]
+mod tests;

@@ -1,0 +1,274 @@
+// How the tables of what can be reached are filled, from the last place to the first.
+ghost use Rattle.std.specs.Ordering.{nat_cmp};
+ghost use Rattle.std.specs.FinSet as set;
+ghost use Rattle.std.specs.Prelude.{◌≡◌, ◌<◌, ◌≤◌, ◌*◌, ◌+◌, ◌-◌, ◌/◌, ◌^◌, ℕ, List, true, max, length, slice_index};
+ghost use Rattle.market_units.specs.declared.units.Tokens.{Tokens};
+ghost use Rattle.bundle_rules.specs.Demand.{HasPrices};
+ghost use Rattle.bundle_rules.specs.Menus.{adjustment_in, clash_in, credits_at, IsMenu};
+ghost use Rattle.bundle_bounds.specs.Offers.{offer_of, allowed_at};
+ghost use Rattle.bundle_bounds.specs.Opens.{above_zero};
+ghost use Rattle.demand_oracle.specs.Values.{hopes_from, value};
+ghost use Rattle.demand_oracle.specs.Reaches.{HoldsHopes, HoldsCovers, IsLightest, AreSmall, IsPlaced, within_at};
+
+use crate::multipliers::Multipliers;
+use bundle_bounds::price_of_place;
+use bundle_rules::Menu;
+use market_units::{MAX_SECTION_CREDITS, SectionSet, Tokens};
+
+pub(crate) const ROWS: usize = 61;
+
+pub(crate) const PLACES: usize = 60;
+
+pub(crate) const COUNTS: usize = 9;
+
+// With twice as many, 5 percent fewer nodes are opened, and the table takes twice as long to fill.
+pub(crate) const UNITS: usize = 64;
+
+pub(crate) const MILLION: u64 = 1_000_000;
+
+pub(crate) const THOUSAND: u64 = 1_000;
+
+// What can be added from each place on, by at most so many places that cost at most so many units,
+// in thousandths of a point of utility: a row for each place and count.
+pub(crate) type Table = [[u32; UNITS]; ROWS * COUNTS];
+
+// So many tokens in whole units, each of which is a power of two of tokens, so that a node divides
+// by a shift. Prices and what is left are both rounded down, so nothing affordable is left out.
+#[inline(always)]
+pub(crate) fn in_units(tokens: u32, shift: u32) -> u32
+    requires { shift < 32 }
+    ensures { result ≡ tokens / 2 ^ shift }
+{
+    tokens >> shift
+}
+
+// A shift at which a budget has fewer units than the table has, the least one.
+pub(crate) fn shift_for(budget: Tokens) -> u32
+    ensures { result < 32 }
+{
+    for shift in 0..31 {
+        if budget.0 >> shift < UNITS as u32 {
+            return shift;
+        }
+    }
+    31
+}
+
+// The least credits of an allowed place.
+pub(crate) fn lightest(menu: &Menu, allowed: &SectionSet) -> u32
+    ensures lightest { (prices : List Tokens) (budget : ℕ) → IsLightest (offer_of menu.now prices budget allowed.now) result }
+    ensures high { result ≤ 100 }
+{
+    let mut lightest = MAX_SECTION_CREDITS;
+    for place in 0..menu.len() {
+        lightest = lighter(menu, allowed, place, lightest);
+    }
+    u32::from(lightest)
+}
+
+// The credits of a place, where it is allowed and these are fewer than so many, and else so many.
+fn lighter(menu: &Menu, allowed: &SectionSet, place: u8, lightest: u16) -> u16
+    requires { place < length menu.now.places }
+    ensures within { result ≤ lightest }
+    ensures lightest { (prices : List Tokens) (budget : ℕ) → allowed_at (offer_of menu.now prices budget allowed.now) place ≡ true → result ≤ credits_at menu.now.places place }
+{
+    let rated = menu.rated(place);
+    if !allowed.has(rated.section) {
+        return lightest;
+    }
+    lightest.min(rated.credits)
+}
+
+// Fills the table of what adjustments can add.
+pub(crate) fn put_hopes(menu: &Menu, allowed: &SectionSet, hopes: &mut [[u16; PLACES]; ROWS])
+    ensures { (prices : List Tokens) (budget : ℕ) → HoldsHopes (offer_of menu.now prices budget allowed.now) hopes.new 0 }
+{
+    let count = menu.len();
+    hopes[usize::from(count)] = [0; PLACES];
+    for place in (0..count).rev() {
+        let later = hopes[usize::from(place) + 1];
+        hopes[usize::from(place)] = hopes_at(menu, allowed, place, later);
+    }
+}
+
+// What the adjustments of earlier places with the places from this one on can add.
+fn hopes_at(menu: &Menu, allowed: &SectionSet, place: u8, later: [u16; PLACES]) -> [u16; PLACES]
+    requires place { place < length menu.now.places }
+    requires menu { IsMenu menu.now }
+    requires later { (prices : List Tokens) (budget earlier : ℕ) → earlier < place + 1 → slice_index later earlier ≡ hopes_from (offer_of menu.now prices budget allowed.now) (place + 1) earlier }
+    ensures { (prices : List Tokens) (budget earlier : ℕ) → earlier < place → slice_index result earlier ≡ hopes_from (offer_of menu.now prices budget allowed.now) place earlier }
+{
+    if !allowed.has(menu.rated(place).section) {
+        return later;
+    }
+    let mut hopes = later;
+    for earlier in 0..place {
+        let hope = later[usize::from(earlier)] + hope_of(menu, earlier, place);
+        hopes[usize::from(earlier)] = hope;
+    }
+    hopes
+}
+
+// The adjustment of two places, or 0 where it is negative.
+fn hope_of(menu: &Menu, earlier: u8, place: u8) -> u16
+    requires earlier { earlier < length menu.now.places }
+    requires place { place < length menu.now.places }
+    ensures value { result ≡ above_zero (adjustment_in menu.now.pairs earlier place) }
+    ensures high { result ≤ 200 }
+    ensures menu { IsMenu menu.now }
+{
+    prove!(place < menu.len());
+    menu.adjustment(earlier, place).max(0) as u16
+}
+
+// Fills the table of the most that so many places can add which cost so many units.
+pub(crate) fn put_most(
+    menu: &Menu,
+    prices: &[Tokens],
+    allowed: &SectionSet,
+    multipliers: Multipliers,
+    shift: u32,
+    hopes: &[[u16; PLACES]; ROWS],
+    most: &mut Table,
+)
+    requires prices { HasPrices menu.now prices.now }
+    requires shift { shift < 32 }
+    requires hopes { (budget : ℕ) → HoldsHopes (offer_of menu.now prices.now budget allowed.now) hopes.now 0 }
+    ensures { (budget : ℕ) → HoldsCovers (offer_of menu.now prices.now budget allowed.now) multipliers shift most.new 0 }
+{
+    let count = menu.len();
+    put_nothing(count, most);
+    for place in (0..count).rev() {
+        let hoped = hopes[usize::from(place) + 1][usize::from(place)];
+        put_place(
+            menu,
+            prices,
+            allowed,
+            multipliers,
+            shift,
+            place,
+            hoped,
+            most,
+        );
+    }
+}
+
+// Writes that no place is left to add anything.
+fn put_nothing(place: u8, most: &mut Table)
+    requires { place ≤ 60 }
+    ensures { (count units : ℕ) → count ≤ 8 → within_at most.new place count units ≡ 0 }
+{
+    for count in 0..COUNTS {
+        most[usize::from(place) * COUNTS + count] = [0; UNITS];
+    }
+}
+
+// Writes the most that so many places from this one on can add, where its adjustments with later
+// ones can add so much.
+fn put_place(
+    menu: &Menu,
+    prices: &[Tokens],
+    allowed: &SectionSet,
+    multipliers: Multipliers,
+    shift: u32,
+    place: u8,
+    hoped: u16,
+    most: &mut Table,
+)
+    requires prices { HasPrices menu.now prices.now }
+    requires shift { shift < 32 }
+    requires place { place < length menu.now.places }
+    requires menu { IsMenu menu.now }
+    requires small { AreSmall menu.now.courses most.old (place + 1) (length menu.now.places) }
+    ensures covers { (budget : ℕ) → hoped ≡ hopes_from (offer_of menu.now prices.now budget allowed.now) (place + 1) place
+        → HoldsCovers (offer_of menu.now prices.now budget allowed.now) multipliers shift most.old (place + 1)
+        → HoldsCovers (offer_of menu.now prices.now budget allowed.now) multipliers shift most.new place }
+    ensures small { AreSmall menu.now.courses most.new place (length menu.now.places) }
+{
+    let courses = menu.courses();
+    if !allowed.has(menu.rated(place).section) {
+        put_counts(courses, place, place + 1, 0, UNITS, most);
+        return;
+    }
+    let value = thousandths(value_at(menu, prices, multipliers, place, hoped));
+    let cost = in_units(price_of_place(menu, prices, place), shift);
+    let next = next_apart(menu, place, place + 1);
+    put_counts(courses, place, next, value, cost as usize, most);
+}
+
+// What is left of a million times the most that a place can add, where its adjustments with later
+// places can add so much. Adjustments count at the lower place alone: with twenty pairs that opens
+// half the nodes of counting them at both.
+fn value_at(menu: &Menu, prices: &[Tokens], multipliers: Multipliers, place: u8, hoped: u16) -> u64
+    requires prices { HasPrices menu.now prices.now }
+    requires place { place < length menu.now.places }
+    ensures value { (budget : ℕ) (allowed : set.FinSet nat_cmp) → hoped ≡ hopes_from (offer_of menu.now prices.now budget allowed) (place + 1) place → result ≡ value (offer_of menu.now prices.now budget allowed) multipliers place }
+    ensures high { result ≤ 65635000000 }
+{
+    let rated = menu.rated(place);
+    let most_added = u64::from(rated.rating) + u64::from(hoped);
+    let price = multipliers.money * u64::from(price_of_place(menu, prices, place));
+    let credits = multipliers.credits * u64::from(rated.credits);
+    (MILLION * most_added).saturating_sub(price + credits)
+}
+
+// The first place from one on that does not clash with an earlier one, or the number of places
+// where there is none. Clashes behind the first gap exclude nothing: sections of one course mostly
+// stand side by side in a catalogue.
+fn next_apart(menu: &Menu, place: u8, from: u8) -> u8
+    requires place { place < length menu.now.places }
+    requires from { from ≤ length menu.now.places }
+    ensures within { result ≤ length menu.now.places }
+    ensures from { from ≤ result }
+    ensures between { (other : ℕ) → from ≤ other → other < result → clash_in menu.now.clashes place other ≡ true }
+{
+    if from == menu.len() || !menu.clash(place, from) {
+        return from;
+    }
+    next_apart(menu, place, from + 1)
+}
+
+// So many millionths in thousandths, rounded up. In thousandths a number of the table has 32 bits;
+// multipliers stay in millionths, since at prices of 25,000 one in thousandths would be below 10.
+fn thousandths(value: u64) -> u32
+    requires { value ≤ 65635000000 }
+    ensures value { value ≤ 1000 * result }
+    ensures high { result ≤ 65635001 }
+{
+    (value / THOUSAND + 1) as u32
+}
+
+// For each count up to the course cap and for each number of units the greater one of what so many
+// later places can add, and of the value with what one fewer can add from the next place on that
+// does not clash.
+fn put_counts(courses: u8, place: u8, next: u8, value: u32, cost: usize, most: &mut Table)
+    requires courses { courses ≤ 8 }
+    requires place { place < next }
+    requires next { next ≤ 60 }
+    requires value { value ≤ 65635001 }
+    requires small { (count units : ℕ) → count < courses → units < 64 → within_at most.old next count units ≤ 65635001 * count }
+    ensures { IsPlaced courses value cost place next most.old most.new }
+{
+    let row = usize::from(place) * COUNTS;
+    let after = row + COUNTS;
+    let apart = usize::from(next) * COUNTS;
+    most[row] = most[after];
+    for count in 1..usize::from(courses) + 1 {
+        most[row + count] = most_within(most[after + count], &most[apart + count - 1], value, cost);
+    }
+}
+
+// For each number of units the greater one of the number of a row, and of the value with that of
+// another where so many units fewer are left.
+fn most_within(later: [u32; UNITS], apart: &[u32; UNITS], value: u32, cost: usize) -> [u32; UNITS]
+    requires value { value ≤ 65635001 }
+    requires small { (units : ℕ) → units < 64 → slice_index apart.now units ≤ 525080008 }
+    ensures dear { (units : ℕ) → units < 64 → units < cost → slice_index result units ≡ slice_index later units }
+    ensures more { (units : ℕ) → units < 64 → cost ≤ units → slice_index result units ≡ max (slice_index later units) (slice_index apart.now (units - cost) + value) }
+{
+    let mut most = later;
+    for units in cost..UNITS {
+        most[units] = later[units].max(apart[units - cost] + value);
+    }
+    most
+}

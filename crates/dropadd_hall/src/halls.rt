@@ -1,0 +1,70 @@
+// The hall of a published text.
+ghost use Rattle.std.specs.Prelude.{◌≡◌, ◌≤◌, ◌<◌, ◌^◌, ◌-◌, List, IfErr, IfOk, length};
+ghost use Rattle.certificate_checker.specs.Findings.{OnFound};
+ghost use Rattle.certificate_checker.specs.Words.{IsNamedIn};
+ghost use Rattle.dropadd_desk.specs.HallView.{market_of, room_of, state_of};
+ghost use Rattle.dropadd_desk.specs.Lines.{HallStep};
+ghost use Rattle.dropadd_hall.specs.Streams.{request_count, request_lists};
+ghost use Rattle.market_certificate.specs.Tables.{tables_of};
+ghost use Rattle.dropadd_hall.specs.Openings.{CanOpen, IsOpeningFinding};
+ghost use Rattle.dropadd_hall.specs.Told.{IsToldHall, IsToldOf};
+
+use crate::reopening::open_desk;
+use crate::{open_hall, put_hall};
+use certificate_checker::CheckEnd;
+use course_catalog::Catalog;
+use dropadd_desk::{HallCommand, HallDesk};
+use market_edge::Gate;
+use market_units::{MAX_COMMANDS, MAX_SESSIONS, NoMemory};
+use std::alloc::Global;
+use std::sync::Wait;
+use std::thread::Threads;
+use student_roll::Roll;
+
+/// The text of the hall that opens with the final bundles of a published text and takes the requests of all streams, one for
+/// each session; or the first finding, where no hall opens with the text: it is that of no publication, or two sections of a
+/// student clash, or all of the student's sections together pass a cap, or a section has more holders than the catalogue's
+/// seats. Whom a finding names is on the roll, or in the catalogue. Sessions pass the gate as those of `open_hall` do. The
+/// text has fewer than 4,294,967,295 bytes. `NoMemory` comes where memory is wanted, and has no other cause.
+pub fn published_hall<R: Threads + Wait + Sync, G: Gate + Sync>(
+    rt: &R,
+    alloc: Global,
+    catalog: &Catalog,
+    roll: &Roll,
+    text: &[u8],
+    streams: &[Vec<HallCommand>],
+    gate: &G,
+) -> Result<Vec<u8>, CheckEnd>
+    requires text { length text.now < 2 ^ 32 - 1 }
+    requires sessions { (1 ≤ length streams.now) × (length streams.now ≤ MAX_SESSIONS) }
+    requires requests { request_count streams.now ≤ MAX_COMMANDS }
+    ensures told { IfOk result (λ told. IsToldHall (record { catalog = catalog.now; roll = roll.now }) (request_lists streams.now) text.now told.items) }
+    ensures first { IfErr result (λ end. OnFound end (IsOpeningFinding (record { catalog = catalog.now; roll = roll.now }) text.now)) }
+    ensures refused { IfErr result (λ end. OnFound end (λ _. ¬ CanOpen (record { catalog = catalog.now; roll = roll.now }) text.now)) }
+    ensures named { IfErr result (λ end. OnFound end (IsNamedIn (tables_of catalog.now roll.now))) }
+{
+    let desk = open_desk(alloc, catalog, roll, text)?;
+    match told_from(rt, alloc, catalog, roll, desk, streams, gate) {
+        Ok(told) => Ok(told),
+        Err(NoMemory) => Err(CheckEnd::NoMemory),
+    }
+}
+
+// The text of the hall that opens with this desk.
+fn told_from<R: Threads + Wait + Sync, G: Gate + Sync>(
+    rt: &R,
+    alloc: Global,
+    catalog: &Catalog,
+    roll: &Roll,
+    desk: HallDesk,
+    streams: &[Vec<HallCommand>],
+    gate: &G,
+) -> Result<Vec<u8>, NoMemory>
+    requires market { market_of desk ≡ record { catalog = catalog.now; roll = roll.now } }
+    requires sessions { (1 ≤ length streams.now) × (length streams.now ≤ MAX_SESSIONS) }
+    requires room { request_count streams.now ≤ room_of desk }
+    ensures { IfOk result (λ told. (history : List HallStep) × IsToldOf (record { catalog = catalog.now; roll = roll.now }) (state_of desk) (request_lists streams.now) history told.items) }
+{
+    let hall = open_hall(rt, alloc, desk, streams, gate)?;
+    put_hall(alloc, catalog, roll, &hall)
+}

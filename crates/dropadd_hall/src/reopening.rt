@@ -1,0 +1,90 @@
+// The desk that opens with what a published text says that students hold.
+ghost use Rattle.std.specs.Prelude.{◌≡◌, ◌<◌, ◌^◌, ◌-◌, IfErr, IfOk, length, map};
+ghost use Rattle.bundle_rules.specs.Bundles.{sections_of};
+ghost use Rattle.certificate_checker.specs.Findings.{OnFound, end_of};
+ghost use Rattle.certificate_checker.specs.Words.{IsNamedIn};
+ghost use Rattle.dropadd_desk.specs.Halls.{opening};
+ghost use Rattle.held_seats.specs.Floors.{AreBelow};
+ghost use Rattle.market_certificate.specs.Publications.{Publication};
+ghost use Rattle.market_certificate.specs.Tables.{tables_of};
+ghost use Rattle.dropadd_hall.specs.Openings.{CanOpen, IsOpeningFinding, IsTextOf, TellsFault, finding_of};
+ghost use Rattle.dropadd_hall.specs.Desks.{IsOpenDesk};
+
+use crate::{OpeningFault, opening_fault};
+use bundle_rules::Bundle;
+use certificate_checker::{CheckEnd, Finding};
+use course_catalog::Catalog;
+use dropadd_desk::HallDesk;
+use market_certificate::{TextRefusal, read_publication};
+use market_units::MAX_COMMANDS;
+use std::alloc::Global;
+use student_roll::Roll;
+
+// A desk at which students hold the final bundles of the text, with room for all requests that sessions may have, or the
+// first finding.
+pub(crate) fn open_desk(
+    alloc: Global,
+    catalog: &Catalog,
+    roll: &Roll,
+    text: &[u8],
+) -> Result<HallDesk, CheckEnd>
+    requires { length text.now < 2 ^ 32 - 1 }
+    ensures opened { IfOk result (λ desk. (p : Publication) × IsTextOf (record { catalog = catalog.now; roll = roll.now }) p text.now × IsOpenDesk (record { catalog = catalog.now; roll = roll.now }) p.allocation desk) }
+    ensures first { IfErr result (λ end. OnFound end (IsOpeningFinding (record { catalog = catalog.now; roll = roll.now }) text.now)) }
+    ensures refused { IfErr result (λ end. OnFound end (λ _. ¬ CanOpen (record { catalog = catalog.now; roll = roll.now }) text.now)) }
+    ensures named { IfErr result (λ end. OnFound end (IsNamedIn (tables_of catalog.now roll.now))) }
+{
+    let _few_sections = catalog.len();
+    let _few_students = roll.len();
+    match read_publication(alloc, catalog, roll, text) {
+        Ok(publication) => open_with(alloc, catalog, roll, &publication.allocation),
+        Err(refusal) => Err(end_of(refusal)),
+    }
+}
+
+// The end where a text is not read.
+fn end_of(refusal: TextRefusal) -> CheckEnd
+    ensures { result ≡ end_of refusal }
+{
+    match refusal {
+        TextRefusal::Defect { line, kind } => CheckEnd::Found(Finding::Text { line, kind }),
+        TextRefusal::NoMemory => CheckEnd::NoMemory,
+    }
+}
+
+// A desk at which students hold these bundles, where they may, or the first fault.
+fn open_with(
+    alloc: Global,
+    catalog: &Catalog,
+    roll: &Roll,
+    bundles: &[Bundle],
+) -> Result<HallDesk, CheckEnd>
+    requires each { length bundles.now ≡ length roll.now.students }
+    requires within { AreBelow (length catalog.now.sections) (map sections_of bundles.now) }
+    ensures opened { IfOk result (IsOpenDesk (record { catalog = catalog.now; roll = roll.now }) (map sections_of bundles.now)) }
+    ensures fault { IfErr result (λ end. OnFound end (TellsFault (record { catalog = catalog.now; roll = roll.now }) (opening (record { catalog = catalog.now; roll = roll.now }) (map sections_of bundles.now)))) }
+{
+    let desk = HallDesk::prepare(alloc, catalog, roll, bundles, MAX_COMMANDS)?;
+    match opening_fault(catalog, roll, &desk) {
+        None => Ok(desk),
+        Some(fault) => Err(CheckEnd::Found(finding_of(fault))),
+    }
+}
+
+// The finding that tells the fault.
+fn finding_of(fault: OpeningFault) -> Finding
+    ensures { result ≡ finding_of fault }
+{
+    match fault {
+        OpeningFault::Infeasible { student } => Finding::Infeasible { student },
+        OpeningFault::Overfull {
+            section,
+            held,
+            seats,
+        } => Finding::Seats {
+            section,
+            used: held,
+            seats,
+        },
+    }
+}

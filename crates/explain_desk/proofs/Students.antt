@@ -1,0 +1,128 @@
+-- The student of a number, as the crowd and the publication have it.
+use Rattle.std.proofs.Common.{ℕ, ◌≡◌, ◌<◌, ◌≤◌, List, length, map, get_or, ap, sym, subst, arith, ◌∙◌}
+use Rattle.std.specs.Prelude.{All, nat_lt, slice_index}
+use Rattle.std.proofs.lemmas.List.{length-map}
+use Rattle.market_units.specs.declared.units.Tokens.{Tokens}
+use Rattle.bundle_rules.specs.declared.menu.Rated.{Rated}
+use Rattle.bundle_rules.specs.Bundles.{sections_of}
+use Rattle.bundle_rules.specs.Demand.{HasPrices, IsBest, IsPriced, price_in}
+use Rattle.bundle_rules.specs.Menus.{MenuData, wishes_of}
+use Rattle.bundle_bounds.specs.Offers.{Offer}
+use Rattle.course_catalog.specs.Catalog.{CatalogData}
+use Rattle.course_catalog.specs.Sections.{Section}
+use Rattle.student_roll.specs.Students.{RollData, Student as Enrolled, names_of}
+use Rattle.demand_api.specs.Crowds.{CrowdData, IsWithin, Student}
+use Rattle.demand_api.specs.Made.{MakeCrowd, crowd_of, students_of}
+use Rattle.demand_api.proofs.Takers.{students_length}
+use Rattle.market_certificate.specs.declared.publication.Proved as declared_proved
+use Rattle.market_certificate.specs.declared.publication.Publication as declared
+use Rattle.market_certificate.specs.Publications.{IsPublication, Proved}
+use Rattle.market_certificate.specs.Views.{proved_of, publication_of}
+use Rattle.published_parts.specs.Markets.{Market}
+use Rattle.utility_language.specs.declared.commands.Command.{Command}
+use Rattle.certificate_checker.specs.Certificates.{HoldsBy, IsAccepted, IsTextOf}
+use Rattle.certificate_checker.specs.Students.{offer_in, proved_in, student_in}
+use Rattle.certificate_checker.proofs.Composing.{crowd_length}
+use Rattle.certificate_checker.proofs.Optimal.{best_in_stage_two}
+use Rattle.certificate_checker.proofs.Reading.{length_map, proved_is, student_is}
+use Rattle.explain_desk.specs.Explanations.{ExplainedData, IsExplained, offer_of_all}
+use Rattle.explain_desk.specs.Texts.{explained_text}
+use Rattle.market_certificate.specs.Tables.{name_at, section_names}
+use Rattle.explain_desk.specs.Told.{IsTold}
+use Rattle.explain_desk.specs.Checked.{IsChecked}
+
+-- what is known of an accepted text
+pub checked : (market : Market) (streams : List (List Command)) (text : List ℕ) (p : _) (crowd : CrowdData) → IsTextOf market p text → HoldsBy market streams p crowd → IsChecked market.catalog market.roll p crowd
+checked market streams text p crowd is holds =
+    let accepted : IsAccepted market streams text = record { publication = p; is_text = is; holds = record { crowd = crowd; is_crowd = holds.is_crowd; printed = holds.printed } } in record {
+      is_publication = is.is_publication;
+      students = crowd_length market streams p.order crowd holds.is_crowd;
+      sections = holds.is_crowd.is_crowd.sections;
+      best = λ k low. best_in_stage_two market streams text accepted k low;
+    }
+
+-- what stands at the place of a student
+pub record StandsAt (menus : List MenuData) (budgets : List Tokens) (sections k : ℕ) (publication : declared.Publication) (m : MenuData) (b : Tokens) (item : declared_proved.Proved) : Type 0 where
+  pub whole : MakeCrowd menus budgets sections
+  pub low : k < length menus
+  pub printed_low : k < length publication.bundles.items
+  pub menu : m ≡ get_or menus k m
+  pub budget : b ≡ get_or budgets k b
+  pub printed : item ≡ get_or publication.bundles.items k item
+
+-- the places of a student of the roll
+pub lows : (catalog : CatalogData) (roll : RollData) (publication : declared.Publication) (menus : List MenuData) (budgets : List Tokens) (sections place student : ℕ) → IsChecked catalog roll (publication_of publication) (crowd_of menus budgets sections)
+    → MakeCrowd menus budgets sections → student < length roll.students → place ≡ student → (place < length menus) × (place < length budgets) × (place < length publication.bundles.items)
+lows catalog roll publication menus budgets sections place student is whole low same =
+    let asked : length (students_of menus budgets) ≡ length roll.students = is.students in
+    let count : length (students_of menus budgets) ≡ length menus = students_length menus budgets whole.same in
+    let drawn : length budgets ≡ length menus = whole.same in
+    let printed : length (map proved_of publication.bundles.items) ≡ length (map (λ (student : Enrolled). student.name) roll.students) = is.is_publication.bundles.count in
+    let names = length_map (λ (student : Enrolled). student.name) roll.students in
+    let long = length_map proved_of publication.bundles.items in
+    (omega (arith, asked, count, low, same), omega (arith, asked, count, drawn, low, same), omega (arith, printed, names, long, low, same))
+
+pub stands_at : (catalog : CatalogData) (roll : RollData) (publication : declared.Publication) (menus : List MenuData) (budgets : List Tokens) (sections place student : ℕ) (m : MenuData) (b : Tokens) (item : declared_proved.Proved)
+    → IsChecked catalog roll (publication_of publication) (crowd_of menus budgets sections) → MakeCrowd menus budgets sections → student < length roll.students → place ≡ student → m ≡ get_or menus place m → b ≡ get_or budgets place b
+    → item ≡ get_or publication.bundles.items place item → StandsAt menus budgets sections student publication m b item
+stands_at catalog roll publication menus budgets sections place student m b item is whole low same first second third =
+    let inside = lows catalog roll publication menus budgets sections place student is whole low same in record {
+      whole = whole;
+      low = subst (λ k. k < length menus) same inside.0;
+      printed_low = subst (λ k. k < length publication.bundles.items) same inside.2;
+      menu = subst (λ k. m ≡ get_or menus k m) same first;
+      budget = subst (λ k. b ≡ get_or budgets k b) same second;
+      printed = subst (λ k. item ≡ get_or publication.bundles.items k item) same third;
+    }
+
+module _ (menus : List MenuData) (budgets : List Tokens) (sections k : ℕ) (publication : declared.Publication) (m : MenuData) (b : Tokens) (item : declared_proved.Proved) (stands : StandsAt menus budgets sections k publication m b item) where
+  pub this_student : student_in (crowd_of menus budgets sections) k ≡ record { menu = m; budget = b.0 }
+  this_student = student_is menus budgets sections k m b stands.whole.same stands.low stands.menu stands.budget
+
+  pub this_bundle : proved_in (publication_of publication) k ≡ proved_of item
+  this_bundle = proved_is publication k item stands.printed_low stands.printed
+
+  pub this_offer : offer_in (crowd_of menus budgets sections) (publication_of publication) k ≡ offer_of_all m publication.prices.items b.0 sections
+  this_offer = λ i. record { menu = (this_student i).menu; price = slice_index (map (λ (t : Tokens). t.0) publication.prices.items); budget = (this_student i).budget; allowed = λ s. nat_lt s sections }
+
+  -- a fact of what is offered and printed is one of what stands there
+  pub stands_so : (P : Offer → Proved → Type 0) → P (offer_in (crowd_of menus budgets sections) (publication_of publication) k) (proved_in (publication_of publication) k) → P (offer_of_all m publication.prices.items b.0 sections) (proved_of item)
+  stands_so P is = subst (λ offer. P offer (proved_of item)) this_offer (subst (λ proved. P (offer_in (crowd_of menus budgets sections) (publication_of publication) k) proved) this_bundle is)
+
+  -- and the other way round
+  pub printed_so : (P : Offer → Proved → Type 0) → P (offer_of_all m publication.prices.items b.0 sections) (proved_of item) → P (offer_in (crowd_of menus budgets sections) (publication_of publication) k) (proved_in (publication_of publication) k)
+  printed_so P is = subst (λ offer. P offer (proved_in (publication_of publication) k)) (sym this_offer) (subst (λ proved. P (offer_of_all m publication.prices.items b.0 sections) proved) (sym this_bundle) is)
+
+  -- its sections are among those of the crowd
+  pub menu_within : All (λ (rated : Rated). rated.section.0 < sections) m.places
+  menu_within = subst (IsWithin sections) (sym stands.menu) (stands.whole.within k m stands.low)
+
+  -- and have prices
+  pub menu_priced : (catalog : CatalogData) (roll : RollData) → IsChecked catalog roll (publication_of publication) (crowd_of menus budgets sections) → HasPrices m publication.prices.items
+  menu_priced catalog roll is = λ j d inside.
+      let many : length (map (λ (t : Tokens). t.0) publication.prices.items) ≡ length (map (λ (section : Section). section.name) catalog.sections) = is.is_publication.prices.count in
+      let counted : length (map (λ (section : Section). section.name) catalog.sections) ≡ length catalog.sections = length_map (λ (section : Section). section.name) catalog.sections in
+      let listed : length (map (λ (t : Tokens). t.0) publication.prices.items) ≡ length publication.prices.items = length_map (λ (t : Tokens). t.0) publication.prices.items in
+      let all : sections ≡ length catalog.sections = is.sections in
+      let small : (get_or m.places j d).section.0 < sections = menu_within j d inside in
+      record {
+        listed = omega (arith, many, counted, listed, all, small);
+        high = is.is_publication.prices.each (get_or m.places j d).section.0 0 (omega (arith, many, counted, all, small));
+      }
+
+  -- the bundle that is printed is the best
+  pub bundle_best : (catalog : CatalogData) (roll : RollData) → IsChecked catalog roll (publication_of publication) (crowd_of menus budgets sections)
+      → IsBest (wishes_of m) (price_in publication.prices.items) b.0 (λ s. nat_lt s sections) (sections_of item.bundle)
+  bundle_best catalog roll is =
+      let count : length (students_of menus budgets) ≡ length menus = students_length menus budgets stands.whole.same in
+      let inside = stands.low in
+      stands_so (λ offer proved. IsBest (wishes_of offer.menu) offer.price offer.budget offer.allowed proved.bundle) (is.best k (omega (arith, count, inside)))
+
+  -- what is told of what stands there is told of what is printed
+  pub told_there : (catalog : CatalogData) (roll : RollData) (section : ℕ) (explained : ExplainedData) (name text : List ℕ) → name ≡ name_at (names_of roll.students) k
+      → IsExplained (offer_of_all m publication.prices.items b.0 sections) (sections_of item.bundle) section explained → text ≡ explained_text (section_names catalog.sections) m name section (sections_of item.bundle) explained
+      → IsTold catalog roll (crowd_of menus budgets sections) (publication_of publication) k section text
+  told_there catalog roll section explained name text named is written =
+      let whole = printed_so (λ offer proved. IsExplained offer proved.bundle section explained × (text ≡ explained_text (section_names catalog.sections) offer.menu (name_at (names_of roll.students) k) section proved.bundle explained))
+      (is, subst (λ (n : List ℕ). text ≡ explained_text (section_names catalog.sections) m n section (sections_of item.bundle) explained) named written) in
+      (explained, whole.0, whole.1)

@@ -1,0 +1,120 @@
+// Envy at the bundles of an accepted text.
+ghost use Rattle.std.specs.Prelude.{◌≡◌, ◌≤◌, ◌<◌, ◌^◌, ◌-◌, IfOk, IfErr, length, map};
+ghost use Rattle.std.specs.Arc.{arc_value};
+ghost use Rattle.bundle_rules.specs.Bundles.{sections_of};
+ghost use Rattle.demand_api.specs.Made.{MakeCrowd};
+ghost use Rattle.fairness_audit.specs.Allocations.{IsAllocation, allocation_of};
+ghost use Rattle.fairness_audit.specs.Rows.{rows};
+ghost use Rattle.fairness_audit.specs.Texts.{AreRowsAmong};
+ghost use Rattle.fairness_audit.specs.Views.{row_of};
+ghost use Rattle.market_certificate.specs.Tables.{tables_of};
+ghost use Rattle.market_certificate.specs.Views.{publication_of};
+ghost use Rattle.published_parts.specs.Holdings.{demanded};
+ghost use Rattle.published_parts.specs.Markets.{market_of};
+ghost use Rattle.certificate_checker.specs.Certificates.{IsAccepted};
+ghost use Rattle.certificate_checker.specs.Findings.{IsFirstFinding, OnFound};
+ghost use Rattle.certificate_checker.specs.Views.{crowd_seen};
+ghost use Rattle.certificate_checker.specs.Words.{IsNamedIn};
+ghost use Rattle.fairness_audit.specs.Audits.{IsAuditOf, IsAudited};
+ghost use Rattle.fairness_audit.specs.Checked.{IsChecked};
+
+use crate::{EnvyRow, audit, put_rows};
+use bundle_rules::Bundle;
+use certificate_checker::{Accepted, CheckEnd, accept};
+use course_catalog::Catalog;
+use demand_api::Crowd;
+use market_certificate::Publication;
+use market_edge::Gate;
+use market_settings::Settings;
+use market_units::{MAX_WORKERS, NoMemory};
+use std::alloc::Global;
+use std::sync::{Arc, Wait};
+use std::thread::Threads;
+use student_roll::Roll;
+use utility_language::Command;
+
+/// The text of an audit of what a text publishes that is accepted for this market and these streams, one for each session: whom
+/// each student envies at the bundles of stage two, and whom at the final ones; and the first finding where the text is not
+/// accepted. 1 to 16 workers look for both, and no number of workers occurs in what is told. For each of the two each worker
+/// passes the gate before its first student and after each of its students. Whom a finding names is on the roll, or in the
+/// catalogue. The text has fewer than 4,294,967,295 bytes. `NoMemory` comes where memory is wanted, and has no other cause.
+pub fn published_audit<R: Threads + Wait + Sync, G: Gate + Sync>(
+    rt: &R,
+    alloc: Global,
+    workers: u16,
+    catalog: &Catalog,
+    roll: &Roll,
+    settings: &Settings,
+    streams: &[Vec<Command>],
+    text: Vec<u8>,
+    gate: &G,
+) -> Result<Vec<u8>, CheckEnd>
+    requires workers { (1 ≤ workers) × (workers ≤ MAX_WORKERS) }
+    requires text { length text.items < 2 ^ 32 - 1 }
+    requires spread { settings.now.spread ≤ 49 }
+    requires raise { settings.now.raise ≤ 50 }
+    ensures audited { IfOk result (λ audited. IsAuditOf (market_of catalog.now roll.now settings.now) (map (λ stream. stream.items) streams.now) text.items audited.items) }
+    ensures first { IfErr result (λ end. OnFound end (IsFirstFinding (market_of catalog.now roll.now settings.now) (map (λ stream. stream.items) streams.now) text.items)) }
+    ensures refused { IfErr result (λ end. OnFound end (λ _. ¬ IsAccepted (market_of catalog.now roll.now settings.now) (map (λ stream. stream.items) streams.now) text.items)) }
+    ensures named { IfErr result (λ end. OnFound end (IsNamedIn (tables_of catalog.now roll.now))) }
+{
+    let accepted = accept(alloc, catalog, roll, settings, streams, text)?;
+    match audit_accepted(rt, alloc, workers, catalog, roll, accepted, gate) {
+        Ok(audited) => Ok(audited),
+        Err(NoMemory) => Err(CheckEnd::NoMemory),
+    }
+}
+
+// The text of an audit of what was checked.
+fn audit_accepted<R: Threads + Wait + Sync, G: Gate + Sync>(
+    rt: &R,
+    alloc: Global,
+    workers: u16,
+    catalog: &Catalog,
+    roll: &Roll,
+    accepted: Accepted,
+    gate: &G,
+) -> Result<Vec<u8>, NoMemory>
+    requires workers { (1 ≤ workers) × (workers ≤ MAX_WORKERS) }
+    requires checked { IsChecked catalog.now roll.now (publication_of accepted.publication) (crowd_seen accepted.crowd) }
+    requires whole { MakeCrowd accepted.crowd.menus.items accepted.crowd.budgets.items accepted.crowd.sections }
+    ensures { IfOk result (λ audited. IsAudited catalog.now roll.now (crowd_seen accepted.crowd) (publication_of accepted.publication) audited.items) }
+{
+    let Accepted { publication, crowd } = accepted;
+    let settled = settled_bundles(alloc, &publication)?;
+    let crowd = Arc::new(alloc, crowd)?;
+    let first = rows_with(rt, alloc, workers, &crowd, settled, gate)?;
+    let last = rows_with(rt, alloc, workers, &crowd, publication.allocation, gate)?;
+    put_rows(alloc, catalog, roll, &first, &last)
+}
+
+// Each student's bundle of stage two.
+fn settled_bundles(alloc: Global, publication: &Publication) -> Result<Vec<Bundle>, NoMemory>
+    ensures { IfOk result (λ bundles. map sections_of bundles.items ≡ demanded (publication_of publication.now)) }
+{
+    let mut bundles = Vec::with_capacity(alloc, publication.bundles.len())?;
+    'students: for proved in &publication.bundles {
+        bundles.push(proved.bundle)?;
+    }
+    Ok(bundles)
+}
+
+// The rows of the students with these bundles.
+fn rows_with<R: Threads + Wait + Sync, G: Gate + Sync>(
+    rt: &R,
+    alloc: Global,
+    workers: u16,
+    crowd: &Arc<Crowd>,
+    bundles: Vec<Bundle>,
+    gate: &G,
+) -> Result<Vec<EnvyRow>, NoMemory>
+    requires workers { (1 ≤ workers) × (workers ≤ MAX_WORKERS) }
+    requires crowd { MakeCrowd (arc_value crowd.now).menus.items (arc_value crowd.now).budgets.items (arc_value crowd.now).sections }
+    requires bundles { IsAllocation (allocation_of (arc_value crowd.now) bundles.items) }
+    ensures rows { IfOk result (λ found. map row_of found.items ≡ rows (allocation_of (arc_value crowd.now) bundles.items)) }
+    ensures among { IfOk result (λ found. AreRowsAmong (length (arc_value crowd.now).menus.items) (arc_value crowd.now).sections (map row_of found.items)) }
+{
+    let shared = Arc::try_clone(crowd)?;
+    let held = Arc::new(alloc, bundles)?;
+    audit(rt, alloc, shared, held, workers, gate)
+}

@@ -1,4 +1,0 @@
-pub mod Totals
-pub mod TenLines
-pub mod Worths
-pub mod SomeOutcomes

@@ -1,3 +1,0 @@
-pub mod Allocating
-pub mod Fairness
-pub mod Joining

@@ -1,3 +1,0 @@
-pub mod Audits
-pub mod Checked
-pub mod Laws

@@ -1,5 +1,0 @@
-use Rattle.published_halls.proofs.Finals.{told_first}
-use Rattle.published_halls.proofs.laws.told_hall_serves_the_first.Goals as goal
-
-pub returns : goal.returns
-returns c = told_first

@@ -1,4 +1,0 @@
-pub mod Desks
-pub mod Laws
-pub mod Openings
-pub mod Told
