@@ -69,10 +69,12 @@ zip_take R (suc k) [] (y ∷ ys) are = absurd are
 zip_take R (suc k) (x ∷ xs) [] are = absurd are
 
 -- of each section the count and the seats
-used_at : (f : ℕ → ℕ) (first : ℕ) (seats : List ℕ) (k : ℕ) → k < length seats → slice_index_or (zip (map f (places_from first (length seats))) seats) k (0, 0) ≡ (f (first + k), slice_index seats k)
+used_at : (f : ℕ → ℕ) (first : ℕ) (seats : List ℕ) (k : ℕ) → k < length seats
+    → slice_index_or (zip (map f (places_from first (length seats))) seats) k (0, 0) ≡ (f (first + k), slice_index seats k)
 used_at f first [] k low = absurd (omega arith)
 used_at f first (seat ∷ seats) zero low = let here : first ≡ first + 0 = omega arith in ap (λ s. (f s, seat)) here
-used_at f first (seat ∷ seats) (suc k) low = let there : suc first + k ≡ first + suc k = omega arith in used_at f (suc first) seats k (omega arith) ∙ ap (λ s. (f s, slice_index seats k)) there
+used_at f first (seat ∷ seats) (suc k) low =
+    let there : suc first + k ≡ first + suc k = omega arith in used_at f (suc first) seats k (omega arith) ∙ ap (λ s. (f s, slice_index seats k)) there
 
 module _ (crowd : CrowdData) (seats : List ℕ) (settings : Settings) (lengths : Lengths) (p : Publication) (is : IsOutcome crowd seats settings lengths p) where
   abbrev terms : TermsData
@@ -99,13 +101,16 @@ module _ (crowd : CrowdData) (seats : List ℕ) (settings : Settings) (lengths :
 
   -- what is held before it
   held_at : (k : ℕ) → held_before p k ≡ after_turns (demanded p) (take k turns)
-  held_at k = same_held crowd prices settings.raise (demanded p) (take k turns) (take k p.turns) (zip_take (IsPublishedTurn crowd prices settings.raise) k turns p.turns is.turns.published)
+  held_at k =
+      same_held crowd prices settings.raise (demanded p) (take k turns) (take k p.turns)
+      (zip_take (IsPublishedTurn crowd prices settings.raise) k turns p.turns is.turns.published)
 
   is_turn : (k : ℕ) → k < length p.turns → IsTurn (terms_at crowd seats prices settings.raise) (held_before p k) (turn_at turns k)
   is_turn k low =
       let long = turns_long in
       subst (λ held. IsTurn (terms_at crowd seats prices settings.raise) held (turn_at turns k)) (sym (held_at k))
-      (each_at (IsTurn (terms_at crowd seats prices settings.raise)) (demanded p) turns (made_each (IsTurn (terms_at crowd seats prices settings.raise)) crowd (demanded p) turns lengths.passes is.turns.made) k (omega arith))
+      (each_at (IsTurn (terms_at crowd seats prices settings.raise)) (demanded p) turns
+      (made_each (IsTurn (terms_at crowd seats prices settings.raise)) crowd (demanded p) turns lengths.passes is.turns.made) k (omega arith))
 
   -- the passes
   passes : ArePassesOf (order_in crowd) students 1 (demanded p) turns (length is.turns.made.by_pass)
@@ -120,7 +125,8 @@ module _ (crowd : CrowdData) (seats : List ℕ) (settings : Settings) (lengths :
   quiet_printed k low quiet =
       let one = published_at k low in
       let held : slice_get (held_before p k) (turn_in p k).student ≡ Some (turn_in p k).bundle =
-      ap (λ all. slice_get all (turn_in p k).student) (held_at k) ∙ ap (slice_get (after_turns (demanded p) (take k turns))) one.student ∙ quiet ∙ ap Some (sym one.bundle) in
+      ap (λ all. slice_get all (turn_in p k).student) (held_at k) ∙ ap (slice_get (after_turns (demanded p) (take k turns))) one.student ∙ quiet
+      ∙ ap Some (sym one.bundle) in
       get_or_from_slice_get (held_before p k) (turn_in p k).student (turn_in p k).bundle [] held
 
   quiet_made : (k : ℕ) → k < length p.turns → IsQuietTurn p k → IsAt IsQuiet (demanded p) turns k
@@ -129,15 +135,18 @@ module _ (crowd : CrowdData) (seats : List ℕ) (settings : Settings) (lengths :
       let inside : (turn_at turns k).student < students = slice_get_within crowd.students (turn_at turns k).student one.who one.listed in
       let long = held_each k in
       let place : (turn_in p k).student ≡ (turn_at turns k).student = one.student in
-      let held : slice_get (held_before p k) (turn_in p k).student ≡ Some (turn_in p k).bundle = slice_get-get_or (held_before p k) (turn_in p k).student [] (omega arith) ∙ ap Some quiet in
+      let held : slice_get (held_before p k) (turn_in p k).student ≡ Some (turn_in p k).bundle =
+      slice_get-get_or (held_before p k) (turn_in p k).student [] (omega arith) ∙ ap Some quiet in
       ap (λ all. slice_get all (turn_at turns k).student) (sym (held_at k)) ∙ ap (slice_get (held_before p k)) (sym one.student) ∙ held ∙ ap Some one.bundle
 
   -- before the last pass no pass is without a change
-  goes_on : (k pass place : ℕ) → k < length p.turns → k ≡ pass * students + place → pass < length is.turns.made.by_pass → place < students → ¬ HasQuietPass students p k
+  goes_on : (k pass place : ℕ) → k < length p.turns → k ≡ pass * students + place → pass < length is.turns.made.by_pass → place < students
+      → ¬ HasQuietPass students p k
   goes_on k pass place inside number few low quiet = elim (cases_lt quiet.pass pass) [
     | inl before ↦
         passes.changed quiet.pass (let h = before in omega arith)
-        (λ spot small. quiet_made (quiet.pass * students + spot) (let whole = quiet.whole in let long = next_pass quiet.pass students in omega arith) (quiet.quiet spot small))
+        (λ spot small. quiet_made (quiet.pass * students + spot) (let whole = quiet.whole in let long = next_pass quiet.pass students in omega arith)
+        (quiet.quiet spot small))
     | inr behind ↦
         let whole = quiet.whole in
         let far : pass * students ≤ quiet.pass * students = mul-le-mul_right students (let h = behind in omega arith) in
@@ -151,8 +160,10 @@ module _ (crowd : CrowdData) (seats : List ℕ) (settings : Settings) (lengths :
       let all = passes.long in
       let at = split students (length is.turns.made.by_pass) k (omega arith) in
       let one = published_at k low in
-      let in_pass : (turn_at turns k).pass ≡ 1 + at.pass = subst (λ n. (turn_at turns n).pass ≡ 1 + at.pass) (sym at.number) (passes.due at.pass at.place at.inside at.low).in_pass in
-      let next : slice_get (order_in crowd) at.place ≡ Some (turn_at turns k).student = subst (λ n. slice_get (order_in crowd) at.place ≡ Some (turn_at turns n).student) (sym at.number) (passes.due at.pass at.place at.inside at.low).next in
+      let in_pass : (turn_at turns k).pass ≡ 1 + at.pass =
+      subst (λ n. (turn_at turns n).pass ≡ 1 + at.pass) (sym at.number) (passes.due at.pass at.place at.inside at.low).in_pass in
+      let next : slice_get (order_in crowd) at.place ≡ Some (turn_at turns k).student =
+      subst (λ n. slice_get (order_in crowd) at.place ≡ Some (turn_at turns n).student) (sym at.number) (passes.due at.pass at.place at.inside at.low).next in
       let pass : (turn_in p k).pass ≡ (turn_at turns k).pass = one.pass in
       record {
         pass = at.pass;
@@ -170,12 +181,14 @@ module _ (crowd : CrowdData) (seats : List ℕ) (settings : Settings) (lengths :
       let made = is_turn k low in
       let listed : slice_get crowd.students (turn_in p k).student ≡ Some one.who = ap (slice_get crowd.students) one.student ∙ one.listed in
       let who : student_in crowd (turn_in p k).student ≡ one.who = get_or_from_slice_get crowd.students (turn_in p k).student one.who nobody listed in
-      let allowed : (turn_at turns k).allowed ≡ may_choose seats (held_before p k) (turn_in p k).student = made.choices ∙ ap (may_choose seats (held_before p k)) (sym one.student) in
+      let allowed : (turn_at turns k).allowed ≡ may_choose seats (held_before p k) (turn_in p k).student =
+      made.choices ∙ ap (may_choose seats (held_before p k)) (sym one.student) in
       λ i. offer_to (sym who i) (price_in_tokens p.prices i) (raised_by settings.raise (sym who i).budget) (allowed i)
 
   right_at : (k : ℕ) → k < length p.turns → IsRightTurn terms p k
   right_at k low =
-      let proved : IsProvedBest (turn_offer terms p k) (turn_in p k).bundle (turn_in p k).tree = subst (λ offer. IsProvedBest offer (turn_in p k).bundle (turn_in p k).tree) (offered_at k low) (published_at k low).proved in
+      let proved : IsProvedBest (turn_offer terms p k) (turn_in p k).bundle (turn_in p k).tree =
+      subst (λ offer. IsProvedBest offer (turn_in p k).bundle (turn_in p k).tree) (offered_at k low) (published_at k low).proved in
       record {
         due = due_at k low;
         affordable = proved.best.choice.affordable;
@@ -187,7 +200,10 @@ module _ (crowd : CrowdData) (seats : List ℕ) (settings : Settings) (lengths :
   bundle_at : (student : ℕ) → student < students → IsProvedBundle crowd p student
   bundle_at student low =
       let proved : IsProvedBest (offer_in crowd p student) (proved_in p student).bundle (proved_in p student).tree =
-      subst (λ price. IsProvedBest (offer_to (student_in crowd student) price (student_in crowd student).budget (all_sections crowd.sections)) (proved_in p student).bundle (proved_in p student).tree) (price_in_tokens p.prices)
+      subst
+      (λ price. IsProvedBest (offer_to (student_in crowd student) price (student_in crowd student).budget (all_sections crowd.sections))
+      (proved_in p student).bundle (proved_in p student).tree)
+      (price_in_tokens p.prices)
       (zip_at (IsProvedDemand crowd.sections (price_in prices)) crowd.students p.bundles student nobody (record { bundle = []; tree = [] }) is.bundles low) in
       record { affordable = proved.best.choice.affordable; feasible = proved.best.choice.feasible; proved = proved.proved }
 
@@ -218,7 +234,8 @@ module _ (crowd : CrowdData) (seats : List ℕ) (settings : Settings) (lengths :
 
   used : length seats ≡ crowd.sections → AllBelow crowd.sections (IsUseTold seats p)
   used same section low =
-      ap (λ all. slice_index_or all section (0, 0)) is.used ∙ used_at (λ s. holders s p.allocation) 0 seats section (omega arith) ∙ ap (λ s. (holders s p.allocation, slice_index seats section)) none_before
+      ap (λ all. slice_index_or all section (0, 0)) is.used ∙ used_at (λ s. holders s p.allocation) 0 seats section (omega arith)
+      ∙ ap (λ s. (holders s p.allocation, slice_index seats section)) none_before
     where
       none_before : 0 + section ≡ section
       none_before = omega arith
@@ -242,12 +259,18 @@ certificate_holds market streams order p is =
     let entries : order ≡ p.order = sym is.is_journal.sessions ∙ sym made.order in
     record {
       crowd = crowd;
-      is_crowd = record { journal = is.journal; is_journal = subst (λ all. IsJournalOf (names_in market) streams all is.journal) entries is.is_journal; is_crowd = made.is_crowd };
+      is_crowd =
+          record {
+            journal = is.journal;
+            is_journal = subst (λ all. IsJournalOf (names_in market) streams all is.journal) entries is.is_journal;
+            is_crowd = made.is_crowd;
+          };
       printed = outcome_holds crowd (seats_in market) market.settings is.lengths p made.outcome seats;
     }
 
 -- a published text is accepted
-pub published_accepted : (market : Market) (streams : List (List Command)) (order text : List ℕ) → IsPublishedText market streams order text → IsAccepted market streams text
+pub published_accepted : (market : Market) (streams : List (List Command)) (order text : List ℕ) → IsPublishedText market streams order text
+    → IsAccepted market streams text
 published_accepted market streams order text (p, is, ranges, written) = record {
   publication = p;
   is_text = record { is_publication = ranges; written = written };
@@ -256,4 +279,5 @@ published_accepted market streams order text (p, is, ranges, written) = record {
 
 -- so it is where the inputs are in order, and it is not too long
 pub published_is_accepted : PublishedIsAccepted
-published_is_accepted market streams order p inputs is short = published_accepted market streams order (text_of (tables_in market) p) (p, is, published_is_publication market streams order p inputs is short, refl)
+published_is_accepted market streams order p inputs is short =
+    published_accepted market streams order (text_of (tables_in market) p) (p, is, published_is_publication market streams order p inputs is short, refl)

@@ -26,12 +26,14 @@ abbrev pub IsAt : (List (List ℕ) → TurnData → Type 0) → List (List ℕ) 
 IsAt Wanted held turns k = Wanted (after_turns held (take k turns)) (turn_at turns k)
 
 -- each turn is as wanted, where all are, and the other way round
-pub each_at : (Wanted : List (List ℕ) → TurnData → Type 0) (held : List (List ℕ)) (turns : List TurnData) → EachTurn Wanted held turns → (k : ℕ) → k < length turns → IsAt Wanted held turns k
+pub each_at : (Wanted : List (List ℕ) → TurnData → Type 0) (held : List (List ℕ)) (turns : List TurnData) → EachTurn Wanted held turns → (k : ℕ)
+    → k < length turns → IsAt Wanted held turns k
 each_at Wanted held [] are k low = absurd (omega arith)
 each_at Wanted held (turn ∷ turns) are zero low = are.0
 each_at Wanted held (turn ∷ turns) are (suc k) low = each_at Wanted (after_turn held turn) turns are.1 k (omega arith)
 
-each_of : (Wanted : List (List ℕ) → TurnData → Type 0) (held : List (List ℕ)) (turns : List TurnData) → ((k : ℕ) → k < length turns → IsAt Wanted held turns k) → EachTurn Wanted held turns
+each_of : (Wanted : List (List ℕ) → TurnData → Type 0) (held : List (List ℕ)) (turns : List TurnData) → ((k : ℕ) → k < length turns → IsAt Wanted held turns k)
+    → EachTurn Wanted held turns
 each_of Wanted held [] all = tt
 each_of Wanted held (turn ∷ turns) all = (all 0 (omega arith), each_of Wanted (after_turn held turn) turns (λ k low. all (suc k) (omega arith)))
 
@@ -87,7 +89,8 @@ module _ (order : List ℕ) (pass : ℕ) (turns : List TurnData) (due : map due_
   pass_due place low =
       let long = pass_long in
       let mine : get_or (map due_of turns) place (0, 0) ≡ due_of (turn_at turns place) = get_or-map due_of turns place no_turn (0, 0) (omega arith) in
-      let theirs : get_or (map {B = ℕ × ℕ} (λ student. (pass, student)) order) place (0, 0) ≡ (pass, get_or order place 0) = get_or-map pair_of order place 0 (0, 0) low in
+      let theirs : get_or (map {B = ℕ × ℕ} (λ student. (pass, student)) order) place (0, 0) ≡ (pass, get_or order place 0) =
+      get_or-map pair_of order place 0 (0, 0) low in
       let same : due_of (turn_at turns place) ≡ (pass, get_or order place 0) = sym mine ∙ ap (λ (all : List (ℕ × ℕ)). get_or all place (0, 0)) due ∙ theirs in
       record {
         in_pass = ap (λ (both : ℕ × ℕ). both.0) same;
@@ -107,25 +110,35 @@ module _ (order : List ℕ) (students first : ℕ) (held : List (List ℕ)) (tur
 
   due_more : (pass place : ℕ) → pass < suc count → place < students → IsTurnOf order (first + pass) place (turn_at (turns ++ later) (pass * students + place))
   due_more zero place inside low =
-      let here : turn_at (turns ++ later) (0 * students + place) ≡ turn_at turns place = ap (turn_at (turns ++ later)) (in_first place) ∙ get_or_append_left turns later no_turn place (omega arith) in
+      let here : turn_at (turns ++ later) (0 * students + place) ≡ turn_at turns place =
+      ap (turn_at (turns ++ later)) (in_first place) ∙ get_or_append_left turns later no_turn place (omega arith) in
       let number : first + 0 ≡ first = omega arith in
-      moved (λ pass turn. IsTurnOf order pass place turn) first (first + 0) (turn_at turns place) (turn_at (turns ++ later) (0 * students + place)) (sym number) (sym here) (each place low)
+      moved (λ pass turn. IsTurnOf order pass place turn) first (first + 0) (turn_at turns place) (turn_at (turns ++ later) (0 * students + place)) (sym number)
+      (sym here) (each place low)
   due_more (suc pass) place inside low =
-      let there : turn_at (turns ++ later) (suc pass * students + place) ≡ turn_at later (pass * students + place) = ap (turn_at (turns ++ later)) (shifted pass place) ∙ get_or-append-add turns later (pass * students + place) no_turn in
+      let there : turn_at (turns ++ later) (suc pass * students + place) ≡ turn_at later (pass * students + place) =
+      ap (turn_at (turns ++ later)) (shifted pass place) ∙ get_or-append-add turns later (pass * students + place) no_turn in
       let number : first + 1 + pass ≡ first + suc pass = omega arith in
-      moved (λ pass turn. IsTurnOf order pass place turn) (first + 1 + pass) (first + suc pass) (turn_at later (pass * students + place)) (turn_at (turns ++ later) (suc pass * students + place)) number (sym there) (rest.due pass place (omega arith) low)
+      moved (λ pass turn. IsTurnOf order pass place turn) (first + 1 + pass) (first + suc pass) (turn_at later (pass * students + place))
+      (turn_at (turns ++ later) (suc pass * students + place)) number (sym there) (rest.due pass place (omega arith) low)
 
   quiet_front : IsQuietPassAt students held (turns ++ later) 0 → EachTurn IsQuiet held turns
-  quiet_front are = each_of IsQuiet held turns (λ k low. of_front IsQuiet held turns later k low (subst (IsAt IsQuiet held (turns ++ later)) (in_first k) (are k (omega arith))))
+  quiet_front are =
+      each_of IsQuiet held turns
+      (λ k low. of_front IsQuiet held turns later k low (subst (IsAt IsQuiet held (turns ++ later)) (in_first k) (are k (omega arith))))
 
   quiet_first : EachTurn IsQuiet held turns → IsQuietPassAt students held (turns ++ later) 0
-  quiet_first are place low = subst (IsAt IsQuiet held (turns ++ later)) (sym (in_first place)) (to_front IsQuiet held turns later place (omega arith) (each_at IsQuiet held turns are place (omega arith)))
+  quiet_first are place low =
+      subst (IsAt IsQuiet held (turns ++ later)) (sym (in_first place))
+      (to_front IsQuiet held turns later place (omega arith) (each_at IsQuiet held turns are place (omega arith)))
 
   quiet_later : (pass : ℕ) → IsQuietPassAt students held (turns ++ later) (suc pass) → IsQuietPassAt students (after_turns held turns) later pass
-  quiet_later pass are place low = of_behind IsQuiet held turns later (pass * students + place) (subst (IsAt IsQuiet held (turns ++ later)) (shifted pass place) (are place low))
+  quiet_later pass are place low =
+      of_behind IsQuiet held turns later (pass * students + place) (subst (IsAt IsQuiet held (turns ++ later)) (shifted pass place) (are place low))
 
   quiet_more : (pass : ℕ) → IsQuietPassAt students (after_turns held turns) later pass → IsQuietPassAt students held (turns ++ later) (suc pass)
-  quiet_more pass are place low = subst (IsAt IsQuiet held (turns ++ later)) (sym (shifted pass place)) (to_behind IsQuiet held turns later (pass * students + place) (are place low))
+  quiet_more pass are place low =
+      subst (IsAt IsQuiet held (turns ++ later)) (sym (shifted pass place)) (to_behind IsQuiet held turns later (pass * students + place) (are place low))
 
   changed_more : (0 < count → ¬ EachTurn IsQuiet held turns) → (pass : ℕ) → pass + 1 < suc count → ¬ IsQuietPassAt students held (turns ++ later) pass
   changed_more front zero inside are = front (omega arith) (quiet_front are)
@@ -135,7 +148,8 @@ module _ (order : List ℕ) (students first : ℕ) (held : List (List ℕ)) (tur
   quiet_last front zero inside = quiet_first (front (omega arith))
   quiet_last front (suc pass) inside = quiet_more pass (rest.quiet pass (omega arith))
 
-  pub with_first : (0 < count → ¬ EachTurn IsQuiet held turns) → (count ≡ 0 → EachTurn IsQuiet held turns) → ArePassesOf order students first held (turns ++ later) (suc count)
+  pub with_first : (0 < count → ¬ EachTurn IsQuiet held turns) → (count ≡ 0 → EachTurn IsQuiet held turns)
+      → ArePassesOf order students first held (turns ++ later) (suc count)
   with_first moves ends = record {
     long = let all = length-append turns later in let more = rest.long in let one = suc-mul count students in omega arith;
     due = due_more;
@@ -152,7 +166,8 @@ none_left [] long = refl
 none_left (x ∷ xs) long = absurd (omega arith)
 
 -- the turns of passes are those of so many passes
-pub passes_of : (Wanted : List (List ℕ) → TurnData → Type 0) (crowd : CrowdData) (first : ℕ) (held : List (List ℕ)) (by_pass : List (List TurnData)) → ArePasses Wanted crowd first held by_pass
+pub passes_of : (Wanted : List (List ℕ) → TurnData → Type 0) (crowd : CrowdData) (first : ℕ) (held : List (List ℕ)) (by_pass : List (List TurnData))
+    → ArePasses Wanted crowd first held by_pass
     → ArePassesOf (order_in crowd) (length crowd.students) first held (flat_map (λ pass. pass) by_pass) (length by_pass)
 passes_of Wanted crowd first held [] are = record {
   long = omega arith;

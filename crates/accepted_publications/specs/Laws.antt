@@ -8,11 +8,18 @@ use Rattle.published_market.specs.Laws.{AreInOrder}
 use Rattle.published_market.specs.Publishing.{IsPublished}
 use Rattle.certificate_checker.specs.Certificates.{Holds, IsAccepted}
 
--- the certificate holds of what is published, where the sessions say these streams, in whatever order their commands are taken
+-- the certificate holds of what is published, where the sessions say these streams, in whatever
+-- order their commands are taken
 abbrev pub CertificateOfPublished : Type 0
-CertificateOfPublished = (market : Market) (streams : List (List Command)) (order : List ℕ) (p : Publication) → IsPublished market streams order p → Holds market streams p
+CertificateOfPublished =
+    (market : Market) (streams : List (List Command)) (order : List ℕ) (p : Publication)
+    → IsPublished market streams order p → Holds market streams p
 
--- the published text of inputs in order is accepted, for the same market and the same streams, where it is not of 2 ^ 64 bytes or more
+-- the published text of inputs in order is accepted, for the same market and the same streams,
+-- where it is not of 2 ^ 64 bytes or more
 abbrev pub PublishedIsAccepted : Type 0
-PublishedIsAccepted = (market : Market) (streams : List (List Command)) (order : List ℕ) (p : Publication) → AreInOrder market streams → IsPublished market streams order p
-    → length (text_of (tables_in market) p) < 2 ^ 64 → IsAccepted market streams (text_of (tables_in market) p)
+PublishedIsAccepted =
+    (market : Market) (streams : List (List Command)) (order : List ℕ) (p : Publication)
+    → AreInOrder market streams → IsPublished market streams order p
+    → length (text_of (tables_in market) p) < 2 ^ 64
+    → IsAccepted market streams (text_of (tables_in market) p)

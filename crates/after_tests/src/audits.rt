@@ -1,4 +1,5 @@
-// Audits of small markets, by workers. The texts are those of a second implementation, for the same tables and bundles.
+// Audits of small markets, by workers. The texts are those of a second implementation, for the same
+// tables and bundles.
 ghost use Rattle.std.specs.Prelude.{◌≡◌, ◌≤◌, IfOk, length, map};
 ghost use Rattle.std.specs.Arc.{arc_value};
 ghost use Rattle.demand_api.specs.Made.{MakeCrowd};
@@ -26,7 +27,8 @@ use worked_terms::{
 // A section that is rated, its course, and the rating; each has one credit.
 type Wish = (u16, u16, u8);
 
-// A student: its budget, the most sections that it may take, what it rates, its adjustments, and the clashes of its places.
+// A student: its budget, the most sections that it may take, what it rates, its adjustments, and
+// the clashes of its places.
 type Student = (
     u32,
     u8,
@@ -35,7 +37,8 @@ type Student = (
     &'static [u64],
 );
 
-// A market: its tables, its students, what they have after stage two and at last, and the text of its audit.
+// A market: its tables, its students, what they have after stage two and at last, and the text of
+// its audit.
 #[derive(Clone, Copy)]
 struct Case {
     catalogue: &'static [u8],
@@ -83,7 +86,9 @@ fn crowd_of<R: Abort>(
     students: &[Student],
     sections: u16,
 ) -> Result<Arc<Crowd>, Fail>
-    ensures { IfOk result (λ crowd. MakeCrowd (arc_value crowd).menus.items (arc_value crowd).budgets.items (arc_value crowd).sections) }
+    ensures { IfOk result
+        (λ crowd. MakeCrowd (arc_value crowd).menus.items (arc_value crowd).budgets.items
+        (arc_value crowd).sections) }
 {
     let mut menus = Vec::new(alloc);
     let mut budgets = Vec::new(alloc);
@@ -118,9 +123,12 @@ fn rows_of<R: Abort + Threads + Wait + Sync, G: Gate + Sync>(
     workers: u16,
     gate: &G,
 ) -> Result<Vec<EnvyRow>, Fail>
-    requires crowd { MakeCrowd (arc_value crowd.now).menus.items (arc_value crowd.now).budgets.items (arc_value crowd.now).sections }
+    requires crowd { MakeCrowd (arc_value crowd.now).menus.items (arc_value crowd.now).budgets.items
+        (arc_value crowd.now).sections }
     requires workers { (1 ≤ workers) × (workers ≤ 16) }
-    ensures { IfOk result (λ rows. AreRowsAmong (length (arc_value crowd.now).menus.items) (arc_value crowd.now).sections (map row_of rows.items)) }
+    ensures { IfOk result
+        (λ rows. AreRowsAmong (length (arc_value crowd.now).menus.items)
+        (arc_value crowd.now).sections (map row_of rows.items)) }
 {
     let bundles = bundles_of(rt, alloc, held)?;
     assert!(rt; is_allocation(crowd, &bundles));
@@ -139,7 +147,8 @@ fn text_of<R: Abort + Threads + Wait + Sync>(
     crowd: &Arc<Crowd>,
     workers: u16,
 ) -> Result<Vec<u8>, Fail>
-    requires crowd { MakeCrowd (arc_value crowd.now).menus.items (arc_value crowd.now).budgets.items (arc_value crowd.now).sections }
+    requires crowd { MakeCrowd (arc_value crowd.now).menus.items (arc_value crowd.now).budgets.items
+        (arc_value crowd.now).sections }
     requires workers { (1 ≤ workers) × (workers ≤ 16) }
 {
     assert_eq!(rt; catalog.len(), crowd.sections);
@@ -303,7 +312,8 @@ fn an_audit_of_nobody(rt: HostRuntime) -> Result<(), Fail> {
 
 const HIMSELF: [Student; 1] = [(100, 2, &[(0, 0, 10), (1, 1, 10)], &[(0, 1, -15)], &[0; 2])];
 
-// One of two sections alone is worth more to the student than both, which it has: that is no envy of itself.
+// One of two sections alone is worth more to the student than both, which it has: that is no envy
+// of itself.
 #[test]
 fn nobody_envies_himself(rt: HostRuntime) -> Result<(), Fail> {
     let crowd = crowd_of(&rt, rt.alloc(), &HIMSELF, 2)?;

@@ -19,8 +19,9 @@ const CATALOG: &[u8] =
 // A section of a menu, which has a course of its own, its rating, and its credits.
 type Place = (u16, u8, u16);
 
-// A menu: its places, its adjustments, the clashes of its places, the most credits and the most courses; what the four
-// sections cost; and the budget of the student, who is told this text of the section.
+// A menu: its places, its adjustments, the clashes of its places, the most credits and the most
+// courses; what the four sections cost; and the budget of the student, who is told this text of the
+// section.
 #[derive(Clone, Copy)]
 struct Case {
     places: &'static [Place],
@@ -76,7 +77,8 @@ fn are_of_four(places: &[Rated]) -> bool
 // The best bundle where four sections are offered.
 fn best_of_four(menu: &Menu, prices: &[Tokens], budget: Tokens) -> Bundle
     requires { HasPrices menu.now prices.now }
-    ensures { IsBest (wishes_of menu.now) (price_in prices.now) budget.0 (λ s. nat_lt s 4) (sections_of result) }
+    ensures { IsBest (wishes_of menu.now) (price_in prices.now) budget.0 (λ s. nat_lt s 4)
+        (sections_of result) }
 {
     let all = SectionSet::full(4);
     best_plain(menu, prices, budget, &all)
@@ -93,12 +95,14 @@ fn checked(
 ) -> Result<(), u32>
     requires prices { HasPrices menu.now prices.now }
     requires menu { All (λ rated. rated.section.0 < 4) menu.now.places }
-    requires proved { IsProvedWith (offer_of_all menu.now prices.now budget.0 4) section.0 (proved_of proved.now) }
+    requires proved { IsProvedWith (offer_of_all menu.now prices.now budget.0 4) section.0
+        (proved_of proved.now) }
 {
     check_forced(menu, prices, budget, 4, section, &proved.bundle, text)
 }
 
-// The tree is right, and with another byte in the place of a symbol, with one byte less, or with one more it fails there.
+// The tree is right, and with another byte in the place of a symbol, with one byte less, or with
+// one more it fails there.
 fn fails_where_spoiled<R: Abort>(
     rt: &R,
     alloc: Global,
@@ -110,7 +114,8 @@ fn fails_where_spoiled<R: Abort>(
 )
     requires prices { HasPrices menu.now prices.now }
     requires menu { All (λ rated. rated.section.0 < 4) menu.now.places }
-    requires proved { IsProvedWith (offer_of_all menu.now prices.now budget.0 4) section.0 (proved_of proved.now) }
+    requires proved { IsProvedWith (offer_of_all menu.now prices.now budget.0 4) section.0
+        (proved_of proved.now) }
 {
     let whole = proved.tree.as_slice();
     assert!(rt; whole.len() < 100);
@@ -128,7 +133,8 @@ fn fails_where_spoiled<R: Abort>(
     assert!(rt; checked(menu, prices, budget, section, proved, &longer) == end);
 }
 
-// The student of the case is told its text, and the tree is that of the best bundle with the section.
+// The student of the case is told its text, and the tree is that of the best bundle with the
+// section.
 fn try_menu<R: Abort>(rt: &R, alloc: Global, case: &Case, menu: &Menu, prices: &[Tokens])
     requires prices { HasPrices menu.now prices.now }
     requires menu { All (λ rated. rated.section.0 < 4) menu.now.places }

@@ -12,7 +12,8 @@ use std::sync::atomic::{AtomicU64, Ordering};
 use std::thread::Threads;
 use worked_terms::{EQUAL_ENVY, EQUAL_MARKET, EQUAL_TERM};
 
-// Counts the stops of sessions, the starts of the worker of one number, and those of workers of greater numbers.
+// Counts the stops of sessions, the starts of the worker of one number, and those of workers of
+// greater numbers.
 #[derive(Drop)]
 struct Watch {
     last: u16,
@@ -68,7 +69,8 @@ fn a_hall_passes_the_gate(rt: HostRuntime) {
     assert_eq!(rt; watch.counts(), (5, 0, 0));
 }
 
-// An audit by so many workers, each of which starts with the rows of stage two and with the final ones.
+// An audit by so many workers, each of which starts with the rows of stage two and with the final
+// ones.
 fn try_audit<R: Abort + Threads + Wait + Sync>(rt: &R, alloc: Global, workers: u16)
     requires { (1 ≤ workers) × (workers ≤ 16) }
 {

@@ -94,7 +94,8 @@ used D 0 9
 used E 0 9
 ";
 
-// Requests of two sessions with their replies, which are the same in every order that keeps each session's own.
+// Requests of two sessions with their replies, which are the same in every order that keeps each
+// session's own.
 const FIRST: [Said; 4] = [
     (
         b"drop u A",

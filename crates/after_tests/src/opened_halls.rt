@@ -4,11 +4,10 @@ ghost use Rattle.std.specs.Prelude.{◌≤◌, length};
 use crate::tables::tables_of;
 use certificate_checker::{CheckEnd, Finding};
 use dropadd_desk::HallCommand;
-use dropadd_hall::read_requests;
+use dropadd_hall::{published_hall, read_requests};
 use market_certificate::LineFault;
 use market_edge::{Gate, OpenGate};
 use market_units::SectionNo;
-use dropadd_hall::published_hall;
 use std::alloc::Global;
 use std::process::Abort;
 use std::sync::Wait;
@@ -41,7 +40,8 @@ fn requests_of<R: Abort>(rt: &R, alloc: Global) -> Vec<HallCommand>
     requests
 }
 
-/// What is told of the four requests of one session where a hall opens with this text of the two students.
+/// What is told of the four requests of one session where a hall opens with this text of the two
+/// students.
 pub(crate) fn hall_of<R: Abort + Threads + Wait + Sync, G: Gate + Sync>(
     rt: &R,
     alloc: Global,

@@ -1,11 +1,12 @@
-// Audits of published texts, and of a forged one. The texts are those of a second implementation, for the same inputs.
+// Audits of published texts, and of a forged one. The texts are those of a second implementation,
+// for the same inputs.
 ghost use Rattle.std.specs.Prelude.{◌≤◌};
 
 use crate::tables::{settings_of, streams_of, tables_of};
 use certificate_checker::{CheckEnd, Finding};
+use fairness_audit::published_audit;
 use market_edge::{Gate, OpenGate};
 use market_units::SectionNo;
-use fairness_audit::published_audit;
 use std::alloc::Global;
 use std::process::Abort;
 use std::sync::Wait;

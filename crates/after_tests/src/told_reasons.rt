@@ -3,9 +3,9 @@ ghost use Rattle.std.specs.Prelude.{◌≤◌};
 
 use crate::tables::{settings_of, streams_of, tables_of};
 use certificate_checker::{CheckEnd, Finding};
+use explain_desk::published_reason;
 use market_certificate::LineFault;
 use market_units::{SectionNo, StudentNo};
-use explain_desk::published_reason;
 use std::alloc::Global;
 use std::process::Abort;
 use std::test::Fail;

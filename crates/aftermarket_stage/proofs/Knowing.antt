@@ -29,8 +29,10 @@ old_one false true told is = told
 old_one false false told is = absurd (false≢true is)
 
 -- the best of some sections is the best of others that have it, and no rated section that is not among the first ones
-pub still_best : (menu : MenuData) (price : ℕ → ℕ) (budget : ℕ) (known allowed : set.FinSet nat_cmp) (bundle : List ℕ) → All (λ rated. IsTrue (set.contains known rated.section.0 || not (set.contains allowed rated.section.0))) menu.places
-    → ((s : ℕ) → has bundle s ≡ true → set.contains allowed s ≡ true) → IsBest (wishes_of menu) price budget (set.contains known) bundle → IsBest (wishes_of menu) price budget (set.contains allowed) bundle
+pub still_best : (menu : MenuData) (price : ℕ → ℕ) (budget : ℕ) (known allowed : set.FinSet nat_cmp) (bundle : List ℕ)
+    → All (λ rated. IsTrue (set.contains known rated.section.0 || not (set.contains allowed rated.section.0))) menu.places
+    → ((s : ℕ) → has bundle s ≡ true → set.contains allowed s ≡ true) → IsBest (wishes_of menu) price budget (set.contains known) bundle
+    → IsBest (wishes_of menu) price budget (set.contains allowed) bundle
 still_best menu price budget known allowed bundle none_new within best = record {
   choice = record { feasible = best.choice.feasible; affordable = best.choice.affordable; within = within };
   preferred = λ other choice apart. best.preferred other
@@ -44,15 +46,21 @@ still_best menu price budget known allowed bundle none_new within best = record 
 }
 
 -- the student at a place, with its budget as it stands there
-listed_student : (menus : List MenuData) (budgets : List Tokens) (sections i : ℕ) (menu : MenuData) → length budgets ≡ length menus → i < length menus → menu ≡ slice_index_or menus i menu
+listed_student : (menus : List MenuData) (budgets : List Tokens) (sections i : ℕ) (menu : MenuData) → length budgets ≡ length menus → i < length menus
+    → menu ≡ slice_index_or menus i menu
     → slice_get (crowd_of menus budgets sections).students i ≡ Some (record { menu = menu; budget = (slice_index_or budgets i (record { 0 = 0 })).0 })
 listed_student menus budgets sections i menu same low is =
-    student_here menus budgets i menu (slice_index_or budgets i (record { 0 = 0 })) same low is (get_or_default budgets i (record { 0 = 0 }) (slice_index_or budgets i (record { 0 = 0 })) (omega arith))
+    student_here menus budgets i menu (slice_index_or budgets i (record { 0 = 0 })) same low is
+    (get_or_default budgets i (record { 0 = 0 }) (slice_index_or budgets i (record { 0 = 0 })) (omega arith))
 
 -- a settled bundle is the best
-pub settled_best : (crowd : Crowd) (seats : List ℕ) (prices : List Tokens) (raise i : ℕ) (held : List (List ℕ)) (known : List (Option (set.FinSet nat_cmp))) (menu : MenuData) (places : List Rated) (allowed : set.FinSet nat_cmp) (bundle : List ℕ) → MakeCrowd crowd.menus.items crowd.budgets.items crowd.sections
-    → i < length crowd.menus.items → menu ≡ slice_index_or crowd.menus.items i menu → places ≡ menu.places → slice_get held i ≡ Some bundle → ((s : ℕ) → has (slice_index_or held i []) s ≡ true → set.contains allowed s ≡ true)
-    → AreKnown (crowd_of crowd.menus.items crowd.budgets.items crowd.sections) prices raise held known → IsSettled known i places allowed → IsBestAt (terms_of crowd seats prices raise) i (set.contains allowed) bundle
+pub settled_best : (crowd : Crowd) (seats : List ℕ) (prices : List Tokens) (raise i : ℕ) (held : List (List ℕ)) (known : List (Option (set.FinSet nat_cmp)))
+    (menu : MenuData) (places : List Rated) (allowed : set.FinSet nat_cmp) (bundle : List ℕ)
+    → MakeCrowd crowd.menus.items crowd.budgets.items crowd.sections
+    → i < length crowd.menus.items → menu ≡ slice_index_or crowd.menus.items i menu → places ≡ menu.places → slice_get held i ≡ Some bundle
+    → ((s : ℕ) → has (slice_index_or held i []) s ≡ true → set.contains allowed s ≡ true)
+    → AreKnown (crowd_of crowd.menus.items crowd.budgets.items crowd.sections) prices raise held known → IsSettled known i places allowed
+    → IsBestAt (terms_of crowd seats prices raise) i (set.contains allowed) bundle
 settled_best crowd seats prices raise i held known menu places allowed bundle make low is all there own are settled =
     let budget : ℕ = (slice_index_or crowd.budgets.items i (record { 0 = 0 })).0 in
     let who : Student = record { menu = menu; budget = budget } in
@@ -61,12 +69,15 @@ settled_best crowd seats prices raise i held known menu places allowed bundle ma
     record {
       who = who;
       listed = listed;
-      best = still_best menu (price_in prices) (raised_by raise budget) settled.sections allowed bundle (subst (All (λ rated. IsTrue (set.contains settled.sections rated.section.0 || not (set.contains allowed rated.section.0)))) all settled.none_new)
+      best =
+          still_best menu (price_in prices) (raised_by raise budget) settled.sections allowed bundle
+          (subst (All (λ rated. IsTrue (set.contains settled.sections rated.section.0 || not (set.contains allowed rated.section.0)))) all settled.none_new)
           (λ s in_it. own s (ap (λ b. has b s) here ∙ in_it)) (are i who bundle settled.sections listed there settled.are_known);
     }
 
 -- nothing is known at first
-pub known_none : (crowd : CrowdData) (prices : List Tokens) (raise : ℕ) (held : List (List ℕ)) (known : List (Option (set.FinSet nat_cmp))) → All (λ one. one ≡ None) known → AreKnown crowd prices raise held known
+pub known_none : (crowd : CrowdData) (prices : List Tokens) (raise : ℕ) (held : List (List ℕ)) (known : List (Option (set.FinSet nat_cmp)))
+    → All (λ one. one ≡ None) known → AreKnown crowd prices raise held known
 known_none crowd prices raise held known none = λ place who bundle sections listed there is.
     let low = slice_get_within known place (Some sections) is in
     let read : slice_index_or known place None ≡ Some sections = get_or_from_slice_get known place (Some sections) None is in
@@ -74,27 +85,38 @@ known_none crowd prices raise held known none = λ place who bundle sections lis
     absurd (cc clash)
 
 -- what is known after a student was asked
-pub known_asked : (crowd : CrowdData) (prices : List Tokens) (raise i : ℕ) (held : List (List ℕ)) (known : List (Option (set.FinSet nat_cmp))) (who : Student) (allowed : set.FinSet nat_cmp) (bundle : List ℕ) → AreKnown crowd prices raise held known → slice_get crowd.students i ≡ Some who
-    → IsBest (wishes_of who.menu) (price_in prices) (raised_by raise who.budget) (set.contains allowed) bundle → AreKnown crowd prices raise (slice_set held i bundle) (slice_set known i (Some allowed))
+pub known_asked : (crowd : CrowdData) (prices : List Tokens) (raise i : ℕ) (held : List (List ℕ)) (known : List (Option (set.FinSet nat_cmp))) (who : Student)
+    (allowed : set.FinSet nat_cmp) (bundle : List ℕ)
+    → AreKnown crowd prices raise held known → slice_get crowd.students i ≡ Some who
+    → IsBest (wishes_of who.menu) (price_in prices) (raised_by raise who.budget) (set.contains allowed) bundle
+    → AreKnown crowd prices raise (slice_set held i bundle) (slice_set known i (Some allowed))
 known_asked crowd prices raise i held known who allowed bundle are listed best = λ place other found sections told there is. elim (cases_eq place i) [
   | inl same ↦
-      let low : i < length held = let within = slice_get_within (slice_set held i bundle) place found there in omega (arith, within, length-set held i bundle, same) in
-      let low' : i < length known = let within = slice_get_within (slice_set known i (Some allowed)) place (Some sections) is in omega (arith, within, length-set known i (Some allowed), same) in
+      let low : i < length held =
+      let within = slice_get_within (slice_set held i bundle) place found there in omega (arith, within, length-set held i bundle, same) in
+      let low' : i < length known =
+      let within = slice_get_within (slice_set known i (Some allowed)) place (Some sections) is in
+      omega (arith, within, length-set known i (Some allowed), same) in
       let both : Some bundle ≡ Some found = sym (get-set_same held i bundle low) ∙ ap (slice_get (slice_set held i bundle)) (sym same) ∙ there in
-      let sets : Some (Some allowed) ≡ Some (Some sections) = sym (get-set_same known i (Some allowed) low') ∙ ap (slice_get (slice_set known i (Some allowed))) (sym same) ∙ is in
+      let sets : Some (Some allowed) ≡ Some (Some sections) =
+      sym (get-set_same known i (Some allowed) low') ∙ ap (slice_get (slice_set known i (Some allowed))) (sym same) ∙ is in
       let people : Some who ≡ Some other = sym listed ∙ ap (slice_get crowd.students) (sym same) ∙ told in
       let one : bundle ≡ found = cc both in
       let two : allowed ≡ sections = cc sets in
       let three : who ≡ other = cc people in
       subst (λ w. IsBest (wishes_of w.menu) (price_in prices) (raised_by raise w.budget) (set.contains sections) found) three
-      (subst (λ a. IsBest (wishes_of who.menu) (price_in prices) (raised_by raise who.budget) (set.contains a) found) two (subst (λ b. IsBest (wishes_of who.menu) (price_in prices) (raised_by raise who.budget) (set.contains allowed) b) one best))
-  | inr apart ↦ are place other found sections told (sym (get-set_other held i place bundle apart) ∙ there) (sym (get-set_other known i place (Some allowed) apart) ∙ is)
+      (subst (λ a. IsBest (wishes_of who.menu) (price_in prices) (raised_by raise who.budget) (set.contains a) found) two
+      (subst (λ b. IsBest (wishes_of who.menu) (price_in prices) (raised_by raise who.budget) (set.contains allowed) b) one best))
+  | inr apart ↦
+      are place other found sections told (sym (get-set_other held i place bundle apart) ∙ there) (sym (get-set_other known i place (Some allowed) apart) ∙ is)
 ]
 
 -- and after it kept its bundle
-pub known_kept : (crowd : CrowdData) (prices : List Tokens) (raise i : ℕ) (held : List (List ℕ)) (known : List (Option (set.FinSet nat_cmp))) (bundle : List ℕ) → AreKnown crowd prices raise held known → slice_get held i ≡ Some bundle → AreKnown crowd prices raise (slice_set held i bundle) known
+pub known_kept : (crowd : CrowdData) (prices : List Tokens) (raise i : ℕ) (held : List (List ℕ)) (known : List (Option (set.FinSet nat_cmp))) (bundle : List ℕ)
+    → AreKnown crowd prices raise held known → slice_get held i ≡ Some bundle → AreKnown crowd prices raise (slice_set held i bundle) known
 known_kept crowd prices raise i held known bundle are there = subst (λ h. AreKnown crowd prices raise h known) (sym (set_again held i bundle there)) are
 
 -- a student may choose what it holds
-pub own_allowed : (seats : List ℕ) (held : List (List ℕ)) (i : ℕ) (allowed : set.FinSet nat_cmp) → ((s : ℕ) → set.contains allowed s ≡ may_choose seats held i s) → (s : ℕ) → has (slice_index_or held i []) s ≡ true → set.contains allowed s ≡ true
+pub own_allowed : (seats : List ℕ) (held : List (List ℕ)) (i : ℕ) (allowed : set.FinSet nat_cmp)
+    → ((s : ℕ) → set.contains allowed s ≡ may_choose seats held i s) → (s : ℕ) → has (slice_index_or held i []) s ≡ true → set.contains allowed s ≡ true
 own_allowed seats held i allowed told s in_it = told s ∙ or_left (has (slice_index_or held i []) s) (is_free seats held s) in_it

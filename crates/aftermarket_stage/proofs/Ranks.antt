@@ -83,26 +83,35 @@ gap_falls (negsuc m) (negsuc u) (negsuc v) more most = omega (arith, ints)
 highest : MenuData → List ℕ
 highest menu = best menu (λ s. 0) 0 (λ s. true)
 
-at_most_highest : (menu : MenuData) (bundle : List ℕ) → IsFeasible (wishes_of menu) bundle → utility (wishes_of menu) bundle ≤ℤ utility (wishes_of menu) (highest menu)
+at_most_highest : (menu : MenuData) (bundle : List ℕ) → IsFeasible (wishes_of menu) bundle
+    → utility (wishes_of menu) bundle ≤ℤ utility (wishes_of menu) (highest menu)
 unfolding highest
 at_most_highest menu bundle feasible =
     let top : IsBest (wishes_of menu) (λ s. 0) 0 (λ s. true) (highest menu) = best-is menu (λ s. 0) 0 (λ s. true) in
-    let choice : IsChoice (wishes_of menu) (λ s. 0) 0 (λ s. true) bundle = record { feasible = feasible; affordable = let none = total_none bundle in omega (arith, none); within = λ s in_it. refl } in
+    let choice : IsChoice (wishes_of menu) (λ s. 0) 0 (λ s. true) bundle =
+    record { feasible = feasible; affordable = let none = total_none bundle in omega (arith, none); within = λ s in_it. refl } in
     elim (compared (wishes_of menu) (highest menu) bundle top.choice.feasible.set feasible.set) [
       | inl same ↦ let e = ap (utility (wishes_of menu)) same in omega (arith, ints, e)
       | inr (inl (inl less)) ↦ omega (arith, ints, less)
       | inr (inl (inr tie)) ↦ let e = tie.0 in omega (arith, ints, e)
-      | inr (inr above) ↦ absurd (not_both_preferred (wishes_of menu) bundle (highest menu) above (top.preferred bundle choice (λ e. not_preferred_itself (wishes_of menu) bundle (subst (λ b. IsPreferred (wishes_of menu) bundle b) (sym e) above))))
+      | inr (inr above) ↦
+          absurd
+          (not_both_preferred (wishes_of menu) bundle (highest menu) above
+          (top.preferred bundle choice
+          (λ e. not_preferred_itself (wishes_of menu) bundle (subst (λ b. IsPreferred (wishes_of menu) bundle b) (sym e) above))))
     ]
 
 -- the rank of a bundle of sections below n: by utility, and then by its number, the greatest with the least rank
 pub rank : ℕ → MenuData → List ℕ → ℕ
 rank n menu bundle = power n * gap (utility (wishes_of menu) (highest menu)) (utility (wishes_of menu) bundle) + (power n - number_of bundle n)
 
-pub rank_falls : (n : ℕ) (menu : MenuData) (before after : List ℕ) → IsFeasible (wishes_of menu) after → ((s : ℕ) → has after s ≡ true → s < n) → IsPreferred (wishes_of menu) after before → rank n menu after < rank n menu before
+pub rank_falls : (n : ℕ) (menu : MenuData) (before after : List ℕ) → IsFeasible (wishes_of menu) after → ((s : ℕ) → has after s ≡ true → s < n)
+    → IsPreferred (wishes_of menu) after before → rank n menu after < rank n menu before
 unfolding rank
 rank_falls n menu before after feasible below (inl more) =
-    let less = gap_falls (utility (wishes_of menu) (highest menu)) (utility (wishes_of menu) before) (utility (wishes_of menu) after) more (at_most_highest menu after feasible) in
+    let less =
+    gap_falls (utility (wishes_of menu) (highest menu)) (utility (wishes_of menu) before) (utility (wishes_of menu) after) more
+    (at_most_highest menu after feasible) in
     let times = mul-le-mul_left (power n) less in
     omega (arith, times, number_of-lt before n, number_of-lt after n)
 rank_falls n menu before after feasible below (inr (same, first)) =
@@ -133,7 +142,8 @@ left n (x ∷ xs) [] = 0
 left n (x ∷ xs) (b ∷ bs) = rank n x.menu b + left n xs bs
 
 -- of which one changes
-pub left_set : (n : ℕ) (students : List Student) (held : List (List ℕ)) (i : ℕ) (who : Student) (before after : List ℕ) → slice_get students i ≡ Some who → slice_get held i ≡ Some before
+pub left_set : (n : ℕ) (students : List Student) (held : List (List ℕ)) (i : ℕ) (who : Student) (before after : List ℕ) → slice_get students i ≡ Some who
+    → slice_get held i ≡ Some before
     → left n students (slice_set held i after) + rank n who.menu before ≡ left n students held + rank n who.menu after
 unfolding left
 left_set n [] held i who before after listed there = absurd (cc listed)

@@ -22,7 +22,8 @@ use Rattle.demand_api.proofs.Holders.{holders_set}
 use Rattle.aftermarket_stage.proofs.Ranks.{rank_falls, rated_below, left, left_set}
 
 -- a choice of some sections is one of all
-any_choice : (terms : Terms) (who : Student) (allowed : ℕ → Bool) (bundle : List ℕ) → IsChoice (wishes_of who.menu) (price_in terms.prices) (raised_by terms.raise who.budget) allowed bundle
+any_choice : (terms : Terms) (who : Student) (allowed : ℕ → Bool) (bundle : List ℕ)
+    → IsChoice (wishes_of who.menu) (price_in terms.prices) (raised_by terms.raise who.budget) allowed bundle
     → IsChoice (wishes_of who.menu) (price_in terms.prices) (raised_by terms.raise who.budget) (λ s. true) bundle
 any_choice terms who allowed bundle is = record { feasible = is.feasible; affordable = is.affordable; within = λ s in_it. refl }
 
@@ -39,32 +40,38 @@ choice_of_held terms held turn is holds = record {
 }
 
 -- a turn brings nothing new, or a preferred bundle
-pub turn_told : (terms : Terms) (held : List (List ℕ)) (turn : TurnData) → AreChoices terms held → IsTurn terms held turn → IsQuiet held turn ⊎ IsImproved terms held turn
+pub turn_told : (terms : Terms) (held : List (List ℕ)) (turn : TurnData) → AreChoices terms held → IsTurn terms held turn
+    → IsQuiet held turn ⊎ IsImproved terms held turn
 turn_told terms held turn are is =
     let holds = are.choices turn.student is.who is.listed in
     let choice = choice_of_held terms held turn is holds in
     elim (compared (wishes_of is.who.menu) holds.bundle turn.bundle holds.choice.feasible.set is.best.choice.feasible.set) [
       | inl same ↦ inl (holds.there ∙ ap (λ (b : List ℕ). Some b) same)
       | inr (inl worse) ↦ absurd (
-          let apart : holds.bundle ≢ turn.bundle = λ e. not_preferred_itself (wishes_of is.who.menu) holds.bundle (subst (λ b. IsPreferred (wishes_of is.who.menu) holds.bundle b) (sym e) worse) in
+          let apart : holds.bundle ≢ turn.bundle =
+          λ e. not_preferred_itself (wishes_of is.who.menu) holds.bundle (subst (λ b. IsPreferred (wishes_of is.who.menu) holds.bundle b) (sym e) worse) in
           not_both_preferred (wishes_of is.who.menu) holds.bundle turn.bundle worse (is.best.preferred holds.bundle choice apart)
           )
       | inr (inr better) ↦ inr (record { who = is.who; listed = is.listed; before = holds.bundle; had = holds.there; preferred = better })
     ]
 
 -- after it each student holds a choice
-pub choices_after : (terms : Terms) (held : List (List ℕ)) (turn : TurnData) → AreChoices terms held → IsTurn terms held turn → AreChoices terms (after_turn held turn)
+pub choices_after : (terms : Terms) (held : List (List ℕ)) (turn : TurnData) → AreChoices terms held → IsTurn terms held turn
+    → AreChoices terms (after_turn held turn)
 choices_after terms held turn are is = record {
   each = length-set held turn.student turn.bundle ∙ are.each;
   choices = λ place who listed. elim (cases_eq place turn.student) [
     | inl here ↦
         let both : Some who ≡ Some is.who = sym listed ∙ ap (slice_get terms.crowd.students) here ∙ is.listed in
         let same : is.who ≡ who = cc both in
-        let low : turn.student < length held = let size = are.each in let within = slice_get_within terms.crowd.students turn.student is.who is.listed in omega arith in
+        let low : turn.student < length held =
+        let size = are.each in let within = slice_get_within terms.crowd.students turn.student is.who is.listed in omega arith in
         record {
           bundle = turn.bundle;
           there = ap (slice_get (slice_set held turn.student turn.bundle)) here ∙ get-set_same held turn.student turn.bundle low;
-          choice = subst (λ w. IsChoice (wishes_of w.menu) (price_in terms.prices) (raised_by terms.raise w.budget) (λ s. true) turn.bundle) same (any_choice terms is.who turn.allowed turn.bundle is.best.choice);
+          choice =
+              subst (λ w. IsChoice (wishes_of w.menu) (price_in terms.prices) (raised_by terms.raise w.budget) (λ s. true) turn.bundle) same
+              (any_choice terms is.who turn.allowed turn.bundle is.best.choice);
         }
     | inr apart ↦
         let holds = are.choices place who listed in
@@ -87,9 +94,11 @@ listed_within crowd i who is listed =
     subst (λ w. IsWithin crowd.sections w.menu) here (is.menus i who low)
 
 -- the sections of a bundle that may be taken are the crowd's
-pub choice_below : (crowd : CrowdData) (price : ℕ → ℕ) (budget i : ℕ) (who : Student) (allowed : ℕ → Bool) (bundle : List ℕ) → IsCrowd crowd → slice_get crowd.students i ≡ Some who → IsChoice (wishes_of who.menu) price budget allowed bundle
+pub choice_below : (crowd : CrowdData) (price : ℕ → ℕ) (budget i : ℕ) (who : Student) (allowed : ℕ → Bool) (bundle : List ℕ) → IsCrowd crowd
+    → slice_get crowd.students i ≡ Some who → IsChoice (wishes_of who.menu) price budget allowed bundle
     → (s : ℕ) → has bundle s ≡ true → s < crowd.sections
-choice_below crowd price budget i who allowed bundle known listed choice s in_it = rated_below crowd.sections who.menu (listed_within crowd i who known listed) s (choice.feasible.rated s in_it)
+choice_below crowd price budget i who allowed bundle known listed choice s in_it =
+    rated_below crowd.sections who.menu (listed_within crowd i who known listed) s (choice.feasible.rated s in_it)
 
 -- what is left falls with a change
 left_falls : (terms : Terms) (held : List (List ℕ)) (turn : TurnData) → IsCrowd terms.crowd → IsTurn terms held turn → IsImproved terms held turn
@@ -97,17 +106,25 @@ left_falls : (terms : Terms) (held : List (List ℕ)) (turn : TurnData) → IsCr
 left_falls terms held turn known is change =
     let both : Some is.who ≡ Some change.who = sym is.listed ∙ change.listed in
     let same : is.who ≡ change.who = cc both in
-    let choice = subst (λ w. IsChoice (wishes_of w.menu) (price_in terms.prices) (raised_by terms.raise w.budget) turn.allowed turn.bundle) same is.best.choice in
-    let less = rank_falls terms.crowd.sections change.who.menu change.before turn.bundle choice.feasible (choice_below terms.crowd (price_in terms.prices) (raised_by terms.raise change.who.budget) turn.student change.who turn.allowed turn.bundle known change.listed choice) change.preferred in
+    let choice =
+    subst (λ w. IsChoice (wishes_of w.menu) (price_in terms.prices) (raised_by terms.raise w.budget) turn.allowed turn.bundle) same is.best.choice in
+    let less =
+    rank_falls terms.crowd.sections change.who.menu change.before turn.bundle choice.feasible
+    (choice_below terms.crowd (price_in terms.prices) (raised_by terms.raise change.who.budget) turn.student change.who turn.allowed turn.bundle known
+    change.listed choice)
+    change.preferred in
     let sums = left_set terms.crowd.sections terms.crowd.students held turn.student change.who change.before turn.bundle change.listed change.had in
     omega (arith, less, sums)
 
 -- what some turns come to: each student holds a choice after them; and they bring nothing new, or less is left
 pub record Comes (terms : Terms) (held : List (List ℕ)) (turns : List TurnData) : Type 0 where
   pub choices : AreChoices terms (after_turns held turns)
-  pub told : (EachTurn IsQuiet held turns × (after_turns held turns ≡ held)) ⊎ ((¬ EachTurn IsQuiet held turns) × (left terms.crowd.sections terms.crowd.students (after_turns held turns) < left terms.crowd.sections terms.crowd.students held))
+  pub told : (EachTurn IsQuiet held turns × (after_turns held turns ≡ held))
+      ⊎ ((¬ EachTurn IsQuiet held turns)
+      × (left terms.crowd.sections terms.crowd.students (after_turns held turns) < left terms.crowd.sections terms.crowd.students held))
 
-pub comes : (terms : Terms) (held : List (List ℕ)) (turns : List TurnData) → IsCrowd terms.crowd → AreChoices terms held → EachTurn (IsTurn terms) held turns → Comes terms held turns
+pub comes : (terms : Terms) (held : List (List ℕ)) (turns : List TurnData) → IsCrowd terms.crowd → AreChoices terms held → EachTurn (IsTurn terms) held turns
+    → Comes terms held turns
 comes terms held [] known are each = record { choices = are; told = inl (tt, refl) }
 comes terms held (turn ∷ turns) known are each =
     let rest = comes terms (after_turn held turn) turns known (choices_after terms held turn are each.0) each.1 in
@@ -118,7 +135,11 @@ comes terms held (turn ∷ turns) known are each =
             let same : after_turn held turn ≡ held = set_again held turn.student turn.bundle quiet in
             elim rest.told [
               | inl none ↦ inl ((quiet, none.0), none.1 ∙ same)
-              | inr some ↦ inr (λ all. some.0 all.1, let even = ap (left terms.crowd.sections terms.crowd.students) same in let less = some.1 in omega (arith, even, less))
+              | inr some ↦
+                  inr (
+                    λ all. some.0 all.1,
+                    let even = ap (left terms.crowd.sections terms.crowd.students) same in let less = some.1 in omega (arith, even, less),
+                  )
             ]
         | inr change ↦
             let less = left_falls terms held turn known each.0 change in
@@ -141,7 +162,9 @@ start_choices terms = record {
       let is = best-is who.menu (price_in terms.prices) who.budget (λ s. nat_lt s terms.crowd.sections) in
       record {
         bundle = demand terms.crowd.sections (price_in terms.prices) who;
-        there = slice_get-map (demand terms.crowd.sections (price_in terms.prices)) terms.crowd.students place ∙ ap (option_map (demand terms.crowd.sections (price_in terms.prices))) listed;
+        there =
+            slice_get-map (demand terms.crowd.sections (price_in terms.prices)) terms.crowd.students place
+            ∙ ap (option_map (demand terms.crowd.sections (price_in terms.prices))) listed;
         choice = record {
           feasible = is.choice.feasible;
           affordable = let within = is.choice.affordable in omega (arith, within);
@@ -151,15 +174,18 @@ start_choices terms = record {
 }
 
 -- turns after turns
-pub each_append : (Wanted : List (List ℕ) → TurnData → Type 0) (held : List (List ℕ)) (xs ys : List TurnData) → EachTurn Wanted held xs → EachTurn Wanted (after_turns held xs) ys → EachTurn Wanted held (xs ++ ys)
+pub each_append : (Wanted : List (List ℕ) → TurnData → Type 0) (held : List (List ℕ)) (xs ys : List TurnData) → EachTurn Wanted held xs
+    → EachTurn Wanted (after_turns held xs) ys → EachTurn Wanted held (xs ++ ys)
 each_append Wanted held [] ys one two = two
 each_append Wanted held (x ∷ xs) ys one two = (one.0, each_append Wanted (after_turn held x) xs ys one.1 two)
 
-pub each_front : (Wanted : List (List ℕ) → TurnData → Type 0) (held : List (List ℕ)) (xs ys : List TurnData) → EachTurn Wanted held (xs ++ ys) → EachTurn Wanted held xs
+pub each_front : (Wanted : List (List ℕ) → TurnData → Type 0) (held : List (List ℕ)) (xs ys : List TurnData) → EachTurn Wanted held (xs ++ ys)
+    → EachTurn Wanted held xs
 each_front Wanted held [] ys all = tt
 each_front Wanted held (x ∷ xs) ys all = (all.0, each_front Wanted (after_turn held x) xs ys all.1)
 
-pub each_later : (Wanted : List (List ℕ) → TurnData → Type 0) (held : List (List ℕ)) (xs ys : List TurnData) → EachTurn Wanted held (xs ++ ys) → EachTurn Wanted (after_turns held xs) ys
+pub each_later : (Wanted : List (List ℕ) → TurnData → Type 0) (held : List (List ℕ)) (xs ys : List TurnData) → EachTurn Wanted held (xs ++ ys)
+    → EachTurn Wanted (after_turns held xs) ys
 each_later Wanted held [] ys all = all
 each_later Wanted held (x ∷ xs) ys all = each_later Wanted (after_turn held x) xs ys all.1
 
@@ -168,12 +194,14 @@ after_append held [] ys = refl
 after_append held (x ∷ xs) ys = after_append (after_turn held x) xs ys
 
 -- choices stay choices after any turns
-pub choices_stay : (terms : Terms) (held : List (List ℕ)) (turns : List TurnData) → AreChoices terms held → EachTurn (IsTurn terms) held turns → AreChoices terms (after_turns held turns)
+pub choices_stay : (terms : Terms) (held : List (List ℕ)) (turns : List TurnData) → AreChoices terms held → EachTurn (IsTurn terms) held turns
+    → AreChoices terms (after_turns held turns)
 choices_stay terms held [] are each = are
 choices_stay terms held (turn ∷ turns) are each = choices_stay terms (after_turn held turn) turns (choices_after terms held turn are each.0) each.1
 
 -- a turn keeps within seats
-within_after : (terms : Terms) (sections : ℕ) (held : List (List ℕ)) (turn : TurnData) → AreHeldWithin sections terms.seats held → IsTurn terms held turn → AreHeldWithin sections terms.seats (after_turn held turn)
+within_after : (terms : Terms) (sections : ℕ) (held : List (List ℕ)) (turn : TurnData) → AreHeldWithin sections terms.seats held → IsTurn terms held turn
+    → AreHeldWithin sections terms.seats (after_turn held turn)
 within_after terms sections held turn within is s low = elim (slice_get_cases held turn.student).1 [
   | inl (before, inside, there, read) ↦
       let sums = holders_set s held turn.student before turn.bundle there in
@@ -196,6 +224,8 @@ within_after terms sections held turn within is s low = elim (slice_get_cases he
       subst (λ h. holders s h ≤ slice_index terms.seats s) (sym same) (within s low)
 ]
 
-pub within_stays : (terms : Terms) (sections : ℕ) (held : List (List ℕ)) (turns : List TurnData) → AreHeldWithin sections terms.seats held → EachTurn (IsTurn terms) held turns → AreHeldWithin sections terms.seats (after_turns held turns)
+pub within_stays : (terms : Terms) (sections : ℕ) (held : List (List ℕ)) (turns : List TurnData) → AreHeldWithin sections terms.seats held
+    → EachTurn (IsTurn terms) held turns → AreHeldWithin sections terms.seats (after_turns held turns)
 within_stays terms sections held [] within each = within
-within_stays terms sections held (turn ∷ turns) within each = within_stays terms sections (after_turn held turn) turns (within_after terms sections held turn within each.0) each.1
+within_stays terms sections held (turn ∷ turns) within each =
+    within_stays terms sections (after_turn held turn) turns (within_after terms sections held turn within each.0) each.1

@@ -10,7 +10,13 @@ use Rattle.aftermarket_stage.specs.Turns.{Terms, TurnData}
 
 -- the terms of a crowd with these seats, prices and raise
 abbrev pub terms_of : Crowd → List ℕ → List Tokens → ℕ → Terms
-terms_of crowd seats prices raise = record { crowd = crowd_of crowd.menus.items crowd.budgets.items crowd.sections; seats = seats; prices = prices; raise = raise }
+terms_of crowd seats prices raise =
+    record {
+      crowd = crowd_of crowd.menus.items crowd.budgets.items crowd.sections;
+      seats = seats;
+      prices = prices;
+      raise = raise;
+    }
 
 -- one price for each section, each at most 1,000,001
 pub record AreSectionPrices (sections : ℕ) (prices : List Tokens) : Type 0 where
@@ -19,7 +25,13 @@ pub record AreSectionPrices (sections : ℕ) (prices : List Tokens) : Type 0 whe
 
 -- a turn as plain data
 abbrev pub turn_of : Turn → TurnData
-turn_of turn = record { pass = turn.pass; student = turn.student.0; allowed = set.contains turn.allowed; bundle = sections_of turn.bundle }
+turn_of turn =
+    record {
+      pass = turn.pass;
+      student = turn.student.0;
+      allowed = set.contains turn.allowed;
+      bundle = sections_of turn.bundle;
+    }
 
 -- these turns as plain data, in their order
 abbrev pub turns_of : List Turn → List TurnData

@@ -14,31 +14,45 @@ use Rattle.aftermarket_stage.specs.Turns.{Terms}
 use Rattle.aftermarket_stage.specs.After.{AreSectionPrices}
 
 -- a student and what it holds: a bundle that it may take and afford with the raise
-pub record HoldsChoice (terms : Terms) (held : List (List ℕ)) (who : Student) (place : ℕ) : Type 0 where
+pub record HoldsChoice (terms : Terms) (held : List (List ℕ)) (who : Student)
+    (place : ℕ) : Type 0 where
   pub bundle : List ℕ
   pub there : slice_get held place ≡ Some bundle
-  pub choice : IsChoice (wishes_of who.menu) (price_in terms.prices) (raised_by terms.raise who.budget) (λ s. true) bundle
+  pub choice : IsChoice (wishes_of who.menu) (price_in terms.prices)
+      (raised_by terms.raise who.budget) (λ s. true) bundle
 
 -- each student holds a bundle that it may take and afford with the raise
 pub record AreChoices (terms : Terms) (held : List (List ℕ)) : Type 0 where
   pub each : length held ≡ length terms.crowd.students
-  pub choices : (place : ℕ) (who : Student) → slice_get terms.crowd.students place ≡ Some who → HoldsChoice terms held who place
+  pub choices : (place : ℕ) (who : Student) → slice_get terms.crowd.students place ≡ Some who
+      → HoldsChoice terms held who place
 
--- what a stage may be held with: a whole crowd, a seat number and a price for each section, and a raise of at most 50 percent
-pub record AreTerms (crowd : Crowd) (seats : List ℕ) (prices : List Tokens) (raise : ℕ) : Type 0 where
+-- what a stage may be held with: a whole crowd, a seat number and a price for each section, and a
+-- raise of at most 50 percent
+pub record AreTerms (crowd : Crowd) (seats : List ℕ) (prices : List Tokens)
+    (raise : ℕ) : Type 0 where
   pub whole : MakeCrowd crowd.menus.items crowd.budgets.items crowd.sections
   pub seats_each : length seats ≡ crowd.sections
   pub prices_each : AreSectionPrices crowd.sections prices
   pub raise_low : raise ≤ 50
 
--- where sections are known of a student, the bundle that it holds is the best of these within its raised budget
-abbrev pub AreKnown : CrowdData → List Tokens → ℕ → List (List ℕ) → List (Option (set.FinSet nat_cmp)) → Type 0
+-- where sections are known of a student, the bundle that it holds is the best of these within its
+-- raised budget
+abbrev pub AreKnown : CrowdData → List Tokens → ℕ → List (List ℕ)
+    → List (Option (set.FinSet nat_cmp)) → Type 0
 AreKnown crowd prices raise held known =
-    (place : ℕ) (who : Student) (bundle : List ℕ) (sections : set.FinSet nat_cmp) → slice_get crowd.students place ≡ Some who → slice_get held place ≡ Some bundle → slice_get known place ≡ Some (Some sections)
-    → IsBest (wishes_of who.menu) (price_in prices) (raised_by raise who.budget) (set.contains sections) bundle
+    (place : ℕ) (who : Student) (bundle : List ℕ) (sections : set.FinSet nat_cmp)
+    → slice_get crowd.students place ≡ Some who → slice_get held place ≡ Some bundle
+    → slice_get known place ≡ Some (Some sections)
+    → IsBest (wishes_of who.menu) (price_in prices) (raised_by raise who.budget)
+    (set.contains sections) bundle
 
 -- sections are known of a student, and those at these places that are allowed are among them
-pub record IsSettled (known : List (Option (set.FinSet nat_cmp))) (place : ℕ) (places : List Rated) (allowed : set.FinSet nat_cmp) : Type 0 where
+pub record IsSettled (known : List (Option (set.FinSet nat_cmp))) (place : ℕ) (places : List Rated)
+    (allowed : set.FinSet nat_cmp) : Type 0 where
   pub sections : set.FinSet nat_cmp
   pub are_known : slice_get known place ≡ Some (Some sections)
-  pub none_new : All (λ rated. IsTrue (set.contains sections rated.section.0 || not (set.contains allowed rated.section.0))) places
+  pub none_new : All
+      (λ rated. IsTrue
+      (set.contains sections rated.section.0 || not (set.contains allowed rated.section.0)))
+      places

@@ -22,18 +22,29 @@ pub record IsImproved (terms : Terms) (held : List (List ℕ)) (turn : TurnData)
 
 -- a turn changes nothing, or it is to a preferred bundle
 abbrev pub ChangesArePreferred : Type 0
-ChangesArePreferred = (terms : Terms) (turns : List TurnData) (passes : ℕ) → IsAftermarket terms (start_of terms) turns passes → (front later : List TurnData) (turn : TurnData) → turns ≡ front ++ turn ∷ later
-    → IsQuiet (after_turns (start_of terms) front) turn ⊎ IsImproved terms (after_turns (start_of terms) front) turn
+ChangesArePreferred =
+    (terms : Terms) (turns : List TurnData) (passes : ℕ)
+    → IsAftermarket terms (start_of terms) turns passes
+    → (front later : List TurnData) (turn : TurnData) → turns ≡ front ++ turn ∷ later
+    → IsQuiet (after_turns (start_of terms) front) turn
+    ⊎ IsImproved terms (after_turns (start_of terms) front) turn
 
 -- so the aftermarket ends
 abbrev pub AftermarketEnds : Type 0
-AftermarketEnds = (terms : Terms) → IsCrowd terms.crowd → (turns : List TurnData) × (passes : ℕ) × IsAftermarket terms (start_of terms) turns passes
+AftermarketEnds =
+    (terms : Terms) → IsCrowd terms.crowd
+    → (turns : List TurnData) × (passes : ℕ) × IsAftermarket terms (start_of terms) turns passes
 
 -- and it is one
 abbrev pub OneAftermarket : Type 0
-OneAftermarket = (terms : Terms) (start : List (List ℕ)) (one other : List TurnData) (m n : ℕ) → IsAftermarket terms start one m → IsAftermarket terms start other n → (one ≡ other) × (m ≡ n)
+OneAftermarket =
+    (terms : Terms) (start : List (List ℕ)) (one other : List TurnData) (m n : ℕ)
+    → IsAftermarket terms start one m → IsAftermarket terms start other n → (one ≡ other) × (m ≡ n)
 
 -- no section exceeds its seats after any turn
 abbrev pub StaysWithinSeats : Type 0
-StaysWithinSeats = (terms : Terms) (start : List (List ℕ)) (turns : List TurnData) (passes : ℕ) → AreHeldWithin terms.crowd.sections terms.seats start → IsAftermarket terms start turns passes
-    → (front later : List TurnData) → turns ≡ front ++ later → AreHeldWithin terms.crowd.sections terms.seats (after_turns start front)
+StaysWithinSeats =
+    (terms : Terms) (start : List (List ℕ)) (turns : List TurnData) (passes : ℕ)
+    → AreHeldWithin terms.crowd.sections terms.seats start → IsAftermarket terms start turns passes
+    → (front later : List TurnData) → turns ≡ front ++ later
+    → AreHeldWithin terms.crowd.sections terms.seats (after_turns start front)

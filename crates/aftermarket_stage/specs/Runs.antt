@@ -10,13 +10,16 @@ use Rattle.aftermarket_stage.specs.Passes.{due_of}
 use Rattle.aftermarket_stage.specs.After.{turn_of, turns_of}
 
 -- the bundle is the best that the student at this place may take of these sections with the raise
-pub record IsBestAt (terms : Terms) (place : ℕ) (allowed : ℕ → Bool) (bundle : List ℕ) : Type 0 where
+pub record IsBestAt (terms : Terms) (place : ℕ) (allowed : ℕ → Bool)
+    (bundle : List ℕ) : Type 0 where
   pub who : Student
   pub listed : slice_get terms.crowd.students place ≡ Some who
-  pub best : IsBest (wishes_of who.menu) (price_in terms.prices) (raised_by terms.raise who.budget) allowed bundle
+  pub best : IsBest (wishes_of who.menu) (price_in terms.prices) (raised_by terms.raise who.budget)
+      allowed bundle
 
 -- one turn more was made, and what is held is what is held after it
-pub record HasTurned (terms : Terms) (pass student : ℕ) (held later : List (List ℕ)) (before after : List Turn) (changed : Bool) : Type 0 where
+pub record HasTurned (terms : Terms) (pass student : ℕ) (held later : List (List ℕ))
+    (before after : List Turn) (changed : Bool) : Type 0 where
   pub turn : Turn
   pub made : after ≡ before ++ turn ∷ []
   pub number : turn.pass ≡ pass
@@ -31,7 +34,8 @@ abbrev pub due_of_pass : ℕ → List ℕ → List (ℕ × ℕ)
 due_of_pass pass students = map (λ student. (pass, student)) students
 
 -- turns were made for these students, in their order, and what is held is what is held after them
-pub record HaveTurned (terms : Terms) (pass : ℕ) (students : List ℕ) (held later : List (List ℕ)) (before after : List Turn) (changed : Bool) : Type 0 where
+pub record HaveTurned (terms : Terms) (pass : ℕ) (students : List ℕ) (held later : List (List ℕ))
+    (before after : List Turn) (changed : Bool) : Type 0 where
   pub turns : List Turn
   pub made : after ≡ before ++ turns
   pub due : map due_of (turns_of turns) ≡ due_of_pass pass students

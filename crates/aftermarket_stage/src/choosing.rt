@@ -15,7 +15,8 @@ use demand_oracle::{Workspace, demand};
 use market_units::{NoMemory, SectionNo, SectionSet, Tokens};
 use std::alloc::Global;
 
-// Room for demands, and for each student the sections of which the bundle that it holds is known to be the best.
+// Room for demands, and for each student the sections of which the bundle that it holds is known to
+// be the best.
 #[derive(Drop)]
 pub(crate) struct Chooser {
     workspace: Workspace,
@@ -38,8 +39,9 @@ impl Chooser {
         })
     }
 
-    // The best bundle of allowed sections of the student at this place, within its raised budget. What the student
-    // holds is allowed: where nothing else on its menu is new since its bundle was found, the bundle is still the best.
+    // The best bundle of allowed sections of the student at this place, within its raised budget.
+    // What the student holds is allowed: where nothing else on its menu is new since its bundle was
+    // found, the bundle is still the best.
     pub(crate) fn best_at(
         &mut self,
         crowd: &Crowd,
@@ -49,17 +51,26 @@ impl Chooser {
         held: &[Bundle],
         place: usize,
     ) -> Bundle
-        requires crowd { MakeCrowd crowd.now.menus.items crowd.now.budgets.items crowd.now.sections }
+        requires crowd { MakeCrowd crowd.now.menus.items crowd.now.budgets.items
+            crowd.now.sections }
         requires prices { AreSectionPrices crowd.now.sections prices.now }
         requires raise { raise ≤ 50 }
         requires place { place < length crowd.now.menus.items }
         requires students { length held.now ≡ length crowd.now.menus.items }
         requires size { length self.old.known.items ≡ length crowd.now.menus.items }
-        requires held { (s : ℕ) → has (slice_index_or (map sections_of held.now) place []) s ≡ true → set.contains allowed.now s ≡ true }
-        requires known { AreKnown (crowd_of crowd.now.menus.items crowd.now.budgets.items crowd.now.sections) prices.now raise (map sections_of held.now) self.old.known.items }
-        ensures best { (seats : List ℕ) → IsBestAt (terms_of crowd.now seats prices.now raise) place (set.contains allowed.now) (sections_of result) }
+        requires held { (s : ℕ) → has (slice_index_or (map sections_of held.now) place []) s ≡ true
+            → set.contains allowed.now s ≡ true }
+        requires known { AreKnown
+            (crowd_of crowd.now.menus.items crowd.now.budgets.items crowd.now.sections) prices.now
+            raise (map sections_of held.now) self.old.known.items }
+        ensures best { (seats : List ℕ)
+            → IsBestAt (terms_of crowd.now seats prices.now raise) place (set.contains allowed.now)
+            (sections_of result) }
         ensures size { length self.new.known.items ≡ length self.old.known.items }
-        ensures known { AreKnown (crowd_of crowd.now.menus.items crowd.now.budgets.items crowd.now.sections) prices.now raise (slice_set (map sections_of held.now) place (sections_of result)) self.new.known.items }
+        ensures known { AreKnown
+            (crowd_of crowd.now.menus.items crowd.now.budgets.items crowd.now.sections) prices.now
+            raise (slice_set (map sections_of held.now) place (sections_of result))
+            self.new.known.items }
     {
         let menu = &crowd.menus[place];
         if self.is_settled(menu.places(), allowed, place) {
@@ -71,8 +82,8 @@ impl Chooser {
         bundle
     }
 
-    // Whether the held bundle of the student at this place is known to be the best of sections among which are all of
-    // these that are on its menu.
+    // Whether the held bundle of the student at this place is known to be the best of sections
+    // among which are all of these that are on its menu.
     fn is_settled(&self, places: &[Rated], allowed: &SectionSet, place: usize) -> bool
         requires place { place < length self.now.known.items }
         requires low { All (λ rated. rated.section.0 < 400) places.now }
@@ -88,7 +99,12 @@ impl Chooser {
 // Whether each of these sections that is allowed is among the known ones.
 fn none_new(places: &[Rated], known: &SectionSet, allowed: &SectionSet) -> bool
     requires { All (λ rated. rated.section.0 < 400) places.now }
-    ensures { IsTrue result → All (λ rated. IsTrue (set.contains known.now rated.section.0 || not (set.contains allowed.now rated.section.0))) places.now }
+    ensures { IsTrue result
+        → All
+        (λ rated. IsTrue
+        (set.contains known.now rated.section.0
+        || not (set.contains allowed.now rated.section.0)))
+        places.now }
 {
     places
         .iter()
@@ -97,7 +113,8 @@ fn none_new(places: &[Rated], known: &SectionSet, allowed: &SectionSet) -> bool
 
 fn is_old(section: SectionNo, known: &SectionSet, allowed: &SectionSet) -> bool
     requires { section.0 < 400 }
-    ensures { result ≡ (set.contains known.now section.0 || not (set.contains allowed.now section.0)) }
+    ensures { result
+        ≡ (set.contains known.now section.0 || not (set.contains allowed.now section.0)) }
 {
     known.has(section) || !allowed.has(section)
 }

@@ -1,7 +1,8 @@
 //! What holds of the aftermarket: each call here does nothing, and its contract is a law.
 ghost use Rattle.aftermarket_stage.specs.Laws.{ChangesArePreferred, AftermarketEnds, OneAftermarket, StaysWithinSeats};
 
-/// A turn changes nothing, or it is to a preferred bundle: the held one stays allowed and affordable.
+/// A turn changes nothing, or it is to a preferred bundle: the held one stays allowed and
+/// affordable.
 pub fn changes_are_preferred()
     ensures { ChangesArePreferred }
 {}

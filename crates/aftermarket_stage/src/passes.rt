@@ -31,15 +31,16 @@ struct Stage {
     turns: Vec<Turn>,
 }
 
-/// The aftermarket of a crowd. In a pass each student has one turn, by budgets before any raise, the greatest first,
-/// and of equal budgets the lowest ordinal first. At a turn a section is free when fewer students hold it than it has
-/// seats, and the student's bundle becomes the best of held and free sections within the student's budget raised by
-/// `raise` percent, at the same prices. The first pass without a change is the last; without students there is none.
+/// The aftermarket of a crowd. In a pass each student has one turn, by budgets before any raise,
+/// the greatest first, and of equal budgets the lowest ordinal first. At a turn a section is free
+/// when fewer students hold it than it has seats, and the student's bundle becomes the best of held
+/// and free sections within the student's budget raised by `raise` percent, at the same prices. The
+/// first pass without a change is the last; without students there is none.
 ///
-/// There are one seat number and one price for each section, each price at most 1,000,001, and a raise of at most 50.
-/// The bundles are what each student takes at the prices, in file order, and no section has more of them than seats.
-/// There is no limit of passes: each but the last brings some student a bundle that it prefers. The one error is the
-/// want of memory.
+/// There are one seat number and one price for each section, each price at most 1,000,001, and a
+/// raise of at most 50. The bundles are what each student takes at the prices, in file order, and
+/// no section has more of them than seats. There is no limit of passes: each but the last brings
+/// some student a bundle that it prefers. The one error is the want of memory.
 pub fn aftermarket(
     alloc: Global,
     crowd: &Crowd,
@@ -51,13 +52,24 @@ pub fn aftermarket(
     requires crowd { MakeCrowd crowd.now.menus.items crowd.now.budgets.items crowd.now.sections }
     requires seats { length seats.now ≡ crowd.now.sections }
     requires prices { AreSectionPrices crowd.now.sections prices.now }
-    requires demands { map sections_of bundles.now ≡ demands (crowd_of crowd.now.menus.items crowd.now.budgets.items crowd.now.sections) (price_in prices.now) }
+    requires demands { map sections_of bundles.now
+        ≡ demands (crowd_of crowd.now.menus.items crowd.now.budgets.items crowd.now.sections)
+        (price_in prices.now) }
     requires within { AreHeldWithin crowd.now.sections seats.now (map sections_of bundles.now) }
     requires raise { raise ≤ 50 }
-    ensures turns { IfOk result (λ after. IsAftermarket (terms_of crowd.now seats.now prices.now raise) (map sections_of bundles.now) (turns_of after.turns.items) after.passes) }
-    ensures bundles { IfOk result (λ after. map sections_of after.bundles.items ≡ after_turns (map sections_of bundles.now) (turns_of after.turns.items)) }
-    ensures used { IfOk result (λ after. after.used.items ≡ map (λ s. holders s (map sections_of after.bundles.items)) (places_from 0 crowd.now.sections)) }
-    ensures within { IfOk result (λ after. AreHeldWithin crowd.now.sections seats.now (map sections_of after.bundles.items)) }
+    ensures turns { IfOk result
+        (λ after. IsAftermarket (terms_of crowd.now seats.now prices.now raise)
+        (map sections_of bundles.now) (turns_of after.turns.items) after.passes) }
+    ensures bundles { IfOk result
+        (λ after. map sections_of after.bundles.items
+        ≡ after_turns (map sections_of bundles.now) (turns_of after.turns.items)) }
+    ensures used { IfOk result
+        (λ after. after.used.items
+        ≡ map (λ s. holders s (map sections_of after.bundles.items))
+        (places_from 0 crowd.now.sections)) }
+    ensures within { IfOk result
+        (λ after. AreHeldWithin crowd.now.sections seats.now
+        (map sections_of after.bundles.items)) }
 {
     let order = after_order(alloc, &crowd.budgets)?;
     let mut stage = Stage::open(alloc, seats, bundles)?;
@@ -78,8 +90,10 @@ impl Stage {
         requires below { AreBelow (length seats.now) (map sections_of bundles.now) }
         ensures turns { IfOk result (λ stage. stage.turns.items ≡ []) }
         ensures held { IfOk result (λ stage. held_on stage.floor ≡ map sections_of bundles.now) }
-        ensures size { IfOk result (λ stage. length stage.chooser.known.items ≡ length bundles.now) }
-        ensures none { IfOk result (λ stage. All (λ known. known ≡ None) stage.chooser.known.items) }
+        ensures size { IfOk result
+            (λ stage. length stage.chooser.known.items ≡ length bundles.now) }
+        ensures none { IfOk result
+            (λ stage. All (λ known. known ≡ None) stage.chooser.known.items) }
         ensures floor { IfOk result (λ stage. IsFloor seats.now stage.floor) }
     {
         Ok(Stage {
@@ -101,14 +115,24 @@ impl Stage {
     ) -> Result<bool, NoMemory>
         requires terms { AreTerms crowd.now seats.now prices.now raise }
         requires order { All (λ student. student.0 < length crowd.now.menus.items) order.now }
-        requires choices { AreChoices (terms_of crowd.now seats.now prices.now raise) (held_on self.old.floor) }
+        requires choices { AreChoices (terms_of crowd.now seats.now prices.now raise)
+            (held_on self.old.floor) }
         requires floor { IsFloor seats.now self.old.floor }
         requires size { length self.old.chooser.known.items ≡ length crowd.now.menus.items }
-        requires known { AreKnown (crowd_of crowd.now.menus.items crowd.now.budgets.items crowd.now.sections) prices.now raise (held_on self.old.floor) self.old.chooser.known.items }
-        ensures turns { IfOk result (λ changed. HaveTurned (terms_of crowd.now seats.now prices.now raise) pass (map (λ student. student.0) order.now) (held_on self.old.floor) (held_on self.new.floor) self.old.turns.items self.new.turns.items changed) }
+        requires known { AreKnown
+            (crowd_of crowd.now.menus.items crowd.now.budgets.items crowd.now.sections) prices.now
+            raise (held_on self.old.floor) self.old.chooser.known.items }
+        ensures turns { IfOk result
+            (λ changed. HaveTurned (terms_of crowd.now seats.now prices.now raise) pass
+            (map (λ student. student.0) order.now) (held_on self.old.floor)
+            (held_on self.new.floor) self.old.turns.items self.new.turns.items changed) }
         ensures floor { IfOk result (λ changed. IsFloor seats.now self.new.floor) }
-        ensures size { IfOk result (λ changed. length self.new.chooser.known.items ≡ length self.old.chooser.known.items) }
-        ensures known { IfOk result (λ changed. AreKnown (crowd_of crowd.now.menus.items crowd.now.budgets.items crowd.now.sections) prices.now raise (held_on self.new.floor) self.new.chooser.known.items) }
+        ensures size { IfOk result
+            (λ changed. length self.new.chooser.known.items ≡ length self.old.chooser.known.items) }
+        ensures known { IfOk result
+            (λ changed. AreKnown
+            (crowd_of crowd.now.menus.items crowd.now.budgets.items crowd.now.sections)
+            prices.now raise (held_on self.new.floor) self.new.chooser.known.items) }
     {
         let mut changed = false;
         for student in order {
@@ -129,14 +153,24 @@ impl Stage {
     ) -> Result<bool, NoMemory>
         requires terms { AreTerms crowd.now seats.now prices.now raise }
         requires student { student.0 < length crowd.now.menus.items }
-        requires choices { AreChoices (terms_of crowd.now seats.now prices.now raise) (held_on self.old.floor) }
+        requires choices { AreChoices (terms_of crowd.now seats.now prices.now raise)
+            (held_on self.old.floor) }
         requires floor { IsFloor seats.now self.old.floor }
         requires size { length self.old.chooser.known.items ≡ length crowd.now.menus.items }
-        requires known { AreKnown (crowd_of crowd.now.menus.items crowd.now.budgets.items crowd.now.sections) prices.now raise (held_on self.old.floor) self.old.chooser.known.items }
-        ensures turn { IfOk result (λ changed. HasTurned (terms_of crowd.now seats.now prices.now raise) pass student.0 (held_on self.old.floor) (held_on self.new.floor) self.old.turns.items self.new.turns.items changed) }
+        requires known { AreKnown
+            (crowd_of crowd.now.menus.items crowd.now.budgets.items crowd.now.sections) prices.now
+            raise (held_on self.old.floor) self.old.chooser.known.items }
+        ensures turn { IfOk result
+            (λ changed. HasTurned (terms_of crowd.now seats.now prices.now raise) pass student.0
+            (held_on self.old.floor) (held_on self.new.floor) self.old.turns.items
+            self.new.turns.items changed) }
         ensures floor { IfOk result (λ changed. IsFloor seats.now self.new.floor) }
-        ensures size { IfOk result (λ changed. length self.new.chooser.known.items ≡ length self.old.chooser.known.items) }
-        ensures known { IfOk result (λ changed. AreKnown (crowd_of crowd.now.menus.items crowd.now.budgets.items crowd.now.sections) prices.now raise (held_on self.new.floor) self.new.chooser.known.items) }
+        ensures size { IfOk result
+            (λ changed. length self.new.chooser.known.items ≡ length self.old.chooser.known.items) }
+        ensures known { IfOk result
+            (λ changed. AreKnown
+            (crowd_of crowd.now.menus.items crowd.now.budgets.items crowd.now.sections)
+            prices.now raise (held_on self.new.floor) self.new.chooser.known.items) }
     {
         let place = usize::from(student.0);
         let allowed = self.floor.choices(place);

@@ -19,7 +19,10 @@ use std::test::Fail;
 fn taken(alloc: Global, crowd: &Crowd, prices: &[Tokens]) -> Result<Vec<Bundle>, NoMemory>
     requires crowd { MakeCrowd crowd.now.menus.items crowd.now.budgets.items crowd.now.sections }
     requires prices { AreSectionPrices crowd.now.sections prices.now }
-    ensures { IfOk result (λ bundles. map sections_of bundles.items ≡ demands (crowd_of crowd.now.menus.items crowd.now.budgets.items crowd.now.sections) (price_in prices.now)) }
+    ensures { IfOk result
+        (λ bundles. map sections_of bundles.items
+        ≡ demands (crowd_of crowd.now.menus.items crowd.now.budgets.items crowd.now.sections)
+        (price_in prices.now)) }
 {
     let allowed = SectionSet::full(crowd.sections);
     let mut bundles = Vec::new(alloc);
@@ -54,7 +57,8 @@ fn holders_of(bundles: &[Bundle], section: SectionNo) -> usize
 
 fn are_within(seats: &[u16], bundles: &[Bundle]) -> bool
     requires { length seats.now ≤ 400 }
-    ensures { IsTrue result → AreHeldWithin (length seats.now) seats.now (map sections_of bundles.now) }
+    ensures { IsTrue result
+        → AreHeldWithin (length seats.now) seats.now (map sections_of bundles.now) }
 {
     for place in 0..seats.len() {
         if holders_of(bundles, SectionNo(place as u16)) > usize::from(seats[place]) {
@@ -82,7 +86,8 @@ fn held<R: Abort>(
     aftermarket(alloc, crowd, seats, prices, &bundles, raise).expect(rt, "memory")
 }
 
-// A student who may take one section and rates these two, the first of them where it is rated above 0.
+// A student who may take one section and rates these two, the first of them where it is rated above
+// 0.
 fn menu<R: Abort>(rt: &R, alloc: Global, first: u8, second: u8) -> Menu {
     let rated = |section: u16, rating: u8| Rated {
         section: SectionNo(section),
@@ -115,7 +120,8 @@ fn only(bundle: &Bundle) -> Option<u16> {
     bundle.sections().first().map(|section| section.0)
 }
 
-// Whether these are the turns: the pass, the student, whether it may choose each of two sections, and what it holds then.
+// Whether these are the turns: the pass, the student, whether it may choose each of two sections,
+// and what it holds then.
 fn are_turns(turns: &[Turn], wanted: &[(u64, u16, bool, bool, Option<u16>)]) -> bool {
     if turns.len() != wanted.len() {
         return false;
@@ -186,7 +192,8 @@ fn a_seat_that_is_given_up_is_free_at_the_next_turn(rt: HostRuntime) -> Result<(
         budgets,
         sections: 2,
     };
-    // The first student has the first section, and with the raise the second one too is within its budget.
+    // The first student has the first section, and with the raise the second one too is within its
+    // budget.
     let prices = [Tokens(105), Tokens(115)];
     let after = held(&rt, rt.alloc(), &crowd, &[1, 1], &prices, 10);
     let wanted = [

@@ -11,7 +11,8 @@ pub struct Turn {
     pub student: StudentNo,
     /// The sections that the student could choose: those that it held, and those that were free.
     pub allowed: SectionSet,
-    /// What the student holds from this turn on: the best of these sections within its raised budget.
+    /// What the student holds from this turn on: the best of these sections within its raised
+    /// budget.
     pub bundle: Bundle,
 }
 

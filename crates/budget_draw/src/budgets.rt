@@ -19,11 +19,12 @@ fn budget_at(base: u32, carry: u32, spread: u8, rank: usize) -> Tokens
     Tokens(base + carry + u32::from(spread) * rank as u32)
 }
 
-/// The budget of each student in file order: the base, the tokens that are carried over, and the spread times the rank
-/// that the seed draws.
+/// The budget of each student in file order: the base, the tokens that are carried over, and the
+/// spread times the rank that the seed draws.
 pub fn draw(alloc: Global, roll: &Roll, seed: u64, spread: u8) -> Result<Vec<Tokens>, NoMemory>
     requires { spread ≤ 49 }
-    ensures budgets { IfOk result (λ drawn. amounts drawn.items ≡ budgets_of roll.now.students seed spread) }
+    ensures budgets { IfOk result
+        (λ drawn. amounts drawn.items ≡ budgets_of roll.now.students seed spread) }
     ensures range { IfOk result (λ drawn. All (λ budget. budget.0 ≤ 997951) drawn.items) }
 {
     let students = roll.len();

@@ -11,14 +11,16 @@ use Rattle.bundle_bounds.proofs.Steps.{by_course-step}
 pub drop_here : (ps : List Prospect) (i : ℕ) (d : Prospect) → i < length ps → drop i ps ≡ get_or ps i d ∷ drop (i + 1) ps
 drop_here ps i d low = rw (add-one, drop-cons ps i d) refl
 
-greatest_first : (f : Prospect → ℕ) (p : Prospect) (ps : List Prospect) (c : ℕ) → greatest f c (p ∷ ps) ≡ max (if p.course == c then f p else 0) (greatest f c ps)
+greatest_first : (f : Prospect → ℕ) (p : Prospect) (ps : List Prospect) (c : ℕ)
+    → greatest f c (p ∷ ps) ≡ max (if p.course == c then f p else 0) (greatest f c ps)
 greatest_first f p ps c = elim (cases_Bool (p.course == c)) [
   | inl same ↦ rw same refl
   | inr other ↦ rw other (let g : ℕ = greatest f c ps in let goal : g ≡ max 0 g = omega arith in goal)
 ]
 
 -- one more is looked at
-pub greatest_more : (f : Prospect → ℕ) (ps : List Prospect) (c i most value more whole : ℕ) (d : Prospect) → i < length ps → max most (greatest f c (drop i ps)) ≡ whole
+pub greatest_more : (f : Prospect → ℕ) (ps : List Prospect) (c i most value more whole : ℕ) (d : Prospect) → i < length ps
+    → max most (greatest f c (drop i ps)) ≡ whole
     → value ≡ (if (get_or ps i d).course == c then f (get_or ps i d) else 0) → more ≡ max most value → max more (greatest f c (drop (i + 1) ps)) ≡ whole
 greatest_more f ps c i most value more whole d low so_far value_is more_is =
     let g : ℕ = greatest f c (drop (i + 1) ps) in
@@ -48,7 +50,8 @@ pub there_more : (seen : List Bool) (ps : List Prospect) (i at : ℕ) (d : Prosp
     → (course : ℕ) → course < 60 → get_or (set seen at true) course false ≡ has_course (drop i ps) course
 there_more seen ps i at d low whole at_is small there course within =
     let rest : Bool = has_course (drop (i + 1) ps) course in
-    let split : has_course (drop i ps) course ≡ ((get_or ps i d).course == course || has_course (drop (i + 1) ps) course) = ap (λ l. has_course l course) (drop_here ps i d low) in
+    let split : has_course (drop i ps) course ≡ ((get_or ps i d).course == course || has_course (drop (i + 1) ps) course) =
+    ap (λ l. has_course l course) (drop_here ps i d low) in
     elim (cases_order at course) [
       | inl same ↦
           let equal : ((get_or ps i d).course == course) ≡ true = eq-eqb (get_or ps i d).course course (sym at_is ∙ same) in
@@ -67,7 +70,8 @@ pub record IsWithout (sum here rest : ℕ) : Type 0 where
   pub fits : here ≤ sum
   pub left : sum - here ≡ rest
 
-pub sum_without : (f : Prospect → ℕ) (p : Prospect) (ps : List Prospect) (before sum here : ℕ) → sum ≡ before + by_course f (p ∷ ps) → here ≡ f p - greatest f p.course ps → IsWithout sum here (before + by_course f ps)
+pub sum_without : (f : Prospect → ℕ) (p : Prospect) (ps : List Prospect) (before sum here : ℕ) → sum ≡ before + by_course f (p ∷ ps)
+    → here ≡ f p - greatest f p.course ps → IsWithout sum here (before + by_course f ps)
 sum_without f p ps before sum here sum_is here_is =
     let whole : ℕ = by_course f (p ∷ ps) in
     let later : ℕ = by_course f ps in
@@ -83,7 +87,8 @@ plain_same p = omega arith
 pub plain_over : over_price Count 0 ≡ (λ p. 1000 * p.worth)
 plain_over = λ i p. plain_same p i
 
-pub plain_without : (p : Prospect) (ps : List Prospect) (sum here : ℕ) → sum ≡ by_course (λ q. 1000 * q.worth) (p ∷ ps) → here ≡ over_price Count 0 p - greatest (over_price Count 0) p.course ps → IsWithout sum here (by_course (λ q. 1000 * q.worth) ps)
+pub plain_without : (p : Prospect) (ps : List Prospect) (sum here : ℕ) → sum ≡ by_course (λ q. 1000 * q.worth) (p ∷ ps)
+    → here ≡ over_price Count 0 p - greatest (over_price Count 0) p.course ps → IsWithout sum here (by_course (λ q. 1000 * q.worth) ps)
 plain_without p ps sum here sum_is here_is =
     let whole : ℕ = by_course (over_price Count 0) (p ∷ ps) in
     let later : ℕ = by_course (over_price Count 0) ps in

@@ -21,8 +21,10 @@ pub rest_of_room : (room : List Prospect) (s : ℕ) → length room ≡ 60 → t
 rest_of_room room s whole = ap (λ n. take (n - s) (drop s room)) (sym whole) ∙ rest_whole room s
 
 -- what the code collects from its place on is the node's open places with their worth
-pub collected : (offer : Offer) (k : ℕ) (cs slice : List ℕ) (room : List Prospect) (start from places : ℕ) → slice ≡ cs → length room ≡ 60 → from ≡ min k places → places ≡ length offer.menu.places
-    → drop start room ≡ prospects offer slice (opens_from offer slice from (length offer.menu.places - from)) → take (60 - start) (drop start room) ≡ prospects offer cs (open_places offer k cs)
+pub collected : (offer : Offer) (k : ℕ) (cs slice : List ℕ) (room : List Prospect) (start from places : ℕ) → slice ≡ cs → length room ≡ 60 → from ≡ min k places
+    → places ≡ length offer.menu.places
+    → drop start room ≡ prospects offer slice (opens_from offer slice from (length offer.menu.places - from))
+    → take (60 - start) (drop start room) ≡ prospects offer cs (open_places offer k cs)
 collected offer k cs slice room start from places same whole from_is places_is found =
     rest_of_room room start whole ∙ found
     ∙ ap (λ l. prospects offer l (opens_from offer l from (length offer.menu.places - from))) same
@@ -30,9 +32,11 @@ collected offer k cs slice room start from places same whole from_is places_is f
     ∙ ap (prospects offer cs) (sym (open_places-within offer k cs))
 
 -- what the code computes with is the node's menu of bounds
-pub same_numbers : (offer : Offer) (k : ℕ) (cs : List ℕ) (base : ℤ) (budget credits courses : ℕ) (ps : List Prospect) → base ≡ base_of offer cs → budget ≡ budget_left offer cs → credits ≡ credits_left offer cs → courses ≡ courses_left offer cs
+pub same_numbers : (offer : Offer) (k : ℕ) (cs : List ℕ) (base : ℤ) (budget credits courses : ℕ) (ps : List Prospect) → base ≡ base_of offer cs
+    → budget ≡ budget_left offer cs → credits ≡ credits_left offer cs → courses ≡ courses_left offer cs
     → ps ≡ prospects offer cs (open_places offer k cs) → all_bounds base budget credits courses ps ≡ bounds offer k cs
-same_numbers offer k cs base budget credits courses ps base_is budget_is credits_is courses_is ps_is = λ i. all_bounds (base_is i) (budget_is i) (credits_is i) (courses_is i) (ps_is i)
+same_numbers offer k cs base budget credits courses ps base_is budget_is credits_is courses_is ps_is =
+    λ i. all_bounds (base_is i) (budget_is i) (credits_is i) (courses_is i) (ps_is i)
 
 module _ (offer : Offer) (k : ℕ) (cs ch : List ℕ) (up : IsAscending ch) (up' : IsAscending cs) (low : (c : ℕ) → has cs c ≡ true → c < k) where
   abbrev pub limit : ℤ
@@ -64,15 +68,19 @@ module _ (offer : Offer) (k : ℕ) (cs ch : List ℕ) (up : IsAscending ch) (up'
   none_to [] none = tt
   none_to (b ∷ bs) none = ((λ closes. none.0 (closes_below b.1 closes)), none_to bs none.1)
 
-  module _ (base most : ℤ) (budget credits courses : ℕ) (ps : List Prospect) (base_is : base ≡ base_of offer cs) (most_is : most ≡ limit) (budget_is : budget ≡ budget_left offer cs) (credits_is : credits ≡ credits_left offer cs)
+  module _ (base most : ℤ) (budget credits courses : ℕ) (ps : List Prospect) (base_is : base ≡ base_of offer cs) (most_is : most ≡ limit)
+      (budget_is : budget ≡ budget_left offer cs) (credits_is : credits ≡ credits_left offer cs)
       (courses_is : courses ≡ courses_left offer cs) (ps_is : ps ≡ prospects offer cs (open_places offer k cs)) where
     same_bounds : all_bounds base budget credits courses ps ≡ bounds offer k cs
     same_bounds = λ i. all_bounds (base_is i) (budget_is i) (credits_is i) (courses_is i) (ps_is i)
 
-    pub some_closes : (r : Option Leaf) → IfSome r (IsFirstBelow most (all_bounds base budget credits courses ps)) → IfSome r (IsFirstClosing offer k cs ch (bounds offer k cs))
+    pub some_closes : (r : Option Leaf) → IfSome r (IsFirstBelow most (all_bounds base budget credits courses ps))
+        → IfSome r (IsFirstClosing offer k cs ch (bounds offer k cs))
     some_closes None h = h
-    some_closes (Some leaf) h = first_to (bounds offer k cs) leaf (subst (λ l. IsFirstBelow l (bounds offer k cs) leaf) most_is (subst (λ bs. IsFirstBelow most bs leaf) same_bounds h))
+    some_closes (Some leaf) h =
+        first_to (bounds offer k cs) leaf (subst (λ l. IsFirstBelow l (bounds offer k cs) leaf) most_is (subst (λ bs. IsFirstBelow most bs leaf) same_bounds h))
 
-    pub none_closes : (r : Option Leaf) → IfNone r (NoneBelow most (all_bounds base budget credits courses ps)) → IfNone r (NoneCloses offer k cs ch (bounds offer k cs))
+    pub none_closes : (r : Option Leaf) → IfNone r (NoneBelow most (all_bounds base budget credits courses ps))
+        → IfNone r (NoneCloses offer k cs ch (bounds offer k cs))
     none_closes None h = none_to (bounds offer k cs) (subst (λ l. NoneBelow l (bounds offer k cs)) most_is (subst (NoneBelow most) same_bounds h))
     none_closes (Some leaf) h = h

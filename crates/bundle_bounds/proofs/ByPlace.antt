@@ -16,11 +16,13 @@ use Rattle.bundle_bounds.specs.Laws.{IsTakable}
 use Rattle.bundle_bounds.proofs.Openness.{MayBeTaken}
 
 -- the place of the section at a place is that place
-pub place_in-section_at : (places : List Rated) (j : ℕ) → IsAscending (map (λ rated. rated.section.0) places) → j < length places → place_in places (section_at places j) ≡ j
+pub place_in-section_at : (places : List Rated) (j : ℕ) → IsAscending (map (λ rated. rated.section.0) places) → j < length places
+    → place_in places (section_at places j) ≡ j
 place_in-section_at [] j up low = absurd (omega arith)
 place_in-section_at (rated ∷ places) zero up low = let same : (rated.section.0 == rated.section.0) ≡ true = grind (arith, nat_tests) in rw same refl
 place_in-section_at (rated ∷ places) (suc j) up low =
-    let above : rated.section.0 < section_at places j = has-above rated.section.0 (map (λ r. r.section.0) places) (section_at places j) up.0 (section_has places j (omega arith)) in
+    let above : rated.section.0 < section_at places j =
+    has-above rated.section.0 (map (λ r. r.section.0) places) (section_at places j) up.0 (section_has places j (omega arith)) in
     let other : (rated.section.0 == section_at places j) ≡ false = grind (arith, nat_tests) in
     rw other (ap suc (place_in-section_at places j up.1 (omega arith)))
 
@@ -41,18 +43,26 @@ places-has places (t ∷ ss) s is =
       | inr there ↦ has-there (place_in places t) (map (place_in places) ss) (place_in places s) (places-has places ss s there)
     ]
 
-above_places : (places : List Rated) (s : ℕ) (ss : List ℕ) → IsAscending (map (λ rated. rated.section.0) places) → place_in places s < length places → AllOnMenu places ss → AllAbove s ss → AllAbove (place_in places s) (map (place_in places) ss)
+above_places : (places : List Rated) (s : ℕ) (ss : List ℕ) → IsAscending (map (λ rated. rated.section.0) places) → place_in places s < length places
+    → AllOnMenu places ss → AllAbove s ss → AllAbove (place_in places s) (map (place_in places) ss)
 above_places places s [] up on all above = tt
-above_places places s (t ∷ ss) up on all above = (place_in-rises places s t up on (all t (has-here t ss)) above.0, above_places places s ss up on (λ x is. all x (has-there t ss x is)) above.1)
+above_places places s (t ∷ ss) up on all above =
+    (place_in-rises places s t up on (all t (has-here t ss)) above.0, above_places places s ss up on (λ x is. all x (has-there t ss x is)) above.1)
 
-pub ascending_places : (places : List Rated) (ss : List ℕ) → IsAscending (map (λ rated. rated.section.0) places) → AllOnMenu places ss → IsAscending ss → IsAscending (map (place_in places) ss)
+pub ascending_places : (places : List Rated) (ss : List ℕ) → IsAscending (map (λ rated. rated.section.0) places) → AllOnMenu places ss → IsAscending ss
+    → IsAscending (map (place_in places) ss)
 ascending_places places [] up all rises = tt
-ascending_places places (s ∷ ss) up all rises = (above_places places s ss up (all s (has-here s ss)) (λ x is. all x (has-there s ss x is)) rises.0, ascending_places places ss up (λ x is. all x (has-there s ss x is)) rises.1)
+ascending_places places (s ∷ ss) up all rises = (
+  above_places places s ss up (all s (has-here s ss)) (λ x is. all x (has-there s ss x is)) rises.0,
+  ascending_places places ss up (λ x is. all x (has-there s ss x is)) rises.1,
+)
 
-pub prices_by_place : (offer : Offer) (ss : List ℕ) → AllOnMenu offer.menu.places ss → total (price_at offer) (map (place_in offer.menu.places) ss) ≡ total offer.price ss
+pub prices_by_place : (offer : Offer) (ss : List ℕ) → AllOnMenu offer.menu.places ss
+    → total (price_at offer) (map (place_in offer.menu.places) ss) ≡ total offer.price ss
 prices_by_place offer [] all = refl
 prices_by_place offer (s ∷ ss) all =
-    let here : price_at offer (place_in offer.menu.places s) ≡ offer.price s = ap offer.price (section_at-place_in offer.menu.places s (all s (has-here s ss))) in
+    let here : price_at offer (place_in offer.menu.places s) ≡ offer.price s =
+    ap offer.price (section_at-place_in offer.menu.places s (all s (has-here s ss))) in
     let rest = prices_by_place offer ss (λ x is. all x (has-there s ss x is)) in
     let a : ℕ = total (price_at offer) (map (place_in offer.menu.places) ss) in
     let b : ℕ = total offer.price ss in
@@ -77,7 +87,8 @@ taken_places offer bundle menu may =
       credits = rw (credits_by_place offer.menu bundle) may.feasible.credits;
       courses = rw (length-map bundle (place_in places)) may.feasible.courses;
       allowed = λ p is.
-          let at = has-places places bundle p is in ap (allowed_at offer) (sym at.2) ∙ ap offer.allowed (section_at-place_in places at.0 (all at.0 at.1)) ∙ may.within at.0 at.1;
+          let at = has-places places bundle p is in
+          ap (allowed_at offer) (sym at.2) ∙ ap offer.allowed (section_at-place_in places at.0 (all at.0 at.1)) ∙ may.within at.0 at.1;
       apart = λ p q is is' other.
           let at = has-places places bundle p is in
           let at' = has-places places bundle q is' in
@@ -90,7 +101,8 @@ bool_same false true f g = g refl
 bool_same false false f g = refl
 
 -- a place is among those of a bundle where its section is in the bundle
-pub has_by_place : (places : List Rated) (ss : List ℕ) (p : ℕ) → IsAscending (map (λ rated. rated.section.0) places) → AllOnMenu places ss → p < length places → has (map (place_in places) ss) p ≡ has ss (section_at places p)
+pub has_by_place : (places : List Rated) (ss : List ℕ) (p : ℕ) → IsAscending (map (λ rated. rated.section.0) places) → AllOnMenu places ss → p < length places
+    → has (map (place_in places) ss) p ≡ has ss (section_at places p)
 has_by_place places ss p up all low = bool_same _ _ there back
   where
     there : has (map (place_in places) ss) p ≡ true → has ss (section_at places p) ≡ true

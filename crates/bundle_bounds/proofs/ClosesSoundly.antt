@@ -26,14 +26,16 @@ record ClosesAbove (offer : Offer) (k : ℕ) (chosen champion : List ℕ) (least
   above : least ≤ℤ bound
   closes : Closes offer k chosen champion bound
 
-first_closes : (offer : Offer) (k : ℕ) (chosen champion : List ℕ) (least : ℤ) (leaf : Leaf) (bs : List (Leaf × ℤ)) → IsFirstClosing offer k chosen champion bs leaf → EachAtLeast least bs → ClosesAbove offer k chosen champion least
+first_closes : (offer : Offer) (k : ℕ) (chosen champion : List ℕ) (least : ℤ) (leaf : Leaf) (bs : List (Leaf × ℤ))
+    → IsFirstClosing offer k chosen champion bs leaf → EachAtLeast least bs → ClosesAbove offer k chosen champion least
 first_closes offer k chosen champion least leaf [] first each = absurd first
 first_closes offer k chosen champion least leaf (b ∷ bs) (inl here) each = record { bound = b.1; above = each.0; closes = here.0 }
 first_closes offer k chosen champion least leaf (b ∷ bs) (inr later) each = first_closes offer k chosen champion least leaf bs later.1 each.1
 
 module _ (offer : Offer) (menu : IsMenu offer.menu) (k : ℕ) (chosen champion : List ℕ) (node : IsNode offer k chosen) (takable : IsTakable offer champion) where
   -- where the champion has the first decided difference, it has the first difference from all that completes the node
-  pub differs_first : (bundle : List ℕ) → IsTakable offer bundle → Completes offer k chosen bundle → IsAhead k (places_of offer.menu champion) (places_of offer.menu chosen) → DiffersFirstIn champion bundle
+  pub differs_first : (bundle : List ℕ) → IsTakable offer bundle → Completes offer k chosen bundle
+      → IsAhead k (places_of offer.menu champion) (places_of offer.menu chosen) → DiffersFirstIn champion bundle
   differs_first bundle may completes ahead = (
     s,
     by_champion d on ∙ ahead.2,
@@ -67,17 +69,21 @@ module _ (offer : Offer) (menu : IsMenu offer.menu) (k : ℕ) (chosen champion :
         | inl listed ↦
             let p : ℕ = place_in offer.menu.places t in
             let back : section_at offer.menu.places p ≡ t = section_at-place_in offer.menu.places t listed in
-            let own : place_in offer.menu.places (section_at offer.menu.places ahead.0) ≡ ahead.0 = place_in-section_at offer.menu.places ahead.0 menu.places.ascending on in
+            let own : place_in offer.menu.places (section_at offer.menu.places ahead.0) ≡ ahead.0 =
+            place_in-section_at offer.menu.places ahead.0 menu.places.ascending on in
             let rises : place_in offer.menu.places t < place_in offer.menu.places (section_at offer.menu.places ahead.0) =
-            place_in-rises offer.menu.places t (section_at offer.menu.places ahead.0) menu.places.ascending listed (subst (λ n. n < length offer.menu.places) (sym own) on) low in
+            place_in-rises offer.menu.places t (section_at offer.menu.places ahead.0) menu.places.ascending listed
+            (subst (λ n. n < length offer.menu.places) (sym own) on) low in
             let early : p < ahead.0 = subst (λ n. place_in offer.menu.places t < n) own rises in
             let decided : ahead.0 < k = ahead.1 in
             let low_k : p < k = omega arith in
-            ap (has champion) (sym back) ∙ by_champion p listed ∙ ahead.4 p early ∙ sym (by_chosen p listed) ∙ sym (completes p low_k listed) ∙ ap (has bundle) back
+            ap (has champion) (sym back) ∙ by_champion p listed ∙ ahead.4 p early ∙ sym (by_chosen p listed) ∙ sym (completes p low_k listed)
+            ∙ ap (has bundle) back
         | inr off ↦ off_menu champion takable t off ∙ sym (off_menu bundle may t off)
       ]
 
-  closed_by : (bundle : List ℕ) → IsTakable offer bundle → Completes offer k chosen bundle → (bound : ℤ) → (pos 1000 *ℤ utility (wishes_of offer.menu) bundle) ≤ℤ bound
+  closed_by : (bundle : List ℕ) → IsTakable offer bundle → Completes offer k chosen bundle → (bound : ℤ)
+      → (pos 1000 *ℤ utility (wishes_of offer.menu) bundle) ≤ℤ bound
       → Closes offer k (places_of offer.menu chosen) (places_of offer.menu champion) bound → IsAsGood offer champion bundle
   closed_by bundle may completes bound least (inl under) =
       let u : ℤ = utility (wishes_of offer.menu) bundle in
@@ -105,5 +111,7 @@ module _ (offer : Offer) (menu : IsMenu offer.menu) (k : ℕ) (chosen champion :
 pub bounds_close_soundly : BoundsCloseSoundly
 bounds_close_soundly offer wanted k chosen champion leaf menu node takable first bundle may is_wanted completes =
     let least : ℤ = pos 1000 *ℤ utility (wishes_of offer.menu) bundle in
-    let at = first_closes offer k (places_of offer.menu chosen) (places_of offer.menu champion) least leaf (bounds offer k (places_of offer.menu chosen)) first (bound_soundness offer k chosen bundle menu node may completes) in
+    let at =
+    first_closes offer k (places_of offer.menu chosen) (places_of offer.menu champion) least leaf (bounds offer k (places_of offer.menu chosen)) first
+    (bound_soundness offer k chosen bundle menu node may completes) in
     closed_by offer menu k chosen champion node takable bundle may completes at.bound at.above at.closes

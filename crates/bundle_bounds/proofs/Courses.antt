@@ -76,11 +76,13 @@ both_each P Q [] a b = tt
 both_each P Q (p ∷ ps) a b = ((a.0, b.0), both_each P Q ps a.1 b.1)
 
 -- what has different courses among these adds up to no more than all of these
-total_apart : (g : ℕ → ℕ) (qs : List Prospect) (cs : List ℕ) → AreApartCourses qs → Each (λ q. has cs q.course ≡ true) qs → total (λ q. g q.course) qs ≤ total g cs
+total_apart : (g : ℕ → ℕ) (qs : List Prospect) (cs : List ℕ) → AreApartCourses qs → Each (λ q. has cs q.course ≡ true) qs
+    → total (λ q. g q.course) qs ≤ total g cs
 total_apart g [] cs apart among = omega arith
 total_apart g (q ∷ qs) cs apart among =
     let others = both_each (λ p. p.course ≢ q.course) (λ p. has cs p.course ≡ true) qs (has_course-other qs q.course apart.0) among.1 in
-    let left : Each (λ p. has (without q.course cs) p.course ≡ true) qs = each_weaker _ (λ p. has (without q.course cs) p.course ≡ true) qs (λ p b. has-without q.course p.course cs b.0 b.1) others in
+    let left : Each (λ p. has (without q.course cs) p.course ≡ true) qs =
+    each_weaker _ (λ p. has (without q.course cs) p.course ≡ true) qs (λ p b. has-without q.course p.course cs b.0 b.1) others in
     let rest : total (λ p. g p.course) qs ≤ total g (without q.course cs) = total_apart g qs (without q.course cs) apart.1 left in
     let whole : total g cs ≡ g q.course + total g (without q.course cs) = total-without g q.course cs among.0 in
     let a : ℕ = total (λ p. g p.course) qs in
@@ -101,7 +103,8 @@ greatest-more f p ps c =
 chosen_below : (f : Prospect → ℕ) (bs : List Bool) (ps : List Prospect) → Each (λ q. f q ≤ greatest f q.course ps) (chosen bs ps)
 chosen_below f [] ps = tt
 chosen_below f (b ∷ bs) [] = tt
-chosen_below f (false ∷ bs) (p ∷ ps) = each_weaker _ _ (chosen bs ps) (λ q h. let more = greatest-more f p ps q.course in omega (arith, more)) (chosen_below f bs ps)
+chosen_below f (false ∷ bs) (p ∷ ps) =
+    each_weaker _ _ (chosen bs ps) (λ q h. let more = greatest-more f p ps q.course in omega (arith, more)) (chosen_below f bs ps)
 chosen_below f (true ∷ bs) (p ∷ ps) = (
   rw (eq-eqb p.course p.course refl) (let g : ℕ = greatest f p.course ps in let goal : f p ≤ max (f p) g = omega arith in goal),
   each_weaker _ _ (chosen bs ps) (λ q h. let more = greatest-more f p ps q.course in omega (arith, more)) (chosen_below f bs ps),
@@ -149,8 +152,10 @@ total_each f g (q ∷ qs) each =
 -- what is chosen, at most one of each course, is no more than the greatest of each course
 pub chosen_by_course : (f : Prospect → ℕ) (bs : List Bool) (ps : List Prospect) → AreApartCourses (chosen bs ps) → total f (chosen bs ps) ≤ by_course f ps
 chosen_by_course f bs ps apart =
-    let below : total f (chosen bs ps) ≤ total (λ q. greatest f q.course ps) (chosen bs ps) = total_each f (λ q. greatest f q.course ps) (chosen bs ps) (chosen_below f bs ps) in
-    let courses : total (λ q. greatest f q.course ps) (chosen bs ps) ≤ by_course f ps = total_apart (λ c. greatest f c ps) (chosen bs ps) (courses_of ps) apart (chosen_courses bs ps) in
+    let below : total f (chosen bs ps) ≤ total (λ q. greatest f q.course ps) (chosen bs ps) =
+    total_each f (λ q. greatest f q.course ps) (chosen bs ps) (chosen_below f bs ps) in
+    let courses : total (λ q. greatest f q.course ps) (chosen bs ps) ≤ by_course f ps =
+    total_apart (λ c. greatest f c ps) (chosen bs ps) (courses_of ps) apart (chosen_courses bs ps) in
     let a : ℕ = total f (chosen bs ps) in
     let b : ℕ = total (λ q. greatest f q.course ps) (chosen bs ps) in
     let c : ℕ = by_course f ps in
@@ -159,7 +164,8 @@ chosen_by_course f bs ps apart =
     let goal : a ≤ c = omega arith in goal
 
 -- 1000 times the worth is no more than what is left over the price, and the price of what is taken
-pub priced : (resource : Resource) (price : ℕ) (qs : List Prospect) → 1000 * total (λ p. p.worth) qs ≤ total (over_price resource price) qs + price * total (takes_of resource) qs
+pub priced : (resource : Resource) (price : ℕ) (qs : List Prospect)
+    → 1000 * total (λ p. p.worth) qs ≤ total (over_price resource price) qs + price * total (takes_of resource) qs
 priced resource price [] = omega arith
 priced resource price (p ∷ qs) =
     let rest = priced resource price qs in
@@ -172,7 +178,8 @@ priced resource price (p ∷ qs) =
     let split : price * (takes_of resource p + t) ≡ q + m = mul-add price (takes_of resource p) t in
     rw split (let goal : 1000 * (p.worth + a) ≤ (1000 * p.worth - q) + o + (q + m) = omega arith in goal)
 
-pub priced_within : (resource : Resource) (price rest : ℕ) (qs : List Prospect) → total (takes_of resource) qs ≤ rest → 1000 * total (λ p. p.worth) qs ≤ total (over_price resource price) qs + price * rest
+pub priced_within : (resource : Resource) (price rest : ℕ) (qs : List Prospect) → total (takes_of resource) qs ≤ rest
+    → 1000 * total (λ p. p.worth) qs ≤ total (over_price resource price) qs + price * rest
 priced_within resource price rest qs fits =
     let a : ℕ = 1000 * total (λ p. p.worth) qs in
     let o : ℕ = total (over_price resource price) qs in

@@ -89,7 +89,8 @@ first_closing_is_the_first offer k chosen champion menu node feasible =
     (λ p is. (let at = has-places places chosen p is in rw (← at.2) (node.decided at.0 at.1)))
 
 -- what the code finds with the node's own numbers is the first closing bound
-pub found_closing : (offer : Offer) (k : ℕ) (chosen champion : List ℕ) (r : Option Leaf) → IsFirstOrNone offer k (places_of offer.menu chosen) (places_of offer.menu champion)
+pub found_closing : (offer : Offer) (k : ℕ) (chosen champion : List ℕ) (r : Option Leaf)
+    → IsFirstOrNone offer k (places_of offer.menu chosen) (places_of offer.menu champion)
     → IfSome r (IsFirstClosing offer k (places_of offer.menu chosen) (places_of offer.menu champion) (bounds offer k (places_of offer.menu chosen)))
     → IfNone r (NoneCloses offer k (places_of offer.menu chosen) (places_of offer.menu champion) (bounds offer k (places_of offer.menu chosen)))
     → r ≡ first_closing offer k (places_of offer.menu chosen) (places_of offer.menu champion)

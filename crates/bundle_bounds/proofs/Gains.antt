@@ -101,7 +101,8 @@ module _ (offer : Offer) (cs : List ℕ) where
       let goal : x ≤ℤ pos (a + h) = omega (arith, ints) in goal
 
   -- no choice of open places adds more than their worth
-  pub gain_bound : (bs : List Bool) (ps : List ℕ) → gain (by_place offer.menu) cs (chosen bs ps) ≤ℤ pos (total (λ p. p.worth) (chosen bs (prospects offer cs ps)))
+  pub gain_bound : (bs : List Bool) (ps : List ℕ)
+      → gain (by_place offer.menu) cs (chosen bs ps) ≤ℤ pos (total (λ p. p.worth) (chosen bs (prospects offer cs ps)))
   unfolding by_place
   gain_bound [] ps = omega (arith, ints)
   gain_bound (b ∷ bs) [] = omega (arith, ints)

@@ -27,9 +27,11 @@ few_steps g o far steps d e margin line near same few =
     let few' : steps * d ≤ margin = subst (λ k. steps * k ≤ margin) same few in
     omega arith
 
-module _ (base limit : ℤ) (rest : ℕ) (resource : Resource) (all : List Prospect) (known : Known) (is : IsKnown base limit rest resource all known) (price sum next margin : ℕ)
+module _ (base limit : ℤ) (rest : ℕ) (resource : Resource) (all : List Prospect) (known : Known) (is : IsKnown base limit rest resource all known)
+    (price sum next margin : ℕ)
     (sum_is : sum ≡ at_price resource rest price all) (next_is : next ≡ at_price resource rest (price + 1) all) (high : (limit +ℤ pos margin) ≤ℤ (base +ℤ pos sum)) where
-  pub known_rising : (steps from highest : ℕ) → sum ≤ next → steps * (next - sum) ≤ margin → from ≡ price - steps → highest ≡ min known.high from → IsKnown base limit rest resource all record { low = known.low; high = highest }
+  pub known_rising : (steps from highest : ℕ) → sum ≤ next → steps * (next - sum) ≤ margin → from ≡ price - steps → highest ≡ min known.high from
+      → IsKnown base limit rest resource all record { low = known.low; high = highest }
   known_rising steps from highest rise few from_is highest_is = record {
     low = is.low;
     high = λ other above within. elim (cases_lt other known.high) [
@@ -42,7 +44,9 @@ module _ (base limit : ℤ) (rest : ℕ) (resource : Resource) (all : List Prosp
           let rise' : g ≤ n = omega arith in
           elim (cases_lt other price) [
             | inl left ↦
-                let near : g ≤ o + margin = few_steps g o (price - other) steps (n - g) (next - sum) margin (falls_before resource rest price all other (omega arith) rise') (omega arith) (λ i. next_is i - sum_is i) few in
+                let near : g ≤ o + margin =
+                few_steps g o (price - other) steps (n - g) (next - sum) margin (falls_before resource rest price all other (omega arith) rise') (omega arith)
+                (λ i. next_is i - sum_is i) few in
                 over base limit margin sum (at_price resource rest other all) high (let goal : sum ≤ o + margin = omega arith in goal)
             | inr right ↦ elim (cases_lt price other) [
               | inl later ↦
@@ -59,7 +63,8 @@ module _ (base limit : ℤ) (rest : ℕ) (resource : Resource) (all : List Prosp
     high_within = let h = is.high_within in omega arith;
   }
 
-  pub known_falling : (steps lowest : ℕ) → next < sum → price < 20000000 → steps ≤ known.high - price → steps * (sum - next) ≤ margin → lowest ≡ max known.low ((price + steps) + 1) → IsKnown base limit rest resource all record { low = lowest; high = known.high }
+  pub known_falling : (steps lowest : ℕ) → next < sum → price < 20000000 → steps ≤ known.high - price → steps * (sum - next) ≤ margin
+      → lowest ≡ max known.low ((price + steps) + 1) → IsKnown base limit rest resource all record { low = lowest; high = known.high }
   known_falling steps lowest fall small most few lowest_is = record {
     low = λ other below. elim (cases_lt other known.low) [
       | inl before ↦ is.low other before
@@ -72,7 +77,9 @@ module _ (base limit : ℤ) (rest : ℕ) (resource : Resource) (all : List Prosp
           let fall' : n ≤ g = omega arith in
           elim (cases_lt price other) [
             | inl right ↦
-                let near : g ≤ o + margin = few_steps g o (other - price) steps (g - n) (sum - next) margin (falls_after resource rest price all other (omega arith) fall') (omega arith) (λ i. sum_is i - next_is i) few in
+                let near : g ≤ o + margin =
+                few_steps g o (other - price) steps (g - n) (sum - next) margin (falls_after resource rest price all other (omega arith) fall') (omega arith)
+                (λ i. sum_is i - next_is i) few in
                 over base limit margin sum (at_price resource rest other all) high (let goal : sum ≤ o + margin = omega arith in goal)
             | inr left ↦
                 let up : g ≤ o = no_less_before resource rest price (price + 1) all (omega arith) fall' other (omega arith) in
@@ -85,11 +92,13 @@ module _ (base limit : ℤ) (rest : ℕ) (resource : Resource) (all : List Prosp
   }
 
 -- what is known at the price of a ratio that is low, or high
-pub known_below : (base limit : ℤ) (rest : ℕ) (resource : Resource) (all : List Prospect) (known : Known) (worth taken : ℕ) → IsKnown base limit rest resource all known → 0 < taken → worth < known.low * taken
+pub known_below : (base limit : ℤ) (rest : ℕ) (resource : Resource) (all : List Prospect) (known : Known) (worth taken : ℕ)
+    → IsKnown base limit rest resource all known → 0 < taken → worth < known.low * taken
     → limit ≤ℤ (base +ℤ pos (at_price resource rest (worth / taken) all))
 known_below base limit rest resource all known worth taken is some below = is.low (worth / taken) ((div-lt_iff_lt-mul some).1 below)
 
-pub known_above : (base limit : ℤ) (rest : ℕ) (resource : Resource) (all : List Prospect) (known : Known) (worth taken : ℕ) → IsKnown base limit rest resource all known → 0 < taken → worth ≤ 20000000 → known.high * taken ≤ worth
+pub known_above : (base limit : ℤ) (rest : ℕ) (resource : Resource) (all : List Prospect) (known : Known) (worth taken : ℕ)
+    → IsKnown base limit rest resource all known → 0 < taken → worth ≤ 20000000 → known.high * taken ≤ worth
     → limit ≤ℤ (base +ℤ pos (at_price resource rest (worth / taken) all))
 known_above base limit rest resource all known worth taken is some small above =
     is.high (worth / taken) ((le-div_iff_mul-le some).1 above) (let less : worth / taken ≤ worth = div-le_self worth taken in omega arith)

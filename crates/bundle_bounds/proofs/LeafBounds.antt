@@ -33,7 +33,8 @@ same_place Count p q e = cc e
 
 module _ (base : ℤ) (rest : ℕ) (resource : Resource) (all : List Prospect) where
   pub bound_here : (p : Prospect) (ps : List Prospect) (place : ℕ) → (p.place == place && (nat_lt 0 p.worth && nat_lt 0 (takes_of resource p))) ≡ true
-      → HasBound (resource_bounds base rest resource all (p ∷ ps)) (leaf_of resource place) (base +ℤ pos (at_price resource rest (1000 * p.worth / takes_of resource p) all))
+      → HasBound (resource_bounds base rest resource all (p ∷ ps)) (leaf_of resource place)
+      (base +ℤ pos (at_price resource rest (1000 * p.worth / takes_of resource p) all))
   bound_here p ps place is =
       elim (cases_Bool (p.place == place)) [
         | inl at ↦
@@ -42,13 +43,18 @@ module _ (base : ℤ) (rest : ℕ) (resource : Resource) (all : List Prospect) w
         | inr other ↦ absurd (true≢false (sym is ∙ rw other refl))
       ]
 
-  pub bound_later : (p : Prospect) (ps : List Prospect) (place : ℕ) (result : ℤ) → (p.place == place && (nat_lt 0 p.worth && nat_lt 0 (takes_of resource p))) ≡ false
-      → ((b : ℤ) → HasBound (resource_bounds base rest resource all ps) (leaf_of resource place) b → HasBound (resource_bounds base rest resource all ps) (leaf_of resource place) result)
-      → (b : ℤ) → HasBound (resource_bounds base rest resource all (p ∷ ps)) (leaf_of resource place) b → HasBound (resource_bounds base rest resource all (p ∷ ps)) (leaf_of resource place) result
+  pub bound_later : (p : Prospect) (ps : List Prospect) (place : ℕ) (result : ℤ)
+      → (p.place == place && (nat_lt 0 p.worth && nat_lt 0 (takes_of resource p))) ≡ false
+      →
+      ((b : ℤ) → HasBound (resource_bounds base rest resource all ps) (leaf_of resource place) b
+      → HasBound (resource_bounds base rest resource all ps) (leaf_of resource place) result)
+      → (b : ℤ) → HasBound (resource_bounds base rest resource all (p ∷ ps)) (leaf_of resource place) b
+      → HasBound (resource_bounds base rest resource all (p ∷ ps)) (leaf_of resource place) result
   bound_later p ps place result is later b has =
       elim (cases_Bool (nat_lt 0 p.worth && nat_lt 0 (takes_of resource p))) [
         | inl bounded ↦
-            let other : (p.place == place) ≡ false = (elim (cases_Bool (p.place == place)) [ inl at ↦ absurd (true≢false (sym (rw (at, bounded) refl) ∙ is)) | inr apart ↦ apart ]) in
+            let other : (p.place == place) ≡ false =
+            (elim (cases_Bool (p.place == place)) [ inl at ↦ absurd (true≢false (sym (rw (at, bounded) refl) ∙ is)) | inr apart ↦ apart ]) in
             rw bounded (inr (later b (elim (rw bounded at has) [
               | inl here ↦ absurd (true≢false (sym (eq-eqb p.place place (same_place resource p.place place here.0)) ∙ other))
               | inr there ↦ there
@@ -57,7 +63,8 @@ module _ (base : ℤ) (rest : ℕ) (resource : Resource) (all : List Prospect) w
       ]
 
 -- a leaf of one resource has no bound of another
-other_resource : (base : ℤ) (rest : ℕ) (mine other : Resource) (all ps : List Prospect) (place : ℕ) (b : ℤ) → ((p q : ℕ) → leaf_of other p ≢ leaf_of mine q) → HasBound (resource_bounds base rest other all ps) (leaf_of mine place) b → ⊥
+other_resource : (base : ℤ) (rest : ℕ) (mine other : Resource) (all ps : List Prospect) (place : ℕ) (b : ℤ) → ((p q : ℕ) → leaf_of other p ≢ leaf_of mine q)
+    → HasBound (resource_bounds base rest other all ps) (leaf_of mine place) b → ⊥
 other_resource base rest mine other all [] place b apart has = has
 other_resource base rest mine other all (p ∷ ps) place b apart has =
     elim (cases_Bool (nat_lt 0 p.worth && nat_lt 0 (takes_of other p))) [
@@ -70,7 +77,8 @@ other_resource base rest mine other all (p ∷ ps) place b apart has =
 
 pub of_money : (base : ℤ) (budget credits courses : ℕ) (ps : List Prospect) (place : ℕ) (result : ℤ)
     → ((b : ℤ) → HasBound (resource_bounds base budget Money ps ps) (Budget place) b → HasBound (resource_bounds base budget Money ps ps) (Budget place) result)
-    → (b : ℤ) → HasBound (all_bounds base budget credits courses ps) (Budget place) b → HasBound (all_bounds base budget credits courses ps) (Budget place) result
+    → (b : ℤ) → HasBound (all_bounds base budget credits courses ps) (Budget place) b
+    → HasBound (all_bounds base budget credits courses ps) (Budget place) result
 of_money base budget credits courses ps place result own b (inl plain) = absurd (cc plain.0)
 of_money base budget credits courses ps place result own b (inr has) =
     inr (has-append_left (resource_bounds base budget Money ps ps) _ (Budget place) result (own b (elim (has-append_cases (resource_bounds base budget Money ps ps) _ (Budget place) b has) [
@@ -82,8 +90,11 @@ of_money base budget credits courses ps place result own b (inr has) =
     ])))
 
 pub of_credits : (base : ℤ) (budget credits courses : ℕ) (ps : List Prospect) (place : ℕ) (result : ℤ)
-    → ((b : ℤ) → HasBound (resource_bounds base credits resources.Credits ps ps) (Credits place) b → HasBound (resource_bounds base credits resources.Credits ps ps) (Credits place) result)
-    → (b : ℤ) → HasBound (all_bounds base budget credits courses ps) (Credits place) b → HasBound (all_bounds base budget credits courses ps) (Credits place) result
+    →
+    ((b : ℤ) → HasBound (resource_bounds base credits resources.Credits ps ps) (Credits place) b
+    → HasBound (resource_bounds base credits resources.Credits ps ps) (Credits place) result)
+    → (b : ℤ) → HasBound (all_bounds base budget credits courses ps) (Credits place) b
+    → HasBound (all_bounds base budget credits courses ps) (Credits place) result
 of_credits base budget credits courses ps place result own b (inl plain) = absurd (cc plain.0)
 of_credits base budget credits courses ps place result own b (inr has) =
     inr (has-append_right (resource_bounds base budget Money ps ps) _ (Credits place) result (has-append_left (resource_bounds base credits resources.Credits ps ps) _ (Credits place) result (own b (elim (has-append_cases (resource_bounds base budget Money ps ps) _ (Credits place) b has) [
@@ -95,8 +106,10 @@ of_credits base budget credits courses ps place result own b (inr has) =
     ]))))
 
 pub of_count : (base : ℤ) (budget credits courses : ℕ) (ps : List Prospect) (place : ℕ) (result : ℤ)
-    → ((b : ℤ) → HasBound (resource_bounds base courses Count ps ps) (Number place) b → HasBound (resource_bounds base courses Count ps ps) (Number place) result)
-    → (b : ℤ) → HasBound (all_bounds base budget credits courses ps) (Number place) b → HasBound (all_bounds base budget credits courses ps) (Number place) result
+    →
+    ((b : ℤ) → HasBound (resource_bounds base courses Count ps ps) (Number place) b → HasBound (resource_bounds base courses Count ps ps) (Number place) result)
+    → (b : ℤ) → HasBound (all_bounds base budget credits courses ps) (Number place) b
+    → HasBound (all_bounds base budget credits courses ps) (Number place) result
 of_count base budget credits courses ps place result own b (inl plain) = absurd (cc plain.0)
 of_count base budget credits courses ps place result own b (inr has) =
     inr (has-append_right (resource_bounds base budget Money ps ps) _ (Number place) result (has-append_right (resource_bounds base credits resources.Credits ps ps) _ (Number place) result (own b (elim (has-append_cases (resource_bounds base budget Money ps ps) _ (Number place) b has) [

@@ -72,13 +72,17 @@ all_low offer k cs n few within =
     let base = base_of offer cs in (
       tt,
       low_append n (resource_bounds base (left_of offer cs Money) Money ps ps) _ (low_bounds base (left_of offer cs Money) Money ps ps n at)
-          (low_append n (resource_bounds base (left_of offer cs resources.Credits) resources.Credits ps ps) _ (low_bounds base (left_of offer cs resources.Credits) resources.Credits ps ps n at) (low_bounds base (left_of offer cs Count) Count ps ps n at)),
+          (low_append n (resource_bounds base (left_of offer cs resources.Credits) resources.Credits ps ps) _
+          (low_bounds base (left_of offer cs resources.Credits) resources.Credits ps ps n at) (low_bounds base (left_of offer cs Count) Count ps ps n at)),
     )
 
-low_first : (offer : Offer) (k : ℕ) (cs ch : List ℕ) (n : ℕ) (bs : List (Leaf × ℤ)) (leaf : Leaf) → AreLow n bs → IsFirstClosing offer k cs ch bs leaf → IsLow n leaf
+low_first : (offer : Offer) (k : ℕ) (cs ch : List ℕ) (n : ℕ) (bs : List (Leaf × ℤ)) (leaf : Leaf) → AreLow n bs → IsFirstClosing offer k cs ch bs leaf
+    → IsLow n leaf
 low_first offer k cs ch n [] leaf low first = absurd first
 low_first offer k cs ch n (b ∷ bs) leaf low (inl here) = subst (IsLow n) here.1 low.0
 low_first offer k cs ch n (b ∷ bs) leaf low (inr later) = low_first offer k cs ch n bs leaf low.1 later.1
 
-pub closing_low : (offer : Offer) (k : ℕ) (cs ch : List ℕ) (leaf : Leaf) → k ≤ length offer.menu.places → IsFirstClosing offer k cs ch (bounds offer k cs) leaf → IsLow (length offer.menu.places) leaf
-closing_low offer k cs ch leaf within first = low_first offer k cs ch (length offer.menu.places) (bounds offer k cs) leaf (all_low offer k cs (length offer.menu.places) (omega arith) within) first
+pub closing_low : (offer : Offer) (k : ℕ) (cs ch : List ℕ) (leaf : Leaf) → k ≤ length offer.menu.places → IsFirstClosing offer k cs ch (bounds offer k cs) leaf
+    → IsLow (length offer.menu.places) leaf
+closing_low offer k cs ch leaf within first =
+    low_first offer k cs ch (length offer.menu.places) (bounds offer k cs) leaf (all_low offer k cs (length offer.menu.places) (omega arith) within) first

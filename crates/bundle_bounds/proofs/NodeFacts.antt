@@ -13,7 +13,14 @@ pub nothing_chosen : (offer : Offer) (k : ℕ) → IsNode offer k []
 unfolding wishes_of
 nothing_chosen offer k = record {
   takable = record {
-    feasible = record { set = tt; rated = λ s is. absurd (false≢true is); apart = λ s t is is' other. absurd (false≢true is); credits = omega arith; courses = omega arith };
+    feasible =
+        record {
+          set = tt;
+          rated = λ s is. absurd (false≢true is);
+          apart = λ s t is is' other. absurd (false≢true is);
+          credits = omega arith;
+          courses = omega arith;
+        };
     affordable = omega arith;
     within = λ s is. absurd (false≢true is);
   };
@@ -21,7 +28,8 @@ nothing_chosen offer k = record {
 }
 
 -- the first closing leaf is on the menu of bounds
-pub first_has : (offer : Offer) (k : ℕ) (cs ch : List ℕ) (bs : List (Leaf × ℤ)) (leaf : Leaf) → IsFirstClosing offer k cs ch bs leaf → (number : ℤ) × HasBound bs leaf number
+pub first_has : (offer : Offer) (k : ℕ) (cs ch : List ℕ) (bs : List (Leaf × ℤ)) (leaf : Leaf) → IsFirstClosing offer k cs ch bs leaf
+    → (number : ℤ) × HasBound bs leaf number
 first_has offer k cs ch [] leaf first = absurd first
 first_has offer k cs ch (b ∷ bs) leaf (inl here) = (b.1, inl (here.1, refl))
 first_has offer k cs ch (b ∷ bs) leaf (inr later) = let rest = first_has offer k cs ch bs leaf later.1 in (rest.0, inr rest.1)

@@ -54,7 +54,8 @@ not_true : (b : Bool) → not b ≡ true → b ≡ false
 not_true true is = absurd (false≢true is)
 not_true false is = refl
 
-apart_from_each : (offer : Offer) (places : List ℕ) (k : ℕ) → is_apart offer places k ≡ true → (p : ℕ) → has places p ≡ true → clash_in offer.menu.clashes k p ≡ false
+apart_from_each : (offer : Offer) (places : List ℕ) (k : ℕ) → is_apart offer places k ≡ true → (p : ℕ) → has places p ≡ true
+    → clash_in offer.menu.clashes k p ≡ false
 apart_from_each offer [] k apart p is = absurd (false≢true is)
 apart_from_each offer (q ∷ places) k apart p is =
     let parts = both (not (clash_in offer.menu.clashes k q)) _ apart in
@@ -82,12 +83,15 @@ module _ (offer : Offer) (menu : IsMenu offer.menu) (k : ℕ) (chosen : List ℕ
   chosen_below : (t : ℕ) → has chosen t ≡ true → t < section_at offer.menu.places k
   chosen_below t is =
       let decided : place_in offer.menu.places t < k = node.decided t is in
-      let at : section_at offer.menu.places (place_in offer.menu.places t) ≡ t = section_at-place_in offer.menu.places t (on_menu offer chosen node.takable t is) in
+      let at : section_at offer.menu.places (place_in offer.menu.places t) ≡ t =
+      section_at-place_in offer.menu.places t (on_menu offer chosen node.takable t is) in
       subst (λ x. x < section_at offer.menu.places k) at (section_at-rises offer.menu.places (place_in offer.menu.places t) k menu.places.ascending decided low)
 
   -- and clash with it nowhere
-  chosen_apart : is_apart offer (places_of offer.menu chosen) k ≡ true → (t : ℕ) → has chosen t ≡ true → clash_in offer.menu.clashes k (place_in offer.menu.places t) ≡ false
-  chosen_apart apart t is = apart_from_each offer (places_of offer.menu chosen) k apart (place_in offer.menu.places t) (places-has offer.menu.places chosen t is)
+  chosen_apart : is_apart offer (places_of offer.menu chosen) k ≡ true → (t : ℕ) → has chosen t ≡ true
+      → clash_in offer.menu.clashes k (place_in offer.menu.places t) ≡ false
+  chosen_apart apart t is =
+      apart_from_each offer (places_of offer.menu chosen) k apart (place_in offer.menu.places t) (places-has offer.menu.places chosen t is)
 
   pub takable_where_open : IsOpen offer (places_of offer.menu chosen) k → IsTakable offer (chosen ++ section_at offer.menu.places k ∷ [])
   unfolding wishes_of by_place
@@ -106,19 +110,28 @@ module _ (offer : Offer) (menu : IsMenu offer.menu) (k : ℕ) (chosen : List ℕ
           apart = λ t u in_t in_u other. elim (has-last chosen (section_at offer.menu.places k) t in_t) [
             | inl before ↦ elim (has-last chosen (section_at offer.menu.places k) u in_u) [
               | inl before' ↦ node.takable.feasible.apart t u before before' other
-              | inr last ↦ rw (← last, place_of_next) (sym (menu.clashes.each k (place_in offer.menu.places t) low (on_menu offer chosen node.takable t before)).both_ways ∙ apart_next t before)
+              | inr last ↦
+                  rw (← last, place_of_next)
+                  (sym (menu.clashes.each k (place_in offer.menu.places t) low (on_menu offer chosen node.takable t before)).both_ways
+                  ∙ apart_next t before)
             ]
             | inr last ↦ elim (has-last chosen (section_at offer.menu.places k) u in_u) [
               | inl before' ↦ rw (← last, place_of_next) (apart_next u before')
               | inr last' ↦ absurd (other (sym last ∙ last'))
             ]
           ];
-          credits = fits _ (total (wishes_of offer.menu).credits chosen) _ 0 _ (total-append (wishes_of offer.menu).credits chosen (section_at offer.menu.places k ∷ []))
-              (rw place_of_next (subst (λ n. credits_at offer.menu.places k ≤ offer.menu.credits - n) (credits_by_place offer.menu chosen) open_.credits)) node.takable.feasible.credits;
-          courses = fits _ (length chosen) 1 0 _ (length-append chosen (section_at offer.menu.places k ∷ [])) (subst (λ n. 1 ≤ offer.menu.courses - n) same_length open_.courses) node.takable.feasible.courses;
+          credits =
+              fits _ (total (wishes_of offer.menu).credits chosen) _ 0 _
+              (total-append (wishes_of offer.menu).credits chosen (section_at offer.menu.places k ∷ []))
+              (rw place_of_next (subst (λ n. credits_at offer.menu.places k ≤ offer.menu.credits - n) (credits_by_place offer.menu chosen) open_.credits))
+              node.takable.feasible.credits;
+          courses =
+              fits _ (length chosen) 1 0 _ (length-append chosen (section_at offer.menu.places k ∷ []))
+              (subst (λ n. 1 ≤ offer.menu.courses - n) same_length open_.courses) node.takable.feasible.courses;
         };
         affordable = fits _ (total offer.price chosen) _ 0 _ (total-append offer.price chosen (section_at offer.menu.places k ∷ []))
-            (subst (λ n. price_at offer k ≤ offer.budget - n) (prices_by_place offer chosen (on_menu offer chosen node.takable)) open_.price) node.takable.affordable;
+            (subst (λ n. price_at offer k ≤ offer.budget - n) (prices_by_place offer chosen (on_menu offer chosen node.takable)) open_.price)
+            node.takable.affordable;
         within = λ t in_it. elim (has-last chosen (section_at offer.menu.places k) t in_it) [
           | inl before ↦ node.takable.within t before
           | inr last ↦ ap offer.allowed (sym last) ∙ open_.allowed
@@ -135,21 +148,27 @@ module _ (offer : Offer) (menu : IsMenu offer.menu) (k : ℕ) (chosen : List ℕ
       map-append (place_in offer.menu.places) chosen (section_at offer.menu.places k ∷ []) ∙ ap (λ p. places_of offer.menu chosen ++ p ∷ []) place_of_next in
       let may : MayBeTaken offer (cs ++ k ∷ []) = subst (MayBeTaken offer) split (taken_places offer _ menu takable) in
       let below : (c : ℕ) → has cs c ≡ true → c < k = λ c is. (let at = has-places offer.menu.places chosen c is in rw (← at.2) (node.decided at.0 at.1)) in
-      let above : (d : ℕ) → has (k ∷ []) d ≡ true → k ≤ d = λ d is. elim (has-cases k [] d is) [ inl here ↦ omega arith | inr there ↦ absurd (false≢true there) ] in
+      let above : (d : ℕ) → has (k ∷ []) d ≡ true → k ≤ d =
+      λ d is. elim (has-cases k [] d is) [ inl here ↦ omega arith | inr there ↦ absurd (false≢true there) ] in
       open_facts offer cs k (is_open-more offer k cs (k ∷ []) may below above k (has-here k []))
 
 -- the node with the next section, and the one without it
-pub node_with : (offer : Offer) (k : ℕ) (chosen : List ℕ) → IsMenu offer.menu → k < length offer.menu.places → IsNode offer k chosen → IsTakable offer (chosen ++ section_at offer.menu.places k ∷ []) → IsNode offer (k + 1) (chosen ++ section_at offer.menu.places k ∷ [])
+pub node_with : (offer : Offer) (k : ℕ) (chosen : List ℕ) → IsMenu offer.menu → k < length offer.menu.places → IsNode offer k chosen
+    → IsTakable offer (chosen ++ section_at offer.menu.places k ∷ []) → IsNode offer (k + 1) (chosen ++ section_at offer.menu.places k ∷ [])
 node_with offer k chosen menu low node takable = record {
   takable = takable;
   decided = λ s is. elim (has-last chosen (section_at offer.menu.places k) s is) [
     | inl before ↦ let below : place_in offer.menu.places s < k = node.decided s before in omega arith
-    | inr last ↦ let at : place_in offer.menu.places s ≡ k = ap (place_in offer.menu.places) (sym last) ∙ place_in-section_at offer.menu.places k menu.places.ascending low in omega arith
+    | inr last ↦
+        let at : place_in offer.menu.places s ≡ k =
+        ap (place_in offer.menu.places) (sym last) ∙ place_in-section_at offer.menu.places k menu.places.ascending low in
+        omega arith
   ];
 }
 
 pub node_without : (offer : Offer) (k : ℕ) (chosen : List ℕ) → IsNode offer k chosen → IsNode offer (k + 1) chosen
-node_without offer k chosen node = record { takable = node.takable; decided = λ s is. (let below : place_in offer.menu.places s < k = node.decided s is in omega arith) }
+node_without offer k chosen node =
+    record { takable = node.takable; decided = λ s is. (let below : place_in offer.menu.places s < k = node.decided s is in omega arith) }
 
 -- two names of one node
 pub node_same : (offer : Offer) (k j : ℕ) (chosen others : List ℕ) → k ≡ j → chosen ≡ others → IsNode offer k chosen → IsNode offer j others
@@ -157,7 +176,8 @@ node_same offer k j chosen others same equal node = subst (λ n. IsNode offer n 
 
 -- a node is one also where more places count as decided
 pub node_later : (offer : Offer) (k place : ℕ) (chosen : List ℕ) → k ≤ place → IsNode offer k chosen → IsNode offer place chosen
-node_later offer k place chosen later node = record { takable = node.takable; decided = λ s is. (let below : place_in offer.menu.places s < k = node.decided s is in omega arith) }
+node_later offer k place chosen later node =
+    record { takable = node.takable; decided = λ s is. (let below : place_in offer.menu.places s < k = node.decided s is in omega arith) }
 
 pub le_to : (a b : ℕ) → a ≤ b → nat_le a b ≡ true
 le_to a b h = grind (arith, nat_tests)

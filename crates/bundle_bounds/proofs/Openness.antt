@@ -93,18 +93,22 @@ ascending_rest (x ∷ xs) ys up = ascending_rest xs ys up.1
 
 has-append_left : (xs ys : List ℕ) (s : ℕ) → has xs s ≡ true → has (xs ++ ys) s ≡ true
 has-append_left [] ys s is = absurd (false≢true is)
-has-append_left (x ∷ xs) ys s is = elim (has-cases x xs s is) [ inl here ↦ rw here (has-here s (xs ++ ys)) | inr there ↦ has-there x (xs ++ ys) s (has-append_left xs ys s there) ]
+has-append_left (x ∷ xs) ys s is =
+    elim (has-cases x xs s is) [ inl here ↦ rw here (has-here s (xs ++ ys)) | inr there ↦ has-there x (xs ++ ys) s (has-append_left xs ys s there) ]
 
 pub has-append_right : (xs ys : List ℕ) (s : ℕ) → has ys s ≡ true → has (xs ++ ys) s ≡ true
 has-append_right [] ys s is = is
 has-append_right (x ∷ xs) ys s is = has-there x (xs ++ ys) s (has-append_right xs ys s is)
 
 -- each of what completes the chosen places is open
-pub is_open-more : (offer : Offer) (k : ℕ) (cs ds : List ℕ) → MayBeTaken offer (cs ++ ds) → ((c : ℕ) → has cs c ≡ true → c < k) → ((d : ℕ) → has ds d ≡ true → k ≤ d) → (d : ℕ) → has ds d ≡ true → is_open offer cs d ≡ true
+pub is_open-more : (offer : Offer) (k : ℕ) (cs ds : List ℕ) → MayBeTaken offer (cs ++ ds) → ((c : ℕ) → has cs c ≡ true → c < k)
+    → ((d : ℕ) → has ds d ≡ true → k ≤ d) → (d : ℕ) → has ds d ≡ true → is_open offer cs d ≡ true
 is_open-more offer k cs ds may low high d is =
     let in_all : has (cs ++ ds) d ≡ true = has-append_right cs ds d is in
     let allowed = may.allowed d in_all in
-    let apart : is_apart offer cs d ≡ true = none_clash offer cs d (λ c here. may.apart d c in_all (has-append_left cs ds c here) (λ e. let a = low c here in let b = high d is in absurd (omega arith))) in
+    let apart : is_apart offer cs d ≡ true =
+    none_clash offer cs d
+    (λ c here. may.apart d c in_all (has-append_left cs ds c here) (λ e. let a = low c here in let b = high d is in absurd (omega arith))) in
     let price : price_at offer d ≤ budget_left offer cs =
     (let split = total-append (price_at offer) cs ds in
     let a : ℕ = total (price_at offer) (cs ++ ds) in
@@ -128,10 +132,18 @@ is_open-more offer k cs ds may low high d is =
     let some : 1 ≤ length ds = member_length ds d is in
     let all : length (cs ++ ds) ≤ offer.menu.courses = may.courses in
     let goal : 1 ≤ offer.menu.courses - length cs = omega arith in goal) in
-    rw (allowed, apart, le_true (price_at offer d) (budget_left offer cs) price, le_true (credits_at offer.menu.places d) (credits_left offer cs) credits, le_true 1 (courses_left offer cs) courses) refl
+    rw (
+      allowed,
+      apart,
+      le_true (price_at offer d) (budget_left offer cs) price,
+      le_true (credits_at offer.menu.places d) (credits_left offer cs) credits,
+      le_true 1 (courses_left offer cs) courses,
+    )
+    refl
 
 -- ascending open places are a choice of the open ones
-pub among_opens : (offer : Offer) (cs : List ℕ) (j count : ℕ) (ds : List ℕ) → IsAscending ds → ((d : ℕ) → has ds d ≡ true → j ≤ d) → ((d : ℕ) → has ds d ≡ true → d < j + count) → ((d : ℕ) → has ds d ≡ true → is_open offer cs d ≡ true)
+pub among_opens : (offer : Offer) (cs : List ℕ) (j count : ℕ) (ds : List ℕ) → IsAscending ds → ((d : ℕ) → has ds d ≡ true → j ≤ d)
+    → ((d : ℕ) → has ds d ≡ true → d < j + count) → ((d : ℕ) → has ds d ≡ true → is_open offer cs d ≡ true)
     → (bs : List Bool) × (chosen bs (opens_from offer cs j count) ≡ ds)
 among_opens offer cs j count [] up low high open_ = ([], refl)
 among_opens offer cs j zero (d ∷ ds) up low high open_ = let a = low d (has-here d ds) in let b = high d (has-here d ds) in absurd (omega arith)
@@ -139,10 +151,15 @@ among_opens offer cs j (suc count) (d ∷ ds) up low high open_ =
     elim (cases_order j d) [
       | inl here ↦
           let opened : is_open offer cs j ≡ true = ap (is_open offer cs) here ∙ open_ d (has-here d ds) in
-          let rest = among_opens offer cs (j + 1) count ds up.1 (λ x is. let above = has-above d ds x up.0 is in omega arith) (λ x is. let h = high x (has-there d ds x is) in omega arith) (λ x is. open_ x (has-there d ds x is)) in
+          let rest =
+          among_opens offer cs (j + 1) count ds up.1 (λ x is. let above = has-above d ds x up.0 is in omega arith)
+          (λ x is. let h = high x (has-there d ds x is) in omega arith) (λ x is. open_ x (has-there d ds x is)) in
           (true ∷ rest.0, rw opened (ap (λ l. j ∷ l) rest.1 ∙ ap (λ x. x ∷ ds) here))
       | inr (inl below) ↦
-          let rest = among_opens offer cs (j + 1) count (d ∷ ds) up (λ x is. elim (has-cases d ds x is) [ inl e ↦ omega arith | inr there ↦ let above = has-above d ds x up.0 there in omega arith ]) (λ x is. let h = high x is in omega arith) open_ in
+          let rest =
+          among_opens offer cs (j + 1) count (d ∷ ds) up
+          (λ x is. elim (has-cases d ds x is) [ inl e ↦ omega arith | inr there ↦ let above = has-above d ds x up.0 there in omega arith ])
+          (λ x is. let h = high x is in omega arith) open_ in
           elim (cases_Bool (is_open offer cs j)) [
             | inl opened ↦ (false ∷ rest.0, rw opened rest.1)
             | inr shut ↦ (rest.0, rw shut rest.1)
@@ -162,7 +179,8 @@ module _ (offer : Offer) (cs : List ℕ) where
   prices_of (true ∷ bs) (r ∷ os) = ap (λ n. price_at offer r + n) (prices_of bs os)
   prices_of (false ∷ bs) (r ∷ os) = prices_of bs os
 
-  pub credits_of : (bs : List Bool) (os : List ℕ) → total (λ p. p.credits) (chosen bs (prospects offer cs os)) ≡ total (credits_at offer.menu.places) (chosen bs os)
+  pub credits_of : (bs : List Bool) (os : List ℕ)
+      → total (λ p. p.credits) (chosen bs (prospects offer cs os)) ≡ total (credits_at offer.menu.places) (chosen bs os)
   credits_of [] os = refl
   credits_of (b ∷ bs) [] = refl
   credits_of (true ∷ bs) (r ∷ os) = ap (λ n. credits_at offer.menu.places r + n) (credits_of bs os)
@@ -174,7 +192,8 @@ module _ (offer : Offer) (cs : List ℕ) where
   count_of (true ∷ bs) (r ∷ os) = let rest = count_of bs os in omega arith
   count_of (false ∷ bs) (r ∷ os) = count_of bs os
 
-  place_with : (bs : List Bool) (os : List ℕ) (c : ℕ) → has_course (chosen bs (prospects offer cs os)) c ≡ true → (q : ℕ) × (has (chosen bs os) q ≡ true) × (course_of offer q ≡ c)
+  place_with : (bs : List Bool) (os : List ℕ) (c : ℕ) → has_course (chosen bs (prospects offer cs os)) c ≡ true
+      → (q : ℕ) × (has (chosen bs os) q ≡ true) × (course_of offer q ≡ c)
   place_with [] os c is = absurd (false≢true is)
   place_with (b ∷ bs) [] c is = absurd (false≢true is)
   place_with (false ∷ bs) (r ∷ os) c is = place_with bs os c is
@@ -185,7 +204,8 @@ module _ (offer : Offer) (cs : List ℕ) where
       ]
 
   pub courses_apart : (bs : List Bool) (os : List ℕ) → IsAscending (chosen bs os)
-      → ((p q : ℕ) → has (chosen bs os) p ≡ true → has (chosen bs os) q ≡ true → p ≢ q → course_of offer p ≢ course_of offer q) → AreApartCourses (chosen bs (prospects offer cs os))
+      → ((p q : ℕ) → has (chosen bs os) p ≡ true → has (chosen bs os) q ≡ true → p ≢ q → course_of offer p ≢ course_of offer q)
+      → AreApartCourses (chosen bs (prospects offer cs os))
   courses_apart [] os up apart = tt
   courses_apart (b ∷ bs) [] up apart = tt
   courses_apart (false ∷ bs) (r ∷ os) up apart = courses_apart bs os up apart
@@ -211,7 +231,8 @@ course_at-first (rated ∷ places) (suc p) low =
     ]
 
 -- places that do not clash are of different courses
-pub other_course : (offer : Offer) (p q : ℕ) → IsMenu offer.menu → p < length offer.menu.places → q < length offer.menu.places → p ≢ q → clash_in offer.menu.clashes p q ≡ false → course_of offer p ≢ course_of offer q
+pub other_course : (offer : Offer) (p q : ℕ) → IsMenu offer.menu → p < length offer.menu.places → q < length offer.menu.places → p ≢ q
+    → clash_in offer.menu.clashes p q ≡ false → course_of offer p ≢ course_of offer q
 other_course offer p q menu low low' apart none same =
     let course : course_at offer.menu.places p ≡ course_at offer.menu.places q =
     sym (course_at-first offer.menu.places p low) ∙ ap (course_at offer.menu.places) same ∙ course_at-first offer.menu.places q low' in

@@ -33,27 +33,38 @@ first_low (rated ∷ places) zero low = let same : (rated.course == rated.course
 first_low (rated ∷ places) (suc p) low =
     elim (cases_Bool (rated.course == course_at places p)) [
       | inl same ↦ rw same (omega arith)
-      | inr other ↦ let rest = first_low places p (omega arith) in rw other (let n : ℕ = first_of_course places (course_at places p) in let rest' : n ≤ p = rest in let goal : suc n ≤ suc p = omega arith in goal)
+      | inr other ↦
+          let rest = first_low places p (omega arith) in
+          rw other (let n : ℕ = first_of_course places (course_at places p) in let rest' : n ≤ p = rest in let goal : suc n ≤ suc p = omega arith in goal)
     ]
 
-pub prospect_is : (menu : MenuData) (prices : List Tokens) (budget : ℕ) (allowed : fin.FinSet nat_cmp) (chosen : List ℕ) (place : ℕ) (later : List Prospect) (rated : Rated) (course worth price : ℕ) (a : ℤ) (h : ℕ)
+pub prospect_is : (menu : MenuData) (prices : List Tokens) (budget : ℕ) (allowed : fin.FinSet nat_cmp) (chosen : List ℕ) (place : ℕ) (later : List Prospect)
+    (rated : Rated) (course worth price : ℕ) (a : ℤ) (h : ℕ)
     → slice_get menu.places place ≡ Some rated → course ≡ first_of_course menu.places rated.course → worth ≡ above_zero ((pos rated.rating +ℤ a) +ℤ pos h)
-    → a ≡ signed_total (λ other. adjustment_in menu.pairs other place) chosen → h ≡ total (λ other. above_zero (adjustment_in menu.pairs place other.place)) later
+    → a ≡ signed_total (λ other. adjustment_in menu.pairs other place) chosen
+    → h ≡ total (λ other. above_zero (adjustment_in menu.pairs place other.place)) later
     → price ≡ price_in prices (section_at menu.places place)
-    → ◌≡◌ {A = Prospect} (record { place = place; course = course; worth = worth; price = price; credits = rated.credits }) (prospect (offer_of menu prices budget allowed) chosen place (map (λ other. other.place) later))
+    → ◌≡◌ {A = Prospect} (record { place = place; course = course; worth = worth; price = price; credits = rated.credits })
+    (prospect (offer_of menu prices budget allowed) chosen place (map (λ other. other.place) later))
 prospect_is menu prices budget allowed chosen place later rated course worth price a h at course_is worth_is a_is h_is price_is =
     let r = rating_at menu.places place in
     let rating_is : rated.rating ≡ r = sym (rating_at-is menu.places place rated at) in
     let s = signed_total (λ other. adjustment_in menu.pairs other place) chosen in
-    let hopes_is : h ≡ total (λ other. above_zero (adjustment_in menu.pairs place other)) (map (λ other. other.place) later) = h_is ∙ sym (total-map (λ other. above_zero (adjustment_in menu.pairs place other)) (λ other. other.place) later) in
+    let hopes_is : h ≡ total (λ other. above_zero (adjustment_in menu.pairs place other)) (map (λ other. other.place) later) =
+    h_is ∙ sym (total-map (λ other. above_zero (adjustment_in menu.pairs place other)) (λ other. other.place) later) in
     let first = course_is ∙ ap (first_of_course menu.places) (sym (course_at-is menu.places place rated at)) in
-    let second = worth_is ∙ ap (λ x. above_zero ((pos x +ℤ a) +ℤ pos h)) rating_is ∙ ap (λ x. above_zero ((pos r +ℤ x) +ℤ pos h)) a_is ∙ ap (λ x. above_zero ((pos r +ℤ s) +ℤ pos x)) hopes_is in
-    let third = sym (credits_at-is menu.places place rated at) in λ i. record { place = place; course = first i; worth = second i; price = price_is i; credits = third i }
+    let second =
+    worth_is ∙ ap (λ x. above_zero ((pos x +ℤ a) +ℤ pos h)) rating_is ∙ ap (λ x. above_zero ((pos r +ℤ x) +ℤ pos h)) a_is
+    ∙ ap (λ x. above_zero ((pos r +ℤ s) +ℤ pos x)) hopes_is in
+    let third = sym (credits_at-is menu.places place rated at) in
+    λ i. record { place = place; course = first i; worth = second i; price = price_is i; credits = third i }
 
-pub course_low : (menu : MenuData) (place : ℕ) (rated : Rated) (course : ℕ) → IsMenu menu → place < length menu.places → slice_get menu.places place ≡ Some rated → course ≡ first_of_course menu.places rated.course → course < 60
+pub course_low : (menu : MenuData) (place : ℕ) (rated : Rated) (course : ℕ) → IsMenu menu → place < length menu.places
+    → slice_get menu.places place ≡ Some rated → course ≡ first_of_course menu.places rated.course → course < 60
 course_low menu place rated course is on at course_is =
     let low = first_low menu.places place on in
-    let same : course ≡ first_of_course menu.places (course_at menu.places place) = course_is ∙ ap (first_of_course menu.places) (sym (course_at-is menu.places place rated at)) in
+    let same : course ≡ first_of_course menu.places (course_at menu.places place) =
+    course_is ∙ ap (first_of_course menu.places) (sym (course_at-is menu.places place rated at)) in
     let few = is.places.few in omega arith
 
 -- the places of what is known of places are these places
@@ -64,18 +75,34 @@ places-prospects offer chosen (place ∷ places) = ap (λ l. place ∷ l) (place
 -- ---- collecting from the last place on
 
 pub open_same : (offer : Offer) (chosen : List ℕ) (place x y z : ℕ) (b : Bool)
-    → b ≡ (allowed_at offer place && (is_apart offer chosen place && (nat_le (price_at offer place) x && (nat_le (credits_at offer.menu.places place) y && nat_le 1 z))))
+    → b
+    ≡ (allowed_at offer place
+    && (is_apart offer chosen place && (nat_le (price_at offer place) x && (nat_le (credits_at offer.menu.places place) y && nat_le 1 z))))
     → x ≡ budget_left offer chosen → y ≡ credits_left offer chosen → z ≡ courses_left offer chosen → b ≡ is_open offer chosen place
 open_same offer chosen place x y z b is first second third =
     is
-    ∙ ap (λ t. allowed_at offer place && (is_apart offer chosen place && (nat_le (price_at offer place) t && (nat_le (credits_at offer.menu.places place) y && nat_le 1 z)))) first
-    ∙ ap (λ t. allowed_at offer place && (is_apart offer chosen place && (nat_le (price_at offer place) (budget_left offer chosen) && (nat_le (credits_at offer.menu.places place) t && nat_le 1 z)))) second
-    ∙ ap (λ t. allowed_at offer place && (is_apart offer chosen place && (nat_le (price_at offer place) (budget_left offer chosen) && (nat_le (credits_at offer.menu.places place) (credits_left offer chosen) && nat_le 1 t)))) third
+    ∙ ap
+    (λ t. allowed_at offer place
+    && (is_apart offer chosen place && (nat_le (price_at offer place) t && (nat_le (credits_at offer.menu.places place) y && nat_le 1 z))))
+    first
+    ∙ ap
+    (λ t. allowed_at offer place
+    && (is_apart offer chosen place
+    && (nat_le (price_at offer place) (budget_left offer chosen) && (nat_le (credits_at offer.menu.places place) t && nat_le 1 z))))
+    second
+    ∙ ap
+    (λ t. allowed_at offer place
+    && (is_apart offer chosen place
+    && (nat_le (price_at offer place) (budget_left offer chosen)
+    && (nat_le (credits_at offer.menu.places place) (credits_left offer chosen) && nat_le 1 t))))
+    third
 
-pub opens_shut : (offer : Offer) (chosen : List ℕ) (place n : ℕ) → place < n → is_open offer chosen place ≡ false → opens_from offer chosen place (n - place) ≡ opens_from offer chosen (place + 1) (n - (place + 1))
+pub opens_shut : (offer : Offer) (chosen : List ℕ) (place n : ℕ) → place < n → is_open offer chosen place ≡ false
+    → opens_from offer chosen place (n - place) ≡ opens_from offer chosen (place + 1) (n - (place + 1))
 opens_shut offer chosen place n low shut = let e : n - place ≡ suc (n - (place + 1)) = omega arith in ap (opens_from offer chosen place) e ∙ rw shut refl
 
-pub opens_open : (offer : Offer) (chosen : List ℕ) (place n : ℕ) → place < n → is_open offer chosen place ≡ true → opens_from offer chosen place (n - place) ≡ place ∷ opens_from offer chosen (place + 1) (n - (place + 1))
+pub opens_open : (offer : Offer) (chosen : List ℕ) (place n : ℕ) → place < n → is_open offer chosen place ≡ true
+    → opens_from offer chosen place (n - place) ≡ place ∷ opens_from offer chosen (place + 1) (n - (place + 1))
 opens_open offer chosen place n low opened = let e : n - place ≡ suc (n - (place + 1)) = omega arith in ap (opens_from offer chosen place) e ∙ rw opened refl
 
 drop-set_front : (room : List Prospect) (i : ℕ) (x : Prospect) → i < length room → drop i (set room i x) ≡ x ∷ drop (suc i) room
@@ -90,8 +117,10 @@ pub all_cons : (P : Prospect → Type 0) (x : Prospect) (xs : List Prospect) →
 all_cons P x xs here rest zero d low = here
 all_cons P x xs here rest (suc k) d low = rest k d (omega arith)
 
-pub collected : (offer : Offer) (chosen : List ℕ) (place n s : ℕ) (room : List Prospect) (x : Prospect) → place < n → is_open offer chosen place ≡ true → 1 ≤ s → s ≤ length room
-    → drop s room ≡ prospects offer chosen (opens_from offer chosen (place + 1) (n - (place + 1))) → x ≡ prospect offer chosen place (map (λ p. p.place) (drop s room))
+pub collected : (offer : Offer) (chosen : List ℕ) (place n s : ℕ) (room : List Prospect) (x : Prospect) → place < n → is_open offer chosen place ≡ true → 1 ≤ s
+    → s ≤ length room
+    → drop s room ≡ prospects offer chosen (opens_from offer chosen (place + 1) (n - (place + 1)))
+    → x ≡ prospect offer chosen place (map (λ p. p.place) (drop s room))
     → drop (s - 1) (set room (s - 1) x) ≡ prospects offer chosen (opens_from offer chosen place (n - place))
 collected offer chosen place n s room x low opened some within rest is =
     let os = opens_from offer chosen (place + 1) (n - (place + 1)) in
@@ -107,7 +136,8 @@ pub rest_whole : (room : List Prospect) (s : ℕ) → take (length room - s) (dr
 rest_whole room s = ap (λ n. take n (drop s room)) (sym (length-drop s room)) ∙ take-length (drop s room)
 
 -- the open places where all are decided, and where some places past the last are
-pub open_places-within : (offer : Offer) (k : ℕ) (chosen : List ℕ) → open_places offer k chosen ≡ opens_from offer chosen (min k (length offer.menu.places)) (length offer.menu.places - min k (length offer.menu.places))
+pub open_places-within : (offer : Offer) (k : ℕ) (chosen : List ℕ)
+    → open_places offer k chosen ≡ opens_from offer chosen (min k (length offer.menu.places)) (length offer.menu.places - min k (length offer.menu.places))
 open_places-within offer k chosen =
     let n = length offer.menu.places in
     elim (cases_lt k n) [

@@ -23,15 +23,20 @@ tail_of : (P : Prospect → Type 0) (x : Prospect) (xs : List Prospect) → All 
 tail_of P x xs all = λ k d low. all (suc k) d (omega arith)
 
 module _ (base : ℤ) (limit : ℤ) (rest : ℕ) (resource : Resource) (all : List Prospect) where
-  resource_bounds-append : (ps qs : List Prospect) → resource_bounds base rest resource all (ps ++ qs) ≡ resource_bounds base rest resource all ps ++ resource_bounds base rest resource all qs
+  resource_bounds-append : (ps qs : List Prospect)
+      → resource_bounds base rest resource all (ps ++ qs) ≡ resource_bounds base rest resource all ps ++ resource_bounds base rest resource all qs
   resource_bounds-append [] qs = refl
   resource_bounds-append (p ∷ ps) qs = elim (cases_Bool (nat_lt 0 p.worth && nat_lt 0 (takes_of resource p))) [
-    | inl has ↦ rw has (ap (λ bs. (leaf_of resource p.place, base +ℤ pos (at_price resource rest (1000 * p.worth / takes_of resource p) all)) ∷ bs) (resource_bounds-append ps qs))
+    | inl has ↦
+        rw has
+        (ap (λ bs. (leaf_of resource p.place, base +ℤ pos (at_price resource rest (1000 * p.worth / takes_of resource p) all)) ∷ bs)
+        (resource_bounds-append ps qs))
     | inr none ↦ rw none (resource_bounds-append ps qs)
   ]
 
   -- one more has none below the limit
-  pub none_more : (ps : List Prospect) (i : ℕ) (d : Prospect) → i < length ps → NoneBelow limit (resource_bounds base rest resource all (take i ps)) → ¬ Below base limit rest resource all (get_or ps i d)
+  pub none_more : (ps : List Prospect) (i : ℕ) (d : Prospect) → i < length ps → NoneBelow limit (resource_bounds base rest resource all (take i ps))
+      → ¬ Below base limit rest resource all (get_or ps i d)
       → NoneBelow limit (resource_bounds base rest resource all (take (i + 1) ps))
   none_more ps i d low so_far above =
       subst (λ qs. NoneBelow limit (resource_bounds base rest resource all qs)) (sym (take_more ps i d low))
@@ -39,7 +44,8 @@ module _ (base : ℤ) (limit : ℤ) (rest : ℕ) (resource : Resource) (all : Li
       (none-append limit (resource_bounds base rest resource all (take i ps)) (resource_bounds base rest resource all (get_or ps i d ∷ [])) so_far (none_later base limit rest resource all (get_or ps i d) [] above tt)))
 
   -- the first that has one
-  pub first_at : (ps : List Prospect) (i : ℕ) (d : Prospect) → i < length ps → NoneBelow limit (resource_bounds base rest resource all (take i ps)) → Below base limit rest resource all (get_or ps i d)
+  pub first_at : (ps : List Prospect) (i : ℕ) (d : Prospect) → i < length ps → NoneBelow limit (resource_bounds base rest resource all (take i ps))
+      → Below base limit rest resource all (get_or ps i d)
       → IsFirstBelow limit (resource_bounds base rest resource all ps) (leaf_of resource (get_or ps i d).place)
   first_at ps i d low so_far below =
       let whole : take i ps ++ (get_or ps i d ∷ drop (i + 1) ps) ≡ ps = ap (λ qs. take i ps ++ qs) (sym (drop_here ps i d low)) ∙ take-append-drop i ps in
@@ -49,7 +55,8 @@ module _ (base : ℤ) (limit : ℤ) (rest : ℕ) (resource : Resource) (all : Li
       (first_here base limit rest resource all (get_or ps i d) (drop (i + 1) ps) below)))
 
   -- where everything is known none has one
-  pub none_where_known : (known : Known) → IsKnown base limit rest resource all known → known.high ≤ known.low → (ps : List Prospect) → All IsModest ps → NoneBelow limit (resource_bounds base rest resource all ps)
+  pub none_where_known : (known : Known) → IsKnown base limit rest resource all known → known.high ≤ known.low → (ps : List Prospect) → All IsModest ps
+      → NoneBelow limit (resource_bounds base rest resource all ps)
   none_where_known known is covers [] modest = tt
   none_where_known known is covers (p ∷ ps) modest =
       let price : ℕ = 1000 * p.worth / takes_of resource p in
@@ -60,4 +67,6 @@ module _ (base : ℤ) (limit : ℤ) (rest : ℕ) (resource : Resource) (all : Li
         | inl before ↦ is.low (1000 * p.worth / takes_of resource p) before
         | inr after ↦ is.high (1000 * p.worth / takes_of resource p) (omega arith) (omega arith)
       ] in
-      none_later base limit rest resource all p ps (λ below. let low : (base +ℤ pos (at_price resource rest (1000 * p.worth / takes_of resource p) all)) <ℤ limit = below.1 in omega (arith, ints)) (none_where_known known is covers ps (tail_of IsModest p ps modest))
+      none_later base limit rest resource all p ps
+      (λ below. let low : (base +ℤ pos (at_price resource rest (1000 * p.worth / takes_of resource p) all)) <ℤ limit = below.1 in omega (arith, ints))
+      (none_where_known known is covers ps (tail_of IsModest p ps modest))

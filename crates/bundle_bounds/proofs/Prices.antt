@@ -14,10 +14,12 @@ pub record ReadsPrice (menu : MenuData) (prices : List Tokens) (place i : ℕ) :
   pub value : (get_or prices i (record { 0 = 0 })).0 ≡ price_in prices (section_at menu.places place)
   pub high : (get_or prices i (record { 0 = 0 })).0 ≤ 1000001
 
-pub price_read : (menu : MenuData) (prices : List Tokens) (place i : ℕ) (rated : Rated) → HasPrices menu prices → place < length menu.places → slice_get menu.places place ≡ Some rated → i ≡ rated.section.0 → ReadsPrice menu prices place i
+pub price_read : (menu : MenuData) (prices : List Tokens) (place i : ℕ) (rated : Rated) → HasPrices menu prices → place < length menu.places
+    → slice_get menu.places place ≡ Some rated → i ≡ rated.section.0 → ReadsPrice menu prices place i
 price_read menu prices place i rated has on is at_ =
     let here : section_at menu.places place ≡ i = section_at-is menu.places place rated is ∙ sym at_ in
-    let priced : IsPriced prices rated.section.0 = subst (λ (r : Rated). IsPriced prices r.section.0) (get_or_from_slice_get menu.places place rated rated is) (has place rated on) in
+    let priced : IsPriced prices rated.section.0 =
+    subst (λ (r : Rated). IsPriced prices r.section.0) (get_or_from_slice_get menu.places place rated rated is) (has place rated on) in
     let low : i < length prices = rw at_ priced.listed in
     let high : price_in prices i ≤ 1000001 = rw at_ priced.high in
     let read : price_in prices i ≡ (get_or prices i (record { 0 = 0 })).0 = get_or-map (λ price. price.0) prices i (record { 0 = 0 }) 0 low in

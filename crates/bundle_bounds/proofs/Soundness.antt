@@ -50,7 +50,8 @@ module _ (offer : Offer) (cs : List ℕ) (u : ℤ) (ps : List Prospect) (bs : Li
       let reached' : u ≤ℤ (v +ℤ pos a) = reached in
       let goal : u ≤ℤ (v +ℤ pos b) = omega (arith, ints) in goal
 
-  price_sound : (resource : Resource) (rest price : ℕ) → total (takes_of resource) (chosen bs ps) ≤ rest → u ≤ℤ (base_of offer cs +ℤ pos (at_price resource rest price ps))
+  price_sound : (resource : Resource) (rest price : ℕ) → total (takes_of resource) (chosen bs ps) ≤ rest
+      → u ≤ℤ (base_of offer cs +ℤ pos (at_price resource rest price ps))
   price_sound resource rest price fits =
       let v : ℤ = pos 1000 *ℤ utility (by_place offer.menu) cs in
       let a : ℕ = 1000 * total (λ p. p.worth) (chosen bs ps) in
@@ -62,7 +63,8 @@ module _ (offer : Offer) (cs : List ℕ) (u : ℤ) (ps : List Prospect) (bs : Li
       let reached' : u ≤ℤ (v +ℤ pos a) = reached in
       let goal : u ≤ℤ (v +ℤ pos (m + b)) = omega (arith, ints) in goal
 
-  resource_sound : (resource : Resource) (qs : List Prospect) → total (takes_of resource) (chosen bs ps) ≤ left_of offer cs resource → EachAtLeast u (resource_bounds (base_of offer cs) (left_of offer cs resource) resource ps qs)
+  resource_sound : (resource : Resource) (qs : List Prospect) → total (takes_of resource) (chosen bs ps) ≤ left_of offer cs resource
+      → EachAtLeast u (resource_bounds (base_of offer cs) (left_of offer cs resource) resource ps qs)
   resource_sound resource [] fits = tt
   resource_sound resource (q ∷ qs) fits =
       let later = resource_sound resource qs fits in
@@ -75,34 +77,42 @@ module _ (offer : Offer) (cs : List ℕ) (u : ℤ) (ps : List Prospect) (bs : Li
   all_sound fits = (
     plain_sound,
     each-append u (resource_bounds (base_of offer cs) (left_of offer cs Money) Money ps ps) _ (resource_sound Money ps (fits Money))
-        (each-append u (resource_bounds (base_of offer cs) (left_of offer cs Credits) Credits ps ps) _ (resource_sound Credits ps (fits Credits)) (resource_sound Count ps (fits Count))),
+        (each-append u (resource_bounds (base_of offer cs) (left_of offer cs Credits) Credits ps ps) _ (resource_sound Credits ps (fits Credits))
+        (resource_sound Count ps (fits Count))),
   )
 
 rest_of : (whole front more cap : ℕ) → whole ≡ front + more → whole ≤ cap → more ≤ cap - front
 rest_of whole front more cap split fits = omega arith
 
 -- what completes the chosen places takes no more than they leave
-fits_of : (offer : Offer) (cs : List ℕ) (bs : List Bool) (opens ds : List ℕ) → chosen bs opens ≡ ds → MayBeTaken offer (cs ++ ds) → (resource : Resource) → total (takes_of resource) (chosen bs (prospects offer cs opens)) ≤ left_of offer cs resource
+fits_of : (offer : Offer) (cs : List ℕ) (bs : List Bool) (opens ds : List ℕ) → chosen bs opens ≡ ds → MayBeTaken offer (cs ++ ds) → (resource : Resource)
+    → total (takes_of resource) (chosen bs (prospects offer cs opens)) ≤ left_of offer cs resource
 fits_of offer cs bs opens ds same may Money = rw (prices_of offer cs bs opens, same) (rest_of _ _ _ _ (total-append (price_at offer) cs ds) may.affordable)
-fits_of offer cs bs opens ds same may Credits = rw (credits_of offer cs bs opens, same) (rest_of _ _ _ _ (total-append (credits_at offer.menu.places) cs ds) may.credits)
+fits_of offer cs bs opens ds same may Credits =
+    rw (credits_of offer cs bs opens, same) (rest_of _ _ _ _ (total-append (credits_at offer.menu.places) cs ds) may.credits)
 fits_of offer cs bs opens ds same may Count = rw (count_of offer cs bs opens, same) (rest_of _ _ _ _ (length-append cs ds) may.courses)
 
 -- the bounds are sound for what completes chosen places by further ones
-places_sound : (offer : Offer) (k : ℕ) (cs ds : List ℕ) → IsMenu offer.menu → MayBeTaken offer (cs ++ ds) → ((c : ℕ) → has cs c ≡ true → c < k) → ((d : ℕ) → has ds d ≡ true → k ≤ d)
+places_sound : (offer : Offer) (k : ℕ) (cs ds : List ℕ) → IsMenu offer.menu → MayBeTaken offer (cs ++ ds) → ((c : ℕ) → has cs c ≡ true → c < k)
+    → ((d : ℕ) → has ds d ≡ true → k ≤ d)
     → EachAtLeast (pos 1000 *ℤ utility (by_place offer.menu) (cs ++ ds)) (bounds offer k cs)
 places_sound offer k cs ds menu may low high =
     let n = length offer.menu.places in
     let opens = open_places offer k cs in
-    let within : (d : ℕ) → has ds d ≡ true → d < k + (n - k) = λ d is. let on = may.on_menu d (has-append_right cs ds d is) in let above = high d is in omega arith in
+    let within : (d : ℕ) → has ds d ≡ true → d < k + (n - k) =
+    λ d is. let on = may.on_menu d (has-append_right cs ds d is) in let above = high d is in omega arith in
     let picked = among_opens offer cs k (n - k) ds (ascending_rest cs ds may.ascending) high within (is_open-more offer k cs ds may low high) in
     let bs = picked.0 in
     let same : chosen bs opens ≡ ds = picked.1 in
     let up : IsAscending (chosen bs opens) = rw same (ascending_rest cs ds may.ascending) in
     let among : (p : ℕ) → has (chosen bs opens) p ≡ true → has (cs ++ ds) p ≡ true = λ p is. has-append_right cs ds p (rw same at is) in
     let apart : AreApartCourses (chosen bs (prospects offer cs opens)) =
-    courses_apart offer cs bs opens up (λ p q is is' other. other_course offer p q menu (may.on_menu p (among p is)) (may.on_menu q (among q is')) other (may.apart p q (among p is) (among q is') other)) in
+    courses_apart offer cs bs opens up
+    (λ p q is is' other. other_course offer p q menu (may.on_menu p (among p is)) (may.on_menu q (among q is')) other
+    (may.apart p q (among p is) (among q is') other)) in
     let adds = utility-append (by_place offer.menu) cs ds in
-    let most : gain (by_place offer.menu) cs ds ≤ℤ pos (total (λ p. p.worth) (chosen bs (prospects offer cs opens))) = rw same at (gain_bound offer cs bs opens) in
+    let most : gain (by_place offer.menu) cs ds ≤ℤ pos (total (λ p. p.worth) (chosen bs (prospects offer cs opens))) =
+    rw same at (gain_bound offer cs bs opens) in
     let u : ℤ = utility (by_place offer.menu) (cs ++ ds) in
     let v : ℤ = utility (by_place offer.menu) cs in
     let g : ℤ = gain (by_place offer.menu) cs ds in
@@ -113,11 +123,14 @@ places_sound offer k cs ds menu may low high =
     all_sound offer cs (pos 1000 *ℤ u) (prospects offer cs opens) bs apart reached (fits_of offer cs bs opens ds same may)
 
 -- the same members below k
-pub same_below : (offer : Offer) (k : ℕ) (chosen_ bundle : List ℕ) → IsMenu offer.menu → IsTakable offer chosen_ → IsTakable offer bundle → Completes offer k chosen_ bundle → (p : ℕ) → p < k → has (places_of offer.menu bundle) p ≡ has (places_of offer.menu chosen_) p
+pub same_below : (offer : Offer) (k : ℕ) (chosen_ bundle : List ℕ) → IsMenu offer.menu → IsTakable offer chosen_ → IsTakable offer bundle
+    → Completes offer k chosen_ bundle → (p : ℕ) → p < k → has (places_of offer.menu bundle) p ≡ has (places_of offer.menu chosen_) p
 same_below offer k chosen_ bundle menu may may' completes p low =
     let places = offer.menu.places in
     elim (cases_lt p (length places)) [
-      | inl on ↦ has_by_place places bundle p menu.places.ascending (on_menu offer bundle may') on ∙ completes p low on ∙ sym (has_by_place places chosen_ p menu.places.ascending (on_menu offer chosen_ may) on)
+      | inl on ↦
+          has_by_place places bundle p menu.places.ascending (on_menu offer bundle may') on ∙ completes p low on
+          ∙ sym (has_by_place places chosen_ p menu.places.ascending (on_menu offer chosen_ may) on)
       | inr off ↦ none bundle may' off ∙ sym (none chosen_ may off)
     ]
   where
@@ -138,5 +151,6 @@ bound_soundness offer k chosen_ bundle menu node may completes =
     let front = front_of k cs ps first.ascending second.ascending low (same_below offer k chosen_ bundle menu node.takable may completes) in
     let taken : MayBeTaken offer (cs ++ front.0) = subst (MayBeTaken offer) front.1 second in
     let sound = places_sound offer k cs front.0 menu taken low front.2 in
-    let same : utility (by_place offer.menu) (cs ++ front.0) ≡ utility (wishes_of offer.menu) bundle = ap (utility (by_place offer.menu)) (sym front.1) ∙ utility_by_place offer.menu bundle in
+    let same : utility (by_place offer.menu) (cs ++ front.0) ≡ utility (wishes_of offer.menu) bundle =
+    ap (utility (by_place offer.menu)) (sym front.1) ∙ utility_by_place offer.menu bundle in
     subst (λ u. EachAtLeast (pos 1000 *ℤ u) (bounds offer k cs)) same sound

@@ -20,16 +20,23 @@ use Rattle.bundle_bounds.proofs.Outlook.{total-map, places-prospects, put_front}
 use Rattle.bundle_bounds.proofs.Steps.{no_prospect}
 
 -- an open place beside other chosen ones and before other open ones
-pub beside_is : (menu : MenuData) (prices : List Tokens) (budget : ℕ) (allowed : fin.FinSet nat_cmp) (before chosen : List ℕ) (place : ℕ) (others : List ℕ) (later : List Prospect) (one : Prospect) (rated : Rated) (worth : ℕ) (a : ℤ) (h : ℕ)
-    → one ≡ prospect (offer_of menu prices budget allowed) before place others → slice_get menu.places place ≡ Some rated → worth ≡ above_zero ((pos rated.rating +ℤ a) +ℤ pos h)
-    → a ≡ signed_total (λ other. adjustment_in menu.pairs other place) chosen → h ≡ total (λ other. above_zero (adjustment_in menu.pairs place other.place)) later
-    → ◌≡◌ {A = Prospect} (record { place = place; course = one.course; worth = worth; price = one.price; credits = one.credits }) (prospect (offer_of menu prices budget allowed) chosen place (map (λ other. other.place) later))
+pub beside_is : (menu : MenuData) (prices : List Tokens) (budget : ℕ) (allowed : fin.FinSet nat_cmp) (before chosen : List ℕ) (place : ℕ) (others : List ℕ)
+    (later : List Prospect) (one : Prospect) (rated : Rated) (worth : ℕ) (a : ℤ) (h : ℕ)
+    → one ≡ prospect (offer_of menu prices budget allowed) before place others → slice_get menu.places place ≡ Some rated
+    → worth ≡ above_zero ((pos rated.rating +ℤ a) +ℤ pos h)
+    → a ≡ signed_total (λ other. adjustment_in menu.pairs other place) chosen
+    → h ≡ total (λ other. above_zero (adjustment_in menu.pairs place other.place)) later
+    → ◌≡◌ {A = Prospect} (record { place = place; course = one.course; worth = worth; price = one.price; credits = one.credits })
+    (prospect (offer_of menu prices budget allowed) chosen place (map (λ other. other.place) later))
 beside_is menu prices budget allowed before chosen place others later one rated worth a h one_is at worth_is a_is h_is =
     let r = rating_at menu.places place in
     let rating_is : rated.rating ≡ r = sym (rating_at-is menu.places place rated at) in
     let s = signed_total (λ other. adjustment_in menu.pairs other place) chosen in
-    let hopes_is : h ≡ total (λ other. above_zero (adjustment_in menu.pairs place other)) (map (λ other. other.place) later) = h_is ∙ sym (total-map (λ other. above_zero (adjustment_in menu.pairs place other)) (λ other. other.place) later) in
-    let second = worth_is ∙ ap (λ x. above_zero ((pos x +ℤ a) +ℤ pos h)) rating_is ∙ ap (λ x. above_zero ((pos r +ℤ x) +ℤ pos h)) a_is ∙ ap (λ x. above_zero ((pos r +ℤ s) +ℤ pos x)) hopes_is in
+    let hopes_is : h ≡ total (λ other. above_zero (adjustment_in menu.pairs place other)) (map (λ other. other.place) later) =
+    h_is ∙ sym (total-map (λ other. above_zero (adjustment_in menu.pairs place other)) (λ other. other.place) later) in
+    let second =
+    worth_is ∙ ap (λ x. above_zero ((pos x +ℤ a) +ℤ pos h)) rating_is ∙ ap (λ x. above_zero ((pos r +ℤ x) +ℤ pos h)) a_is
+    ∙ ap (λ x. above_zero ((pos r +ℤ s) +ℤ pos x)) hopes_is in
     λ i. record { place = place; course = (one_is i).course; worth = second i; price = (one_is i).price; credits = (one_is i).credits }
 
 less_left : (a b c : ℕ) → a ≤ b - c → a ≤ b
@@ -62,7 +69,8 @@ module _ (offer : Offer) (before : List ℕ) (place : ℕ) where
       let whole : w ≡ t + 1 = length-append before (place ∷ []) in
       let goal : offer.menu.courses - w ≡ (offer.menu.courses - t) - 1 = omega arith in goal
 
-  pub rests_less : (x y z x' y' z' price credits : ℕ) → x ≡ budget_left offer before → y ≡ credits_left offer before → z ≡ courses_left offer before → price ≡ price_at offer place → credits ≡ credits_at offer.menu.places place
+  pub rests_less : (x y z x' y' z' price credits : ℕ) → x ≡ budget_left offer before → y ≡ credits_left offer before → z ≡ courses_left offer before
+      → price ≡ price_at offer place → credits ≡ credits_at offer.menu.places place
       → x' ≡ x - price → y' ≡ y - credits → z' ≡ z - 1
       → (x' ≡ budget_left offer (before ++ place ∷ [])) × (y' ≡ credits_left offer (before ++ place ∷ [])) × (z' ≡ courses_left offer (before ++ place ∷ []))
   rests_less x y z x' y' z' price credits x_is y_is z_is price_is credits_is x'_is y'_is z'_is = (
@@ -79,7 +87,9 @@ module _ (offer : Offer) (before : List ℕ) (place : ℕ) where
         allowed = facts.allowed;
         apart = (both (is_apart offer before t) _ (sym (apart_split t) ∙ facts.apart)).0;
         price = less_left (price_at offer t) (budget_left offer before) (price_at offer place) (subst (λ n. price_at offer t ≤ n) budget_less facts.price);
-        credits = less_left (credits_at offer.menu.places t) (credits_left offer before) (credits_at offer.menu.places place) (subst (λ n. credits_at offer.menu.places t ≤ n) credits_less facts.credits);
+        credits =
+            less_left (credits_at offer.menu.places t) (credits_left offer before) (credits_at offer.menu.places place)
+            (subst (λ n. credits_at offer.menu.places t ≤ n) credits_less facts.credits);
         courses = less_left 1 (courses_left offer before) 1 (subst (λ n. 1 ≤ n) courses_less facts.courses);
       }
 
@@ -90,16 +100,23 @@ module _ (offer : Offer) (before : List ℕ) (place : ℕ) where
   -- an open place stays open where it does not clash with the new one, and is within what that leaves
   pub open_beside : (t : ℕ) (others : List ℕ) (one : Prospect) (x y z : ℕ) (b : Bool) → is_open offer before t ≡ true → one ≡ prospect offer before t others
       → x ≡ budget_left offer (before ++ place ∷ []) → y ≡ credits_left offer (before ++ place ∷ []) → z ≡ courses_left offer (before ++ place ∷ [])
-      → b ≡ (not (clash_in offer.menu.clashes t place) && (nat_le one.price x && (nat_le one.credits y && nat_le 1 z))) → b ≡ is_open offer (before ++ place ∷ []) t
+      → b ≡ (not (clash_in offer.menu.clashes t place) && (nat_le one.price x && (nat_le one.credits y && nat_le 1 z)))
+      → b ≡ is_open offer (before ++ place ∷ []) t
   open_beside t others one x y z b is one_is x_is y_is z_is b_is =
       let facts = open_facts offer before t is in
       let price_is : one.price ≡ price_at offer t = ap (λ p. p.price) one_is in
       let credits_is : one.credits ≡ credits_at offer.menu.places t = ap (λ p. p.credits) one_is in
-      let apart : is_apart offer (before ++ place ∷ []) t ≡ not (clash_in offer.menu.clashes t place) = apart_split t ∙ ap (λ c. c && (not (clash_in offer.menu.clashes t place) && true)) facts.apart ∙ and_true (not (clash_in offer.menu.clashes t place)) in
+      let apart : is_apart offer (before ++ place ∷ []) t ≡ not (clash_in offer.menu.clashes t place) =
+      apart_split t ∙ ap (λ c. c && (not (clash_in offer.menu.clashes t place) && true)) facts.apart ∙ and_true (not (clash_in offer.menu.clashes t place)) in
       let left : b ≡ (not (clash_in offer.menu.clashes t place) && (nat_le (price_at offer t) (budget_left offer (before ++ place ∷ [])) && (nat_le (credits_at offer.menu.places t) (credits_left offer (before ++ place ∷ [])) && nat_le 1 (courses_left offer (before ++ place ∷ [])))))
       = b_is ∙ (λ i. not (clash_in offer.menu.clashes t place) && (nat_le (price_is i) (x_is i) && (nat_le (credits_is i) (y_is i) && nat_le 1 (z_is i)))) in
       let right : is_open offer (before ++ place ∷ []) t ≡ (not (clash_in offer.menu.clashes t place) && (nat_le (price_at offer t) (budget_left offer (before ++ place ∷ [])) && (nat_le (credits_at offer.menu.places t) (credits_left offer (before ++ place ∷ [])) && nat_le 1 (courses_left offer (before ++ place ∷ [])))))
-      = λ i. facts.allowed i && (apart i && (nat_le (price_at offer t) (budget_left offer (before ++ place ∷ [])) && (nat_le (credits_at offer.menu.places t) (credits_left offer (before ++ place ∷ [])) && nat_le 1 (courses_left offer (before ++ place ∷ []))))) in
+      =
+      λ i. facts.allowed i
+      && (apart i
+      && (nat_le (price_at offer t) (budget_left offer (before ++ place ∷ []))
+      && (nat_le (credits_at offer.menu.places t) (credits_left offer (before ++ place ∷ []))
+      && nat_le 1 (courses_left offer (before ++ place ∷ []))))) in
       left ∙ sym right
 
   -- the open places beside one more are those of before that stay open
@@ -121,17 +138,21 @@ opens_all offer cs j (suc n) = elim (cases_Bool (is_open offer cs j)) [
 ]
 
 -- one that stays open is put in front
-pub put_kept : (offer : Offer) (cs : List ℕ) (t : ℕ) (later : List ℕ) (room : List Prospect) (s : ℕ) (here : Prospect) → 1 ≤ s → s ≤ length room → is_open offer cs t ≡ true
+pub put_kept : (offer : Offer) (cs : List ℕ) (t : ℕ) (later : List ℕ) (room : List Prospect) (s : ℕ) (here : Prospect) → 1 ≤ s → s ≤ length room
+    → is_open offer cs t ≡ true
     → drop s room ≡ prospects offer cs (filter (is_open offer cs) later) → here ≡ prospect offer cs t (map (λ p. p.place) (drop s room))
     → drop (s - 1) (set room (s - 1) here) ≡ prospects offer cs (filter (is_open offer cs) (t ∷ later))
 put_kept offer cs t later room s here some within opened rest is =
-    let places : map (λ p. p.place) (drop s room) ≡ filter (is_open offer cs) later = ap (map (λ p. p.place)) rest ∙ places-prospects offer cs (filter (is_open offer cs) later) in
+    let places : map (λ p. p.place) (drop s room) ≡ filter (is_open offer cs) later =
+    ap (map (λ p. p.place)) rest ∙ places-prospects offer cs (filter (is_open offer cs) later) in
     let first : here ≡ prospect offer cs t (filter (is_open offer cs) later) = is ∙ ap (prospect offer cs t) places in
     let front : filter (is_open offer cs) (t ∷ later) ≡ t ∷ filter (is_open offer cs) later = rw opened refl in
     put_front room s here some within ∙ (λ i. first i ∷ rest i) ∙ sym (ap (prospects offer cs) front)
 
-pub shut_kept : (offer : Offer) (cs : List ℕ) (t : ℕ) (later : List ℕ) (kept : List Prospect) → is_open offer cs t ≡ false → kept ≡ prospects offer cs (filter (is_open offer cs) later) → kept ≡ prospects offer cs (filter (is_open offer cs) (t ∷ later))
-shut_kept offer cs t later kept shut rest = let front : filter (is_open offer cs) (t ∷ later) ≡ filter (is_open offer cs) later = rw shut refl in rest ∙ sym (ap (prospects offer cs) front)
+pub shut_kept : (offer : Offer) (cs : List ℕ) (t : ℕ) (later : List ℕ) (kept : List Prospect) → is_open offer cs t ≡ false
+    → kept ≡ prospects offer cs (filter (is_open offer cs) later) → kept ≡ prospects offer cs (filter (is_open offer cs) (t ∷ later))
+shut_kept offer cs t later kept shut rest =
+    let front : filter (is_open offer cs) (t ∷ later) ≡ filter (is_open offer cs) later = rw shut refl in rest ∙ sym (ap (prospects offer cs) front)
 
 pub length-prospects : (offer : Offer) (cs ps : List ℕ) → length (prospects offer cs ps) ≡ length ps
 length-prospects offer cs [] = refl
@@ -143,15 +164,18 @@ pub record IsSplit (offer : Offer) (before others later : List ℕ) (one : Prosp
   pub opened : is_open offer before one.place ≡ true
   pub front : one.place ∷ later ≡ others
 
-split_suc : (offer : Offer) (before others : List ℕ) (i : ℕ) → i < length others → AllByRecursion (λ other. is_open offer before other ≡ true) others → IsSplit offer before (drop i others) (drop (suc i) others) (get_or (prospects offer before others) i no_prospect)
+split_suc : (offer : Offer) (before others : List ℕ) (i : ℕ) → i < length others → AllByRecursion (λ other. is_open offer before other ≡ true) others
+    → IsSplit offer before (drop i others) (drop (suc i) others) (get_or (prospects offer before others) i no_prospect)
 split_suc offer before [] i low all = absurd (omega arith)
 split_suc offer before (t ∷ others) zero low all = record { one_is = refl; opened = all.0; front = refl }
 split_suc offer before (t ∷ others) (suc i) low all = split_suc offer before others i (omega arith) all.1
 
-pub split_here : (offer : Offer) (before others : List ℕ) (all : List Prospect) (i : ℕ) → i < length all → all ≡ prospects offer before others → AllByRecursion (λ other. is_open offer before other ≡ true) others
+pub split_here : (offer : Offer) (before others : List ℕ) (all : List Prospect) (i : ℕ) → i < length all → all ≡ prospects offer before others
+    → AllByRecursion (λ other. is_open offer before other ≡ true) others
     → IsSplit offer before (drop i others) (drop (i + 1) others) (get_or all i no_prospect)
 split_here offer before others all i low all_are opens =
     let size : length all ≡ length others = ap length all_are ∙ length-prospects offer before others in
     let next : suc i ≡ i + 1 = omega arith in
     subst (λ n. IsSplit offer before (drop i others) (drop n others) (get_or all i no_prospect)) next
-    (subst (λ l. IsSplit offer before (drop i others) (drop (suc i) others) (get_or l i no_prospect)) (sym all_are) (split_suc offer before others i (omega arith) opens))
+    (subst (λ l. IsSplit offer before (drop i others) (drop (suc i) others) (get_or l i no_prospect)) (sym all_are)
+    (split_suc offer before others i (omega arith) opens))

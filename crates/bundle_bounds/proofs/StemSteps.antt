@@ -43,7 +43,8 @@ plain_sum_is ps =
     let a : ℕ = by_course (over_price Count 0) ps in
     let goal : 0 * 0 + a ≡ a = omega arith in goal ∙ ap (λ f. by_course f ps) plain_over
 
-pub no_tangents : (budget credit_rest course_rest : ℕ) (all : List Prospect) (tangents : Tangents) → tangents.money ≡ None → tangents.credits ≡ None → tangents.courses ≡ None → AreTangents budget credit_rest course_rest all tangents
+pub no_tangents : (budget credit_rest course_rest : ℕ) (all : List Prospect) (tangents : Tangents) → tangents.money ≡ None → tangents.credits ≡ None
+    → tangents.courses ≡ None → AreTangents budget credit_rest course_rest all tangents
 no_tangents budget credit_rest course_rest all tangents money credits courses = record {
   money_is = rw money tt;
   credits_is = rw credits tt;
@@ -73,29 +74,43 @@ module _ (offer : Offer) (champion : List ℕ) (k : ℕ) (chosen : List ℕ) (st
     champion_up = ascending_places offer.menu.places champion menu.places.ascending (place_of_rated offer.menu champion feasible.rated) feasible.set
 
     chosen_up : IsAscending (places_of offer.menu chosen)
-    chosen_up = ascending_places offer.menu.places chosen menu.places.ascending (place_of_rated offer.menu chosen node.takable.feasible.rated) node.takable.feasible.set
+    chosen_up =
+        ascending_places offer.menu.places chosen menu.places.ascending (place_of_rated offer.menu chosen node.takable.feasible.rated) node.takable.feasible.set
 
     decided : (p : ℕ) → has (places_of offer.menu chosen) p ≡ true → p < k
     decided p in_it = let at = has-places offer.menu.places chosen p in_it in rw (← at.2) (node.decided at.0 at.1)
 
-    limit_here : stem.limit ≡ limit_of (utility (by_place offer.menu) (places_of offer.menu champion)) (is_ahead k (places_of offer.menu champion) (places_of offer.menu chosen))
-    limit_here = is.limit_is ∙ ap (λ z. limit_of z (is_ahead k (places_of offer.menu champion) (places_of offer.menu chosen))) (is.has_chosen.most_is ∙ sym (utility_by_place offer.menu champion))
+    limit_here : stem.limit
+        ≡ limit_of (utility (by_place offer.menu) (places_of offer.menu champion)) (is_ahead k (places_of offer.menu champion) (places_of offer.menu chosen))
+    limit_here =
+        is.limit_is
+        ∙ ap (λ z. limit_of z (is_ahead k (places_of offer.menu champion) (places_of offer.menu chosen)))
+        (is.has_chosen.most_is ∙ sym (utility_by_place offer.menu champion))
 
-    pub stem_first : (r : Option Leaf) → IfSome r (IsFirstBelow stem.limit (all_bounds (pos 1000 *ℤ stem.utility) stem.rests.budget stem.rests.credits stem.rests.courses (drop stem.start stem.room)))
+    pub stem_first : (r : Option Leaf)
+        → IfSome r
+        (IsFirstBelow stem.limit
+        (all_bounds (pos 1000 *ℤ stem.utility) stem.rests.budget stem.rests.credits stem.rests.courses (drop stem.start stem.room)))
         → IfSome r (IsFirstClosing offer k (places_of offer.menu chosen) (places_of offer.menu champion) (bounds offer k (places_of offer.menu chosen)))
     stem_first r h =
-        some_closes offer k (places_of offer.menu chosen) (places_of offer.menu champion) champion_up chosen_up decided _ _ _ _ _ _ (ap (λ z. pos 1000 *ℤ z) is.has_chosen.utility_is) limit_here
+        some_closes offer k (places_of offer.menu chosen) (places_of offer.menu champion) champion_up chosen_up decided _ _ _ _ _ _
+        (ap (λ z. pos 1000 *ℤ z) is.has_chosen.utility_is) limit_here
         is.has_chosen.budget_is is.has_chosen.credits_is is.has_chosen.courses_is is.keeps.kept_is r h
 
-    pub stem_none : (r : Option Leaf) → IfNone r (NoneBelow stem.limit (all_bounds (pos 1000 *ℤ stem.utility) stem.rests.budget stem.rests.credits stem.rests.courses (drop stem.start stem.room)))
+    pub stem_none : (r : Option Leaf)
+        → IfNone r
+        (NoneBelow stem.limit (all_bounds (pos 1000 *ℤ stem.utility) stem.rests.budget stem.rests.credits stem.rests.courses (drop stem.start stem.room)))
         → IfNone r (NoneCloses offer k (places_of offer.menu chosen) (places_of offer.menu champion) (bounds offer k (places_of offer.menu chosen)))
     stem_none r h =
-        none_closes offer k (places_of offer.menu chosen) (places_of offer.menu champion) champion_up chosen_up decided _ _ _ _ _ _ (ap (λ z. pos 1000 *ℤ z) is.has_chosen.utility_is) limit_here
+        none_closes offer k (places_of offer.menu chosen) (places_of offer.menu champion) champion_up chosen_up decided _ _ _ _ _ _
+        (ap (λ z. pos 1000 *ℤ z) is.has_chosen.utility_is) limit_here
         is.has_chosen.budget_is is.has_chosen.credits_is is.has_chosen.courses_is is.keeps.kept_is r h
 
   -- other tangents, and perhaps quiet
-  pub stem_asked : (tangents : Tangents) (is_quiet : Bool) → AreTangents stem.rests.budget stem.rests.credits stem.rests.courses (drop stem.start stem.room) tangents
-      → (is_quiet ≡ true → IsQuiet stem.limit stem.utility stem.rests (drop stem.start stem.room)) → IsStem offer champion k chosen (record stem { tangents = tangents; is_quiet = is_quiet })
+  pub stem_asked : (tangents : Tangents) (is_quiet : Bool)
+      → AreTangents stem.rests.budget stem.rests.credits stem.rests.courses (drop stem.start stem.room) tangents
+      → (is_quiet ≡ true → IsQuiet stem.limit stem.utility stem.rests (drop stem.start stem.room))
+      → IsStem offer champion k chosen (record stem { tangents = tangents; is_quiet = is_quiet })
   stem_asked tangents is_quiet are quiet = record {
     has_chosen = is.has_chosen;
     limit_is = is.limit_is;
@@ -113,15 +128,18 @@ module _ (offer : Offer) (champion : List ℕ) (k : ℕ) (chosen : List ℕ) (st
   }
 
   -- the limit of the next node, as it is asked of the places that are kept
-  pub next_limit : (most limit told : ℤ) (champions : List ℕ) → most ≡ stem.most → limit ≡ told → told ≡ limit_of most (is_ahead (k + 1) champions (take stem.count stem.chosen)) → champions ≡ listed stem.champion
+  pub next_limit : (most limit told : ℤ) (champions : List ℕ) → most ≡ stem.most → limit ≡ told
+      → told ≡ limit_of most (is_ahead (k + 1) champions (take stem.count stem.chosen)) → champions ≡ listed stem.champion
       → limit ≡ limit_of stem.most (is_ahead (k + 1) (places_of offer.menu champion) (places_of offer.menu chosen))
   next_limit most limit told champions most_is limit_is asked same =
       limit_is ∙ asked ∙ (λ i. limit_of (most_is i) (is_ahead (k + 1) ((same ∙ is.has_chosen.champion_is) i) (is.has_chosen.chosen_is i)))
 
   module _ (low : k < length offer.menu.places) where
     -- behind a place that is not open
-    pub stem_shut : (limit : ℤ) (is_quiet : Bool) → is_open offer (places_of offer.menu chosen) k ≡ false → limit ≡ limit_of stem.most (is_ahead (k + 1) (places_of offer.menu champion) (places_of offer.menu chosen))
-        → (is_quiet ≡ true → (stem.is_quiet ≡ true) × (stem.limit ≡ limit)) → IsStem offer champion (k + 1) chosen (record stem { limit = limit; is_quiet = is_quiet })
+    pub stem_shut : (limit : ℤ) (is_quiet : Bool) → is_open offer (places_of offer.menu chosen) k ≡ false
+        → limit ≡ limit_of stem.most (is_ahead (k + 1) (places_of offer.menu champion) (places_of offer.menu chosen))
+        → (is_quiet ≡ true → (stem.is_quiet ≡ true) × (stem.limit ≡ limit))
+        → IsStem offer champion (k + 1) chosen (record stem { limit = limit; is_quiet = is_quiet })
     stem_shut limit is_quiet shut limit_is still = record {
       has_chosen = is.has_chosen;
       limit_is = limit_is;
@@ -140,7 +158,9 @@ module _ (offer : Offer) (champion : List ℕ) (k : ℕ) (chosen : List ℕ) (st
 
     module _ (opened : is_open offer (places_of offer.menu chosen) k ≡ true) where
       -- the first open place is the next one
-      pub kept_first : drop stem.start stem.room ≡ prospect offer (places_of offer.menu chosen) k (open_places offer (k + 1) (places_of offer.menu chosen)) ∷ open_ones_at offer (k + 1) (places_of offer.menu chosen)
+      pub kept_first : drop stem.start stem.room
+          ≡ prospect offer (places_of offer.menu chosen) k (open_places offer (k + 1) (places_of offer.menu chosen))
+          ∷ open_ones_at offer (k + 1) (places_of offer.menu chosen)
       kept_first = is.keeps.kept_is ∙ after_open offer (places_of offer.menu chosen) k low opened
 
       pub kept_some : stem.start < 60
@@ -155,13 +175,15 @@ module _ (offer : Offer) (champion : List ℕ) (k : ℕ) (chosen : List ℕ) (st
           let size : length (drop stem.start stem.room) ≡ length stem.room - stem.start = length-drop stem.start stem.room in
           let some : stem.start < 60 = kept_some in
           let whole = is.keeps.whole in
-          subst (λ ps. 1 ≤ length ps) (sym (rest_of_room stem.room stem.start is.keeps.whole)) (let goal : 1 ≤ length (drop stem.start stem.room) = omega arith in goal)
+          subst (λ ps. 1 ≤ length ps) (sym (rest_of_room stem.room stem.start is.keeps.whole))
+          (let goal : 1 ≤ length (drop stem.start stem.room) = omega arith in goal)
 
       pub kept_later : drop (stem.start + 1) stem.room ≡ open_ones_at offer (k + 1) (places_of offer.menu chosen)
       kept_later = sym (drop-drop 1 stem.start stem.room) ∙ ap (drop 1) kept_first
 
       -- behind an open place
-      pub stem_open : (limit : ℤ) (plain : ℕ) (tangents : Tangents) → limit ≡ limit_of stem.most (is_ahead (k + 1) (places_of offer.menu champion) (places_of offer.menu chosen))
+      pub stem_open : (limit : ℤ) (plain : ℕ) (tangents : Tangents)
+          → limit ≡ limit_of stem.most (is_ahead (k + 1) (places_of offer.menu champion) (places_of offer.menu chosen))
           → plain ≡ by_course (λ p. 1000 * p.worth) (drop 1 (drop stem.start stem.room)) → plain ≤ stem.plain
           → AreTangents stem.rests.budget stem.rests.credits stem.rests.courses (drop 1 (drop stem.start stem.room)) tangents
           → IsStem offer champion (k + 1) chosen (record stem { limit = limit; start = stem.start + 1; plain = plain; tangents = tangents; is_quiet = false })

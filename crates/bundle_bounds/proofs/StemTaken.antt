@@ -34,11 +34,13 @@ utility_taken offer cs k a a_is =
     let goal : u +ℤ (((pos r +ℤ s) +ℤ pos 0) +ℤ pos 0) ≡ u +ℤ (pos r +ℤ a) = omega (arith, ints) in
     whole ∙ goal
 
-module _ (offer : Offer) (menu : IsMenu offer.menu) (k : ℕ) (low : k < length offer.menu.places) (champion chosen : List ℕ) (champions : Places) (most : ℤ) (places : List ℕ) (count : ℕ) (so_far : ℤ) (rests : Rests)
+module _ (offer : Offer) (menu : IsMenu offer.menu) (k : ℕ) (low : k < length offer.menu.places) (champion chosen : List ℕ) (champions : Places) (most : ℤ)
+    (places : List ℕ) (count : ℕ) (so_far : ℤ) (rests : Rests)
     (is : HasChosen offer champion chosen champions most places count so_far rests) where
   pub places_next : places_of offer.menu (chosen ++ section_at offer.menu.places k ∷ []) ≡ places_of offer.menu chosen ++ k ∷ []
   places_next =
-      map-append (place_in offer.menu.places) chosen (section_at offer.menu.places k ∷ []) ∙ ap (λ p. places_of offer.menu chosen ++ p ∷ []) (place_in-section_at offer.menu.places k menu.places.ascending low)
+      map-append (place_in offer.menu.places) chosen (section_at offer.menu.places k ∷ [])
+      ∙ ap (λ p. places_of offer.menu chosen ++ p ∷ []) (place_in-section_at offer.menu.places k menu.places.ascending low)
 
   pub count_is : count ≡ length (places_of offer.menu chosen)
   count_is =
@@ -56,7 +58,8 @@ module _ (offer : Offer) (menu : IsMenu offer.menu) (k : ℕ) (low : k < length 
       let caps : offer.menu.courses ≤ 8 = menu.caps.courses_cap in
       omega arith
 
-  pub chosen_next : (opened : is_open offer (places_of offer.menu chosen) k ≡ true) → take (count + 1) (set places count k) ≡ places_of offer.menu chosen ++ k ∷ []
+  pub chosen_next : (opened : is_open offer (places_of offer.menu chosen) k ≡ true)
+      → take (count + 1) (set places count k) ≡ places_of offer.menu chosen ++ k ∷ []
   chosen_next opened =
       let room : count < length places = (let whole = is.whole in let few = count_low opened in omega arith) in
       take_more_set places count k room ∙ ap (λ l. l ++ k ∷ []) is.chosen_is
@@ -64,14 +67,18 @@ module _ (offer : Offer) (menu : IsMenu offer.menu) (k : ℕ) (low : k < length 
   pub before_on_menu : IsNode offer k chosen → AreOnMenu offer.menu (take count places)
   before_on_menu node = subst (AreOnMenu offer.menu) (sym is.chosen_is) (places_of_rated offer.menu chosen node.takable.feasible.rated)
 
-  pub next_on_menu : IsNode offer k chosen → (opened : is_open offer (places_of offer.menu chosen) k ≡ true) → AreOnMenu offer.menu (take (count + 1) (set places count k))
+  pub next_on_menu : IsNode offer k chosen → (opened : is_open offer (places_of offer.menu chosen) k ≡ true)
+      → AreOnMenu offer.menu (take (count + 1) (set places count k))
   next_on_menu node opened =
       subst (AreOnMenu offer.menu) (sym (chosen_next opened))
-      (All-append (λ place. place < length offer.menu.places) (places_of offer.menu chosen) (k ∷ []) (places_of_rated offer.menu chosen node.takable.feasible.rated) (All-cons (λ place. place < length offer.menu.places) k [] low (All-nil (λ place. place < length offer.menu.places))))
+      (All-append (λ place. place < length offer.menu.places) (places_of offer.menu chosen) (k ∷ [])
+      (places_of_rated offer.menu chosen node.takable.feasible.rated)
+      (All-cons (λ place. place < length offer.menu.places) k [] low (All-nil (λ place. place < length offer.menu.places))))
 
   -- what is chosen with the next place
   pub chosen_taken : is_open offer (places_of offer.menu chosen) k ≡ true → (rated : Rated) (a : ℤ) (next : ℤ) (rests' : Rests) (price credits : ℕ)
-      → slice_get offer.menu.places k ≡ Some rated → rated.rating ≤ 100 → a ≡ signed_total (λ other. adjustment_in offer.menu.pairs other k) (take count places) → neg_ℤ (pos 1600) ≤ℤ a → a ≤ℤ pos 1600
+      → slice_get offer.menu.places k ≡ Some rated → rated.rating ≤ 100 → a ≡ signed_total (λ other. adjustment_in offer.menu.pairs other k) (take count places)
+      → neg_ℤ (pos 1600) ≤ℤ a → a ≤ℤ pos 1600
       → next ≡ so_far +ℤ (pos rated.rating +ℤ a) → price ≡ price_at offer k → credits ≡ credits_at offer.menu.places k
       → rests'.budget ≡ rests.budget - price → rests'.credits ≡ rests.credits - credits → rests'.courses ≡ rests.courses - 1
       → HasChosen offer champion (chosen ++ section_at offer.menu.places k ∷ []) champions most (set places count k) (count + 1) next rests'
@@ -80,16 +87,21 @@ module _ (offer : Offer) (menu : IsMenu offer.menu) (k : ℕ) (low : k < length 
       let low' = is.low in
       let high' = is.high in
       let cs = places_of offer.menu chosen in
-      let less = rests_less offer cs k rests.budget rests.credits rests.courses rests'.budget rests'.credits rests'.courses price credits is.budget_is is.credits_is is.courses_is price_is credits_is budget_next credits_next courses_next in
+      let less =
+      rests_less offer cs k rests.budget rests.credits rests.courses rests'.budget rests'.credits rests'.courses price credits is.budget_is is.credits_is
+      is.courses_is price_is credits_is budget_next credits_next courses_next in
       let rating : rated.rating ≡ rating_at offer.menu.places k = sym (rating_at-is offer.menu.places k rated at) in
-      let a_at : a ≡ signed_total (λ other. adjustment_in offer.menu.pairs other k) (places_of offer.menu chosen) = a_is ∙ ap (signed_total (λ other. adjustment_in offer.menu.pairs other k)) is.chosen_is in
+      let a_at : a ≡ signed_total (λ other. adjustment_in offer.menu.pairs other k) (places_of offer.menu chosen) =
+      a_is ∙ ap (signed_total (λ other. adjustment_in offer.menu.pairs other k)) is.chosen_is in
       record {
         champion_is = is.champion_is;
         most_is = is.most_is;
         whole = length-set places count k ∙ is.whole;
         few = omega arith;
         chosen_is = chosen_next opened ∙ sym places_next;
-        utility_is = next_is ∙ (λ i. is.utility_is i +ℤ (pos (rating i) +ℤ a)) ∙ sym (utility_taken offer cs k a a_at) ∙ ap (utility (by_place offer.menu)) (sym places_next);
+        utility_is =
+            next_is ∙ (λ i. is.utility_is i +ℤ (pos (rating i) +ℤ a)) ∙ sym (utility_taken offer cs k a a_at)
+            ∙ ap (utility (by_place offer.menu)) (sym places_next);
         low = omega (arith, ints);
         high = omega (arith, ints);
         budget_is = less.0 ∙ ap (λ l. budget_left offer l) (sym places_next);
@@ -97,20 +109,28 @@ module _ (offer : Offer) (menu : IsMenu offer.menu) (k : ℕ) (low : k < length 
         courses_is = less.2 ∙ ap (courses_left offer) (sym places_next);
       }
 
-  pub rests_taken : (opened : is_open offer (places_of offer.menu chosen) k ≡ true) → (rests' : Rests) (price credits : ℕ) → price ≡ price_at offer k → credits ≡ credits_at offer.menu.places k
+  pub rests_taken : (opened : is_open offer (places_of offer.menu chosen) k ≡ true) → (rests' : Rests) (price credits : ℕ) → price ≡ price_at offer k
+      → credits ≡ credits_at offer.menu.places k
       → rests'.budget ≡ rests.budget - price → rests'.credits ≡ rests.credits - credits → rests'.courses ≡ rests.courses - 1
-      → (rests'.budget ≡ budget_left offer (take (count + 1) (set places count k))) × (rests'.credits ≡ credits_left offer (take (count + 1) (set places count k))) × (rests'.courses ≡ courses_left offer (take (count + 1) (set places count k)))
+      → (rests'.budget ≡ budget_left offer (take (count + 1) (set places count k)))
+      × (rests'.credits ≡ credits_left offer (take (count + 1) (set places count k)))
+      × (rests'.courses ≡ courses_left offer (take (count + 1) (set places count k)))
   rests_taken opened rests' price credits price_is credits_is budget_next credits_next courses_next =
-      let less = rests_less offer (places_of offer.menu chosen) k rests.budget rests.credits rests.courses rests'.budget rests'.credits rests'.courses price credits is.budget_is is.credits_is is.courses_is price_is credits_is budget_next credits_next courses_next in
+      let less =
+      rests_less offer (places_of offer.menu chosen) k rests.budget rests.credits rests.courses rests'.budget rests'.credits rests'.courses price credits
+      is.budget_is is.credits_is is.courses_is price_is credits_is budget_next credits_next courses_next in
       let same = sym (chosen_next opened) in
       (less.0 ∙ ap (budget_left offer) same, less.1 ∙ ap (credits_left offer) same, less.2 ∙ ap (courses_left offer) same)
 
   -- what is kept of the open places
   pub kept_taken : (opened : is_open offer (places_of offer.menu chosen) k ≡ true) → (kept : List Prospect)
-      → kept ≡ prospects offer (take (count + 1) (set places count k)) (filter (is_open offer (take (count + 1) (set places count k))) (open_places offer (k + 1) (places_of offer.menu chosen)))
+      → kept
+      ≡ prospects offer (take (count + 1) (set places count k))
+      (filter (is_open offer (take (count + 1) (set places count k))) (open_places offer (k + 1) (places_of offer.menu chosen)))
       → kept ≡ open_ones_at offer (k + 1) (places_of offer.menu (chosen ++ section_at offer.menu.places k ∷ []))
   kept_taken opened kept kept_is =
       kept_is
       ∙ ap (λ l. prospects offer l (filter (is_open offer l) (open_places offer (k + 1) (places_of offer.menu chosen)))) (chosen_next opened)
-      ∙ ap (prospects offer (places_of offer.menu chosen ++ k ∷ [])) (opens_filter offer (places_of offer.menu chosen) k (k + 1) (length offer.menu.places - (k + 1)))
+      ∙ ap (prospects offer (places_of offer.menu chosen ++ k ∷ []))
+      (opens_filter offer (places_of offer.menu chosen) k (k + 1) (length offer.menu.places - (k + 1)))
       ∙ ap (open_ones_at offer (k + 1)) (sym places_next)

@@ -8,10 +8,14 @@ use Rattle.bundle_bounds.specs.Offers.{Offer}
 use Rattle.bundle_bounds.specs.Bounds.{bounds}
 use Rattle.bundle_bounds.specs.Limits.{first_below}
 
--- the number below which a bound closes a node, for a champion of this utility, and whether it is ahead
+-- the number below which a bound closes a node, for a champion of this utility, and whether it is
+-- ahead
 abbrev pub limit_of : ℤ → Bool → ℤ
 limit_of most ahead = if ahead then pos 1000 *ℤ (most +ℤ pos 1) else pos 1000 *ℤ most
 
--- the leaf of the first bound that closes a node for a champion, `None` where none does: the law of the first closing bound says so
+-- the leaf of the first bound that closes a node for a champion, `None` where none does: the law of
+-- the first closing bound says so
 abbrev pub first_closing : Offer → ℕ → List ℕ → List ℕ → Option Leaf
-first_closing offer k chosen champion = first_below (limit_of (utility (by_place offer.menu) champion) (is_ahead k champion chosen)) (bounds offer k chosen)
+first_closing offer k chosen champion =
+    first_below (limit_of (utility (by_place offer.menu) champion) (is_ahead k champion chosen))
+    (bounds offer k chosen)

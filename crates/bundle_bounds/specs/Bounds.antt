@@ -1,4 +1,5 @@
--- The bounds at a node, in their order: each a number above 1000 times the utility of what can still be reached.
+-- The bounds at a node, in their order: each a number above 1000 times the utility of what can
+-- still be reached.
 use Rattle.std.specs.Prelude.{ℕ, ◌+◌, ◌*◌, ◌-◌, ◌/◌, ℤ, pos, ◌+ℤ◌, ◌*ℤ◌, ◌<ℤ◌, ◌≡◌, ◌⊎◌, ◌&&◌, nat_lt, if◌then◌else◌, ⊤, List, [], ◌∷◌, ◌++◌}
 use Rattle.bundle_rules.specs.Ahead.{IsAhead}
 use Rattle.bundle_rules.specs.Wishes.{utility}
@@ -27,7 +28,8 @@ leaf_of Money place = Budget place
 leaf_of resources.Credits place = Credits place
 leaf_of Count place = Number place
 
--- a bound for each of these that is worth something and takes something, above this base and with this rest
+-- a bound for each of these that is worth something and takes something, above this base and with
+-- this rest
 abbrev pub resource_bounds : ℤ → ℕ → Resource → List Prospect → List Prospect → List (Leaf × ℤ)
 resource_bounds base rest resource all [] = []
 resource_bounds base rest resource all (p ∷ ps) =
@@ -39,34 +41,47 @@ resource_bounds base rest resource all (p ∷ ps) =
 abbrev pub base_of : Offer → List ℕ → ℤ
 base_of offer chosen = pos 1000 *ℤ utility (by_place offer.menu) chosen
 
--- all bounds above this base, with these rests: the plain one, then those of the budget, of the credits and of the number of sections
+-- all bounds above this base, with these rests: the plain one, then those of the budget, of the
+-- credits and of the number of sections
 abbrev pub all_bounds : ℤ → ℕ → ℕ → ℕ → List Prospect → List (Leaf × ℤ)
 all_bounds base budget credits courses ps =
     (Plain, base +ℤ pos (by_course (λ p. 1000 * p.worth) ps))
-    ∷ (resource_bounds base budget Money ps ps ++ (resource_bounds base credits resources.Credits ps ps ++ resource_bounds base courses Count ps ps))
+    ∷
+    (resource_bounds base budget Money ps ps
+    ++ (resource_bounds base credits resources.Credits ps ps
+    ++ resource_bounds base courses Count ps ps))
 
 abbrev pub bounds_over : Offer → List ℕ → List Prospect → List (Leaf × ℤ)
-bounds_over offer chosen ps = all_bounds (base_of offer chosen) (left_of offer chosen Money) (left_of offer chosen resources.Credits) (left_of offer chosen Count) ps
+bounds_over offer chosen ps =
+    all_bounds (base_of offer chosen) (left_of offer chosen Money)
+    (left_of offer chosen resources.Credits) (left_of offer chosen Count) ps
 
 abbrev pub bounds : Offer → ℕ → List ℕ → List (Leaf × ℤ)
-bounds offer k chosen = bounds_over offer chosen (prospects offer chosen (open_places offer k chosen))
+bounds offer k chosen =
+    bounds_over offer chosen (prospects offer chosen (open_places offer k chosen))
 
--- the bound closes the node: nothing that can still be reached has the champion's utility, or more than it where the first decided place on which the
--- champion and the chosen ones differ is the champion's
+-- the bound closes the node: nothing that can still be reached has the champion's utility, or more
+-- than it where the first decided place on which the champion and the chosen ones differ is the
+-- champion's
 abbrev pub Closes : Offer → ℕ → List ℕ → List ℕ → ℤ → Type 0
-Closes offer k chosen champion bound = (bound <ℤ (pos 1000 *ℤ utility (by_place offer.menu) champion))
-    ⊎ ((bound <ℤ (pos 1000 *ℤ (utility (by_place offer.menu) champion +ℤ pos 1))) × IsAhead k champion chosen)
+Closes offer k chosen champion bound =
+    (bound <ℤ (pos 1000 *ℤ utility (by_place offer.menu) champion))
+    ⊎
+    ((bound <ℤ (pos 1000 *ℤ (utility (by_place offer.menu) champion +ℤ pos 1)))
+    × IsAhead k champion chosen)
 
 -- none of these bounds closes the node
 abbrev pub NoneCloses : Offer → ℕ → List ℕ → List ℕ → List (Leaf × ℤ) → Type 0
 NoneCloses offer k chosen champion [] = ⊤
-NoneCloses offer k chosen champion (b ∷ bs) = (¬ Closes offer k chosen champion b.1) × NoneCloses offer k chosen champion bs
+NoneCloses offer k chosen champion (b ∷ bs) =
+    (¬ Closes offer k chosen champion b.1) × NoneCloses offer k chosen champion bs
 
 -- the leaf of the first of these bounds that closes the node
 abbrev pub IsFirstClosing : Offer → ℕ → List ℕ → List ℕ → List (Leaf × ℤ) → Leaf → Type 0
 IsFirstClosing offer k chosen champion [] leaf = ⊥
 IsFirstClosing offer k chosen champion (b ∷ bs) leaf =
-    (Closes offer k chosen champion b.1 × (b.0 ≡ leaf)) ⊎ ((¬ Closes offer k chosen champion b.1) × IsFirstClosing offer k chosen champion bs leaf)
+    (Closes offer k chosen champion b.1 × (b.0 ≡ leaf))
+    ⊎ ((¬ Closes offer k chosen champion b.1) × IsFirstClosing offer k chosen champion bs leaf)
 
 -- the leaf is on this menu of bounds, with this number
 abbrev pub HasBound : List (Leaf × ℤ) → Leaf → ℤ → Type 0

@@ -10,11 +10,16 @@ use Rattle.bundle_bounds.specs.Laws.{IsTakable, Completes}
 abbrev pub IsAsGood : Offer → List ℕ → List ℕ → Type 0
 IsAsGood offer a b = (b ≡ a) ⊎ IsPreferred (wishes_of offer.menu) a b
 
--- the champion is as good as every takable bundle that completes the node and is wanted: every bundle for the plain demand, those with a
--- section where it must be there
+-- the champion is as good as every takable bundle that completes the node and is wanted: every
+-- bundle for the plain demand, those with a section where it must be there
 abbrev pub MayClose : Offer → (List ℕ → Bool) → ℕ → List ℕ → List ℕ → Type 0
-MayClose offer wanted k chosen champion = (bundle : List ℕ) → IsTakable offer bundle → wanted bundle ≡ true → Completes offer k chosen bundle → IsAsGood offer champion bundle
+MayClose offer wanted k chosen champion =
+    (bundle : List ℕ) → IsTakable offer bundle → wanted bundle ≡ true
+    → Completes offer k chosen bundle → IsAsGood offer champion bundle
 
--- the champion has the first section on which it differs from every takable bundle that completes the node
+-- the champion has the first section on which it differs from every takable bundle that completes
+-- the node
 abbrev pub ComesFirst : Offer → ℕ → List ℕ → List ℕ → Type 0
-ComesFirst offer k chosen champion = (bundle : List ℕ) → IsTakable offer bundle → Completes offer k chosen bundle → DiffersFirstIn champion bundle
+ComesFirst offer k chosen champion =
+    (bundle : List ℕ) → IsTakable offer bundle → Completes offer k chosen bundle
+    → DiffersFirstIn champion bundle

@@ -24,7 +24,8 @@ courses_of (p ∷ ps) = if has_course ps p.course then courses_of ps else p.cour
 -- the greatest f of those of a course, 0 where there is none
 abbrev pub greatest : (Prospect → ℕ) → ℕ → List Prospect → ℕ
 greatest f course [] = 0
-greatest f course (p ∷ ps) = if p.course == course then max (f p) (greatest f course ps) else greatest f course ps
+greatest f course (p ∷ ps) =
+    if p.course == course then max (f p) (greatest f course ps) else greatest f course ps
 
 -- for each course the greatest f, added up
 abbrev pub by_course : (Prospect → ℕ) → List Prospect → ℕ

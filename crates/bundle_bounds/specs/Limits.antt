@@ -10,7 +10,8 @@ NoneBelow limit (b ∷ bs) = (¬ (b.1 <ℤ limit)) × NoneBelow limit bs
 -- the leaf of the first that is below the limit
 abbrev pub IsFirstBelow : ℤ → List (Leaf × ℤ) → Leaf → Type 0
 IsFirstBelow limit [] leaf = ⊥
-IsFirstBelow limit (b ∷ bs) leaf = ((b.1 <ℤ limit) × (b.0 ≡ leaf)) ⊎ ((¬ (b.1 <ℤ limit)) × IsFirstBelow limit bs leaf)
+IsFirstBelow limit (b ∷ bs) leaf =
+    ((b.1 <ℤ limit) × (b.0 ≡ leaf)) ⊎ ((¬ (b.1 <ℤ limit)) × IsFirstBelow limit bs leaf)
 
 -- that leaf as a value
 abbrev pub first_below : ℤ → List (Leaf × ℤ) → Option Leaf

@@ -27,7 +27,8 @@ places_of menu sections = map (place_in menu.places) sections
 
 -- the offer of a menu, its prices, a budget and an allowed set
 abbrev pub offer_of : MenuData → List Tokens → ℕ → set.FinSet nat_cmp → Offer
-offer_of menu prices budget allowed = record { menu = menu; price = price_in prices; budget = budget; allowed = set.contains allowed }
+offer_of menu prices budget allowed =
+    record { menu = menu; price = price_in prices; budget = budget; allowed = set.contains allowed }
 
 -- each of these places is on the menu
 abbrev pub AreOnMenu : MenuData → List ℕ → Type 0

@@ -1,4 +1,5 @@
--- A node of the search: the places below k are decided, and those of the list are chosen. What is open there?
+-- A node of the search: the places below k are decided, and those of the list are chosen. What is
+-- open there?
 use Rattle.std.specs.Prelude.{ℕ, zero, suc, ◌+◌, ◌-◌, ℤ, pos, negsuc, ◌+ℤ◌, ◌&&◌, ◌==◌, not, if◌then◌else◌, nat_le, Bool, List, [], ◌∷◌, length}
 use Rattle.std.specs.List.{list_all}
 use Rattle.market_units.specs.Totals.{total, signed_total}
@@ -26,17 +27,24 @@ left_of offer chosen Count = courses_left offer chosen
 
 -- a place that clashes with none of the chosen ones
 abbrev pub is_apart : Offer → List ℕ → ℕ → Bool
-is_apart offer chosen place = list_all (λ other. not (clash_in offer.menu.clashes place other)) chosen
+is_apart offer chosen place =
+    list_all (λ other. not (clash_in offer.menu.clashes place other)) chosen
 
 -- an undecided place is open: allowed, apart from the chosen ones, and within what they leave
 abbrev pub is_open : Offer → List ℕ → ℕ → Bool
 is_open offer chosen place =
-    allowed_at offer place && (is_apart offer chosen place && (nat_le (price_at offer place) (budget_left offer chosen) && (nat_le (credits_at offer.menu.places place) (credits_left offer chosen) && nat_le 1 (courses_left offer chosen))))
+    allowed_at offer place
+    && (is_apart offer chosen place
+    && (nat_le (price_at offer place) (budget_left offer chosen)
+    && (nat_le (credits_at offer.menu.places place) (credits_left offer chosen)
+    && nat_le 1 (courses_left offer chosen))))
 
 -- the open ones of this many places from a place on, ascending
 abbrev pub opens_from : Offer → List ℕ → ℕ → ℕ → List ℕ
 opens_from offer chosen place zero = []
-opens_from offer chosen place (suc count) = if is_open offer chosen place then place ∷ opens_from offer chosen (place + 1) count else opens_from offer chosen (place + 1) count
+opens_from offer chosen place (suc count) =
+    if is_open offer chosen place then place ∷ opens_from offer chosen (place + 1) count
+    else opens_from offer chosen (place + 1) count
 
 -- the open places of a node
 abbrev pub open_places : Offer → ℕ → List ℕ → List ℕ
@@ -50,15 +58,19 @@ above_zero (negsuc n) = 0
 -- the first place of a course, by which courses are told apart
 abbrev pub first_of_course : List Rated → ℕ → ℕ
 first_of_course [] course = 0
-first_of_course (rated ∷ more) course = if rated.course == course then 0 else suc (first_of_course more course)
+first_of_course (rated ∷ more) course =
+    if rated.course == course then 0 else suc (first_of_course more course)
 
 -- what a place adds to the utility of the chosen ones
 abbrev pub addition : Offer → List ℕ → ℕ → ℤ
-addition offer chosen place = pos (rating_at offer.menu.places place) +ℤ signed_total (λ other. adjustment_in offer.menu.pairs other place) chosen
+addition offer chosen place =
+    pos (rating_at offer.menu.places place)
+    +ℤ signed_total (λ other. adjustment_in offer.menu.pairs other place) chosen
 
 -- the positive adjustments of a place with later ones
 abbrev pub hopes : Offer → ℕ → List ℕ → ℕ
-hopes offer place later = total (λ other. above_zero (adjustment_in offer.menu.pairs place other)) later
+hopes offer place later =
+    total (λ other. above_zero (adjustment_in offer.menu.pairs place other)) later
 
 -- the most that an open place adds, where these are the open ones after it
 abbrev pub weight : Offer → List ℕ → ℕ → List ℕ → ℤ
@@ -76,4 +88,5 @@ prospect offer chosen place later = record {
 -- what is known of open places
 abbrev pub prospects : Offer → List ℕ → List ℕ → List Prospect
 prospects offer chosen [] = []
-prospects offer chosen (place ∷ later) = prospect offer chosen place later ∷ prospects offer chosen later
+prospects offer chosen (place ∷ later) =
+    prospect offer chosen place later ∷ prospects offer chosen later

@@ -18,8 +18,10 @@ use Rattle.bundle_bounds.specs.Limits.{NoneBelow}
 use Rattle.bundle_bounds.specs.Modest.{IsModest}
 use Rattle.bundle_bounds.specs.Tangents.{AreTangents}
 
--- it is for this champion and these chosen sections: their places, their utility, and what they leave
-pub record HasChosen (offer : Offer) (champion chosen : List ℕ) (champions : Places) (most : ℤ) (places : List ℕ) (count : ℕ) (so_far : ℤ) (rests : Rests) : Type 0 where
+-- it is for this champion and these chosen sections: their places, their utility, and what they
+-- leave
+pub record HasChosen (offer : Offer) (champion chosen : List ℕ) (champions : Places) (most : ℤ)
+    (places : List ℕ) (count : ℕ) (so_far : ℤ) (rests : Rests) : Type 0 where
   pub champion_is : listed champions ≡ places_of offer.menu champion
   pub most_is : most ≡ utility (wishes_of offer.menu) champion
   pub whole : length places ≡ 8
@@ -33,7 +35,8 @@ pub record HasChosen (offer : Offer) (champion chosen : List ℕ) (champions : P
   pub courses_is : rests.courses ≡ courses_left offer (places_of offer.menu chosen)
 
 -- the room keeps these open places from here on, with what the bounds are made of
-pub record Keeps (offer : Offer) (open_ones : List Prospect) (rests : Rests) (room : List Prospect) (start plain : ℕ) (tangents : Tangents) : Type 0 where
+pub record Keeps (offer : Offer) (open_ones : List Prospect) (rests : Rests) (room : List Prospect)
+    (start plain : ℕ) (tangents : Tangents) : Type 0 where
   pub whole : length room ≡ 60
   pub within : start ≤ 60
   pub kept_is : drop start room ≡ open_ones
@@ -45,15 +48,24 @@ pub record Keeps (offer : Offer) (open_ones : List Prospect) (rests : Rests) (ro
 
 -- no bound closes where these are the open places
 abbrev pub IsQuiet : ℤ → ℤ → Rests → List Prospect → Type 0
-IsQuiet limit so_far rests open_ones = NoneBelow limit (all_bounds (pos 1000 *ℤ so_far) rests.budget rests.credits rests.courses open_ones)
+IsQuiet limit so_far rests open_ones =
+    NoneBelow limit
+    (all_bounds (pos 1000 *ℤ so_far) rests.budget rests.credits rests.courses open_ones)
 
 -- the open places of a node, where these places are chosen
 abbrev pub open_ones_at : Offer → ℕ → List ℕ → List Prospect
 open_ones_at offer k places = prospects offer places (open_places offer k places)
 
--- it is at the node with these decided places and these chosen sections, for this champion; where it is quiet no bound closes that
-pub record IsStem (offer : Offer) (champion : List ℕ) (k : ℕ) (chosen : List ℕ) (stem : Stem) : Type 0 where
-  pub has_chosen : HasChosen offer champion chosen stem.champion stem.most stem.chosen stem.count stem.utility stem.rests
-  pub limit_is : stem.limit ≡ limit_of stem.most (is_ahead k (places_of offer.menu champion) (places_of offer.menu chosen))
-  pub keeps : Keeps offer (open_ones_at offer k (places_of offer.menu chosen)) stem.rests stem.room stem.start stem.plain stem.tangents
-  pub quiet : stem.is_quiet ≡ true → IsQuiet stem.limit stem.utility stem.rests (drop stem.start stem.room)
+-- it is at the node with these decided places and these chosen sections, for this champion; where
+-- it is quiet no bound closes that
+pub record IsStem (offer : Offer) (champion : List ℕ) (k : ℕ) (chosen : List ℕ)
+    (stem : Stem) : Type 0 where
+  pub has_chosen : HasChosen offer champion chosen stem.champion stem.most stem.chosen stem.count
+      stem.utility stem.rests
+  pub limit_is : stem.limit
+      ≡ limit_of stem.most
+      (is_ahead k (places_of offer.menu champion) (places_of offer.menu chosen))
+  pub keeps : Keeps offer (open_ones_at offer k (places_of offer.menu chosen)) stem.rests stem.room
+      stem.start stem.plain stem.tangents
+  pub quiet : stem.is_quiet ≡ true
+      → IsQuiet stem.limit stem.utility stem.rests (drop stem.start stem.room)

@@ -40,8 +40,8 @@ fn margin(base: i64, limit: i64, sum: u64) -> u64
     sum - (limit - base) as u64
 }
 
-// Whether a prospect has a bound, and that is below the limit. What is known of the bounds grows where it is not, and
-// what was computed for that is the last tangent.
+// Whether a prospect has a bound, and that is below the limit. What is known of the bounds grows
+// where it is not, and what was computed for that is the last tangent.
 #[inline(always)]
 fn is_below(
     base: i64,
@@ -86,14 +86,17 @@ fn is_below(
     false
 }
 
-// Takes in what an earlier price and the next one make, where the bound at the first is not below the limit.
+// Takes in what an earlier price and the next one make, where the bound at the first is not below
+// the limit.
 fn recall(known: &mut Known, base: i64, limit: i64, tangent: Tangent)
     requires low { neg_ℤ (pos 3000000000000) ≤ℤ base }
     requires high { base ≤ℤ pos 3000000000000 }
     requires price { tangent.price < 20000000 }
     requires sum { tangent.sum ≤ 1000000000000000000 }
     requires known { known.old.high ≤ 20000001 }
-    ensures { (rest : ℕ) (resource : Resource) (all : List Prospect) → IsTangent rest resource all tangent → IsKnown base limit rest resource all known.old → IsKnown base limit rest resource all known.new }
+    ensures { (rest : ℕ) (resource : Resource) (all : List Prospect)
+        → IsTangent rest resource all tangent → IsKnown base limit rest resource all known.old
+        → IsKnown base limit rest resource all known.new }
 {
     let bound = base + tangent.sum as i64;
     if bound < limit {
@@ -107,8 +110,12 @@ fn recall(known: &mut Known, base: i64, limit: i64, tangent: Tangent)
 fn known_by(base: i64, limit: i64, last: &Option<Tangent>) -> Known
     requires low { neg_ℤ (pos 3000000000000) ≤ℤ base }
     requires high { base ≤ℤ pos 3000000000000 }
-    requires last { (rest : ℕ) × ((resource : Resource) × ((all : List Prospect) × IfSome last.now (IsTangent rest resource all))) }
-    ensures { (rest : ℕ) (resource : Resource) (all : List Prospect) → IfSome last.now (IsTangent rest resource all) → IsKnown base limit rest resource all result }
+    requires last { (rest : ℕ)
+        × ((resource : Resource)
+        × ((all : List Prospect) × IfSome last.now (IsTangent rest resource all))) }
+    ensures { (rest : ℕ) (resource : Resource) (all : List Prospect)
+        → IfSome last.now (IsTangent rest resource all)
+        → IsKnown base limit rest resource all result }
 {
     let mut known = Known::nothing();
     match last {
@@ -133,8 +140,10 @@ fn first_of_resource(
     requires modest { All IsModest all.now }
     requires few { length all.now ≤ 60 }
     requires last { IfSome last.old (IsTangent rest resource all.now) }
-    ensures first { IfSome result (IsFirstBelow limit (resource_bounds base rest resource all.now all.now)) }
-    ensures none { IfNone result (NoneBelow limit (resource_bounds base rest resource all.now all.now)) }
+    ensures first { IfSome result
+        (IsFirstBelow limit (resource_bounds base rest resource all.now all.now)) }
+    ensures none { IfNone result
+        (NoneBelow limit (resource_bounds base rest resource all.now all.now)) }
     ensures last { IfSome last.new (IsTangent rest resource all.now) }
 {
     let mut known = known_by(base, limit, last);
@@ -166,8 +175,10 @@ pub(crate) fn first_below(base: i64, limit: i64, rests: Rests, all: &[Prospect])
     requires high { base ≤ℤ pos 3000000000000 }
     requires modest { All IsModest all.now }
     requires few { length all.now ≤ 60 }
-    ensures first { IfSome result (IsFirstBelow limit (all_bounds base rests.budget rests.credits rests.courses all.now)) }
-    ensures none { IfNone result (NoneBelow limit (all_bounds base rests.budget rests.credits rests.courses all.now)) }
+    ensures first { IfSome result
+        (IsFirstBelow limit (all_bounds base rests.budget rests.credits rests.courses all.now)) }
+    ensures none { IfNone result
+        (NoneBelow limit (all_bounds base rests.budget rests.credits rests.courses all.now)) }
 {
     let mut tangents = Tangents::none();
     first_with(base, limit, rests, all, plain_sum(all), &mut tangents)
@@ -190,8 +201,10 @@ pub(crate) fn first_with(
     requires plain { plain ≡ by_course (λ p. 1000 * p.worth) all.now }
     requires plain_high { plain ≤ 1200000000 }
     requires tangents { AreTangents rests.budget rests.credits rests.courses all.now tangents.old }
-    ensures first { IfSome result (IsFirstBelow limit (all_bounds base rests.budget rests.credits rests.courses all.now)) }
-    ensures none { IfNone result (NoneBelow limit (all_bounds base rests.budget rests.credits rests.courses all.now)) }
+    ensures first { IfSome result
+        (IsFirstBelow limit (all_bounds base rests.budget rests.credits rests.courses all.now)) }
+    ensures none { IfNone result
+        (NoneBelow limit (all_bounds base rests.budget rests.credits rests.courses all.now)) }
     ensures tangents { AreTangents rests.budget rests.credits rests.courses all.now tangents.new }
 {
     if is_plain_below(base, limit, plain) {
@@ -224,8 +237,14 @@ fn first_after_money(
     requires modest { All IsModest all.now }
     requires few { length all.now ≤ 60 }
     requires tangents { AreTangents rests.budget rests.credits rests.courses all.now tangents.old }
-    ensures first { IfSome result (IsFirstBelow limit (resource_bounds base rests.credits Resource.Credits all.now all.now ++ resource_bounds base rests.courses Resource.Count all.now all.now)) }
-    ensures none { IfNone result (NoneBelow limit (resource_bounds base rests.credits Resource.Credits all.now all.now ++ resource_bounds base rests.courses Resource.Count all.now all.now)) }
+    ensures first { IfSome result
+        (IsFirstBelow limit
+        (resource_bounds base rests.credits Resource.Credits all.now all.now
+        ++ resource_bounds base rests.courses Resource.Count all.now all.now)) }
+    ensures none { IfNone result
+        (NoneBelow limit
+        (resource_bounds base rests.credits Resource.Credits all.now all.now
+        ++ resource_bounds base rests.courses Resource.Count all.now all.now)) }
     ensures tangents { AreTangents rests.budget rests.credits rests.courses all.now tangents.new }
 {
     match first_of_resource(
@@ -261,7 +280,9 @@ fn plain_sum(all: &[Prospect]) -> u64
 // Whether a prospect is at this place and has a bound.
 fn has_bound_at(prospect: &Prospect, resource: Resource, place: u8) -> bool
     requires { IsModest prospect.now }
-    ensures { result ≡ (prospect.now.place == place && (nat_lt 0 prospect.now.worth && nat_lt 0 (takes_of resource prospect.now))) }
+    ensures { result
+        ≡ (prospect.now.place == place
+        && (nat_lt 0 prospect.now.worth && nat_lt 0 (takes_of resource prospect.now))) }
 {
     let taken = takes(prospect, resource);
     prospect.place == place && prospect.worth > 0 && taken > 0

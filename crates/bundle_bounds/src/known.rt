@@ -20,7 +20,8 @@ impl Known {
 
     // Nothing is known.
     pub(crate) fn nothing() -> Known
-        ensures { (base limit : ℤ) (rest : ℕ) (resource : Resource) (all : List Prospect) → IsKnown base limit rest resource all result }
+        ensures { (base limit : ℤ) (rest : ℕ) (resource : Resource) (all : List Prospect)
+            → IsKnown base limit rest resource all result }
     {
         Known {
             low: 0,

@@ -1,22 +1,23 @@
-//! What holds of bounds, of closing and of open places: each call here does nothing, and its contract is a law.
+//! What holds of bounds, of closing and of open places: each call here does nothing, and its
+//! contract is a law.
 ghost use Rattle.bundle_bounds.specs.ClosingLaws.{BoundsCloseSoundly, FirstClosingIsTheFirst, OpensWhereTakable};
 ghost use Rattle.bundle_bounds.specs.Laws.{BoundSoundness};
 ghost use Rattle.bundle_bounds.specs.Lines.{BoundsAreConvex};
 
-/// Each bound at a node is at least 1000 times the utility of each feasible, affordable, allowed bundle
-/// whose sections at decided places are the chosen ones.
+/// Each bound at a node is at least 1000 times the utility of each feasible, affordable, allowed
+/// bundle whose sections at decided places are the chosen ones.
 pub fn bounds_are_sound()
     ensures { BoundSoundness }
 {}
 
-/// Where a bound closes a node for a champion, no takable bundle that completes the node is better than it; so no
-/// wanted one is, whatever bundles are wanted.
+/// Where a bound closes a node for a champion, no takable bundle that completes the node is better
+/// than it; so no wanted one is, whatever bundles are wanted.
 pub fn bounds_close_soundly()
     ensures { BoundsCloseSoundly }
 {}
 
-/// The first closing bound as a value is the first of the menu of bounds that closes the node, and `None` exactly
-/// where none does.
+/// The first closing bound as a value is the first of the menu of bounds that closes the node, and
+/// `None` exactly where none does.
 pub fn first_closing_is_the_first()
     ensures { FirstClosingIsTheFirst }
 {}
@@ -26,7 +27,8 @@ pub fn opens_where_takable()
     ensures { OpensWhereTakable }
 {}
 
-/// As a function of its price, a resource's bound is on or above each line through one of its points.
+/// As a function of its price, a resource's bound is on or above each line through one of its
+/// points.
 pub fn bounds_are_convex()
     ensures { BoundsAreConvex }
 {}

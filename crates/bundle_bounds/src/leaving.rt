@@ -42,8 +42,12 @@ pub(crate) fn plain_after(all: &[Prospect], plain: u64) -> u64
 pub(crate) fn tangents_after(all: &[Prospect], tangents: Tangents) -> Tangents
     requires some { 1 ≤ length all.now }
     requires modest { All IsModest all.now }
-    requires tangents { (budget : ℕ) × ((credit_rest : ℕ) × ((course_rest : ℕ) × AreTangents budget credit_rest course_rest all.now tangents)) }
-    ensures { (budget credit_rest course_rest : ℕ) → AreTangents budget credit_rest course_rest all.now tangents → AreTangents budget credit_rest course_rest (drop 1 all.now) result }
+    requires tangents { (budget : ℕ)
+        × ((credit_rest : ℕ)
+        × ((course_rest : ℕ) × AreTangents budget credit_rest course_rest all.now tangents)) }
+    ensures { (budget credit_rest course_rest : ℕ)
+        → AreTangents budget credit_rest course_rest all.now tangents
+        → AreTangents budget credit_rest course_rest (drop 1 all.now) result }
 {
     match all {
         [] => tangents,
@@ -76,8 +80,10 @@ fn later(
     requires one_modest { IsModest prospect.now }
     requires modest { All IsModest more.now }
     requires alone { IsTrue is_alone → has_course more.now prospect.now.course ≡ false }
-    requires tangent { (rest : ℕ) × IfSome tangent (IsTangent rest resource (prospect.now ∷ more.now)) }
-    ensures { (rest : ℕ) → IfSome tangent (IsTangent rest resource (prospect.now ∷ more.now)) → IfSome result (IsTangent rest resource more.now) }
+    requires tangent { (rest : ℕ)
+        × IfSome tangent (IsTangent rest resource (prospect.now ∷ more.now)) }
+    ensures { (rest : ℕ) → IfSome tangent (IsTangent rest resource (prospect.now ∷ more.now))
+        → IfSome result (IsTangent rest resource more.now) }
 {
     match tangent {
         Some(tangent) => {

@@ -25,7 +25,8 @@ pub struct Node {
     pub chosen: Bundle,
 }
 
-/// A bound by name: the plain one, or that of a resource by the place whose worth for what it takes is the price.
+/// A bound by name: the plain one, or that of a resource by the place whose worth for what it takes
+/// is the price.
 #[derive(Clone, Copy, Debug, PartialEq, Eq)]
 pub enum Leaf {
     Plain,
@@ -34,8 +35,8 @@ pub enum Leaf {
     Number(u8),
 }
 
-/// Whether a place is open at the node: not decided, allowed, without a clash with a chosen one, and within what
-/// they leave of the budget, the credit cap and the course cap.
+/// Whether a place is open at the node: not decided, allowed, without a clash with a chosen one,
+/// and within what they leave of the budget, the credit cap and the course cap.
 pub fn is_open(
     menu: &Menu,
     prices: &[Tokens],
@@ -45,9 +46,13 @@ pub fn is_open(
     place: u8,
 ) -> bool
     requires prices { HasPrices menu.now prices.now }
-    requires node { IsNode (offer_of menu.now prices.now budget.0 allowed.now) node.now.place (sections_of node.now.chosen) }
+    requires node { IsNode (offer_of menu.now prices.now budget.0 allowed.now) node.now.place
+        (sections_of node.now.chosen) }
     requires on_menu { place < length menu.now.places }
-    ensures { result ≡ (nat_le node.now.place place && is_open (offer_of menu.now prices.now budget.0 allowed.now) (places_of menu.now (sections_of node.now.chosen)) place) }
+    ensures { result
+        ≡ (nat_le node.now.place place
+        && is_open (offer_of menu.now prices.now budget.0 allowed.now)
+        (places_of menu.now (sections_of node.now.chosen)) place) }
 {
     if place < node.place {
         return false;
@@ -58,8 +63,8 @@ pub fn is_open(
     is_open_at(menu, prices, allowed, rests, chosen, place)
 }
 
-/// The number of a bound that is on the node's menu of bounds: at least 1000 times the utility of every bundle that
-/// can still be reached.
+/// The number of a bound that is on the node's menu of bounds: at least 1000 times the utility of
+/// every bundle that can still be reached.
 pub fn bound(
     menu: &Menu,
     prices: &[Tokens],
@@ -69,9 +74,17 @@ pub fn bound(
     leaf: Leaf,
 ) -> i64
     requires prices { HasPrices menu.now prices.now }
-    requires node { IsNode (offer_of menu.now prices.now budget.0 allowed.now) node.now.place (sections_of node.now.chosen) }
-    requires leaf { (number : ℤ) × HasBound (bounds (offer_of menu.now prices.now budget.0 allowed.now) node.now.place (places_of menu.now (sections_of node.now.chosen))) leaf number }
-    ensures { HasBound (bounds (offer_of menu.now prices.now budget.0 allowed.now) node.now.place (places_of menu.now (sections_of node.now.chosen))) leaf result }
+    requires node { IsNode (offer_of menu.now prices.now budget.0 allowed.now) node.now.place
+        (sections_of node.now.chosen) }
+    requires leaf { (number : ℤ)
+        × HasBound
+        (bounds (offer_of menu.now prices.now budget.0 allowed.now) node.now.place
+        (places_of menu.now (sections_of node.now.chosen)))
+        leaf number }
+    ensures { HasBound
+        (bounds (offer_of menu.now prices.now budget.0 allowed.now) node.now.place
+        (places_of menu.now (sections_of node.now.chosen)))
+        leaf result }
 {
     let chosen = Places::of(menu, &node.chosen);
     let chosen = chosen.as_slice();
@@ -83,9 +96,9 @@ pub fn bound(
     bound_of(base, rests, &room[start..], leaf)
 }
 
-/// The first bound of the node's menu of bounds that closes it for this champion: one below 1000 times the champion's
-/// utility, or below 1000 times one more than it where the first decided place on which they differ is the
-/// champion's. `None` exactly where none closes it.
+/// The first bound of the node's menu of bounds that closes it for this champion: one below 1000
+/// times the champion's utility, or below 1000 times one more than it where the first decided place
+/// on which they differ is the champion's. `None` exactly where none closes it.
 pub fn bound_closes(
     menu: &Menu,
     prices: &[Tokens],
@@ -95,11 +108,15 @@ pub fn bound_closes(
     champion: &Bundle,
 ) -> Option<Leaf>
     requires prices { HasPrices menu.now prices.now }
-    requires node { IsNode (offer_of menu.now prices.now budget.0 allowed.now) node.now.place (sections_of node.now.chosen) }
+    requires node { IsNode (offer_of menu.now prices.now budget.0 allowed.now) node.now.place
+        (sections_of node.now.chosen) }
     requires champion { IsFeasible (wishes_of menu.now) (sections_of champion.now) }
     ensures first { IfSome result (IsFirstClosing (offer_of menu.now prices.now budget.0 allowed.now) node.now.place (places_of menu.now (sections_of node.now.chosen)) (places_of menu.now (sections_of champion.now))
         (bounds (offer_of menu.now prices.now budget.0 allowed.now) node.now.place (places_of menu.now (sections_of node.now.chosen)))) }
-    ensures value { result ≡ first_closing (offer_of menu.now prices.now budget.0 allowed.now) node.now.place (places_of menu.now (sections_of node.now.chosen)) (places_of menu.now (sections_of champion.now)) }
+    ensures value { result
+        ≡ first_closing (offer_of menu.now prices.now budget.0 allowed.now) node.now.place
+        (places_of menu.now (sections_of node.now.chosen))
+        (places_of menu.now (sections_of champion.now)) }
     ensures none { IfNone result (NoneCloses (offer_of menu.now prices.now budget.0 allowed.now) node.now.place (places_of menu.now (sections_of node.now.chosen)) (places_of menu.now (sections_of champion.now))
         (bounds (offer_of menu.now prices.now budget.0 allowed.now) node.now.place (places_of menu.now (sections_of node.now.chosen)))) }
 {
@@ -117,7 +134,9 @@ pub fn bound_closes(
 // The number below which a bound closes the node.
 pub(crate) fn limit_of(menu: &Menu, node: &Node, chosen: &[u8], champion: &Bundle) -> i64
     requires champion { IsFeasible (wishes_of menu.now) (sections_of champion.now) }
-    ensures { result ≡ limit_of (utility (wishes_of menu.now) (sections_of champion.now)) (is_ahead node.now.place (places_of menu.now (sections_of champion.now)) chosen.now) }
+    ensures { result
+        ≡ limit_of (utility (wishes_of menu.now) (sections_of champion.now))
+        (is_ahead node.now.place (places_of menu.now (sections_of champion.now)) chosen.now) }
 {
     let places = Places::of(menu, champion);
     let most = i64::from(utility(menu, champion));

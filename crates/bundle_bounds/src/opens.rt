@@ -28,9 +28,12 @@ pub(crate) fn rests_of(menu: &Menu, prices: &[Tokens], budget: Tokens, chosen: &
     requires prices { HasPrices menu.now prices.now }
     requires on_menu { AreOnMenu menu.now chosen.now }
     requires few { length chosen.now ≤ 8 }
-    ensures budget { (allowed : set.FinSet nat_cmp) → result.budget ≡ budget_left (offer_of menu.now prices.now budget.0 allowed) chosen.now }
-    ensures credits { (allowed : set.FinSet nat_cmp) → result.credits ≡ credits_left (offer_of menu.now prices.now budget.0 allowed) chosen.now }
-    ensures courses { (allowed : set.FinSet nat_cmp) → result.courses ≡ courses_left (offer_of menu.now prices.now budget.0 allowed) chosen.now }
+    ensures budget { (allowed : set.FinSet nat_cmp)
+        → result.budget ≡ budget_left (offer_of menu.now prices.now budget.0 allowed) chosen.now }
+    ensures credits { (allowed : set.FinSet nat_cmp)
+        → result.credits ≡ credits_left (offer_of menu.now prices.now budget.0 allowed) chosen.now }
+    ensures courses { (allowed : set.FinSet nat_cmp)
+        → result.courses ≡ courses_left (offer_of menu.now prices.now budget.0 allowed) chosen.now }
 {
     Rests {
         budget: budget.0.saturating_sub(price_of(menu, prices, chosen)),
@@ -43,7 +46,8 @@ fn price_of(menu: &Menu, prices: &[Tokens], chosen: &[u8]) -> u32
     requires prices { HasPrices menu.now prices.now }
     requires on_menu { AreOnMenu menu.now chosen.now }
     requires few { length chosen.now ≤ 8 }
-    ensures value { result ≡ total (λ place. price_in prices.now (section_at menu.now.places place)) chosen.now }
+    ensures value { result
+        ≡ total (λ place. price_in prices.now (section_at menu.now.places place)) chosen.now }
     ensures high { result ≤ 1000001 * length chosen.now }
 {
     match chosen {
@@ -69,7 +73,8 @@ pub(crate) fn hopes(menu: &Menu, place: u8, later: &[Prospect]) -> u32
     requires on_menu { All (λ other. other.place < length menu.now.places) later.now }
     requires place { place < length menu.now.places }
     requires few { length later.now ≤ 60 }
-    ensures value { result ≡ total (λ other. above_zero (adjustment_in menu.now.pairs place other.place)) later.now }
+    ensures value { result
+        ≡ total (λ other. above_zero (adjustment_in menu.now.pairs place other.place)) later.now }
     ensures high { result ≤ 200 * length later.now }
 {
     match later {
@@ -162,7 +167,10 @@ fn prospect_at(
     requires place { place < length menu.now.places }
     requires later_on_menu { All (λ other. other.place < length menu.now.places) later.now }
     requires later_few { length later.now ≤ 60 }
-    ensures value { (budget : ℕ) (allowed : set.FinSet nat_cmp) → result ≡ prospect (offer_of menu.now prices.now budget allowed) chosen.now place (map (λ other. other.place) later.now) }
+    ensures value { (budget : ℕ) (allowed : set.FinSet nat_cmp)
+        → result
+        ≡ prospect (offer_of menu.now prices.now budget allowed) chosen.now place
+        (map (λ other. other.place) later.now) }
     ensures modest { IsModest result }
     ensures place { result.place < length menu.now.places }
 {
@@ -178,7 +186,8 @@ fn prospect_at(
     }
 }
 
-// Writes what is known of the open places from a place on to the end of the room, and gives where it begins.
+// Writes what is known of the open places from a place on to the end of the room, and gives where
+// it begins.
 pub(crate) fn collect(
     menu: &Menu,
     prices: &[Tokens],

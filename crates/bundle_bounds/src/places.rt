@@ -9,8 +9,8 @@ ghost use Rattle.bundle_bounds.specs.Offers.{AreOnMenu};
 use bundle_rules::Menu;
 use market_units::Tokens;
 
-/// The price of the section at a place of the menu, in tokens. There is a price for each section of the menu, each
-/// at most 1,000,001.
+/// The price of the section at a place of the menu, in tokens. There is a price for each section of
+/// the menu, each at most 1,000,001.
 pub fn price_of_place(menu: &Menu, prices: &[Tokens], place: u8) -> u32
     requires prices { HasPrices menu.now prices.now }
     requires on_menu { place < length menu.now.places }
@@ -34,7 +34,8 @@ pub fn adjustments_with(menu: &Menu, chosen: &[u8], place: u8) -> i32
     requires on_menu { AreOnMenu menu.now chosen.now }
     requires place { place < length menu.now.places }
     requires few { length chosen.now ≤ 8 }
-    ensures value { result ≡ signed_total (λ other. adjustment_in menu.now.pairs other place) chosen.now }
+    ensures value { result
+        ≡ signed_total (λ other. adjustment_in menu.now.pairs other place) chosen.now }
     ensures low { neg_ℤ (pos (200 * length chosen.now)) ≤ℤ result }
     ensures high { result ≤ℤ pos (200 * length chosen.now) }
 {

@@ -150,7 +150,9 @@ pub(crate) fn added(
     requires modest { All IsModest more.now }
     requires price { price ≤ 20000001 }
     requires alone { IsTrue is_alone → has_course more.now prospect.now.course ≡ false }
-    ensures value { result ≡ over_price resource price prospect.now - greatest (over_price resource price) prospect.now.course more.now }
+    ensures value { result
+        ≡ over_price resource price prospect.now
+        - greatest (over_price resource price) prospect.now.course more.now }
     ensures high { result ≤ 20000000 }
 {
     let value = over_price(prospect, resource, price);
@@ -173,8 +175,12 @@ fn added_twice(
     requires modest { All IsModest more.now }
     requires price { price ≤ 20000000 }
     requires alone { IsTrue is_alone → has_course more.now prospect.now.course ≡ false }
-    ensures here { result.0 ≡ over_price resource price prospect.now - greatest (over_price resource price) prospect.now.course more.now }
-    ensures after { result.1 ≡ over_price resource (price + 1) prospect.now - greatest (over_price resource (price + 1)) prospect.now.course more.now }
+    ensures here { result.0
+        ≡ over_price resource price prospect.now
+        - greatest (over_price resource price) prospect.now.course more.now }
+    ensures after { result.1
+        ≡ over_price resource (price + 1) prospect.now
+        - greatest (over_price resource (price + 1)) prospect.now.course more.now }
     ensures high { result.0 ≤ 20000000 }
     ensures after_high { result.1 ≤ 20000000 }
 {
@@ -207,7 +213,8 @@ fn greatest_of(prospects: &[Prospect], resource: Resource, price: u64, course: u
 fn value_in(prospect: &Prospect, resource: Resource, price: u64, course: u8) -> u64
     requires modest { IsModest prospect.now }
     requires price { price ≤ 20000001 }
-    ensures { result ≡ (if prospect.now.course == course then over_price resource price prospect.now else 0) }
+    ensures { result
+        ≡ (if prospect.now.course == course then over_price resource price prospect.now else 0) }
 {
     if prospect.course == course {
         over_price(prospect, resource, price)

@@ -32,7 +32,10 @@ pub(crate) fn rests_after(rests: Rests, one: &Prospect) -> Rests
 fn stays_open(menu: &Menu, rests: Rests, place: u8, one: &Prospect) -> bool
     requires on_menu { one.now.place < length menu.now.places }
     requires place { place < length menu.now.places }
-    ensures { result ≡ (not (clash_in menu.now.clashes one.now.place place) && (nat_le one.now.price rests.budget && (nat_le one.now.credits rests.credits && nat_le 1 rests.courses))) }
+    ensures { result
+        ≡ (not (clash_in menu.now.clashes one.now.place place)
+        && (nat_le one.now.price rests.budget
+        && (nat_le one.now.credits rests.credits && nat_le 1 rests.courses))) }
 {
     if menu.clash(one.place, place) {
         return false;
@@ -68,7 +71,8 @@ fn beside(menu: &Menu, chosen: &[u8], one: &Prospect, later: &[Prospect]) -> Pro
     }
 }
 
-// Writes an open place before those that begin here in the room, where it stays open, and gives where they begin then.
+// Writes an open place before those that begin here in the room, where it stays open, and gives
+// where they begin then.
 #[inline(always)]
 fn put_open(
     menu: &Menu,
@@ -88,7 +92,8 @@ fn put_open(
     requires some { 1 ≤ start }
     requires within { start ≤ 60 }
     requires later_modest { All IsModest (drop start room.old) }
-    requires later_on_menu { All (λ other. other.place < length menu.now.places) (drop start room.old) }
+    requires later_on_menu { All (λ other. other.place < length menu.now.places)
+        (drop start room.old) }
     ensures value { (prices : List Tokens) (budget : ℕ) (allowed : set.FinSet nat_cmp) (before others later : List ℕ) → chosen.now ≡ before ++ place ∷ []
         → rests.budget ≡ budget_left (offer_of menu.now prices budget allowed) chosen.now → rests.credits ≡ credits_left (offer_of menu.now prices budget allowed) chosen.now → rests.courses ≡ courses_left (offer_of menu.now prices budget allowed) chosen.now
         → is_open (offer_of menu.now prices budget allowed) before one.now.place ≡ true → one.now ≡ prospect (offer_of menu.now prices budget allowed) before one.now.place others
@@ -107,7 +112,8 @@ fn put_open(
     start - 1
 }
 
-// Writes those of the open places that stay open to the end of the room, and gives where they begin.
+// Writes those of the open places that stay open to the end of the room, and gives where they
+// begin.
 pub(crate) fn sift(
     menu: &Menu,
     chosen: &[u8],

@@ -60,7 +60,8 @@ impl Stem {
     ) -> Stem
         requires prices { HasPrices menu.now prices.now }
         requires champion { IsFeasible (wishes_of menu.now) (sections_of champion.now) }
-        ensures { IsStem (offer_of menu.now prices.now budget.0 allowed.now) (sections_of champion.now) 0 [] result }
+        ensures { IsStem (offer_of menu.now prices.now budget.0 allowed.now)
+            (sections_of champion.now) 0 [] result }
     {
         let mut room = NO_PROSPECTS;
         let rests = rests_of(menu, prices, budget, &[]);
@@ -93,9 +94,12 @@ impl Stem {
         champion: &Bundle,
         node: &Node,
     ) -> bool
-        requires stem { IsStem (offer_of menu.now prices.now budget.0 allowed.now) (sections_of champion.now) node.now.place (sections_of node.now.chosen) self.now }
+        requires stem { IsStem (offer_of menu.now prices.now budget.0 allowed.now)
+            (sections_of champion.now) node.now.place (sections_of node.now.chosen) self.now }
         requires left { node.now.place < length menu.now.places }
-        ensures { result ≡ is_open (offer_of menu.now prices.now budget.0 allowed.now) (places_of menu.now (sections_of node.now.chosen)) node.now.place }
+        ensures { result
+            ≡ is_open (offer_of menu.now prices.now budget.0 allowed.now)
+            (places_of menu.now (sections_of node.now.chosen)) node.now.place }
     {
         match &self.room[self.start..] {
             [] => false,
@@ -114,14 +118,17 @@ impl Stem {
         champion: &Bundle,
         node: &Node,
     ) -> Option<Leaf>
-        requires node { IsNode (offer_of menu.now prices.now budget.0 allowed.now) node.now.place (sections_of node.now.chosen) }
+        requires node { IsNode (offer_of menu.now prices.now budget.0 allowed.now) node.now.place
+            (sections_of node.now.chosen) }
         requires champion { IsFeasible (wishes_of menu.now) (sections_of champion.now) }
-        requires stem { IsStem (offer_of menu.now prices.now budget.0 allowed.now) (sections_of champion.now) node.now.place (sections_of node.now.chosen) self.old }
+        requires stem { IsStem (offer_of menu.now prices.now budget.0 allowed.now)
+            (sections_of champion.now) node.now.place (sections_of node.now.chosen) self.old }
         ensures first { IfSome result (IsFirstClosing (offer_of menu.now prices.now budget.0 allowed.now) node.now.place (places_of menu.now (sections_of node.now.chosen)) (places_of menu.now (sections_of champion.now))
             (bounds (offer_of menu.now prices.now budget.0 allowed.now) node.now.place (places_of menu.now (sections_of node.now.chosen)))) }
         ensures none { IfNone result (NoneCloses (offer_of menu.now prices.now budget.0 allowed.now) node.now.place (places_of menu.now (sections_of node.now.chosen)) (places_of menu.now (sections_of champion.now))
             (bounds (offer_of menu.now prices.now budget.0 allowed.now) node.now.place (places_of menu.now (sections_of node.now.chosen)))) }
-        ensures stem { IsStem (offer_of menu.now prices.now budget.0 allowed.now) (sections_of champion.now) node.now.place (sections_of node.now.chosen) self.new }
+        ensures stem { IsStem (offer_of menu.now prices.now budget.0 allowed.now)
+            (sections_of champion.now) node.now.place (sections_of node.now.chosen) self.new }
     {
         prove!(menu.len() <= 60);
         if self.is_quiet {
@@ -160,9 +167,11 @@ impl Stem {
         champion: &Bundle,
         node: &Node,
     )
-        requires stem { IsStem (offer_of menu.now prices.now budget.0 allowed.now) (sections_of champion.now) node.now.place (sections_of node.now.chosen) self.old }
+        requires stem { IsStem (offer_of menu.now prices.now budget.0 allowed.now)
+            (sections_of champion.now) node.now.place (sections_of node.now.chosen) self.old }
         requires left { node.now.place < length menu.now.places }
-        ensures { IsStem (offer_of menu.now prices.now budget.0 allowed.now) (sections_of champion.now) (node.now.place + 1) (sections_of node.now.chosen) self.new }
+        ensures { IsStem (offer_of menu.now prices.now budget.0 allowed.now)
+            (sections_of champion.now) (node.now.place + 1) (sections_of node.now.chosen) self.new }
     {
         prove!(node.place < menu.len());
         let champions = self.champion.as_slice();
@@ -194,11 +203,18 @@ impl Stem {
         node: &Node,
         below: &mut Stem,
     )
-        requires node { IsNode (offer_of menu.now prices.now budget.0 allowed.now) node.now.place (sections_of node.now.chosen) }
-        requires stem { IsStem (offer_of menu.now prices.now budget.0 allowed.now) (sections_of champion.now) node.now.place (sections_of node.now.chosen) self.now }
+        requires node { IsNode (offer_of menu.now prices.now budget.0 allowed.now) node.now.place
+            (sections_of node.now.chosen) }
+        requires stem { IsStem (offer_of menu.now prices.now budget.0 allowed.now)
+            (sections_of champion.now) node.now.place (sections_of node.now.chosen) self.now }
         requires left { node.now.place < length menu.now.places }
-        requires open { is_open (offer_of menu.now prices.now budget.0 allowed.now) (places_of menu.now (sections_of node.now.chosen)) node.now.place ≡ true }
-        ensures { IsStem (offer_of menu.now prices.now budget.0 allowed.now) (sections_of champion.now) (node.now.place + 1) (sections_of node.now.chosen ++ section_at menu.now.places node.now.place ∷ []) below.new }
+        requires open { is_open (offer_of menu.now prices.now budget.0 allowed.now)
+            (places_of menu.now (sections_of node.now.chosen)) node.now.place
+            ≡ true }
+        ensures { IsStem (offer_of menu.now prices.now budget.0 allowed.now)
+            (sections_of champion.now) (node.now.place + 1)
+            (sections_of node.now.chosen ++ section_at menu.now.places node.now.place ∷ [])
+            below.new }
     {
         prove!(node.place < menu.len());
         let rated = menu.rated(node.place);

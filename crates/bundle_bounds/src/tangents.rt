@@ -1,4 +1,5 @@
-// What a price of a resource and the next one make of open places: a line that no bound of the resource is below.
+// What a price of a resource and the next one make of open places: a line that no bound of the
+// resource is below.
 /// What a price makes of open places, and what the next price makes of them.
 #[derive(Clone, Copy, Debug)]
 pub(crate) struct Tangent {

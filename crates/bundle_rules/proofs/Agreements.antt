@@ -28,7 +28,8 @@ module _ (a b : Wishes) (is : Agrees a b) where
 
   adjustments_agree : (s : ℕ) (ss : List ℕ) → 0 < a.rating s → AllRated a ss → adjustments a s ss ≡ adjustments b s ss
   adjustments_agree s [] rated all = refl
-  adjustments_agree s (t ∷ ts) rated all = rw (is.adjustment s t rated (all t (has-here t ts)), adjustments_agree s ts rated (λ u in_it. all u (has-there t ts u in_it))) refl
+  adjustments_agree s (t ∷ ts) rated all =
+      rw (is.adjustment s t rated (all t (has-here t ts)), adjustments_agree s ts rated (λ u in_it. all u (has-there t ts u in_it))) refl
 
   pub utility_agrees : (ss : List ℕ) → AllRated a ss → utility a ss ≡ utility b ss
   utility_agrees [] rated = refl
@@ -46,14 +47,16 @@ module _ (a b : Wishes) (is : Agrees a b) where
   }
 
   pub choice_agrees : (price : ℕ → ℕ) (budget : ℕ) (allowed : ℕ → Bool) (ss : List ℕ) → IsChoice a price budget allowed ss → IsChoice b price budget allowed ss
-  choice_agrees price budget allowed ss choice = record { feasible = feasible_agrees ss choice.feasible; affordable = choice.affordable; within = choice.within }
+  choice_agrees price budget allowed ss choice =
+      record { feasible = feasible_agrees ss choice.feasible; affordable = choice.affordable; within = choice.within }
 
   pub preferred_agrees : (x y : List ℕ) → AllRated a x → AllRated a y → IsPreferred a x y → IsPreferred b x y
   preferred_agrees x y rated rated' (inl more) = inl (rw (← utility_agrees x rated, ← utility_agrees y rated') more)
   preferred_agrees x y rated rated' (inr tie) = inr (sym (utility_agrees x rated) ∙ tie.0 ∙ utility_agrees y rated', tie.1)
 
 -- where wishes agree, the best of the ones is the best of the others
-pub best_agrees : (a b : Wishes) → Agrees a b → (price : ℕ → ℕ) (budget : ℕ) (allowed : ℕ → Bool) (bundle : List ℕ) → IsBest a price budget allowed bundle → IsBest b price budget allowed bundle
+pub best_agrees : (a b : Wishes) → Agrees a b → (price : ℕ → ℕ) (budget : ℕ) (allowed : ℕ → Bool) (bundle : List ℕ) → IsBest a price budget allowed bundle
+    → IsBest b price budget allowed bundle
 best_agrees a b is price budget allowed bundle best = record {
   choice = choice_agrees a b is price budget allowed bundle best.choice;
   preferred = λ other choice apart.

@@ -15,7 +15,8 @@ priced_at (r ∷ rs) prices zero all low = all 0 r (omega arith)
 priced_at (r ∷ rs) prices (suc k) all low = priced_at rs prices k (λ i d h. all (suc i) d (let g : suc i < suc (length rs) = omega arith in g)) (omega arith)
 
 -- a rated section has a price
-pub priced : (m : MenuData) (prices : List Tokens) (ss : List ℕ) → HasPrices m prices → AllRated (wishes_of m) ss → (s : ℕ) → has ss s ≡ true → IsPriced prices s
+pub priced : (m : MenuData) (prices : List Tokens) (ss : List ℕ) → HasPrices m prices → AllRated (wishes_of m) ss → (s : ℕ) → has ss s ≡ true
+    → IsPriced prices s
 priced m prices ss has_prices rated s is =
     let low = place_of_rated m ss rated s is in
     subst (IsPriced prices) (section_at-place_in m.places s low) (priced_at m.places prices (place_in m.places s) has_prices low)

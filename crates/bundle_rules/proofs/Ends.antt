@@ -15,28 +15,36 @@ split_last xs x is =
     let low : length xs - 1 < length xs = slice_get_within xs (length xs - 1) x (sym is) in
     let item : get_or xs (length xs - 1) x ≡ x = get_or_from_slice_get xs (length xs - 1) x x (sym is) in
     let back : (length xs - 1) + 1 ≡ length xs = omega arith in
-    sym (take_all _ xs (let h : length xs ≤ (length xs - 1) + 1 = omega arith in h)) ∙ take_more xs (length xs - 1) x low ∙ ap (λ y. take (length xs - 1) xs ++ y ∷ []) item
+    sym (take_all _ xs (let h : length xs ≤ (length xs - 1) + 1 = omega arith in h)) ∙ take_more xs (length xs - 1) x low
+    ∙ ap (λ y. take (length xs - 1) xs ++ y ∷ []) item
 
 test_of : (a b : ℕ) (P : Type 0) → ((a < b) ↔ P) → IsTrue (nat_lt a b) ↔ P
 test_of a b P both = ((λ t. both.0 (grind (arith, nat_tests))), (λ p. let low : a < b = both.1 p in grind (arith, nat_tests)))
 
 -- a section above the last one is above all
-pub below_the_last : (sections : List SectionNo) (last : SectionNo) (t : ℕ) → Some last ≡ slice_get sections (length sections - 1) → IsAscending (ordinals sections) → IsTrue (nat_lt last.0 t) ↔ IsAscending (ordinals sections ++ t ∷ [])
+pub below_the_last : (sections : List SectionNo) (last : SectionNo) (t : ℕ) → Some last ≡ slice_get sections (length sections - 1)
+    → IsAscending (ordinals sections) → IsTrue (nat_lt last.0 t) ↔ IsAscending (ordinals sections ++ t ∷ [])
 below_the_last sections last t is up =
     let front : List ℕ = ordinals (take (length sections - 1) sections) in
-    let split : ordinals sections ≡ front ++ last.0 ∷ [] = ap ordinals (split_last sections last is) ∙ map-append (λ section. section.0) (take (length sections - 1) sections) (last ∷ []) in
+    let split : ordinals sections ≡ front ++ last.0 ∷ [] =
+    ap ordinals (split_last sections last is) ∙ map-append (λ section. section.0) (take (length sections - 1) sections) (last ∷ []) in
     rw split (test_of last.0 t _ ((λ low. IsAscending-last front last.0 t (rw split at up) low), (λ more. last_below front last.0 t more)))
 
 -- whether one of the sections is this one
-pub list_any-ordinals : (test : SectionNo → Bool) (s : ℕ) → ((section : SectionNo) → test section ≡ (section.0 == s)) → (sections : List SectionNo) → list_any test sections ≡ has (ordinals sections) s
+pub list_any-ordinals : (test : SectionNo → Bool) (s : ℕ) → ((section : SectionNo) → test section ≡ (section.0 == s)) → (sections : List SectionNo)
+    → list_any test sections ≡ has (ordinals sections) s
 list_any-ordinals test s each [] = refl
 list_any-ordinals test s each (x ∷ xs) = rw (each x, list_any-ordinals test s each xs) refl
 
 -- a front of ascending sections, with the next one
-pub ascending-next : (sections : List SectionNo) (i : ℕ) (d : SectionNo) → i < length sections → IsAscending (ordinals sections) → IsAscending (ordinals (take i sections) ++ (get_or sections i d).0 ∷ [])
+pub ascending-next : (sections : List SectionNo) (i : ℕ) (d : SectionNo) → i < length sections → IsAscending (ordinals sections)
+    → IsAscending (ordinals (take i sections) ++ (get_or sections i d).0 ∷ [])
 ascending-next sections i d low up =
     let split : take (i + 1) sections ≡ take i sections ++ get_or sections i d ∷ [] = take_more sections i d low in
-    let parts : ordinals sections ≡ (ordinals (take i sections) ++ (get_or sections i d).0 ∷ []) ++ ordinals (drop (i + 1) sections) = ap ordinals (sym (take-append-drop (i + 1) sections)) ∙ map-append (λ section. section.0) (take (i + 1) sections) (drop (i + 1) sections) ∙ ap (λ front. ordinals front ++ ordinals (drop (i + 1) sections)) split ∙ ap (λ front. front ++ ordinals (drop (i + 1) sections)) (map-append (λ section. section.0) (take i sections) (get_or sections i d ∷ [])) in
+    let parts : ordinals sections ≡ (ordinals (take i sections) ++ (get_or sections i d).0 ∷ []) ++ ordinals (drop (i + 1) sections) =
+    ap ordinals (sym (take-append-drop (i + 1) sections)) ∙ map-append (λ section. section.0) (take (i + 1) sections) (drop (i + 1) sections)
+    ∙ ap (λ front. ordinals front ++ ordinals (drop (i + 1) sections)) split
+    ∙ ap (λ front. front ++ ordinals (drop (i + 1) sections)) (map-append (λ section. section.0) (take i sections) (get_or sections i d ∷ [])) in
     IsAscending-front (ordinals (take i sections) ++ (get_or sections i d).0 ∷ []) (ordinals (drop (i + 1) sections)) (rw parts at up)
 
 -- a fact of each member is one of each section

@@ -13,7 +13,8 @@ use Rattle.bundle_rules.specs.Bundles.{sections_of}
 use Rattle.bundle_rules.proofs.Bundled.{length-sections_of}
 
 -- to compare sections is to compare their ordinals
-pub pointwise-ordinals : (test : SectionNo → SectionNo → Bool) → ((a b : SectionNo) → test a b ≡ (a.0 == b.0)) → (xs ys : List SectionNo) → pointwise test xs ys ≡ pointwise nat_eq (ordinals xs) (ordinals ys)
+pub pointwise-ordinals : (test : SectionNo → SectionNo → Bool) → ((a b : SectionNo) → test a b ≡ (a.0 == b.0)) → (xs ys : List SectionNo)
+    → pointwise test xs ys ≡ pointwise nat_eq (ordinals xs) (ordinals ys)
 pointwise-ordinals test each [] [] = refl
 pointwise-ordinals test each [] (y ∷ ys) = refl
 pointwise-ordinals test each (x ∷ xs) [] = refl
@@ -23,12 +24,16 @@ same_ordinals : (xs ys : List SectionNo) → ordinals xs ≡ ordinals ys → xs 
 same_ordinals [] [] e = refl
 same_ordinals [] (y ∷ ys) e = cc e
 same_ordinals (x ∷ xs) [] e = cc e
-same_ordinals (x ∷ xs) (y ∷ ys) e = let head : x.0 ≡ y.0 = cc in let rest : ordinals xs ≡ ordinals ys = cc in λ i. record { 0 = head i } ∷ same_ordinals xs ys rest i
+same_ordinals (x ∷ xs) (y ∷ ys) e =
+    let head : x.0 ≡ y.0 = cc in let rest : ordinals xs ≡ ordinals ys = cc in λ i. record { 0 = head i } ∷ same_ordinals xs ys rest i
 
 -- what a bundle's room holds
 room_of : (bundle : Bundle) → ordinals bundle.sections ≡ sections_of bundle ++ replicate (8 - bundle.len) 0
 unfolding sections_of
-room_of bundle = ap ordinals (sym (take-append-drop bundle.len bundle.sections)) ∙ map-append (λ section. section.0) (take bundle.len bundle.sections) (drop bundle.len bundle.sections) ∙ ap (λ rest. ordinals (take bundle.len bundle.sections) ++ rest) bundle.padded
+room_of bundle =
+    ap ordinals (sym (take-append-drop bundle.len bundle.sections))
+    ∙ map-append (λ section. section.0) (take bundle.len bundle.sections) (drop bundle.len bundle.sections)
+    ∙ ap (λ rest. ordinals (take bundle.len bundle.sections) ++ rest) bundle.padded
 
 -- two bundles of equal sections are equal
 pub same_bundle : (a b : Bundle) → sections_of a ≡ sections_of b → a ≡ b
@@ -46,6 +51,8 @@ same_bundle a b e =
       len = lens i;
       whole = is_prop→PathP (λ j. length (rooms j) ≡ 8) (λ j. Prim.hlevel props) a.whole b.whole i;
       short = is_prop→PathP (λ j. lens j ≤ 8) (λ j. Prim.hlevel props) a.short b.short i;
-      ascending = is_prop→PathP (λ j. IsAscending (ordinals (take (lens j) (rooms j)))) (λ j. IsAscending-prop (ordinals (take (lens j) (rooms j)))) a.ascending b.ascending i;
+      ascending =
+          is_prop→PathP (λ j. IsAscending (ordinals (take (lens j) (rooms j)))) (λ j. IsAscending-prop (ordinals (take (lens j) (rooms j)))) a.ascending
+          b.ascending i;
       padded = is_prop→PathP (λ j. ordinals (drop (lens j) (rooms j)) ≡ replicate (8 - lens j) 0) (λ j. Prim.hlevel props) a.padded b.padded i;
     }

@@ -13,9 +13,11 @@ use Rattle.bundle_rules.specs.Existence.Places.{rated_on_menu, on_menu_rated, se
 -- sections of a set that are apart one by one are apart
 none_from : (w : Wishes) (s : ℕ) (ss : List ℕ) → ClashesWithNone w s ss → (t : ℕ) → has ss t ≡ true → w.clash s t ≡ false
 none_from w s [] none t is = absurd (true≢false (sym is))
-none_from w s (x ∷ xs) none t is = elim (has-cases x xs t is) [ inl here ↦ subst (λ u. w.clash s u ≡ false) here none.0 | inr there ↦ none_from w s xs none.1 t there ]
+none_from w s (x ∷ xs) none t is =
+    elim (has-cases x xs t is) [ inl here ↦ subst (λ u. w.clash s u ≡ false) here none.0 | inr there ↦ none_from w s xs none.1 t there ]
 
-pub apart_from : (w : Wishes) (ss : List ℕ) → ((s t : ℕ) → has ss s ≡ true → has ss t ≡ true → w.clash s t ≡ w.clash t s) → AreApart w ss → (s t : ℕ) → has ss s ≡ true → has ss t ≡ true → s ≢ t → w.clash s t ≡ false
+pub apart_from : (w : Wishes) (ss : List ℕ) → ((s t : ℕ) → has ss s ≡ true → has ss t ≡ true → w.clash s t ≡ w.clash t s) → AreApart w ss → (s t : ℕ)
+    → has ss s ≡ true → has ss t ≡ true → s ≢ t → w.clash s t ≡ false
 apart_from w [] both apart s t is is' other = absurd (true≢false (sym is))
 apart_from w (x ∷ xs) both apart s t is is' other =
     elim (has-cases x xs s is) [
@@ -42,7 +44,8 @@ apart_of w (x ∷ xs) up each = (
 )
 
 -- the places of sections say the same
-none_by_place : (m : MenuData) (s : ℕ) (ss : List ℕ) → ClashesWithNone (by_place m) (place_in m.places s) (map (place_in m.places) ss) → ClashesWithNone (wishes_of m) s ss
+none_by_place : (m : MenuData) (s : ℕ) (ss : List ℕ) → ClashesWithNone (by_place m) (place_in m.places s) (map (place_in m.places) ss)
+    → ClashesWithNone (wishes_of m) s ss
 unfolding by_place wishes_of
 none_by_place m s [] none = tt
 none_by_place m s (x ∷ xs) none = (none.0, none_by_place m s xs none.1)
@@ -51,7 +54,8 @@ apart_by_place : (m : MenuData) (ss : List ℕ) → AreApart (by_place m) (map (
 apart_by_place m [] apart = tt
 apart_by_place m (x ∷ xs) apart = (none_by_place m x xs apart.0, apart_by_place m xs apart.1)
 
-none_at_places : (m : MenuData) (s : ℕ) (ss : List ℕ) → ClashesWithNone (wishes_of m) s ss → ClashesWithNone (by_place m) (place_in m.places s) (map (place_in m.places) ss)
+none_at_places : (m : MenuData) (s : ℕ) (ss : List ℕ) → ClashesWithNone (wishes_of m) s ss
+    → ClashesWithNone (by_place m) (place_in m.places s) (map (place_in m.places) ss)
 unfolding by_place wishes_of
 none_at_places m s [] none = tt
 none_at_places m s (x ∷ xs) none = (none.0, none_at_places m s xs none.1)
@@ -65,7 +69,8 @@ unfolding by_place wishes_of
 credits_by_place m [] = refl
 credits_by_place m (x ∷ xs) = ap (λ n. credits_at m.places (place_in m.places x) + n) (credits_by_place m xs)
 
-adjustments_by_place : (m : MenuData) (s : ℕ) (ss : List ℕ) → adjustments (by_place m) (place_in m.places s) (map (place_in m.places) ss) ≡ adjustments (wishes_of m) s ss
+adjustments_by_place : (m : MenuData) (s : ℕ) (ss : List ℕ)
+    → adjustments (by_place m) (place_in m.places s) (map (place_in m.places) ss) ≡ adjustments (wishes_of m) s ss
 unfolding by_place wishes_of
 adjustments_by_place m s [] = refl
 adjustments_by_place m s (x ∷ xs) = ap (λ n. adjustment_in m.pairs (place_in m.places s) (place_in m.places x) +ℤ n) (adjustments_by_place m s xs)
@@ -79,19 +84,25 @@ utility_by_place m (x ∷ xs) = rw (adjustments_by_place m x xs, utility_by_plac
 -- rated sections have places
 pub places_of_rated : (m : MenuData) (ss : List ℕ) → AllRated (wishes_of m) ss → All (λ place. place < length m.places) (map (place_in m.places) ss)
 unfolding wishes_of
-places_of_rated m ss rated = all_of_has (λ place. place < length m.places) (place_in m.places) ss (λ s is. rated_on_menu m.places (place_in m.places s) (rated s is))
+places_of_rated m ss rated =
+    all_of_has (λ place. place < length m.places) (place_in m.places) ss (λ s is. rated_on_menu m.places (place_in m.places s) (rated s is))
 
 pub place_of_rated : (m : MenuData) (ss : List ℕ) → AllRated (wishes_of m) ss → (s : ℕ) → has ss s ≡ true → place_in m.places s < length m.places
 unfolding wishes_of
 place_of_rated m ss rated s is = rated_on_menu m.places (place_in m.places s) (rated s is)
 
-pub rated_from_places : (m : MenuData) (ss : List ℕ) → IsMenu m → All (λ place. place < length m.places) (map (place_in m.places) ss) → AllRated (wishes_of m) ss
+pub rated_from_places : (m : MenuData) (ss : List ℕ) → IsMenu m → All (λ place. place < length m.places) (map (place_in m.places) ss)
+    → AllRated (wishes_of m) ss
 unfolding wishes_of
-rated_from_places m ss menu all s is = on_menu_rated m.places (place_in m.places s) menu.places.each (has_of_all (λ place. place < length m.places) (place_in m.places) ss all s is)
+rated_from_places m ss menu all s is =
+    on_menu_rated m.places (place_in m.places s) menu.places.each (has_of_all (λ place. place < length m.places) (place_in m.places) ss all s is)
 
-both_ways : (m : MenuData) (ss : List ℕ) → IsMenu m → AllRated (wishes_of m) ss → (s t : ℕ) → has ss s ≡ true → has ss t ≡ true → (wishes_of m).clash s t ≡ (wishes_of m).clash t s
+both_ways : (m : MenuData) (ss : List ℕ) → IsMenu m → AllRated (wishes_of m) ss → (s t : ℕ) → has ss s ≡ true → has ss t ≡ true
+    → (wishes_of m).clash s t ≡ (wishes_of m).clash t s
 unfolding wishes_of
-both_ways m ss menu rated s t is is' = (menu.clashes.each (place_in m.places s) (place_in m.places t) (rated_on_menu m.places (place_in m.places s) (rated s is)) (rated_on_menu m.places (place_in m.places t) (rated t is'))).both_ways
+both_ways m ss menu rated s t is is' =
+    (menu.clashes.each (place_in m.places s) (place_in m.places t) (rated_on_menu m.places (place_in m.places s) (rated s is))
+    (rated_on_menu m.places (place_in m.places t) (rated t is'))).both_ways
 
 -- places that may be taken are those of a feasible bundle
 pub feasible_from : (m : MenuData) (ss : List ℕ) → IsMenu m → IsAscending ss → MayTake m (map (place_in m.places) ss) → IsFeasible (wishes_of m) ss
@@ -119,7 +130,8 @@ section_has [] k low = absurd (omega arith)
 section_has (r ∷ rs) zero low = has-here r.section.0 (map (λ rated. rated.section.0) rs)
 section_has (r ∷ rs) (suc k) low = has-there r.section.0 (map (λ rated. rated.section.0) rs) (section_at rs k) (section_has rs k (omega arith))
 
-pub among_sections : (m : MenuData) (ss : List ℕ) → AllRated (wishes_of m) ss → (s : ℕ) → has ss s ≡ true → has (map (λ rated. rated.section.0) m.places) s ≡ true
+pub among_sections : (m : MenuData) (ss : List ℕ) → AllRated (wishes_of m) ss → (s : ℕ) → has ss s ≡ true
+    → has (map (λ rated. rated.section.0) m.places) s ≡ true
 among_sections m ss rated s is =
     let low = place_of_rated m ss rated s is in
     subst (λ t. has (map (λ rated. rated.section.0) m.places) t ≡ true) (section_at-place_in m.places s low) (section_has m.places (place_in m.places s) low)

@@ -20,7 +20,8 @@ true_lt a b h = grind (arith, nat_tests)
 
 pub ahead_to : (k : ℕ) (ps cs : List ℕ) → IsAscending ps → IsAscending cs → ((c : ℕ) → has cs c ≡ true → c < k) → is_ahead k ps cs ≡ true → IsAhead k ps cs
 ahead_to k [] cs up up' low is = absurd (false≢true is)
-ahead_to k (p ∷ ps) [] up up' low is = (p, true_lt p k is, has-here p ps, refl, λ t below. strip p ps t (λ e. absurd (omega arith)) ∙ none_below p ps up.0 t (omega arith))
+ahead_to k (p ∷ ps) [] up up' low is =
+    (p, true_lt p k is, has-here p ps, refl, λ t below. strip p ps t (λ e. absurd (omega arith)) ∙ none_below p ps up.0 t (omega arith))
 ahead_to k (p ∷ ps) (c ∷ cs) up up' low is =
     elim (cases_Bool (p == c)) [
       | inl same ↦
@@ -47,7 +48,8 @@ ahead_to k (p ∷ ps) (c ∷ cs) up up' low is =
             omega arith,
             has-here p ps,
             strip c cs p (λ e. absurd (omega arith)) ∙ none_below c cs up'.0 p (omega arith),
-            λ t below. (strip p ps t (λ e. absurd (omega arith)) ∙ none_below p ps up.0 t (omega arith)) ∙ sym (strip c cs t (λ e. absurd (omega arith)) ∙ none_below c cs up'.0 t (omega arith)),
+            λ t below. (strip p ps t (λ e. absurd (omega arith)) ∙ none_below p ps up.0 t (omega arith))
+                ∙ sym (strip c cs t (λ e. absurd (omega arith)) ∙ none_below c cs up'.0 t (omega arith)),
           )
     ]
 

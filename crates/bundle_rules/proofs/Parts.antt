@@ -14,12 +14,15 @@ IsPart a b = (s : ℕ) → has a s ≡ true → has b s ≡ true
 module _ (x : ℕ) (xs : List ℕ) (y : ℕ) (ys : List ℕ) (up : AllAbove x xs) (part : IsPart (x ∷ xs) (y ∷ ys)) where
   -- under one head the rest is a part of the rest
   part_same : x ≡ y → IsPart xs ys
-  part_same same s is = elim (has-cases y ys s (part s (has-there x xs s is))) [ inl here ↦ (let above : x < s = has-above x xs s up is in absurd (omega arith)) | inr there ↦ there ]
+  part_same same s is =
+      elim (has-cases y ys s (part s (has-there x xs s is)))
+      [ inl here ↦ (let above : x < s = has-above x xs s up is in absurd (omega arith)) | inr there ↦ there ]
 
   -- and past a lower head of the second the first is a part of its rest
   part_past : y < x → IsPart (x ∷ xs) ys
   part_past low s is = elim (has-cases y ys s (part s is)) [
-    | inl here ↦ elim (has-cases x xs s is) [ inl first ↦ absurd (omega arith) | inr later ↦ (let above : x < s = has-above x xs s up later in absurd (omega arith)) ]
+    | inl here ↦
+        elim (has-cases x xs s is) [ inl first ↦ absurd (omega arith) | inr later ↦ (let above : x < s = has-above x xs s up later in absurd (omega arith)) ]
     | inr there ↦ there
   ]
 
@@ -29,8 +32,13 @@ total_part f [] b up_a up_b part = omega arith
 total_part f (x ∷ xs) [] up_a up_b part = absurd (false≢true (part x (has-here x xs)))
 total_part f (x ∷ xs) (y ∷ ys) up_a up_b part =
     elim (cases_order x y) [
-      | inl same ↦ let rest = total_part f xs ys up_a.1 up_b.1 (part_same x xs y ys up_a.0 part same) in subst (λ z. f x + total f xs ≤ f z + total f ys) same (let t : ℕ = total f xs in let u : ℕ = total f ys in let h : t ≤ u = rest in let goal : f x + t ≤ f x + u = omega arith in goal)
-      | inr (inl below) ↦ elim (has-cases y ys x (part x (has-here x xs))) [ inl here ↦ absurd (omega arith) | inr there ↦ (let above : y < x = has-above y ys x up_b.0 there in absurd (omega arith)) ]
+      | inl same ↦
+          let rest = total_part f xs ys up_a.1 up_b.1 (part_same x xs y ys up_a.0 part same) in
+          subst (λ z. f x + total f xs ≤ f z + total f ys) same
+          (let t : ℕ = total f xs in let u : ℕ = total f ys in let h : t ≤ u = rest in let goal : f x + t ≤ f x + u = omega arith in goal)
+      | inr (inl below) ↦
+          elim (has-cases y ys x (part x (has-here x xs)))
+          [ inl here ↦ absurd (omega arith) | inr there ↦ (let above : y < x = has-above y ys x up_b.0 there in absurd (omega arith)) ]
       | inr (inr above) ↦ let rest : total f (x ∷ xs) ≤ total f ys = total_part f (x ∷ xs) ys up_a up_b.1 (part_past x xs y ys up_a.0 part above) in omega arith
     ]
 
@@ -41,7 +49,8 @@ counted (s ∷ ss) = let rest : total (λ t. 1) ss ≡ length ss = counted ss in
 pub length_part : (a b : List ℕ) → IsAscending a → IsAscending b → IsPart a b → length a ≤ length b
 length_part a b up_a up_b part = let sums : total (λ s. 1) a ≤ total (λ s. 1) b = total_part (λ s. 1) a b up_a up_b part in omega (arith, counted a, counted b)
 
-pub choice_part : (w : Wishes) (price : ℕ → ℕ) (budget : ℕ) (allowed : ℕ → Bool) (a b : List ℕ) → IsAscending a → IsPart a b → IsChoice w price budget allowed b → IsChoice w price budget allowed a
+pub choice_part : (w : Wishes) (price : ℕ → ℕ) (budget : ℕ) (allowed : ℕ → Bool) (a b : List ℕ) → IsAscending a → IsPart a b → IsChoice w price budget allowed b
+    → IsChoice w price budget allowed a
 choice_part w price budget allowed a b up part is =
     let affordable : total price b ≤ budget = is.affordable in
     let credits : total w.credits b ≤ w.credit_cap = is.feasible.credits in

@@ -4,7 +4,9 @@ use Rattle.bundle_rules.specs.Sets.{has}
 
 -- the lowest place on which they differ is in the first, and below this limit
 abbrev pub IsAhead : ℕ → List ℕ → List ℕ → Type 0
-IsAhead limit champion chosen = (place : ℕ) × (place < limit) × (has champion place ≡ true) × (has chosen place ≡ false) × ((t : ℕ) → t < place → has champion t ≡ has chosen t)
+IsAhead limit champion chosen =
+    (place : ℕ) × (place < limit) × (has champion place ≡ true) × (has chosen place ≡ false)
+    × ((t : ℕ) → t < place → has champion t ≡ has chosen t)
 
 -- the test of it, from the lowest places on
 abbrev pub is_ahead : ℕ → List ℕ → List ℕ → Bool

@@ -26,16 +26,21 @@ abbrev pub HasPrices : MenuData → List Tokens → Type 0
 HasPrices menu prices = ArePriced menu.places prices
 
 -- a feasible bundle of allowed sections whose prices sum to at most the budget
-pub record IsChoice (wishes : Wishes) (price : ℕ → ℕ) (budget : ℕ) (allowed : ℕ → Bool) (bundle : List ℕ) : Type 0 where
+pub record IsChoice (wishes : Wishes) (price : ℕ → ℕ) (budget : ℕ) (allowed : ℕ → Bool)
+    (bundle : List ℕ) : Type 0 where
   pub feasible : IsFeasible wishes bundle
   pub affordable : total price bundle ≤ budget
   pub within : (s : ℕ) → has bundle s ≡ true → allowed s ≡ true
 
 -- the choice that is preferred to every other one
-pub record IsBest (wishes : Wishes) (price : ℕ → ℕ) (budget : ℕ) (allowed : ℕ → Bool) (bundle : List ℕ) : Type 0 where
+pub record IsBest (wishes : Wishes) (price : ℕ → ℕ) (budget : ℕ) (allowed : ℕ → Bool)
+    (bundle : List ℕ) : Type 0 where
   pub choice : IsChoice wishes price budget allowed bundle
-  pub preferred : (other : List ℕ) → IsChoice wishes price budget allowed other → other ≢ bundle → IsPreferred wishes bundle other
+  pub preferred : (other : List ℕ) → IsChoice wishes price budget allowed other → other ≢ bundle
+      → IsPreferred wishes bundle other
 
 -- some set is the best, and each that is the best is that one
 abbrev pub HasOneBest : Wishes → (ℕ → ℕ) → ℕ → (ℕ → Bool) → Type 0
-HasOneBest wishes price budget allowed = (best : List ℕ) × IsBest wishes price budget allowed best × ((other : List ℕ) → IsBest wishes price budget allowed other → other ≡ best)
+HasOneBest wishes price budget allowed =
+    (best : List ℕ) × IsBest wishes price budget allowed best
+    × ((other : List ℕ) → IsBest wishes price budget allowed other → other ≡ best)

@@ -1,4 +1,5 @@
--- Why every menu has exactly one best bundle. Lemmas alone: `Best` names the bundle that they show to exist.
+-- Why every menu has exactly one best bundle. Lemmas alone: `Best` names the bundle that they show
+-- to exist.
 pub mod Members
 pub mod Orders
 pub mod Fronts

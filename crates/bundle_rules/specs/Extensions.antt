@@ -1,4 +1,5 @@
--- Choices that are some sections and some of the later ones: what is tried below a node of an enumeration.
+-- Choices that are some sections and some of the later ones: what is tried below a node of an
+-- enumeration.
 use Rattle.std.specs.Prelude.{ℕ, ◌≡◌, ◌≢◌, Bool, true, List, ◌++◌}
 use Rattle.bundle_rules.specs.Sets.{has}
 use Rattle.bundle_rules.specs.Wishes.{Wishes}
@@ -12,7 +13,9 @@ pub record Extends (front later bundle : List ℕ) : Type 0 where
   pub among : (s : ℕ) → has more s ≡ true → has later s ≡ true
 
 -- the choice that is preferred to every other one that extends the front
-pub record IsBestExtension (wishes : Wishes) (price : ℕ → ℕ) (budget : ℕ) (allowed : ℕ → Bool) (front later bundle : List ℕ) : Type 0 where
+pub record IsBestExtension (wishes : Wishes) (price : ℕ → ℕ) (budget : ℕ) (allowed : ℕ → Bool)
+    (front later bundle : List ℕ) : Type 0 where
   pub choice : IsChoice wishes price budget allowed bundle
   pub extends : Extends front later bundle
-  pub preferred : (other : List ℕ) → IsChoice wishes price budget allowed other → Extends front later other → other ≢ bundle → IsPreferred wishes bundle other
+  pub preferred : (other : List ℕ) → IsChoice wishes price budget allowed other
+      → Extends front later other → other ≢ bundle → IsPreferred wishes bundle other

@@ -5,7 +5,8 @@ use Rattle.bundle_rules.specs.Menus.{MenuData, IsMenu, adjustment_in}
 -- a table with a row for each place, of its adjustments with each place
 pub record IsTable (places : ℕ) (pairs : List (ℕ × ℕ × ℤ)) (table : List ℤ) : Type 0 where
   pub size : length table ≡ places * places
-  pub each : (a b : ℕ) → a < places → b < places → slice_index_or table (a * places + b) (pos 0) ≡ adjustment_in pairs a b
+  pub each : (a b : ℕ) → a < places → b < places
+      → slice_index_or table (a * places + b) (pos 0) ≡ adjustment_in pairs a b
 
 -- a menu with the table of its adjustments
 pub record IsKept (menu : MenuData) (adjustments : List ℤ) : Type 0 where

@@ -5,7 +5,8 @@ use Rattle.bundle_rules.specs.declared.menu.Rated.{Rated}
 use Rattle.bundle_rules.specs.Sets.{IsAscending}
 use Rattle.bundle_rules.specs.Wishes.{Wishes}
 
--- the rated sections, the adjustments of pairs of places, a word of clashes for each place, and the two caps
+-- the rated sections, the adjustments of pairs of places, a word of clashes for each place, and the
+-- two caps
 pub record MenuData : Type 0 where
   pub places : List Rated
   pub pairs : List (ℕ × ℕ × ℤ)
@@ -16,7 +17,9 @@ pub record MenuData : Type 0 where
 -- the adjustment of two places in either order, 0 where no pair names them
 abbrev pub adjustment_in : List (ℕ × ℕ × ℤ) → ℕ → ℕ → ℤ
 adjustment_in [] a b = pos 0
-adjustment_in (pair ∷ pairs) a b = if (pair.0 == a && pair.1 == b) || (pair.0 == b && pair.1 == a) then pair.2 else adjustment_in pairs a b
+adjustment_in (pair ∷ pairs) a b =
+    if (pair.0 == a && pair.1 == b) || (pair.0 == b && pair.1 == a) then pair.2
+    else adjustment_in pairs a b
 
 -- whether two places clash: bit b of the word of place a
 abbrev pub clash_in : List ℕ → ℕ → ℕ → Bool
@@ -93,7 +96,8 @@ pub record IsPair (places : ℕ) (pair : ℕ × ℕ × ℤ) : Type 0 where
 -- each pair names other places than all later ones
 abbrev pub AreDifferent : List (ℕ × ℕ × ℤ) → Type 0
 AreDifferent [] = ⊤
-AreDifferent (pair ∷ pairs) = All (λ other. pair.0 ≡ other.0 → pair.1 ≢ other.1) pairs × AreDifferent pairs
+AreDifferent (pair ∷ pairs) =
+    All (λ other. pair.0 ≡ other.0 → pair.1 ≢ other.1) pairs × AreDifferent pairs
 
 -- at most 200 pairs, no two of which name the same two places
 pub record ArePairs (places : ℕ) (pairs : List (ℕ × ℕ × ℤ)) : Type 0 where

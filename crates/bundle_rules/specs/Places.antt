@@ -25,10 +25,16 @@ menu_places menu = places_from 0 (length menu.places)
 
 -- a has the greater utility, or the same and the first place on which they differ
 abbrev pub PrefersBits : Wishes → List ℕ → List Bool → List Bool → Type 0
-PrefersBits wishes sections a b = (utility wishes (chosen b sections) <ℤ utility wishes (chosen a sections)) ⊎ ((utility wishes (chosen a sections) ≡ utility wishes (chosen b sections)) × (earlier a b ≡ true))
+PrefersBits wishes sections a b =
+    (utility wishes (chosen b sections) <ℤ utility wishes (chosen a sections))
+    ⊎ ((utility wishes (chosen a sections) ≡ utility wishes (chosen b sections))
+    × (earlier a b ≡ true))
 
 -- the bits of a choice that are preferred to those of every other one
-pub record AreBestBits (wishes : Wishes) (sections : List ℕ) (price : ℕ → ℕ) (budget : ℕ) (allowed : ℕ → Bool) (bits : List Bool) : Type 0 where
+pub record AreBestBits (wishes : Wishes) (sections : List ℕ) (price : ℕ → ℕ) (budget : ℕ)
+    (allowed : ℕ → Bool) (bits : List Bool) : Type 0 where
   pub whole : length bits ≡ length sections
   pub choice : IsChoice wishes price budget allowed (chosen bits sections)
-  pub preferred : (other : List Bool) → length other ≡ length sections → IsChoice wishes price budget allowed (chosen other sections) → other ≢ bits → PrefersBits wishes sections bits other
+  pub preferred : (other : List Bool) → length other ≡ length sections
+      → IsChoice wishes price budget allowed (chosen other sections) → other ≢ bits
+      → PrefersBits wishes sections bits other

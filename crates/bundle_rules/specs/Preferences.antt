@@ -5,4 +5,6 @@ use Rattle.bundle_rules.specs.Wishes.{Wishes, utility}
 
 -- a has the greater utility, or the same and the lowest section on which they differ
 abbrev pub IsPreferred : Wishes → List ℕ → List ℕ → Type 0
-IsPreferred wishes a b = (utility wishes b <ℤ utility wishes a) ⊎ ((utility wishes a ≡ utility wishes b) × DiffersFirstIn a b)
+IsPreferred wishes a b =
+    (utility wishes b <ℤ utility wishes a)
+    ⊎ ((utility wishes a ≡ utility wishes b) × DiffersFirstIn a b)

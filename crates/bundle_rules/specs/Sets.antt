@@ -1,4 +1,5 @@
--- Sets of sections. A set is written as its ordinals in ascending order, so that equal sets are equal lists.
+-- Sets of sections. A set is written as its ordinals in ascending order, so that equal sets are
+-- equal lists.
 use Rattle.std.specs.Prelude.{ℕ, ◌<◌, ◌≡◌, ◌==◌, ◌||◌, Bool, true, false, ⊤, List, [], ◌∷◌}
 use Rattle.std.specs.Coded.{×_prop, Unit-prop, le_prop}
 
@@ -19,7 +20,8 @@ IsAscending (s ∷ ss) = AllAbove s ss × IsAscending ss
 
 -- the lowest section on which they differ is in the first
 abbrev pub DiffersFirstIn : List ℕ → List ℕ → Type 0
-DiffersFirstIn a b = (s : ℕ) × (has a s ≡ true) × (has b s ≡ false) × ((t : ℕ) → t < s → has a t ≡ has b t)
+DiffersFirstIn a b =
+    (s : ℕ) × (has a s ≡ true) × (has b s ≡ false) × ((t : ℕ) → t < s → has a t ≡ has b t)
 
 -- at most one proof, so that a type may keep the fact
 pub AllAbove-prop : (s : ℕ) (ts : List ℕ) → IsProp (AllAbove s ts)

@@ -29,6 +29,7 @@ AllRated wishes bundle = (s : ℕ) → has bundle s ≡ true → 0 < wishes.rati
 pub record IsFeasible (wishes : Wishes) (bundle : List ℕ) : Type 0 where
   pub set : IsAscending bundle
   pub rated : AllRated wishes bundle
-  pub apart : (s t : ℕ) → has bundle s ≡ true → has bundle t ≡ true → s ≢ t → wishes.clash s t ≡ false
+  pub apart : (s t : ℕ) → has bundle s ≡ true → has bundle t ≡ true → s ≢ t
+      → wishes.clash s t ≡ false
   pub credits : total wishes.credits bundle ≤ wishes.credit_cap
   pub courses : length bundle ≤ wishes.course_cap

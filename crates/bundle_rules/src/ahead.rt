@@ -2,8 +2,9 @@
 ghost use Rattle.std.specs.Prelude.{◌≡◌};
 ghost use Rattle.bundle_rules.specs.Ahead.{is_ahead};
 
-/// Whether the first place on which two ascending lists differ is in the first of them, and below the limit. Each
-/// place of the second list is below it: the law `ahead_is_the_first_difference` says that this is what is told.
+/// Whether the first place on which two ascending lists differ is in the first of them, and below
+/// the limit. Each place of the second list is below it: the law `ahead_is_the_first_difference`
+/// says that this is what is told.
 pub fn is_ahead(limit: u8, champion: &[u8], chosen: &[u8]) -> bool
     ensures { result ≡ is_ahead limit champion.now chosen.now }
 {

@@ -13,7 +13,8 @@ ghost use Rattle.bundle_rules.specs.Menus.{wishes_of, IsMenu};
 use crate::{Bundle, Menu, Rated, feasible, prefers};
 use market_units::{MAX_PRICE, SectionNo, SectionSet, Tokens};
 
-/// Whether there is a price for each section of the menu, each at most 1,000,001: what `best_plain` needs.
+/// Whether there is a price for each section of the menu, each at most 1,000,001: what `best_plain`
+/// needs.
 pub fn has_prices(menu: &Menu, prices: &[Tokens]) -> bool
     ensures { IsTrue result ↔ HasPrices menu.now prices.now }
 {
@@ -38,12 +39,13 @@ fn is_priced(section: SectionNo, prices: &[Tokens]) -> bool
     }
 }
 
-/// The best bundle: the feasible one of allowed sections, of price sum at most the budget, that is preferred to
-/// every other such bundle. It tries them all, without memory of its own. There is a price for each section of the
-/// menu, each at most 1,000,001.
+/// The best bundle: the feasible one of allowed sections, of price sum at most the budget, that is
+/// preferred to every other such bundle. It tries them all, without memory of its own. There is a
+/// price for each section of the menu, each at most 1,000,001.
 pub fn best_plain(menu: &Menu, prices: &[Tokens], budget: Tokens, allowed: &SectionSet) -> Bundle
     requires { HasPrices menu.now prices.now }
-    ensures { IsBest (wishes_of menu.now) (price_in prices.now) budget.0 (set.contains allowed.now) (sections_of result) }
+    ensures { IsBest (wishes_of menu.now) (price_in prices.now) budget.0 (set.contains allowed.now)
+        (sections_of result) }
 {
     best_from(
         menu,
@@ -66,9 +68,12 @@ fn best_from(
 ) -> Bundle
     requires menu { IsMenu menu.now }
     requires prices { HasPrices menu.now prices.now }
-    requires chosen { IsChoice (wishes_of menu.now) (price_in prices.now) budget.0 (set.contains allowed.now) (sections_of chosen) }
+    requires chosen { IsChoice (wishes_of menu.now) (price_in prices.now) budget.0
+        (set.contains allowed.now) (sections_of chosen) }
     requires later { IsAscending (sections_of chosen ++ map (λ rated. rated.section.0) later.now) }
-    ensures { IsBestExtension (wishes_of menu.now) (price_in prices.now) budget.0 (set.contains allowed.now) (sections_of chosen) (map (λ rated. rated.section.0) later.now) (sections_of result) }
+    ensures { IsBestExtension (wishes_of menu.now) (price_in prices.now) budget.0
+        (set.contains allowed.now) (sections_of chosen) (map (λ rated. rated.section.0) later.now)
+        (sections_of result) }
 {
     if chosen.sections().len() >= usize::from(menu.courses()) {
         return chosen;
@@ -105,9 +110,14 @@ fn extended(
     requires prices { HasPrices menu.now prices.now }
     requires room { length (sections_of chosen) < 8 }
     requires above { IsAscending (sections_of chosen ++ section.0 ∷ []) }
-    ensures value { IfSome result (λ wider. sections_of wider ≡ sections_of chosen ++ section.0 ∷ []) }
-    ensures choice { IfSome result (λ wider. IsChoice (wishes_of menu.now) (price_in prices.now) budget.0 (set.contains allowed.now) (sections_of wider)) }
-    ensures none { IfNone result (¬ IsChoice (wishes_of menu.now) (price_in prices.now) budget.0 (set.contains allowed.now) (sections_of chosen ++ section.0 ∷ [])) }
+    ensures value { IfSome result
+        (λ wider. sections_of wider ≡ sections_of chosen ++ section.0 ∷ []) }
+    ensures choice { IfSome result
+        (λ wider. IsChoice (wishes_of menu.now) (price_in prices.now) budget.0
+        (set.contains allowed.now) (sections_of wider)) }
+    ensures none { IfNone result
+        (¬ IsChoice (wishes_of menu.now) (price_in prices.now) budget.0 (set.contains allowed.now)
+        (sections_of chosen ++ section.0 ∷ [])) }
 {
     let wider = chosen.with(section);
     if is_choice(menu, prices, budget, allowed, &wider) {
@@ -127,7 +137,9 @@ fn is_choice(
 ) -> bool
     requires menu { IsMenu menu.now }
     requires prices { HasPrices menu.now prices.now }
-    ensures { IsTrue result ↔ IsChoice (wishes_of menu.now) (price_in prices.now) budget.0 (set.contains allowed.now) (sections_of bundle.now) }
+    ensures { IsTrue result
+        ↔ IsChoice (wishes_of menu.now) (price_in prices.now) budget.0 (set.contains allowed.now)
+        (sections_of bundle.now) }
 {
     if !feasible(menu, bundle) {
         return false;
@@ -138,7 +150,8 @@ fn is_choice(
     all_allowed(allowed, bundle.sections())
 }
 
-/// What these sections cost together, in tokens. There is a price for each, at most 1,000,001, and there are at most 8 of them.
+/// What these sections cost together, in tokens. There is a price for each, at most 1,000,001, and
+/// there are at most 8 of them.
 pub fn price_of(prices: &[Tokens], sections: &[SectionNo]) -> u32
     requires priced { All (λ section. IsPriced prices.now section.0) sections.now }
     requires few { length sections.now ≤ 8 }
@@ -154,7 +167,8 @@ pub fn price_of(prices: &[Tokens], sections: &[SectionNo]) -> u32
 /// Whether each of these sections is an allowed one. Their ordinals are below 400.
 pub fn all_allowed(allowed: &SectionSet, sections: &[SectionNo]) -> bool
     requires { All (λ section. section.0 < 400) sections.now }
-    ensures { IsTrue result ↔ All (λ section. IsTrue (set.contains allowed.now section.0)) sections.now }
+    ensures { IsTrue result
+        ↔ All (λ section. IsTrue (set.contains allowed.now section.0)) sections.now }
 {
     sections.iter().all(|section| allowed.has(*section))
 }

@@ -1,8 +1,8 @@
 //! What holds of preference and demand: each call here does nothing, and its contract is a law.
 ghost use Rattle.bundle_rules.specs.Laws.{AheadIsTheFirstDifference, BestByAgreement, BestByBits, BestIsTheBest, BestOfAll, BestWithASection, EqualSectionsEqualBundles, SetsAreBits, StrictPreference, UniqueDemand};
 
-/// Preference is a strict total order of sets of sections: no set is preferred to itself, what is preferred to a
-/// preferred set is preferred, and of two different sets one is preferred.
+/// Preference is a strict total order of sets of sections: no set is preferred to itself, what is
+/// preferred to a preferred set is preferred, and of two different sets one is preferred.
 pub fn preference_is_strict()
     ensures { StrictPreference }
 {}
@@ -12,7 +12,8 @@ pub fn unique_demand()
     ensures { UniqueDemand }
 {}
 
-/// The value `best` of the definitions is the best bundle, and whatever is the best bundle is that value.
+/// The value `best` of the definitions is the best bundle, and whatever is the best bundle is that
+/// value.
 pub fn best_is_the_best()
     ensures { BestIsTheBest }
 {}
@@ -42,13 +43,14 @@ pub fn best_of_all()
     ensures { BestOfAll }
 {}
 
-/// At most one bundle is the best with a given section, and one is exactly where some choice has the section, which is
-/// exactly where the section alone is a choice.
+/// At most one bundle is the best with a given section, and one is exactly where some choice has
+/// the section, which is exactly where the section alone is a choice.
 pub fn best_with_a_section()
     ensures { BestWithASection }
 {}
 
-/// `is_ahead` tells whether the lowest place on which two ascending lists differ is in the first, below the limit.
+/// `is_ahead` tells whether the lowest place on which two ascending lists differ is in the first,
+/// below the limit.
 pub fn ahead_is_the_first_difference()
     ensures { AheadIsTheFirstDifference }
 {}

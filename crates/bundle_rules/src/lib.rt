@@ -27,7 +27,8 @@ mod tests {
     use std::process::Abort;
     use std::test::Fail;
 
-    // Three sections with ratings and credits, the adjustment of two of them, which two clash, and what is best.
+    // Three sections with ratings and credits, the adjustment of two of them, which two clash, and
+    // what is best.
     #[derive(Clone, Copy)]
     struct Case {
         rated: [(u8, u16); 3],
@@ -121,7 +122,8 @@ mod tests {
                 utility: 202,
                 ..plain
             },
-            // One section, and both at the same utility: both, since they differ in the higher ordinal alone.
+            // One section, and both at the same utility: both, since they differ in the higher
+            // ordinal alone.
             Case {
                 rated: [(10, 1), (10, 1), (1, 100)],
                 pair: (0, 1, -10),

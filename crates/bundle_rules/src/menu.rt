@@ -70,7 +70,8 @@ impl Menu {
         ensures pairs { IsTrue result → ArePairs (length places.now) pairs.now }
         ensures clashes { IsTrue result → AreClashes places.now clashes.now }
         ensures caps { IsTrue result → AreCaps credits courses }
-        ensures all { ArePlaces places.now → ArePairs (length places.now) pairs.now → AreClashes places.now clashes.now → AreCaps credits courses → IsTrue result }
+        ensures all { ArePlaces places.now → ArePairs (length places.now) pairs.now
+            → AreClashes places.now clashes.now → AreCaps credits courses → IsTrue result }
     {
         if !are_places(places) {
             return false;
@@ -98,7 +99,15 @@ impl Menu {
         requires pairs { ArePairs (length places.now) pairs.now }
         requires clashes { AreClashes places.now clashes.now }
         requires caps { AreCaps credits courses }
-        ensures { IfOk result (λ menu. menu ≡ record { places = places.now; pairs = pairs.now; clashes = clashes.now; credits = credits; courses = courses }) }
+        ensures { IfOk result
+            (λ menu. menu
+            ≡ record {
+              places = places.now;
+              pairs = pairs.now;
+              clashes = clashes.now;
+              credits = credits;
+              courses = courses;
+            }) }
     {
         let adjustments = adjustment_table(alloc, places.len(), pairs)?;
         Ok(Menu {

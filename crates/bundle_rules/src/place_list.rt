@@ -5,7 +5,8 @@ ghost use Rattle.bundle_rules.specs.Bundles.{sections_of};
 
 use crate::{Bundle, Menu};
 
-/// The places of a bundle's sections, in their order; a section that is not on the menu has the number of places.
+/// The places of a bundle's sections, in their order; a section that is not on the menu has the
+/// number of places.
 #[derive(Clone, Copy)]
 pub struct Places {
     places: [u8; 8],

@@ -10,7 +10,8 @@ ghost use Rattle.bundle_rules.specs.Menus.{by_place, wishes_of, place_in, IsMenu
 
 use crate::{Bundle, Menu, Places, is_ahead};
 
-/// The sum of the bundle's ratings and of the adjustments of its unordered pairs. All its sections are on the menu.
+/// The sum of the bundle's ratings and of the adjustments of its unordered pairs. All its sections
+/// are on the menu.
 pub fn utility(menu: &Menu, bundle: &Bundle) -> i32
     requires { AllRated (wishes_of menu.now) (sections_of bundle.now) }
     ensures { result ≡ utility (wishes_of menu.now) (sections_of bundle.now) }
@@ -18,7 +19,8 @@ pub fn utility(menu: &Menu, bundle: &Bundle) -> i32
     utility_of(menu, Places::of(menu, bundle).as_slice())
 }
 
-/// Whether the student may take the bundle: each section is rated, no two clash, and both caps hold.
+/// Whether the student may take the bundle: each section is rated, no two clash, and both caps
+/// hold.
 pub fn feasible(menu: &Menu, bundle: &Bundle) -> bool
     ensures { IsTrue result ↔ IsFeasible (wishes_of menu.now) (sections_of bundle.now) }
 {
@@ -26,12 +28,13 @@ pub fn feasible(menu: &Menu, bundle: &Bundle) -> bool
     may_take(menu, places.as_slice())
 }
 
-/// Whether the first of two feasible bundles is preferred to the second: it has the greater utility,
-/// or the same and the lowest section on which they differ.
+/// Whether the first of two feasible bundles is preferred to the second: it has the greater
+/// utility, or the same and the lowest section on which they differ.
 pub fn prefers(menu: &Menu, a: &Bundle, b: &Bundle) -> bool
     requires first { IsFeasible (wishes_of menu.now) (sections_of a.now) }
     requires second { IsFeasible (wishes_of menu.now) (sections_of b.now) }
-    ensures { IsTrue result ↔ IsPreferred (wishes_of menu.now) (sections_of a.now) (sections_of b.now) }
+    ensures { IsTrue result
+        ↔ IsPreferred (wishes_of menu.now) (sections_of a.now) (sections_of b.now) }
 {
     let first = utility(menu, a);
     let second = utility(menu, b);
@@ -42,7 +45,8 @@ pub fn prefers(menu: &Menu, a: &Bundle, b: &Bundle) -> bool
     }
 }
 
-// Whether the lowest section on which they differ is in the first: the places of sections ascend as they do.
+// Whether the lowest section on which they differ is in the first: the places of sections ascend as
+// they do.
 fn comes_first(menu: &Menu, a: &Bundle, b: &Bundle) -> bool
     requires first { AllRated (wishes_of menu.now) (sections_of a.now) }
     requires second { AllRated (wishes_of menu.now) (sections_of b.now) }

@@ -8,13 +8,19 @@ use Rattle.held_seats.proofs.Holding.{equal_lists, listed_at, same_lists}
 use Rattle.certificate_checker.proofs.Reading.{not_false, not_true}
 
 -- two bundles at a place, by the test of their sections
-pub are_equal : (final held : List Bundle) (after : List (List ℕ)) (k : ℕ) (a b : Bundle) → k < length final → k < length held → a ≡ get_or final k a → b ≡ get_or held k b → map sections_of held ≡ after → not (pointwise nat_eq (sections_of a) (sections_of b)) ≡ false
+pub are_equal : (final held : List Bundle) (after : List (List ℕ)) (k : ℕ) (a b : Bundle) → k < length final → k < length held → a ≡ get_or final k a
+    → b ≡ get_or held k b → map sections_of held ≡ after → not (pointwise nat_eq (sections_of a) (sections_of b)) ≡ false
     → slice_index_or (map sections_of final) k [] ≡ slice_index_or after k []
 are_equal final held after k a b low small is so holds same =
-    sym (listed_at final k a low is) ∙ same_lists (sections_of a) (sections_of b) (not_false (pointwise nat_eq (sections_of a) (sections_of b)) same) ∙ listed_at held k b small so ∙ ap (λ all. slice_index_or all k []) holds
+    sym (listed_at final k a low is) ∙ same_lists (sections_of a) (sections_of b) (not_false (pointwise nat_eq (sections_of a) (sections_of b)) same)
+    ∙ listed_at held k b small so ∙ ap (λ all. slice_index_or all k []) holds
 
-pub are_unequal : (final held : List Bundle) (after : List (List ℕ)) (k : ℕ) (a b : Bundle) → k < length final → k < length held → a ≡ get_or final k a → b ≡ get_or held k b → map sections_of held ≡ after → not (pointwise nat_eq (sections_of a) (sections_of b)) ≡ true
+pub are_unequal : (final held : List Bundle) (after : List (List ℕ)) (k : ℕ) (a b : Bundle) → k < length final → k < length held → a ≡ get_or final k a
+    → b ≡ get_or held k b → map sections_of held ≡ after → not (pointwise nat_eq (sections_of a) (sections_of b)) ≡ true
     → ¬ (slice_index_or (map sections_of final) k [] ≡ slice_index_or after k [])
 are_unequal final held after k a b low small is so holds apart = λ e.
-    let same : sections_of a ≡ sections_of b = listed_at final k a low is ∙ e ∙ ap (λ all. slice_index_or all k []) (sym holds) ∙ sym (listed_at held k b small so) in
-    true≢false (sym (equal_lists (sections_of b)) ∙ ap (λ sections. pointwise nat_eq sections (sections_of b)) (sym same) ∙ not_true (pointwise nat_eq (sections_of a) (sections_of b)) apart)
+    let same : sections_of a ≡ sections_of b =
+    listed_at final k a low is ∙ e ∙ ap (λ all. slice_index_or all k []) (sym holds) ∙ sym (listed_at held k b small so) in
+    true≢false
+    (sym (equal_lists (sections_of b)) ∙ ap (λ sections. pointwise nat_eq sections (sections_of b)) (sym same)
+    ∙ not_true (pointwise nat_eq (sections_of a) (sections_of b)) apart)

@@ -31,7 +31,8 @@ use Rattle.certificate_checker.specs.Views.{terms_of}
 use Rattle.certificate_checker.proofs.Reading.{HasLengths, lengths, moved, offer_is, proved_is, so_of_has, stage_two_below}
 
 -- what is read of a student in stage two: its menu, its budget, the prices, all sections, and its bundle with the tree
-pub record IsRead (terms : Terms) (publication : declared.Publication) (k : ℕ) (m : MenuData) (b : Tokens) (prices : List Tokens) (all : set.FinSet nat_cmp) (item : declared_proved.Proved) : Type 0 where
+pub record IsRead (terms : Terms) (publication : declared.Publication) (k : ℕ) (m : MenuData) (b : Tokens) (prices : List Tokens) (all : set.FinSet nat_cmp)
+    (item : declared_proved.Proved) : Type 0 where
   pub can : CanCheck terms (publication_of publication)
   pub student : k < length terms.crowd.menus.items
   pub menu : m ≡ get_or terms.crowd.menus.items k m
@@ -41,7 +42,8 @@ pub record IsRead (terms : Terms) (publication : declared.Publication) (k : ℕ)
   pub printed : item ≡ get_or publication.bundles.items k item
 
 -- each price is one of at most 1,000,001
-pub all_priced : (terms : Terms) (publication : declared.Publication) (prices : List Tokens) (bundle : List ℕ) → CanCheck terms (publication_of publication) → prices ≡ publication.prices.items → All (λ s. s < terms.crowd.sections) bundle → All (IsPriced prices) bundle
+pub all_priced : (terms : Terms) (publication : declared.Publication) (prices : List Tokens) (bundle : List ℕ) → CanCheck terms (publication_of publication)
+    → prices ≡ publication.prices.items → All (λ s. s < terms.crowd.sections) bundle → All (IsPriced prices) bundle
 all_priced terms publication prices bundle is same below = λ j d low.
     let long : HasLengths terms publication = lengths terms publication is in
     let size : length prices ≡ length publication.prices.items = ap length same in
@@ -52,68 +54,100 @@ all_priced terms publication prices bundle is same below = λ j d low.
           (is.is_publication.prices.each (get_or bundle j d) 0 (let many = is.is_publication.prices.count in let sections = is.sections in omega arith));
     }
 
-module _ (terms : Terms) (publication : declared.Publication) (k : ℕ) (m : MenuData) (b : Tokens) (prices : List Tokens) (all : set.FinSet nat_cmp) (item : declared_proved.Proved) (read : IsRead terms publication k m b prices all item) where
+module _ (terms : Terms) (publication : declared.Publication) (k : ℕ) (m : MenuData) (b : Tokens) (prices : List Tokens) (all : set.FinSet nat_cmp)
+    (item : declared_proved.Proved) (read : IsRead terms publication k m b prices all item) where
   low : k < length publication.bundles.items
   low = let long : HasLengths terms publication = lengths terms publication read.can in let student = read.student in omega arith
 
   offer_read : offer_of m prices b.0 all ≡ offer_in (terms_of terms).crowd (publication_of publication) k
   offer_read =
       ap (λ (list : List Tokens). offer_of m list b.0 all) read.prices_are
-      ∙ sym (offer_is terms.crowd.menus.items terms.crowd.budgets.items terms.crowd.sections k publication m b all read.can.whole.same read.student read.menu read.budget read.told)
+      ∙ sym
+      (offer_is terms.crowd.menus.items terms.crowd.budgets.items terms.crowd.sections k publication m b all read.can.whole.same read.student read.menu
+      read.budget read.told)
 
   proved_read : proved_of item ≡ proved_in (publication_of publication) k
   proved_read = sym (proved_is publication k item low read.printed)
 
   -- a fact of what is read is one of what is printed
-  pub told_of : (P : Offer → Proved → Type 0) → P (offer_of m prices b.0 all) (proved_of item) → P (offer_in (terms_of terms).crowd (publication_of publication) k) (proved_in (publication_of publication) k)
-  told_of P is = moved P (offer_of m prices b.0 all) (offer_in (terms_of terms).crowd (publication_of publication) k) (proved_of item) (proved_in (publication_of publication) k) offer_read proved_read is
+  pub told_of : (P : Offer → Proved → Type 0) → P (offer_of m prices b.0 all) (proved_of item)
+      → P (offer_in (terms_of terms).crowd (publication_of publication) k) (proved_in (publication_of publication) k)
+  told_of P is =
+      moved P (offer_of m prices b.0 all) (offer_in (terms_of terms).crowd (publication_of publication) k) (proved_of item)
+      (proved_in (publication_of publication) k) offer_read proved_read is
 
   pub priced_bundle : All (IsPriced prices) (sections_of item.bundle)
-  priced_bundle = all_priced terms publication prices (sections_of item.bundle) read.can read.prices_are (stage_two_below terms publication k item read.can low read.printed)
+  priced_bundle =
+      all_priced terms publication prices (sections_of item.bundle) read.can read.prices_are
+      (stage_two_below terms publication k item read.can low read.printed)
 
-  pub takable : IsFeasible (wishes_of m) (sections_of item.bundle) → total (price_in prices) (sections_of item.bundle) ≤ b.0 → IsTakable (offer_of m prices b.0 all) (sections_of item.bundle)
+  pub takable : IsFeasible (wishes_of m) (sections_of item.bundle) → total (price_in prices) (sections_of item.bundle) ≤ b.0
+      → IsTakable (offer_of m prices b.0 all) (sections_of item.bundle)
   takable feasible affordable = record {
     feasible = feasible;
     affordable = affordable;
-    within = λ s is. read.told s ∙ lt-ltb s terms.crowd.sections (so_of_has (λ t. t < terms.crowd.sections) (sections_of item.bundle) (stage_two_below terms publication k item read.can low read.printed) s is);
+    within =
+        λ s is. read.told s
+        ∙ lt-ltb s terms.crowd.sections
+        (so_of_has (λ t. t < terms.crowd.sections) (sections_of item.bundle) (stage_two_below terms publication k item read.can low read.printed) s is);
   }
 
-  pub unaffordable : ¬ (total (price_in prices) (sections_of item.bundle) ≤ b.0) → IsBundleFinding (terms_of terms).crowd (publication_of publication) k (Unaffordable (record { 0 = k }))
+  pub unaffordable : ¬ (total (price_in prices) (sections_of item.bundle) ≤ b.0)
+      → IsBundleFinding (terms_of terms).crowd (publication_of publication) k (Unaffordable (record { 0 = k }))
   unaffordable high = (refl, told_of (λ offer proved. ¬ IsAffordable offer proved.bundle) high)
 
-  pub infeasible : total (price_in prices) (sections_of item.bundle) ≤ b.0 → ¬ IsFeasible (wishes_of m) (sections_of item.bundle) → IsBundleFinding (terms_of terms).crowd (publication_of publication) k (Infeasible (record { 0 = k }))
-  infeasible affordable not = (refl, told_of (λ offer proved. IsAffordable offer proved.bundle) affordable, told_of (λ offer proved. ¬ MayTake offer proved.bundle) not)
+  pub infeasible : total (price_in prices) (sections_of item.bundle) ≤ b.0 → ¬ IsFeasible (wishes_of m) (sections_of item.bundle)
+      → IsBundleFinding (terms_of terms).crowd (publication_of publication) k (Infeasible (record { 0 = k }))
+  infeasible affordable not =
+      (refl, told_of (λ offer proved. IsAffordable offer proved.bundle) affordable, told_of (λ offer proved. ¬ MayTake offer proved.bundle) not)
 
-  pub wrong_tree : (tree : List ℕ) (defect : TreeDefect) → tree ≡ item.tree.items → total (price_in prices) (sections_of item.bundle) ≤ b.0 → IsFeasible (wishes_of m) (sections_of item.bundle) → IsDefect (offer_of m prices b.0 all) (sections_of item.bundle) tree defect
+  pub wrong_tree : (tree : List ℕ) (defect : TreeDefect) → tree ≡ item.tree.items → total (price_in prices) (sections_of item.bundle) ≤ b.0
+      → IsFeasible (wishes_of m) (sections_of item.bundle) → IsDefect (offer_of m prices b.0 all) (sections_of item.bundle) tree defect
       → IsBundleFinding (terms_of terms).crowd (publication_of publication) k (Tree (record { 0 = k }) defect)
   wrong_tree tree defect same affordable feasible is = (
     refl,
     told_of (λ offer proved. IsAffordable offer proved.bundle) affordable,
     told_of (λ offer proved. MayTake offer proved.bundle) feasible,
-    told_of (λ offer proved. IsDefect offer proved.bundle proved.tree defect) (subst (λ t. IsDefect (offer_of m prices b.0 all) (sections_of item.bundle) t defect) same is),
+    told_of (λ offer proved. IsDefect offer proved.bundle proved.tree defect)
+        (subst (λ t. IsDefect (offer_of m prices b.0 all) (sections_of item.bundle) t defect) same is),
   )
 
-  pub right_bundle : (tree : List ℕ) → tree ≡ item.tree.items → total (price_in prices) (sections_of item.bundle) ≤ b.0 → IsFeasible (wishes_of m) (sections_of item.bundle) → IsTreeText (offer_of m prices b.0 all) None (sections_of item.bundle) tree
+  pub right_bundle : (tree : List ℕ) → tree ≡ item.tree.items → total (price_in prices) (sections_of item.bundle) ≤ b.0
+      → IsFeasible (wishes_of m) (sections_of item.bundle) → IsTreeText (offer_of m prices b.0 all) None (sections_of item.bundle) tree
       → IsProvedBundle (terms_of terms).crowd (publication_of publication) k
   right_bundle tree same affordable feasible is = record {
     affordable = told_of (λ offer proved. IsAffordable offer proved.bundle) affordable;
     feasible = told_of (λ offer proved. MayTake offer proved.bundle) feasible;
-    proved = told_of (λ offer proved. IsTreeText offer None proved.bundle proved.tree) (subst (λ t. IsTreeText (offer_of m prices b.0 all) None (sections_of item.bundle) t) same is);
+    proved =
+        told_of (λ offer proved. IsTreeText offer None proved.bundle proved.tree)
+        (subst (λ t. IsTreeText (offer_of m prices b.0 all) None (sections_of item.bundle) t) same is);
   }
 
 -- what is found on a student is the first finding, where the budgets and the students before are right
-pub first_bundle : (terms : TermsData) (p : Publication) (student : ℕ) (finding : Finding) → HoldsToBudgets terms p → student < length terms.crowd.students → AllBelow student (IsProvedBundle terms.crowd p) → IsBundleFinding terms.crowd p student finding → IsFirstIn terms p finding
+pub first_bundle : (terms : TermsData) (p : Publication) (student : ℕ) (finding : Finding) → HoldsToBudgets terms p → student < length terms.crowd.students
+    → AllBelow student (IsProvedBundle terms.crowd p) → IsBundleFinding terms.crowd p student finding → IsFirstIn terms p finding
 first_bundle terms p student (Unaffordable number) budgets inside before is = record {
   before = budgets;
-  found = subst (λ s. IsFirstStudent terms.crowd p s × (¬ IsAffordable (offer_in terms.crowd p s) (proved_in p s).bundle)) (sym is.0) (record { within = inside; before = before }, is.1);
+  found =
+      subst (λ s. IsFirstStudent terms.crowd p s × (¬ IsAffordable (offer_in terms.crowd p s) (proved_in p s).bundle)) (sym is.0)
+      (record { within = inside; before = before }, is.1);
 }
 first_bundle terms p student (Infeasible number) budgets inside before is = record {
   before = budgets;
-  found = subst (λ s. IsFirstStudent terms.crowd p s × IsAffordable (offer_in terms.crowd p s) (proved_in p s).bundle × (¬ MayTake (offer_in terms.crowd p s) (proved_in p s).bundle)) (sym is.0) (record { within = inside; before = before }, is.1, is.2);
+  found =
+      subst
+      (λ s. IsFirstStudent terms.crowd p s × IsAffordable (offer_in terms.crowd p s) (proved_in p s).bundle
+      × (¬ MayTake (offer_in terms.crowd p s) (proved_in p s).bundle))
+      (sym is.0) (record { within = inside; before = before }, is.1, is.2);
 }
 first_bundle terms p student (Tree number defect) budgets inside before is = record {
   before = budgets;
-  found = subst (λ s. IsFirstStudent terms.crowd p s × IsAffordable (offer_in terms.crowd p s) (proved_in p s).bundle × MayTake (offer_in terms.crowd p s) (proved_in p s).bundle × IsDefect (offer_in terms.crowd p s) (proved_in p s).bundle (proved_in p s).tree defect) (sym is.0)
+  found =
+      subst
+      (λ s. IsFirstStudent terms.crowd p s × IsAffordable (offer_in terms.crowd p s) (proved_in p s).bundle
+      × MayTake (offer_in terms.crowd p s) (proved_in p s).bundle
+      × IsDefect (offer_in terms.crowd p s) (proved_in p s).bundle (proved_in p s).tree defect)
+      (sym is.0)
       (record { within = inside; before = before }, is.1, is.2, is.3);
 }
 first_bundle terms p student (Text line kind) budgets inside before is = absurd is

@@ -29,7 +29,8 @@ any_default [] k d e low = absurd (omega arith)
 any_default (x ∷ xs) zero d e low = refl
 any_default (x ∷ xs) (suc k) d e low = any_default xs k d e (omega arith)
 
-module _ (crowd : CrowdData) (p : Publication) (some : 0 < length crowd.students) (due : AllBelow (length p.turns) (IsDue crowd p)) (quiet_one : HasQuietPass (length crowd.students) p (length p.turns)) where
+module _ (crowd : CrowdData) (p : Publication) (some : 0 < length crowd.students) (due : AllBelow (length p.turns) (IsDue crowd p))
+    (quiet_one : HasQuietPass (length crowd.students) p (length p.turns)) where
   abbrev students : ℕ
   students = length crowd.students
 
@@ -62,7 +63,8 @@ module _ (crowd : CrowdData) (p : Publication) (some : 0 < length crowd.students
 
     long : length (turns_in pass) ≡ students
     unfolding turns_in from
-    long = length-take-le students (from pass) (let all = length-drop (pass * students) p.turns in let one = next_pass pass students in let h = far in omega arith)
+    long =
+        length-take-le students (from pass) (let all = length-drop (pass * students) p.turns in let one = next_pass pass students in let h = far in omega arith)
 
     -- the turn at a place of the pass
     at : (place : ℕ) (d : ProvedTurn) → place < students → get_or (turns_in pass) place d ≡ turn_in p (pass * students + place)
@@ -70,21 +72,26 @@ module _ (crowd : CrowdData) (p : Publication) (some : 0 < length crowd.students
     at place d low =
         let one = next_pass pass students in
         let h = far in
-        get_or-take students (from pass) place d low ∙ get_or-drop (pass * students) p.turns place d ∙ any_default p.turns (pass * students + place) d (record { pass = 0; student = 0; bundle = []; tree = [] }) (omega arith)
+        get_or-take students (from pass) place d low ∙ get_or-drop (pass * students) p.turns place d
+        ∙ any_default p.turns (pass * students + place) d (record { pass = 0; student = 0; bundle = []; tree = [] }) (omega arith)
 
-    is_due : (place : ℕ) → place < students → ((turn_in p (pass * students + place)).pass ≡ pass + 1) × (slice_get order place ≡ Some (turn_in p (pass * students + place)).student)
+    is_due : (place : ℕ) → place < students
+        → ((turn_in p (pass * students + place)).pass ≡ pass + 1) × (slice_get order place ≡ Some (turn_in p (pass * students + place)).student)
     is_due place low =
         let one = next_pass pass students in
         let h = far in
         let this = due (pass * students + place) (omega arith) in
-        let small : this.place < students = subst (λ n. this.place < n) each (slice_get_within order this.place (turn_in p (pass * students + place)).student this.next) in
+        let small : this.place < students =
+        subst (λ n. this.place < n) each (slice_get_within order this.place (turn_in p (pass * students + place)).student this.next) in
         let same = one_place students pass place this.pass this.place low small this.number in
         (this.in_pass ∙ ap (λ n. n + 1) (sym same.0), ap (slice_get order) same.1 ∙ this.next)
 
     numbered : IsNumbered order (pass + 1) (turns_in pass)
     numbered = record {
       numbered = λ k d low. let n = long in ap (λ (turn : ProvedTurn). turn.pass) (at k d (omega arith)) ∙ (is_due k (omega arith)).0;
-      students = same_number_lists (map (λ (turn : ProvedTurn). turn.student) (turns_in pass)) order (length-map (turns_in pass) (λ (turn : ProvedTurn). turn.student) ∙ long ∙ sym each)
+      students =
+          same_number_lists (map (λ (turn : ProvedTurn). turn.student) (turns_in pass)) order
+          (length-map (turns_in pass) (λ (turn : ProvedTurn). turn.student) ∙ long ∙ sym each)
           (λ k low.
           let n = long in
           let m = length-map (turns_in pass) (λ (turn : ProvedTurn). turn.student) in
@@ -94,7 +101,9 @@ module _ (crowd : CrowdData) (p : Publication) (some : 0 < length crowd.students
     }
 
     -- where the first turns of the pass change nothing, what is held before the next one is what was held before the pass
-    held_same : (k : ℕ) → k ≤ students → ((place : ℕ) → place < k → slice_index_or (held_before p (pass * students)) (turn_in p (pass * students + place)).student [] ≡ (turn_in p (pass * students + place)).bundle)
+    held_same : (k : ℕ) → k ≤ students
+        → ((place : ℕ) → place < k
+        → slice_index_or (held_before p (pass * students)) (turn_in p (pass * students + place)).student [] ≡ (turn_in p (pass * students + place)).bundle)
         → held_before p (pass * students + k) ≡ held_before p (pass * students)
     held_same zero few quiet = let none : pass * students + 0 ≡ pass * students = omega arith in ap (held_before p) none
     held_same (suc k) few quiet =
@@ -117,7 +126,8 @@ module _ (crowd : CrowdData) (p : Publication) (some : 0 < length crowd.students
         ap (held_before p) next ∙ held_next p (pass * students + k) (omega arith)
         ∙ same_after (held_before p (pass * students + k)) (turn_in p (pass * students + k)) (quiet k (omega arith)) ∙ before
 
-    changes_nothing : ((place : ℕ) → place < students → IsQuietTurn p (pass * students + place)) → ChangesNothing (held_before p (pass * students)) (turns_in pass)
+    changes_nothing : ((place : ℕ) → place < students → IsQuietTurn p (pass * students + place))
+        → ChangesNothing (held_before p (pass * students)) (turns_in pass)
     changes_nothing quiet k d low =
         let n = long in
         let same = held_quiet k (omega arith) quiet in
@@ -128,14 +138,17 @@ module _ (crowd : CrowdData) (p : Publication) (some : 0 < length crowd.students
     all_quiet nothing place low =
         let n = long in
         let each_here : (k : ℕ) → k < students → slice_index_or (held_before p (pass * students)) (turn_in p (pass * students + k)).student [] ≡ (turn_in p (pass * students + k)).bundle
-        = λ k small. subst (λ (turn : ProvedTurn). slice_index_or (held_before p (pass * students)) turn.student [] ≡ turn.bundle) (at k (turn_in p 0) small) (nothing k (turn_in p 0) (omega arith)) in
+        =
+        λ k small. subst (λ (turn : ProvedTurn). slice_index_or (held_before p (pass * students)) turn.student [] ≡ turn.bundle) (at k (turn_in p 0) small)
+        (nothing k (turn_in p 0) (omega arith)) in
         let same = held_same place (omega arith) (λ k small. each_here k (omega arith)) in
         ap (λ held. slice_index_or held (turn_in p (pass * students + place)).student []) same ∙ each_here place low
 
     held_later : held_after (held_before p (pass * students)) (turns_in pass) ≡ held_before p ((pass + 1) * students)
     unfolding turns_in from
     held_later =
-        sym (held_both (demanded p) (take (pass * students) p.turns) (take students (drop (pass * students) p.turns))) ∙ ap (held_after (demanded p)) (sym (take-add (pass * students) students p.turns))
+        sym (held_both (demanded p) (take (pass * students) p.turns) (take students (drop (pass * students) p.turns)))
+        ∙ ap (held_after (demanded p)) (sym (take-add (pass * students) students p.turns))
         ∙ ap (λ n. held_before p n) (sym (next_pass pass students))
 
   joined : (pass more : ℕ) → (pass + more) * students ≡ length p.turns → turns_of (passes_from pass more) ≡ from pass
@@ -147,18 +160,21 @@ module _ (crowd : CrowdData) (p : Publication) (some : 0 < length crowd.students
       let next : pass + 1 + more ≡ pass + suc more = omega arith in
       let rest = joined (pass + 1) more (ap (λ n. n * students) next ∙ whole) in
       flat_map-cons (λ (one : List ProvedTurn). one) (turns_in pass) (passes_from (pass + 1) more) ∙ ap (λ later. turns_in pass ++ later) rest
-      ∙ ap (λ later. turns_in pass ++ later) (ap (λ n. drop n p.turns) (next_pass pass students) ∙ drop_both (pass * students) students p.turns) ∙ take-append-drop students (from pass)
+      ∙ ap (λ later. turns_in pass ++ later) (ap (λ n. drop n p.turns) (next_pass pass students) ∙ drop_both (pass * students) students p.turns)
+      ∙ take-append-drop students (from pass)
 
   -- behind the pass without a change there is none
   last_pass : (quiet_one.pass + 1) * students ≡ length p.turns
   last_pass =
       let whole = quiet_one.whole in
       elim (cases_lt ((quiet_one.pass + 1) * students) (length p.turns)) [
-        | inl before ↦ absurd ((due ((quiet_one.pass + 1) * students) before).goes_on (record { pass = quiet_one.pass; whole = (omega arith); quiet = quiet_one.quiet }))
+        | inl before ↦
+            absurd ((due ((quiet_one.pass + 1) * students) before).goes_on (record { pass = quiet_one.pass; whole = (omega arith); quiet = quiet_one.quiet }))
         | inr not ↦ (let h = not in omega arith)
       ]
 
-  ends_here : (pass more : ℕ) (whole : (pass + suc more) * students ≡ length p.turns) → ChangesNothing (held_before p (pass * students)) (turns_in pass) ↔ (passes_from (pass + 1) more ≡ [])
+  ends_here : (pass more : ℕ) (whole : (pass + suc more) * students ≡ length p.turns)
+      → ChangesNothing (held_before p (pass * students)) (turns_in pass) ↔ (passes_from (pass + 1) more ≡ [])
   unfolding passes_from
   ends_here pass zero whole = (
     λ nothing. refl,
@@ -174,7 +190,9 @@ module _ (crowd : CrowdData) (p : Publication) (some : 0 < length crowd.students
     λ nothing.
         let next : (pass + 2) * students ≡ (pass + 1) * students + students = two_passes pass in
         let far : (pass + 2) * students ≤ (pass + suc (suc more)) * students = mul-le-mul_right students (omega arith) in
-        absurd ((due ((pass + 1) * students) (omega arith)).goes_on (record { pass = pass; whole = (omega arith); quiet = all_quiet pass (suc more) whole nothing })),
+        absurd
+        ((due ((pass + 1) * students) (omega arith)).goes_on
+        (record { pass = pass; whole = (omega arith); quiet = all_quiet pass (suc more) whole nothing })),
     λ e. absurd (cc e),
   )
     where
@@ -188,7 +206,8 @@ module _ (crowd : CrowdData) (p : Publication) (some : 0 < length crowd.students
       let next : pass + 1 + more ≡ pass + suc more = omega arith in (
         numbered pass more whole,
         ends_here pass more whole,
-        subst (λ held. GoOn order (pass + 1 + 1) held (passes_from (pass + 1) more)) (sym (held_later pass more whole)) (go_on (pass + 1) more (ap (λ n. n * students) next ∙ whole)),
+        subst (λ held. GoOn order (pass + 1 + 1) held (passes_from (pass + 1) more)) (sym (held_later pass more whole))
+            (go_on (pass + 1) more (ap (λ n. n * students) next ∙ whole)),
       )
 
   pub due_in_passes : ComeInPasses order (demanded p) p.turns

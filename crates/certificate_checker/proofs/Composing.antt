@@ -33,18 +33,23 @@ use Rattle.certificate_checker.specs.Views.{terms_of}
 use Rattle.certificate_checker.proofs.Reading.{length_map}
 
 -- as many students as the roll has
-pub crowd_length : (market : Market) (streams : List (List Command)) (order : List ℕ) (crowd : CrowdData) → IsCrowdAfter market streams order crowd → length crowd.students ≡ length market.roll.students
+pub crowd_length : (market : Market) (streams : List (List Command)) (order : List ℕ) (crowd : CrowdData) → IsCrowdAfter market streams order crowd
+    → length crowd.students ≡ length market.roll.students
 crowd_length market streams order crowd is =
     sym (length_map (λ (student : Asked). student.menu) crowd.students)
-    ∙ menus_length market.catalog.sections market.roll.students (wanted_in market is.journal) (map (λ (student : Asked). student.menu) crowd.students) is.is_crowd.menus
+    ∙ menus_length market.catalog.sections market.roll.students (wanted_in market is.journal) (map (λ (student : Asked). student.menu) crowd.students)
+    is.is_crowd.menus
 
 -- a publication may be looked at by the terms of its market
-pub can_check : (market : Market) (streams : List (List Command)) (terms : Terms) (p : Publication) → IsPublication (tables_in market) p → IsCrowdAfter market streams p.order (terms_of terms).crowd → terms_of terms ≡ terms_in market (terms_of terms).crowd
+pub can_check : (market : Market) (streams : List (List Command)) (terms : Terms) (p : Publication) → IsPublication (tables_in market) p
+    → IsCrowdAfter market streams p.order (terms_of terms).crowd → terms_of terms ≡ terms_in market (terms_of terms).crowd
     → MakeCrowd terms.crowd.menus.items terms.crowd.budgets.items terms.crowd.sections → market.settings.raise ≤ 50 → CanCheck terms p
 can_check market streams terms p is crowd same whole low = record {
   tables = tables_in market;
   is_publication = is;
-  students = length_map (λ (student : Student). student.name) market.roll.students ∙ sym (crowd_length market streams p.order (terms_of terms).crowd crowd) ∙ students_length terms.crowd.menus.items terms.crowd.budgets.items whole.same;
+  students =
+      length_map (λ (student : Student). student.name) market.roll.students ∙ sym (crowd_length market streams p.order (terms_of terms).crowd crowd)
+      ∙ students_length terms.crowd.menus.items terms.crowd.budgets.items whole.same;
   sections = length_map (λ (section : Section). section.name) market.catalog.sections ∙ sym crowd.is_crowd.sections;
   whole = whole;
   seats = ap (λ (t : TermsData). length t.seats) same ∙ length_map (λ (section : Section). section.seats) market.catalog.sections ∙ sym crowd.is_crowd.sections;
@@ -52,18 +57,21 @@ can_check market streams terms p is crowd same whole low = record {
 }
 
 -- a finding on the order is the first on the publication
-pub order_first : (market : Market) (streams : List (List Command)) (p : Publication) (finding : Finding) → IsOrderFinding streams p.order finding → IsFirstOf market streams p finding
+pub order_first : (market : Market) (streams : List (List Command)) (p : Publication) (finding : Finding) → IsOrderFinding streams p.order finding
+    → IsFirstOf market streams p finding
 order_first market streams p (Journal at) is = is
 order_first market streams p finding is = absurd is
 
 -- and so is one on what is printed
-pub printed_first : (market : Market) (streams : List (List Command)) (p : Publication) (crowd : CrowdData) (finding : Finding) → IsCrowdAfter market streams p.order crowd → IsFirstIn (terms_in market crowd) p finding → IsFirstOf market streams p finding
+pub printed_first : (market : Market) (streams : List (List Command)) (p : Publication) (crowd : CrowdData) (finding : Finding)
+    → IsCrowdAfter market streams p.order crowd → IsFirstIn (terms_in market crowd) p finding → IsFirstOf market streams p finding
 printed_first market streams p crowd (Journal at) after is = absurd is.found
 printed_first market streams p crowd (Text line kind) after is = absurd is.found
 printed_first market streams p crowd finding after is = (crowd, after, is)
 
 -- the first finding on the publication of a text is the first on the text
-pub text_first : (market : Market) (streams : List (List Command)) (p : Publication) (text : List ℕ) (finding : Finding) → IsTextOf market p text → IsFirstOf market streams p finding → IsFirstFinding market streams text finding
+pub text_first : (market : Market) (streams : List (List Command)) (p : Publication) (text : List ℕ) (finding : Finding) → IsTextOf market p text
+    → IsFirstOf market streams p finding → IsFirstFinding market streams text finding
 text_first market streams p text (Text line kind) of is = absurd is
 text_first market streams p text finding of is = (p, of, is)
 
@@ -81,16 +89,19 @@ pub ok_both : {A E : Type 0} {P Q R : A → Type 0} (r : Result A E) → ((a : A
 ok_both (Ok a) then is so = then a is so
 ok_both (Err e) then is so = tt
 
-pub err_found : {A : Type 0} {P Q : Finding → Type 0} (r : Result A CheckEnd) → ((finding : Finding) → P finding → Q finding) → IfErr r (λ e. OnFound e P) → IfErr r (λ e. OnFound e Q)
+pub err_found : {A : Type 0} {P Q : Finding → Type 0} (r : Result A CheckEnd) → ((finding : Finding) → P finding → Q finding) → IfErr r (λ e. OnFound e P)
+    → IfErr r (λ e. OnFound e Q)
 err_found (Ok x) then is = tt
 err_found {A} {P} {Q} (Err e) then is = on_found P Q e then is
 
 -- the first defect of a text that is no publication's is the first finding, and such a text is not accepted
-pub defect_first : (market : Market) (streams : List (List Command)) (text : List ℕ) (refusal : TextRefusal) → OnDefect refusal (Finds (ArePublished (tables_in market)) 1 text) → OnFound (end_of refusal) (IsFirstFinding market streams text)
+pub defect_first : (market : Market) (streams : List (List Command)) (text : List ℕ) (refusal : TextRefusal)
+    → OnDefect refusal (Finds (ArePublished (tables_in market)) 1 text) → OnFound (end_of refusal) (IsFirstFinding market streams text)
 defect_first market streams text (Defect line kind) is = is
 defect_first market streams text refusals.NoMemory is = tt
 
-pub defect_refused : (market : Market) (streams : List (List Command)) (text : List ℕ) (refusal : TextRefusal) → OnDefect refusal (λ _ _. ¬ IsPublished (tables_in market) text) → OnFound (end_of refusal) (λ _. ¬ IsAccepted market streams text)
+pub defect_refused : (market : Market) (streams : List (List Command)) (text : List ℕ) (refusal : TextRefusal)
+    → OnDefect refusal (λ _ _. ¬ IsPublished (tables_in market) text) → OnFound (end_of refusal) (λ _. ¬ IsAccepted market streams text)
 defect_refused market streams text (Defect line kind) is = λ accepted. is (accepted.publication, accepted.is_text.is_publication, accepted.is_text.written)
 defect_refused market streams text refusals.NoMemory is = tt
 
@@ -105,5 +116,6 @@ same_items (x ∷ xs) (y ∷ ys) long same =
     cc
 
 -- final bundles that are each the held one are the held ones
-pub allocation_is : (p : Publication) (students : ℕ) → length p.allocation ≡ students → length (held_after (demanded p) p.turns) ≡ students → AllBelow students (IsAllocated p) → p.allocation ≡ held_after (demanded p) p.turns
+pub allocation_is : (p : Publication) (students : ℕ) → length p.allocation ≡ students → length (held_after (demanded p) p.turns) ≡ students
+    → AllBelow students (IsAllocated p) → p.allocation ≡ held_after (demanded p) p.turns
 allocation_is p students long held each = same_items p.allocation (held_after (demanded p) p.turns) (long ∙ sym held) (λ k low. each k (omega arith))

@@ -20,7 +20,8 @@ use Rattle.certificate_checker.proofs.Composing.{crowd_length}
 use Rattle.certificate_checker.proofs.Reading.{length_map}
 
 -- the name of a student and of a section
-pub student_name : (students : List Student) (n : ℕ) (name : List ℕ) → option_map (λ (s : Student). s.name) (slice_get students n) ≡ Some name → name ≡ name_at (names_of students) n
+pub student_name : (students : List Student) (n : ℕ) (name : List ℕ) → option_map (λ (s : Student). s.name) (slice_get students n) ≡ Some name
+    → name ≡ name_at (names_of students) n
 student_name [] n name e = cc
 student_name (s ∷ students) zero name e = cc
 student_name (s ∷ students) (suc n) name e = student_name students n name e
@@ -37,14 +38,16 @@ module _ (market : Market) (streams : List (List Command)) (order : List ℕ) (c
   in_catalog low = let same = is.is_crowd.sections in let all = length_map (λ (s : Section). s.name) market.catalog.sections in omega arith
 
 -- whom the first finding names is one of the tables
-pub named_in : (market : Market) (streams : List (List Command)) (text : List ℕ) (finding : Finding) → IsFirstFinding market streams text finding → IsNamedIn (tables_in market) finding
+pub named_in : (market : Market) (streams : List (List Command)) (text : List ℕ) (finding : Finding) → IsFirstFinding market streams text finding
+    → IsNamedIn (tables_in market) finding
 named_in market streams text (Text line kind) is = tt
 named_in market streams text (Journal at) is = tt
 named_in market streams text (Budget student) (p, of, (crowd, after, first)) = on_roll market streams p.order crowd student.0 after first.found.within
 named_in market streams text (Unaffordable student) (p, of, (crowd, after, first)) = on_roll market streams p.order crowd student.0 after first.found.0.within
 named_in market streams text (Infeasible student) (p, of, (crowd, after, first)) = on_roll market streams p.order crowd student.0 after first.found.0.within
 named_in market streams text (Tree student defect) (p, of, (crowd, after, first)) = on_roll market streams p.order crowd student.0 after first.found.0.within
-named_in market streams text (Seats section used seats) (p, of, (crowd, after, first)) = in_catalog market streams p.order crowd section.0 after first.found.0.within
+named_in market streams text (Seats section used seats) (p, of, (crowd, after, first)) =
+    in_catalog market streams p.order crowd section.0 after first.found.0.within
 named_in market streams text (Turn turn fault) is = tt
 named_in market streams text (NotQuiet turns) is = tt
 named_in market streams text (Allocation student) (p, of, (crowd, after, first)) = on_roll market streams p.order crowd student.0 after first.found.within

@@ -22,7 +22,8 @@ module _ (offer : Offer) (required : Option ℕ) (champion : List ℕ) where
   CanGoOn (node ∷ nodes) rest = (sign : Sign) × IsSign offer required champion node.0 node.1 sign × ((later : List ℕ) × Stands sign rest later)
 
   -- two walks with one text have come to one place, or one of them can go on
-  two_walks : (signs others : List Sign) (nodes : List (ℕ × List ℕ)) (text : List ℕ) (here there : List (ℕ × List ℕ)) (rest left : List ℕ) → ComesTo offer required champion signs nodes text here rest → ComesTo offer required champion others nodes text there left
+  two_walks : (signs others : List Sign) (nodes : List (ℕ × List ℕ)) (text : List ℕ) (here there : List (ℕ × List ℕ)) (rest left : List ℕ)
+      → ComesTo offer required champion signs nodes text here rest → ComesTo offer required champion others nodes text there left
       → ((here ≡ there) × (rest ≡ left)) ⊎ (CanGoOn here rest ⊎ CanGoOn there left)
   two_walks [] [] nodes text here there rest left one other = inl (sym one.0 ∙ other.0, sym one.1 ∙ other.1)
   two_walks [] (sign ∷ others) [] text here there rest left one other = absurd other
@@ -34,9 +35,11 @@ module _ (offer : Offer) (required : Option ℕ) (champion : List ℕ) where
   two_walks (sign ∷ signs) (also ∷ others) [] text here there rest left one other = absurd one
   two_walks (sign ∷ signs) (also ∷ others) (node ∷ nodes) text here there rest left one other =
       let same : sign ≡ also = one_sign offer required champion node.0 node.1 sign also one.0 other.0 in
-      let behind : one.1.0 ≡ other.1.0 = cancel (symbol also) one.1.0 other.1.0 (ap (λ s. symbol s ++ one.1.0) (sym same) ∙ sym one.1.1.spelled ∙ other.1.1.spelled) in
+      let behind : one.1.0 ≡ other.1.0 =
+      cancel (symbol also) one.1.0 other.1.0 (ap (λ s. symbol s ++ one.1.0) (sym same) ∙ sym one.1.1.spelled ∙ other.1.1.spelled) in
       two_walks signs others (below also node.0 node.1 ++ nodes) other.1.0 here there rest left
-      (subst (λ t. ComesTo offer required champion signs (below also node.0 node.1 ++ nodes) t here rest) behind (subst (λ s. ComesTo offer required champion signs (below s node.0 node.1 ++ nodes) one.1.0 here rest) same one.1.2))
+      (subst (λ t. ComesTo offer required champion signs (below also node.0 node.1 ++ nodes) t here rest) behind
+      (subst (λ s. ComesTo offer required champion signs (below s node.0 node.1 ++ nodes) one.1.0 here rest) same one.1.2))
       other.1.2
 
 -- the signs of canonical trees
@@ -71,7 +74,9 @@ module _ (offer : Offer) (champion : List ℕ) where
   -- what is wrong at a node
   abbrev Fault : TreeDefect → ℕ → List ℕ → List ℕ → Type 0
   Fault (Syntax at) k chosen rest = (read : Sign) → ¬ Reads rest read
-  Fault (NotClosed at) k chosen rest = (((read : Sign) × Reads rest read) × HasNoSign offer None (places_of offer.menu champion) k chosen) ⊎ Differs offer champion (λ read canonical. IsLeaf read × (¬ IsLeaf canonical)) k chosen rest
+  Fault (NotClosed at) k chosen rest =
+      (((read : Sign) × Reads rest read) × HasNoSign offer None (places_of offer.menu champion) k chosen)
+      ⊎ Differs offer champion (λ read canonical. IsLeaf read × (¬ IsLeaf canonical)) k chosen rest
   Fault (Redundant at) k chosen rest = Differs offer champion (λ read canonical. (¬ IsLeaf read) × IsLeaf canonical) k chosen rest
   Fault (WrongLeaf at) k chosen rest = Differs offer champion (λ read canonical. IsLeaf read × IsLeaf canonical) k chosen rest
   Fault (WrongBranch at) k chosen rest = Differs offer champion (λ read canonical. (¬ IsLeaf read) × (¬ IsLeaf canonical)) k chosen rest
@@ -87,14 +92,16 @@ module _ (offer : Offer) (champion : List ℕ) where
   FaultAt defect (node ∷ nodes) rest = Fault defect node.0 node.1 rest
 
   -- where another symbol stands than that of the canonical sign, the walk can't go on
-  differs_stuck : (are : Sign → Sign → Type 0) (k : ℕ) (chosen rest : List ℕ) (nodes : List (ℕ × List ℕ)) → Differs offer champion are k chosen rest → ¬ CanGoOn offer None (places_of offer.menu champion) ((k, chosen) ∷ nodes) rest
+  differs_stuck : (are : Sign → Sign → Type 0) (k : ℕ) (chosen rest : List ℕ) (nodes : List (ℕ × List ℕ)) → Differs offer champion are k chosen rest
+      → ¬ CanGoOn offer None (places_of offer.menu champion) ((k, chosen) ∷ nodes) rest
   differs_stuck are k chosen rest nodes differs goes =
       let same : goes.0 ≡ differs.2.0 = one_sign offer None (places_of offer.menu champion) k chosen goes.0 differs.2.0 goes.1 differs.2.1 in
       let read : differs.0 ≡ goes.0 = one_symbol differs.0 goes.0 rest differs.1.1.0 goes.2.0 differs.1.1.1 goes.2.1 in
       differs.2.2 (read ∙ same)
 
   -- nor where a defect is
-  stuck : (defect : TreeDefect) (nodes : List (ℕ × List ℕ)) (rest : List ℕ) → FaultAt defect nodes rest → ¬ CanGoOn offer None (places_of offer.menu champion) nodes rest
+  stuck : (defect : TreeDefect) (nodes : List (ℕ × List ℕ)) (rest : List ℕ) → FaultAt defect nodes rest
+      → ¬ CanGoOn offer None (places_of offer.menu champion) nodes rest
   stuck defect [] rest wrong goes = goes
   stuck (Syntax at) ((k, chosen) ∷ nodes) rest wrong goes = wrong goes.0 (canonical_sign offer (places_of offer.menu champion) k chosen goes.0 goes.1, goes.2)
   stuck (NotClosed at) ((k, chosen) ∷ nodes) rest (inl without) goes = no_sign offer None (places_of offer.menu champion) k chosen nodes goes.0 without.1 goes.1
@@ -105,7 +112,8 @@ module _ (offer : Offer) (champion : List ℕ) where
   stuck (Rest at) ((k, chosen) ∷ nodes) rest wrong goes = wrong
 
   -- at one node one symbol is read, and one sign is canonical
-  both : (are also : Sign → Sign → Type 0) (k : ℕ) (chosen rest : List ℕ) → Differs offer champion are k chosen rest → Differs offer champion also k chosen rest → (read : Sign) × ((canonical : Sign) × are read canonical × also read canonical)
+  both : (are also : Sign → Sign → Type 0) (k : ℕ) (chosen rest : List ℕ) → Differs offer champion are k chosen rest → Differs offer champion also k chosen rest
+      → (read : Sign) × ((canonical : Sign) × are read canonical × also read canonical)
   both are also k chosen rest one other =
       let read : other.0 ≡ one.0 = one_symbol other.0 one.0 rest other.1.1.0 one.1.1.0 other.1.1.1 one.1.1.1 in
       let canonical : other.2.0 ≡ one.2.0 = one_sign offer None (places_of offer.menu champion) k chosen other.2.0 one.2.0 other.2.1 one.2.1 in
@@ -118,9 +126,12 @@ module _ (offer : Offer) (champion : List ℕ) where
   not_two (Syntax at) (Redundant place) k chosen rest less none other = none other.0 other.1
   not_two (Syntax at) (WrongLeaf place) k chosen rest less none other = none other.0 other.1
   not_two (Syntax at) (WrongBranch place) k chosen rest less none other = none other.0 other.1
-  not_two (NotClosed at) (Redundant place) k chosen rest less (inl without) other = no_sign offer None (places_of offer.menu champion) k chosen [] other.2.0 without.1 other.2.1
-  not_two (NotClosed at) (WrongLeaf place) k chosen rest less (inl without) other = no_sign offer None (places_of offer.menu champion) k chosen [] other.2.0 without.1 other.2.1
-  not_two (NotClosed at) (WrongBranch place) k chosen rest less (inl without) other = no_sign offer None (places_of offer.menu champion) k chosen [] other.2.0 without.1 other.2.1
+  not_two (NotClosed at) (Redundant place) k chosen rest less (inl without) other =
+      no_sign offer None (places_of offer.menu champion) k chosen [] other.2.0 without.1 other.2.1
+  not_two (NotClosed at) (WrongLeaf place) k chosen rest less (inl without) other =
+      no_sign offer None (places_of offer.menu champion) k chosen [] other.2.0 without.1 other.2.1
+  not_two (NotClosed at) (WrongBranch place) k chosen rest less (inl without) other =
+      no_sign offer None (places_of offer.menu champion) k chosen [] other.2.0 without.1 other.2.1
   not_two (NotClosed at) (Redundant place) k chosen rest less (inr one) other = let they = both _ _ k chosen rest one other in they.1.2.0 they.1.1.0
   not_two (NotClosed at) (WrongLeaf place) k chosen rest less (inr one) other = let they = both _ _ k chosen rest one other in they.1.1.1 they.1.2.1
   not_two (NotClosed at) (WrongBranch place) k chosen rest less (inr one) other = let they = both _ _ k chosen rest one other in they.1.2.0 they.1.1.0
@@ -153,20 +164,27 @@ record HasPlace (offer : Offer) (champion text : List ℕ) (defect : TreeDefect)
   wrong : FaultAt offer champion defect nodes rest
 
 has_place : (offer : Offer) (champion text : List ℕ) (defect : TreeDefect) → IsDefect offer champion text defect → HasPlace offer champion text defect
-has_place offer champion text (Syntax at) is = record { nodes = (is.0, is.1.0) ∷ is.1.1.0; rest = is.1.1.1.0; come = is.1.1.1.1; told = is.1.1.1.2; wrong = is.1.1.1.3 }
-has_place offer champion text (NotClosed at) is = record { nodes = (is.0, is.1.0) ∷ is.1.1.0; rest = is.1.1.1.0; come = is.1.1.1.1; told = is.1.1.1.2; wrong = is.1.1.1.3 }
-has_place offer champion text (Redundant at) is = record { nodes = (is.0, is.1.0) ∷ is.1.1.0; rest = is.1.1.1.0; come = is.1.1.1.1; told = is.1.1.1.2; wrong = is.1.1.1.3 }
-has_place offer champion text (WrongLeaf at) is = record { nodes = (is.0, is.1.0) ∷ is.1.1.0; rest = is.1.1.1.0; come = is.1.1.1.1; told = is.1.1.1.2; wrong = is.1.1.1.3 }
-has_place offer champion text (WrongBranch at) is = record { nodes = (is.0, is.1.0) ∷ is.1.1.0; rest = is.1.1.1.0; come = is.1.1.1.1; told = is.1.1.1.2; wrong = is.1.1.1.3 }
+has_place offer champion text (Syntax at) is =
+    record { nodes = (is.0, is.1.0) ∷ is.1.1.0; rest = is.1.1.1.0; come = is.1.1.1.1; told = is.1.1.1.2; wrong = is.1.1.1.3 }
+has_place offer champion text (NotClosed at) is =
+    record { nodes = (is.0, is.1.0) ∷ is.1.1.0; rest = is.1.1.1.0; come = is.1.1.1.1; told = is.1.1.1.2; wrong = is.1.1.1.3 }
+has_place offer champion text (Redundant at) is =
+    record { nodes = (is.0, is.1.0) ∷ is.1.1.0; rest = is.1.1.1.0; come = is.1.1.1.1; told = is.1.1.1.2; wrong = is.1.1.1.3 }
+has_place offer champion text (WrongLeaf at) is =
+    record { nodes = (is.0, is.1.0) ∷ is.1.1.0; rest = is.1.1.1.0; come = is.1.1.1.1; told = is.1.1.1.2; wrong = is.1.1.1.3 }
+has_place offer champion text (WrongBranch at) is =
+    record { nodes = (is.0, is.1.0) ∷ is.1.1.0; rest = is.1.1.1.0; come = is.1.1.1.1; told = is.1.1.1.2; wrong = is.1.1.1.3 }
 has_place offer champion text (Rest at) is = record { nodes = []; rest = is.0; come = is.1; told = is.3; wrong = is.2 }
 
-pub one_defect : (offer : Offer) (champion text : List ℕ) (one other : TreeDefect) → IsDefect offer champion text one → IsDefect offer champion text other → one ≡ other
+pub one_defect : (offer : Offer) (champion text : List ℕ) (one other : TreeDefect) → IsDefect offer champion text one → IsDefect offer champion text other
+    → one ≡ other
 one_defect offer champion text one other is so =
     let here = has_place offer champion text one is in
     let there = has_place offer champion text other so in
     elim (two_walks offer None (places_of offer.menu champion) here.come.0 there.come.0 ((0, []) ∷ []) text here.nodes there.nodes here.rest there.rest here.come.1 there.come.1) [
       | inl same ↦
-          let also : FaultAt offer champion other here.nodes here.rest = subst (λ ns. FaultAt offer champion other ns here.rest) (sym same.0) (subst (FaultAt offer champion other there.nodes) (sym same.1) there.wrong) in
+          let also : FaultAt offer champion other here.nodes here.rest =
+          subst (λ ns. FaultAt offer champion other ns here.rest) (sym same.0) (subst (FaultAt offer champion other there.nodes) (sym same.1) there.wrong) in
           one_kind one other (same_kind offer champion one other here.nodes here.rest here.wrong also) (here.told ∙ ap (offset text) same.1 ∙ sym there.told)
       | inr goes ↦ elim goes [
         | inl first ↦ absurd (stuck offer champion one here.nodes here.rest here.wrong first)

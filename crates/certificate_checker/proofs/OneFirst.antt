@@ -73,7 +73,8 @@ rank fault.Infeasible = 2
 rank fault.Taken = 3
 rank (fault.Tree defect) = 4
 
-not_two_faults : (terms : TermsData) (p : Publication) (turn : ℕ) (one other : TurnFault) → rank one < rank other → HasTurnFault terms p turn one → ¬ HasTurnFault terms p turn other
+not_two_faults : (terms : TermsData) (p : Publication) (turn : ℕ) (one other : TurnFault) → rank one < rank other → HasTurnFault terms p turn one
+    → ¬ HasTurnFault terms p turn other
 not_two_faults terms p turn fault.Order fault.Unaffordable less wrong also = wrong also.0
 not_two_faults terms p turn fault.Order fault.Infeasible less wrong also = wrong also.0
 not_two_faults terms p turn fault.Order fault.Taken less wrong also = wrong also.0
@@ -91,7 +92,8 @@ not_two_faults terms p turn (fault.Tree defect) fault.Taken less wrong also = ab
 not_two_faults terms p turn (fault.Tree defect) (fault.Tree also_defect) less wrong also = absurd (omega (arith, less))
 not_two_faults terms p turn one other less wrong also = absurd (omega (arith, less))
 
-same_fault : (terms : TermsData) (p : Publication) (turn : ℕ) (one other : TurnFault) → rank one ≡ rank other → HasTurnFault terms p turn one → HasTurnFault terms p turn other → one ≡ other
+same_fault : (terms : TermsData) (p : Publication) (turn : ℕ) (one other : TurnFault) → rank one ≡ rank other → HasTurnFault terms p turn one
+    → HasTurnFault terms p turn other → one ≡ other
 same_fault terms p turn fault.Order fault.Order same wrong also = refl
 same_fault terms p turn fault.Unaffordable fault.Unaffordable same wrong also = refl
 same_fault terms p turn fault.Infeasible fault.Infeasible same wrong also = refl
@@ -101,7 +103,8 @@ same_fault terms p turn (fault.Tree defect) (fault.Tree also_defect) same wrong 
 same_fault terms p turn one other same wrong also = absurd (omega (arith, same))
 
 -- a turn has one fault
-one_fault : (terms : TermsData) (p : Publication) (turn : ℕ) (one other : TurnFault) → HasTurnFault terms p turn one → HasTurnFault terms p turn other → one ≡ other
+one_fault : (terms : TermsData) (p : Publication) (turn : ℕ) (one other : TurnFault) → HasTurnFault terms p turn one → HasTurnFault terms p turn other
+    → one ≡ other
 one_fault terms p turn one other wrong also = elim (cases_lt (rank one) (rank other)) [
   | inl less ↦ absurd (not_two_faults terms p turn one other less wrong also)
   | inr more ↦ elim (cases_lt (rank other) (rank one)) [
@@ -166,13 +169,16 @@ module _ (terms : TermsData) (p : Publication) (menus : (k : ℕ) → IsMenu (st
   abbrev Wrong : Finding → ℕ → Type 0
   Wrong (Unaffordable student) k = ¬ IsAffordable (offer_in terms.crowd p k) (proved_in p k).bundle
   Wrong (Infeasible student) k = IsAffordable (offer_in terms.crowd p k) (proved_in p k).bundle × (¬ MayTake (offer_in terms.crowd p k) (proved_in p k).bundle)
-  Wrong (Tree student defect) k = IsAffordable (offer_in terms.crowd p k) (proved_in p k).bundle × MayTake (offer_in terms.crowd p k) (proved_in p k).bundle × IsDefect (offer_in terms.crowd p k) (proved_in p k).bundle (proved_in p k).tree defect
+  Wrong (Tree student defect) k =
+      IsAffordable (offer_in terms.crowd p k) (proved_in p k).bundle × MayTake (offer_in terms.crowd p k) (proved_in p k).bundle
+      × IsDefect (offer_in terms.crowd p k) (proved_in p k).bundle (proved_in p k).tree defect
   Wrong finding k = ⊥
 
   not_proved : (finding : Finding) (k : ℕ) → Wrong finding k → ¬ IsProvedBundle terms.crowd p k
   not_proved (Unaffordable student) k wrong right = wrong right.affordable
   not_proved (Infeasible student) k wrong right = wrong.1 right.feasible
-  not_proved (Tree student defect) k wrong right = no_defect_in_a_tree (offer_in terms.crowd p k) (proved_in p k).bundle (proved_in p k).tree defect (menus k) right.proved wrong.2
+  not_proved (Tree student defect) k wrong right =
+      no_defect_in_a_tree (offer_in terms.crowd p k) (proved_in p k).bundle (proved_in p k).tree defect (menus k) right.proved wrong.2
   not_proved finding k wrong right = wrong
 
   -- the student of such a finding
@@ -206,7 +212,8 @@ module _ (terms : TermsData) (p : Publication) (menus : (k : ℕ) → IsMenu (st
   same_wrong one other k e wrong so = absurd wrong
 
   -- the first bundle that is wrong has one finding
-  one_bundle : (one other : Finding) → IsFirstStudent terms.crowd p (number one) → Wrong one (number one) → IsFirstStudent terms.crowd p (number other) → Wrong other (number other) → one ≡ other
+  one_bundle : (one other : Finding) → IsFirstStudent terms.crowd p (number one) → Wrong one (number one) → IsFirstStudent terms.crowd p (number other)
+      → Wrong other (number other) → one ≡ other
   one_bundle one other first wrong second so =
       let same : number one ≡ number other = one_place (length terms.crowd.students) (IsProvedBundle terms.crowd p) (number one) (number other)
       (record { within = first.within; before = first.before; fails = not_proved one (number one) wrong })
@@ -223,7 +230,8 @@ module _ (terms : TermsData) (p : Publication) (menus : (k : ℕ) → IsMenu (st
   -- the first turn that is wrong has one finding
   one_turn : (turn also : ℕ) (what other : TurnFault) → IsFirstTurn terms p turn what → IsFirstTurn terms p also other → Turn turn what ≡ Turn also other
   one_turn turn also what other first second =
-      let same : first.place ≡ second.place = one_place (length p.turns) (IsRightTurn terms p) first.place second.place (turn_fails turn what first) (turn_fails also other second) in
+      let same : first.place ≡ second.place =
+      one_place (length p.turns) (IsRightTurn terms p) first.place second.place (turn_fails turn what first) (turn_fails also other second) in
       let count : turn ≡ also = first.number ∙ ap (λ n. n + 1) same ∙ sym second.number in
       let wrong : what ≡ other = one_fault terms p first.place what other first.wrong (subst (λ k. HasTurnFault terms p k other) (sym same) second.wrong) in
       λ i. Turn (count i) (wrong i)
@@ -253,15 +261,24 @@ module _ (terms : TermsData) (p : Publication) (menus : (k : ℕ) → IsMenu (st
   in_one_part one (Journal at) same first second = absurd second
   in_one_part (Budget student) (Budget also) same first second =
       ap (λ s. Budget s) (same_student student also (one_place (length terms.crowd.students) (HasBudget terms.crowd p) student.0 also.0 first second))
-  in_one_part (Unaffordable student) (Unaffordable also) same first second = one_bundle (Unaffordable student) (Unaffordable also) first.0 first.1 second.0 second.1
-  in_one_part (Unaffordable student) (Infeasible also) same first second = one_bundle (Unaffordable student) (Infeasible also) first.0 first.1 second.0 (second.1, second.2)
-  in_one_part (Unaffordable student) (Tree also defect) same first second = one_bundle (Unaffordable student) (Tree also defect) first.0 first.1 second.0 (second.1, second.2, second.3)
-  in_one_part (Infeasible student) (Unaffordable also) same first second = one_bundle (Infeasible student) (Unaffordable also) first.0 (first.1, first.2) second.0 second.1
-  in_one_part (Infeasible student) (Infeasible also) same first second = one_bundle (Infeasible student) (Infeasible also) first.0 (first.1, first.2) second.0 (second.1, second.2)
-  in_one_part (Infeasible student) (Tree also defect) same first second = one_bundle (Infeasible student) (Tree also defect) first.0 (first.1, first.2) second.0 (second.1, second.2, second.3)
-  in_one_part (Tree student what) (Unaffordable also) same first second = one_bundle (Tree student what) (Unaffordable also) first.0 (first.1, first.2, first.3) second.0 second.1
-  in_one_part (Tree student what) (Infeasible also) same first second = one_bundle (Tree student what) (Infeasible also) first.0 (first.1, first.2, first.3) second.0 (second.1, second.2)
-  in_one_part (Tree student what) (Tree also defect) same first second = one_bundle (Tree student what) (Tree also defect) first.0 (first.1, first.2, first.3) second.0 (second.1, second.2, second.3)
+  in_one_part (Unaffordable student) (Unaffordable also) same first second =
+      one_bundle (Unaffordable student) (Unaffordable also) first.0 first.1 second.0 second.1
+  in_one_part (Unaffordable student) (Infeasible also) same first second =
+      one_bundle (Unaffordable student) (Infeasible also) first.0 first.1 second.0 (second.1, second.2)
+  in_one_part (Unaffordable student) (Tree also defect) same first second =
+      one_bundle (Unaffordable student) (Tree also defect) first.0 first.1 second.0 (second.1, second.2, second.3)
+  in_one_part (Infeasible student) (Unaffordable also) same first second =
+      one_bundle (Infeasible student) (Unaffordable also) first.0 (first.1, first.2) second.0 second.1
+  in_one_part (Infeasible student) (Infeasible also) same first second =
+      one_bundle (Infeasible student) (Infeasible also) first.0 (first.1, first.2) second.0 (second.1, second.2)
+  in_one_part (Infeasible student) (Tree also defect) same first second =
+      one_bundle (Infeasible student) (Tree also defect) first.0 (first.1, first.2) second.0 (second.1, second.2, second.3)
+  in_one_part (Tree student what) (Unaffordable also) same first second =
+      one_bundle (Tree student what) (Unaffordable also) first.0 (first.1, first.2, first.3) second.0 second.1
+  in_one_part (Tree student what) (Infeasible also) same first second =
+      one_bundle (Tree student what) (Infeasible also) first.0 (first.1, first.2, first.3) second.0 (second.1, second.2)
+  in_one_part (Tree student what) (Tree also defect) same first second =
+      one_bundle (Tree student what) (Tree also defect) first.0 (first.1, first.2, first.3) second.0 (second.1, second.2, second.3)
   in_one_part (Seats section used seats) (Seats also more free) same first second =
       let at : section.0 ≡ also.0 = one_place terms.crowd.sections (IsWithinSeats terms.seats p) section.0 also.0 first.0 second.0 in
       let which = same_section section also at in
@@ -272,7 +289,8 @@ module _ (terms : TermsData) (p : Publication) (menus : (k : ℕ) → IsMenu (st
   in_one_part (NotQuiet turns) (NotQuiet also) same first second = ap (λ n. NotQuiet n) (first.0 ∙ sym second.0)
   in_one_part (Allocation student) (Allocation also) same first second =
       ap (λ s. Allocation s) (same_student student also (one_place (length terms.crowd.students) (IsAllocated p) student.0 also.0 first second))
-  in_one_part (Used section) (Used also) same first second = ap (λ s. Used s) (same_section section also (one_place terms.crowd.sections (IsUseTold terms.seats p) section.0 also.0 first second))
+  in_one_part (Used section) (Used also) same first second =
+      ap (λ s. Used s) (same_section section also (one_place terms.crowd.sections (IsUseTold terms.seats p) section.0 also.0 first second))
   in_one_part one other same first second = absurd (omega (arith, same))
 
   -- two first findings by these terms are one
@@ -289,13 +307,16 @@ module _ (terms : TermsData) (p : Publication) (menus : (k : ℕ) → IsMenu (st
 abbrev IsByCrowd : Market → List (List Command) → Publication → Finding → Type 0
 IsByCrowd market streams p finding = (crowd : CrowdData) × IsCrowdAfter market streams p.order crowd × IsFirstIn (terms_in market crowd) p finding
 
-one_by_crowd : (market : Market) (streams : List (List Command)) (p : Publication) (one other : Finding) → IsByCrowd market streams p one → IsByCrowd market streams p other → one ≡ other
+one_by_crowd : (market : Market) (streams : List (List Command)) (p : Publication) (one other : Finding) → IsByCrowd market streams p one
+    → IsByCrowd market streams p other → one ≡ other
 one_by_crowd market streams p one other first second =
     let same : second.0 ≡ first.0 = one_crowd_after market streams p.order second.0 first.0 second.1 first.1 in
-    one_in (terms_in market first.0) p (λ k. menu_sound market streams p.order first.0 k first.1) one other first.2 (subst (λ crowd. IsFirstIn (terms_in market crowd) p other) same second.2)
+    one_in (terms_in market first.0) p (λ k. menu_sound market streams p.order first.0 k first.1) one other first.2
+    (subst (λ crowd. IsFirstIn (terms_in market crowd) p other) same second.2)
 
 -- whether a finding is on the order, or by the crowd after it
-is_by_crowd : (market : Market) (streams : List (List Command)) (p : Publication) (finding : Finding) → IsFirstOf market streams p finding → ((at : ℕ) × (finding ≡ Journal at) × FailsToMerge streams p.order at) ⊎ IsByCrowd market streams p finding
+is_by_crowd : (market : Market) (streams : List (List Command)) (p : Publication) (finding : Finding) → IsFirstOf market streams p finding
+    → ((at : ℕ) × (finding ≡ Journal at) × FailsToMerge streams p.order at) ⊎ IsByCrowd market streams p finding
 is_by_crowd market streams p (Text line kind) is = absurd is
 is_by_crowd market streams p (Journal at) is = inl (at, refl, is)
 is_by_crowd market streams p (Budget student) is = inr is
@@ -309,7 +330,8 @@ is_by_crowd market streams p (Allocation student) is = inr is
 is_by_crowd market streams p (Used section) is = inr is
 
 -- two first findings on a publication are one
-one_of : (market : Market) (streams : List (List Command)) (p : Publication) (one other : Finding) → IsFirstOf market streams p one → IsFirstOf market streams p other → one ≡ other
+one_of : (market : Market) (streams : List (List Command)) (p : Publication) (one other : Finding) → IsFirstOf market streams p one
+    → IsFirstOf market streams p other → one ≡ other
 one_of market streams p one other first second = elim (is_by_crowd market streams p one first) [
   | inl order ↦ elim (is_by_crowd market streams p other second) [
     | inl also ↦ order.1 ∙ ap (λ n. Journal n) (one_merge streams p.order order.0 also.0 order.2 also.2) ∙ sym also.1
@@ -325,17 +347,21 @@ one_of market streams p one other first second = elim (is_by_crowd market stream
 abbrev IsOnPublication : Market → List (List Command) → List ℕ → Finding → Type 0
 IsOnPublication market streams text finding = (p : Publication) × IsTextOf market p text × IsFirstOf market streams p finding
 
-one_on_publication : (market : Market) (streams : List (List Command)) (text : List ℕ) (one other : Finding) → AreTables (tables_in market) → IsOnPublication market streams text one → IsOnPublication market streams text other → one ≡ other
+one_on_publication : (market : Market) (streams : List (List Command)) (text : List ℕ) (one other : Finding) → AreTables (tables_in market)
+    → IsOnPublication market streams text one → IsOnPublication market streams text other → one ≡ other
 one_on_publication market streams text one other are first second =
-    let same : second.0 ≡ first.0 = one_publication (tables_in market) are second.0 first.0 second.1.is_publication first.1.is_publication (sym second.1.written ∙ first.1.written) in
+    let same : second.0 ≡ first.0 =
+    one_publication (tables_in market) are second.0 first.0 second.1.is_publication first.1.is_publication (sym second.1.written ∙ first.1.written) in
     one_of market streams first.0 one other first.2 (subst (λ (p : Publication). IsFirstOf market streams p other) same second.2)
 
-published : (market : Market) (streams : List (List Command)) (text : List ℕ) (finding : Finding) → IsOnPublication market streams text finding → IsPublished (tables_in market) text
+published : (market : Market) (streams : List (List Command)) (text : List ℕ) (finding : Finding) → IsOnPublication market streams text finding
+    → IsPublished (tables_in market) text
 published market streams text finding is = (is.0, is.1.is_publication, is.1.written)
 
 -- a finding other than a defect of the text is on a publication
 is_defect_or : (market : Market) (streams : List (List Command)) (text : List ℕ) (finding : Finding) → IsFirstFinding market streams text finding
-    → ((line : ℕ) × ((kind : LineFault) × (finding ≡ Text line kind) × Finds (ArePublished (tables_in market)) 1 text line kind)) ⊎ IsOnPublication market streams text finding
+    → ((line : ℕ) × ((kind : LineFault) × (finding ≡ Text line kind) × Finds (ArePublished (tables_in market)) 1 text line kind))
+    ⊎ IsOnPublication market streams text finding
 is_defect_or market streams text (Text line kind) is = inl (line, (kind, refl, is))
 is_defect_or market streams text (Journal at) is = inr is
 is_defect_or market streams text (Budget student) is = inr is

@@ -22,12 +22,16 @@ next_lacks [] more line free = free.0
 next_lacks (x ∷ front) more line free = next_lacks front more line free.1
 
 -- of two rows of lines in front of one text, one begins the other
-split_rows : (front other : List (List ℕ)) (tail rest : List ℕ) → AllByRecursion (Lacks 10) front → AllByRecursion (Lacks 10) other → joined front ++ tail ≡ joined other ++ rest
-    → ((more : List (List ℕ)) × (other ≡ front ++ more) × (tail ≡ joined more ++ rest)) ⊎ ((more : List (List ℕ)) × (front ≡ other ++ more) × (rest ≡ joined more ++ tail))
+split_rows : (front other : List (List ℕ)) (tail rest : List ℕ) → AllByRecursion (Lacks 10) front → AllByRecursion (Lacks 10) other
+    → joined front ++ tail ≡ joined other ++ rest
+    → ((more : List (List ℕ)) × (other ≡ front ++ more) × (tail ≡ joined more ++ rest))
+    ⊎ ((more : List (List ℕ)) × (front ≡ other ++ more) × (rest ≡ joined more ++ tail))
 split_rows [] other tail rest free free' e = inl (other, refl, e)
 split_rows (x ∷ front) [] tail rest free free' e = inr (x ∷ front, refl, sym e)
 split_rows (x ∷ front) (y ∷ other) tail rest free free' e =
-    let cut = cut_once 10 x y (joined front ++ tail) (joined other ++ rest) free.0 free'.0 (sym (append_assoc x (10 ∷ joined front) tail) ∙ e ∙ append_assoc y (10 ∷ joined other) rest) in
+    let cut =
+    cut_once 10 x y (joined front ++ tail) (joined other ++ rest) free.0 free'.0
+    (sym (append_assoc x (10 ∷ joined front) tail) ∙ e ∙ append_assoc y (10 ∷ joined other) rest) in
     elim (split_rows front other tail rest free.1 free'.1 cut.1) [
       | inl longer ↦ inl (longer.0, ap (λ l. l ∷ other) (sym cut.0) ∙ ap (λ ls. x ∷ ls) longer.1, longer.2)
       | inr shorter ↦ inr (shorter.0, ap (λ l. l ∷ front) cut.0 ∙ ap (λ ls. y ∷ ls) shorter.1, shorter.2)
@@ -62,7 +66,8 @@ module _ (tables : Tables) (are : AreTables tables) where
   lacks_of front begins = front_lacks front begins.0 (subst (AllByRecursion (Lacks 10)) (sym begins.1.2) (lines_lack tables are begins.1.0 begins.1.1))
 
   -- where reading stops, no text goes on with the next line
-  not_longer : (front more : List (List ℕ)) (line tail rest : List ℕ) (fault : LineFault) → Stops Is front tail fault → tail ≡ joined (line ∷ more) ++ rest → ¬ Begins Is (front ++ line ∷ more)
+  not_longer : (front more : List (List ℕ)) (line tail rest : List ℕ) (fault : LineFault) → Stops Is front tail fault → tail ≡ joined (line ∷ more) ++ rest
+      → ¬ Begins Is (front ++ line ∷ more)
   not_longer front more line tail rest faults.Missing stop e begins =
       lacks_not 10 line (joined more ++ rest) (subst (Lacks 10) (e ∙ append_assoc line (10 ∷ joined more) rest) stop.1)
   not_longer front more line tail rest faults.Form stop e begins =
@@ -71,7 +76,8 @@ module _ (tables : Tables) (are : AreTables tables) where
       let cut = cut_once 10 out.line line out.rest (joined more ++ rest) out.whole free (sym out.next ∙ e ∙ append_assoc line (10 ∷ joined more) rest) in
       let next : Is ((front ++ line ∷ []) ++ (more ++ begins.0)) = subst Is (regrouped front more begins.0 line) begins.1 in
       out.form (more ++ begins.0, subst (λ (l : List ℕ). Is ((front ++ l ∷ []) ++ (more ++ begins.0))) (sym cut.0) next)
-  not_longer front more line tail rest faults.Rest stop e begins = alone front (more ++ begins.0) line stop.0 (subst Is (append_assoc front (line ∷ more) begins.0) begins.1)
+  not_longer front more line tail rest faults.Rest stop e begins =
+      alone front (more ++ begins.0) line stop.0 (subst Is (append_assoc front (line ∷ more) begins.0) begins.1)
 
   -- behind the same lines one fault stops it
   one_fault : (front : List (List ℕ)) (tail : List ℕ) (one other : LineFault) → Stops Is front tail one → Stops Is front tail other → one ≡ other
@@ -86,11 +92,14 @@ module _ (tables : Tables) (are : AreTables tables) where
   one_fault front tail faults.Rest faults.Rest first second = refl
 
   -- where one front begins the other, they are one
-  one_stop : (front other more : List (List ℕ)) (tail rest : List ℕ) (fault what : LineFault) → Stops Is front tail fault → Stops Is other rest what → other ≡ front ++ more → tail ≡ joined more ++ rest
+  one_stop : (front other more : List (List ℕ)) (tail rest : List ℕ) (fault what : LineFault) → Stops Is front tail fault → Stops Is other rest what
+      → other ≡ front ++ more → tail ≡ joined more ++ rest
       → (length front ≡ length other) × (fault ≡ what)
   one_stop front other [] tail rest fault what first second longer e =
-      let same : other ≡ front = longer ∙ append-nil front in
-      (ap (λ (ls : List (List ℕ)). length ls) (sym same), one_fault front tail fault what first (subst (λ t. Stops Is front t what) (sym e) (subst (λ ls. Stops Is ls rest what) same second)))
+      let same : other ≡ front = longer ∙ append-nil front in (
+        ap (λ (ls : List (List ℕ)). length ls) (sym same),
+        one_fault front tail fault what first (subst (λ t. Stops Is front t what) (sym e) (subst (λ ls. Stops Is ls rest what) same second)),
+      )
   one_stop front other (line ∷ more) tail rest fault what first second longer e =
       absurd (not_longer front more line tail rest fault first e (subst (Begins Is) longer (begins_of other rest what second)))
 

@@ -33,7 +33,8 @@ progress_start students p = record {
 }
 
 -- what is whole after one turn more and was not so before ends with this turn
-whole_before : (pass students place other turns : ℕ) → turns ≡ pass * students + place → place + 1 < students → (other + 1) * students ≤ turns + 1 → (other + 1) * students ≤ turns
+whole_before : (pass students place other turns : ℕ) → turns ≡ pass * students + place → place + 1 < students → (other + 1) * students ≤ turns + 1
+    → (other + 1) * students ≤ turns
 whole_before pass students place other turns number inside whole =
     elim (cases_lt other pass) [
       | inl low ↦
@@ -51,7 +52,8 @@ moved_by true b e h = absurd (false≢true (sym e))
 moved_by false b e h = h
 
 -- a turn within a pass
-pub progress_within : (students : ℕ) (p : Publication) (turns : ℕ) (progress : Progress) (moved : Bool) → IsProgress students p turns progress → progress.over ≡ false → progress.place + 1 < students → MadeChange p turns moved
+pub progress_within : (students : ℕ) (p : Publication) (turns : ℕ) (progress : Progress) (moved : Bool) → IsProgress students p turns progress
+    → progress.over ≡ false → progress.place + 1 < students → MadeChange p turns moved
     → IsProgress students p (turns + 1) (progress_at progress.pass (progress.place + 1) (progress.changed || moved) false)
 progress_within students p turns progress moved is goes inside made = record {
   number = let number = is.number in omega arith;
@@ -76,7 +78,8 @@ progress_within students p turns progress moved is goes inside made = record {
 }
 
 -- the last turn of a pass
-pub progress_last : (students : ℕ) (p : Publication) (turns : ℕ) (progress : Progress) (moved over : Bool) → IsProgress students p turns progress → progress.over ≡ false → progress.place + 1 ≡ students → MadeChange p turns moved
+pub progress_last : (students : ℕ) (p : Publication) (turns : ℕ) (progress : Progress) (moved over : Bool) → IsProgress students p turns progress
+    → progress.over ≡ false → progress.place + 1 ≡ students → MadeChange p turns moved
     → (over ≡ true → (progress.changed || moved) ≡ false) → (over ≡ false → (progress.changed || moved) ≡ true)
     → IsProgress students p (turns + 1) (progress_at (progress.pass + 1) 0 false over)
 progress_last students p turns progress moved over is goes last made ended goes_more = record {

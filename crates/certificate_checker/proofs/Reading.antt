@@ -83,36 +83,50 @@ lengths terms publication is = record {
 }
 
 -- the student of a number has the menu and the budget at that place
-pub student_at : (menus : List MenuData) (budgets : List Tokens) (k : ℕ) (d : Student) (m : MenuData) (b : Tokens) → length budgets ≡ length menus → k < length menus
+pub student_at : (menus : List MenuData) (budgets : List Tokens) (k : ℕ) (d : Student) (m : MenuData) (b : Tokens) → length budgets ≡ length menus
+    → k < length menus
     → get_or (students_of menus budgets) k d ≡ record { menu = get_or menus k m; budget = (get_or budgets k b).0 }
 student_at [] budgets k d m b same low = absurd (omega arith)
 student_at (x ∷ xs) [] k d m b same low = absurd (omega arith)
 student_at (x ∷ xs) (y ∷ ys) zero d m b same low = refl
 student_at (x ∷ xs) (y ∷ ys) (suc k) d m b same low = student_at xs ys k d m b (omega arith) (omega arith)
 
-pub student_is : (menus : List MenuData) (budgets : List Tokens) (sections k : ℕ) (m : MenuData) (b : Tokens) → length budgets ≡ length menus → k < length menus → m ≡ get_or menus k m → b ≡ get_or budgets k b
+pub student_is : (menus : List MenuData) (budgets : List Tokens) (sections k : ℕ) (m : MenuData) (b : Tokens) → length budgets ≡ length menus → k < length menus
+    → m ≡ get_or menus k m → b ≡ get_or budgets k b
     → student_in (crowd_of menus budgets sections) k ≡ record { menu = m; budget = b.0 }
 student_is menus budgets sections k m b same low first second =
     student_at menus budgets k _ m b same low ∙ (λ i. record { menu = sym first i; budget = (sym second i).0 })
 
 -- the budget that a student draws, and the one that is printed
-pub drawn_is : (menus : List MenuData) (budgets : List Tokens) (sections k : ℕ) (b : Tokens) → length budgets ≡ length menus → k < length menus → b ≡ get_or budgets k b → (student_in (crowd_of menus budgets sections) k).budget ≡ b.0
+pub drawn_is : (menus : List MenuData) (budgets : List Tokens) (sections k : ℕ) (b : Tokens) → length budgets ≡ length menus → k < length menus
+    → b ≡ get_or budgets k b → (student_in (crowd_of menus budgets sections) k).budget ≡ b.0
 drawn_is [] budgets sections k b same low is = absurd (omega arith)
-drawn_is (m ∷ menus) budgets sections k b same low is = ap (λ (s : Student). s.budget) (student_at (m ∷ menus) budgets k _ m b same low) ∙ ap (λ (t : Tokens). t.0) (sym is)
+drawn_is (m ∷ menus) budgets sections k b same low is =
+    ap (λ (s : Student). s.budget) (student_at (m ∷ menus) budgets k _ m b same low) ∙ ap (λ (t : Tokens). t.0) (sym is)
 
 pub printed_is : (tokens : List Tokens) (k : ℕ) (b : Tokens) → k < length tokens → b ≡ get_or tokens k b → get_or (map (λ (t : Tokens). t.0) tokens) k 0 ≡ b.0
 printed_is tokens k b low is = get_or-map (λ (t : Tokens). t.0) tokens k b 0 low ∙ ap (λ (t : Tokens). t.0) (sym is)
 
 -- the bundle and the tree that are printed for a student
-pub proved_is : (publication : declared.Publication) (k : ℕ) (item : declared_proved.Proved) → k < length publication.bundles.items → item ≡ get_or publication.bundles.items k item → proved_in (publication_of publication) k ≡ proved_of item
+pub proved_is : (publication : declared.Publication) (k : ℕ) (item : declared_proved.Proved) → k < length publication.bundles.items
+    → item ≡ get_or publication.bundles.items k item → proved_in (publication_of publication) k ≡ proved_of item
 proved_is publication k item low is = get_or-map proved_of publication.bundles.items k item _ low ∙ ap proved_of (sym is)
 
 -- what is offered in stage two
-pub offer_is : (menus : List MenuData) (budgets : List Tokens) (sections k : ℕ) (publication : declared.Publication) (m : MenuData) (b : Tokens) (all : set.FinSet nat_cmp) → length budgets ≡ length menus → k < length menus → m ≡ get_or menus k m → b ≡ get_or budgets k b
-    → ((s : ℕ) → set.contains all s ≡ nat_lt s sections) → offer_in (crowd_of menus budgets sections) (publication_of publication) k ≡ offer_of m publication.prices.items b.0 all
+pub offer_is : (menus : List MenuData) (budgets : List Tokens) (sections k : ℕ) (publication : declared.Publication) (m : MenuData) (b : Tokens)
+    (all : set.FinSet nat_cmp)
+    → length budgets ≡ length menus → k < length menus → m ≡ get_or menus k m → b ≡ get_or budgets k b
+    → ((s : ℕ) → set.contains all s ≡ nat_lt s sections)
+    → offer_in (crowd_of menus budgets sections) (publication_of publication) k ≡ offer_of m publication.prices.items b.0 all
 offer_is menus budgets sections k publication m b all same low first second told =
     let student = student_is menus budgets sections k m b same low first second in
-    λ i. record { menu = (student i).menu; price = slice_index (map (λ (t : Tokens). t.0) publication.prices.items); budget = (student i).budget; allowed = λ s. sym (told s) i }
+    λ i. record {
+      menu = (student i).menu;
+      price = slice_index (map (λ (t : Tokens). t.0) publication.prices.items);
+      budget = (student i).budget;
+      allowed = λ s. sym
+          (told s) i;
+    }
 
 -- what is so of all items of a list is so of what the list has
 pub so_of_has : (P : ℕ → Type 0) (bundle : List ℕ) → All P bundle → (s : ℕ) → has bundle s ≡ true → P s
@@ -123,10 +137,13 @@ so_of_has P (x ∷ xs) all s is = elim (has-cases x xs s is) [
 ]
 
 -- the sections of a bundle of stage two are the catalogue's
-pub stage_two_below : (terms : Terms) (publication : declared.Publication) (k : ℕ) (item : declared_proved.Proved) → CanCheck terms (publication_of publication) → k < length publication.bundles.items → item ≡ get_or publication.bundles.items k item
+pub stage_two_below : (terms : Terms) (publication : declared.Publication) (k : ℕ) (item : declared_proved.Proved) → CanCheck terms (publication_of publication)
+    → k < length publication.bundles.items → item ≡ get_or publication.bundles.items k item
     → All (λ s. s < terms.crowd.sections) (sections_of item.bundle)
 stage_two_below terms publication k item is low read =
-    let proved : IsProved is.tables.sections (get_or (map proved_of publication.bundles.items) k (proved_of item)) = is.is_publication.bundles.each k (proved_of item) (let long = length_map proved_of publication.bundles.items in omega arith) in
-    let same : get_or (map proved_of publication.bundles.items) k (proved_of item) ≡ proved_of item = get_or-map proved_of publication.bundles.items k item (proved_of item) low ∙ ap proved_of (sym read) in
+    let proved : IsProved is.tables.sections (get_or (map proved_of publication.bundles.items) k (proved_of item)) =
+    is.is_publication.bundles.each k (proved_of item) (let long = length_map proved_of publication.bundles.items in omega arith) in
+    let same : get_or (map proved_of publication.bundles.items) k (proved_of item) ≡ proved_of item =
+    get_or-map proved_of publication.bundles.items k item (proved_of item) low ∙ ap proved_of (sym read) in
     let mine : IsProved is.tables.sections (proved_of item) = subst (IsProved is.tables.sections) same proved in
     λ j d inside. subst (λ n. get_or (sections_of item.bundle) j d < n) is.sections (mine.bundle.of_catalog j d inside)

@@ -57,10 +57,14 @@ said_length (x ∷ xs) n = elim (eqb_tells x.session n) [
 ]
   where
     counted_own : (s : ℕ) (more : List ℕ) (m : ℕ) → nat_eq s m ≡ true → said m (s ∷ more) ≡ said m more + 1
-    counted_own s more m e = let first = sum_by-cons (λ (one : ℕ). cond (nat_eq one m) 1 0) s more in let mine : cond {A = ℕ} (nat_eq s m) 1 0 ≡ 1 = ap (λ (b : Bool). cond {A = ℕ} b 1 0) e in omega arith
+    counted_own s more m e =
+        let first = sum_by-cons (λ (one : ℕ). cond (nat_eq one m) 1 0) s more in
+        let mine : cond {A = ℕ} (nat_eq s m) 1 0 ≡ 1 = ap (λ (b : Bool). cond {A = ℕ} b 1 0) e in omega arith
 
     counted_other : (s : ℕ) (more : List ℕ) (m : ℕ) → nat_eq s m ≡ false → said m (s ∷ more) ≡ said m more
-    counted_other s more m e = let first = sum_by-cons (λ (one : ℕ). cond (nat_eq one m) 1 0) s more in let mine : cond {A = ℕ} (nat_eq s m) 1 0 ≡ 0 = ap (λ (b : Bool). cond {A = ℕ} b 1 0) e in omega arith
+    counted_other s more m e =
+        let first = sum_by-cons (λ (one : ℕ). cond (nat_eq one m) 1 0) s more in
+        let mine : cond {A = ℕ} (nat_eq s m) 1 0 ≡ 0 = ap (λ (b : Bool). cond {A = ℕ} b 1 0) e in omega arith
 
 -- the first entries of a session are no more than all
 said_front : (n : ℕ) (xs : List ℕ) (m : ℕ) → said m (take n xs) ≤ said m xs
@@ -82,7 +86,8 @@ module _ (names : DeskNames) (streams : List (List Command)) (order : List ℕ) 
       let long : length (sessions_of journal) ≡ length order = ap length is.sessions in
       let same : length (sessions_of journal) ≡ length journal = length_sessions journal in
       let none : Entry = first_or journal (let h = long in omega arith) in
-      let mine : get_or order place 0 ≡ (get_or journal place none).session = ap (λ all. get_or all place 0) (sym is.sessions) ∙ get_or-map (λ (entry : Entry). entry.session) journal place none 0 (omega arith) in
+      let mine : get_or order place 0 ≡ (get_or journal place none).session =
+      ap (λ all. get_or all place 0) (sym is.sessions) ∙ get_or-map (λ (entry : Entry). entry.session) journal place none 0 (omega arith) in
       subst (λ n. (1 ≤ n) × (n ≤ length streams)) (sym mine) (is.merges.given place none (omega arith))
     where
       length_sessions : (entries : List Entry) → length (sessions_of entries) ≡ length entries
@@ -99,7 +104,8 @@ module _ (names : DeskNames) (streams : List (List Command)) (order : List ℕ) 
       let session : ℕ = get_or order place 0 in
       let number : (session - 1) + 1 ≡ session = (let one = given.0 in omega arith) in
       let below : session - 1 < length streams = (let one = given.0 in let most = given.1 in omega arith) in
-      let all : said session order ≡ commands_in streams session = subst (λ n. said n order ≡ commands_in streams session) number (all_said (session - 1) below) in
+      let all : said session order ≡ commands_in streams session =
+      subst (λ n. said n order ≡ commands_in streams session) number (all_said (session - 1) below) in
       let more : said session (take (place + 1) order) ≡ said session (take place order) + 1 = said_own order place session low refl in
       let front : said session (take (place + 1) order) ≤ said session order = said_front (place + 1) order session in
       record { numbered = given.0; given = given.1; left = omega arith }
@@ -124,7 +130,9 @@ no_menu = record {
 }
 
 -- each student of a crowd has a menu within the limits of menus
-menus_sound : (catalog : List Section) (roll : List Student) (wanted : List StudentPreferences) (asked : List Asked) (sections k : ℕ) → AreMenusOf catalog roll wanted (map (λ (student : Asked). student.menu) asked) → IsMenu (student_in (record { students = asked; sections = sections }) k).menu
+menus_sound : (catalog : List Section) (roll : List Student) (wanted : List StudentPreferences) (asked : List Asked) (sections k : ℕ)
+    → AreMenusOf catalog roll wanted (map (λ (student : Asked). student.menu) asked)
+    → IsMenu (student_in (record { students = asked; sections = sections }) k).menu
 menus_sound catalog [] [] [] sections k are = no_menu
 menus_sound catalog (s ∷ roll) (w ∷ wanted) (a ∷ asked) sections zero are = are.0.limits
 menus_sound catalog (s ∷ roll) (w ∷ wanted) (a ∷ asked) sections (suc k) are = menus_sound catalog roll wanted asked sections k are.1
@@ -133,36 +141,45 @@ menus_sound catalog [] (w ∷ wanted) asked sections k are = absurd are
 menus_sound catalog (s ∷ roll) [] asked sections k are = absurd are
 menus_sound catalog (s ∷ roll) (w ∷ wanted) [] sections k are = absurd are
 
-pub menu_sound : (market : Market) (streams : List (List Command)) (order : List ℕ) (crowd : CrowdData) (k : ℕ) → IsCrowdAfter market streams order crowd → IsMenu (student_in crowd k).menu
-menu_sound market streams order crowd k is = menus_sound market.catalog.sections market.roll.students (wanted_in market is.journal) crowd.students crowd.sections k is.is_crowd.menus
+pub menu_sound : (market : Market) (streams : List (List Command)) (order : List ℕ) (crowd : CrowdData) (k : ℕ) → IsCrowdAfter market streams order crowd
+    → IsMenu (student_in crowd k).menu
+menu_sound market streams order crowd k is =
+    menus_sound market.catalog.sections market.roll.students (wanted_in market is.journal) crowd.students crowd.sections k is.is_crowd.menus
 
 -- a right turn has no fault
-pub no_fault : (terms : TermsData) (p : Publication) (turn : ℕ) (what : TurnFault) → IsMenu (turn_offer terms p turn).menu → IsRightTurn terms p turn → ¬ HasTurnFault terms p turn what
+pub no_fault : (terms : TermsData) (p : Publication) (turn : ℕ) (what : TurnFault) → IsMenu (turn_offer terms p turn).menu → IsRightTurn terms p turn
+    → ¬ HasTurnFault terms p turn what
 no_fault terms p turn fault.Order menu right wrong = wrong right.due
 no_fault terms p turn fault.Unaffordable menu right wrong = wrong.1 right.affordable
 no_fault terms p turn fault.Infeasible menu right wrong = wrong.2 right.feasible
 no_fault terms p turn fault.Taken menu right wrong = wrong.3 right.offered
-no_fault terms p turn (fault.Tree defect) menu right wrong = no_defect_in_a_tree (turn_offer terms p turn) (turn_in p turn).bundle (turn_in p turn).tree defect menu right.proved wrong.4
+no_fault terms p turn (fault.Tree defect) menu right wrong =
+    no_defect_in_a_tree (turn_offer terms p turn) (turn_in p turn).bundle (turn_in p turn).tree defect menu right.proved wrong.4
 
 -- what is right has no first finding
-not_in : (terms : TermsData) (p : Publication) (finding : Finding) → ((k : ℕ) → IsMenu (student_in terms.crowd k).menu) → HoldsOf terms p → ¬ IsFirstIn terms p finding
+not_in : (terms : TermsData) (p : Publication) (finding : Finding) → ((k : ℕ) → IsMenu (student_in terms.crowd k).menu) → HoldsOf terms p
+    → ¬ IsFirstIn terms p finding
 not_in terms p (Text line kind) menus holds is = is.found
 not_in terms p (Journal at) menus holds is = is.found
 not_in terms p (Budget number) menus holds is = is.found.fails (holds.budgets number.0 is.found.within)
 not_in terms p (Unaffordable number) menus holds is = is.found.1 (holds.bundles number.0 is.found.0.within).affordable
 not_in terms p (Infeasible number) menus holds is = is.found.2 (holds.bundles number.0 is.found.0.within).feasible
 not_in terms p (Tree number defect) menus holds is =
-    no_defect_in_a_tree (offer_in terms.crowd p number.0) (proved_in p number.0).bundle (proved_in p number.0).tree defect (menus number.0) (holds.bundles number.0 is.found.0.within).proved is.found.3
+    no_defect_in_a_tree (offer_in terms.crowd p number.0) (proved_in p number.0).bundle (proved_in p number.0).tree defect (menus number.0)
+    (holds.bundles number.0 is.found.0.within).proved is.found.3
 not_in terms p (Seats section used free) menus holds is = is.found.0.fails (holds.seats section.0 is.found.0.within)
-not_in terms p (Turn turn what) menus holds is = no_fault terms p is.found.place what (menus (turn_in p is.found.place).student) (holds.turns is.found.place is.found.within) is.found.wrong
+not_in terms p (Turn turn what) menus holds is =
+    no_fault terms p is.found.place what (menus (turn_in p is.found.place).student) (holds.turns is.found.place is.found.within) is.found.wrong
 not_in terms p (NotQuiet turns) menus holds is = is.found.1 holds.quiet
 not_in terms p (Allocation number) menus holds is = is.found.fails (holds.allocation number.0 is.found.within)
 not_in terms p (Used section) menus holds is = is.found.fails (holds.used section.0 is.found.within)
 
-same_in : (market : Market) (streams : List (List Command)) (p : Publication) (finding : Finding) → Holds market streams p → ¬ ((crowd : CrowdData) × IsCrowdAfter market streams p.order crowd × IsFirstIn (terms_in market crowd) p finding)
+same_in : (market : Market) (streams : List (List Command)) (p : Publication) (finding : Finding) → Holds market streams p
+    → ¬ ((crowd : CrowdData) × IsCrowdAfter market streams p.order crowd × IsFirstIn (terms_in market crowd) p finding)
 same_in market streams p finding holds is =
     let same : is.0 ≡ holds.crowd = one_crowd_after market streams p.order is.0 holds.crowd is.1 holds.is_crowd in
-    not_in (terms_in market holds.crowd) p finding (λ k. menu_sound market streams p.order holds.crowd k holds.is_crowd) holds.printed (subst (λ crowd. IsFirstIn (terms_in market crowd) p finding) same is.2)
+    not_in (terms_in market holds.crowd) p finding (λ k. menu_sound market streams p.order holds.crowd k holds.is_crowd) holds.printed
+    (subst (λ crowd. IsFirstIn (terms_in market crowd) p finding) same is.2)
 
 -- nor has a publication of which the certificate holds
 not_of : (market : Market) (streams : List (List Command)) (p : Publication) (finding : Finding) → Holds market streams p → ¬ IsFirstOf market streams p finding
@@ -180,22 +197,28 @@ not_of market streams p (Used section) holds is = same_in market streams p (Used
 
 -- the tables of a market as they can be read
 pub tables_in_limits : (market : Market) → IsCatalog market.catalog → IsRoll market.roll → AreTables (tables_in market)
-tables_in_limits market catalog roll = tables_are _ _ _ market.roll market.catalog (let one = catalog.known_version in let two = roll.known_version in omega arith) refl refl roll catalog
+tables_in_limits market catalog roll =
+    tables_are _ _ _ market.roll market.catalog (let one = catalog.known_version in let two = roll.known_version in omega arith) refl refl roll catalog
 
-one_of : (market : Market) (streams : List (List Command)) (text : List ℕ) (finding : Finding) → IsCatalog market.catalog → IsRoll market.roll → IsAccepted market streams text → ¬ ((p : Publication) × IsTextOf market p text × IsFirstOf market streams p finding)
+one_of : (market : Market) (streams : List (List Command)) (text : List ℕ) (finding : Finding) → IsCatalog market.catalog → IsRoll market.roll
+    → IsAccepted market streams text → ¬ ((p : Publication) × IsTextOf market p text × IsFirstOf market streams p finding)
 one_of market streams text finding catalog roll accepted is =
-    let same : is.0 ≡ accepted.publication = one_publication (tables_in market) (tables_in_limits market catalog roll) is.0 accepted.publication is.1.is_publication accepted.is_text.is_publication (sym is.1.written ∙ accepted.is_text.written) in
+    let same : is.0 ≡ accepted.publication =
+    one_publication (tables_in market) (tables_in_limits market catalog roll) is.0 accepted.publication is.1.is_publication accepted.is_text.is_publication
+    (sym is.1.written ∙ accepted.is_text.written) in
     not_of market streams accepted.publication finding accepted.holds (subst (λ (p : Publication). IsFirstOf market streams p finding) same is.2)
 
 pub no_finding : NoFindingInAccepted
 no_finding market streams text (Text line kind) catalog roll accepted is =
-    no_defect (tables_in market) (tables_in_limits market catalog roll) text (accepted.publication, accepted.is_text.is_publication, accepted.is_text.written) line kind is
+    no_defect (tables_in market) (tables_in_limits market catalog roll) text (accepted.publication, accepted.is_text.is_publication, accepted.is_text.written)
+    line kind is
 no_finding market streams text (Journal at) catalog roll accepted is = one_of market streams text (Journal at) catalog roll accepted is
 no_finding market streams text (Budget number) catalog roll accepted is = one_of market streams text (Budget number) catalog roll accepted is
 no_finding market streams text (Unaffordable number) catalog roll accepted is = one_of market streams text (Unaffordable number) catalog roll accepted is
 no_finding market streams text (Infeasible number) catalog roll accepted is = one_of market streams text (Infeasible number) catalog roll accepted is
 no_finding market streams text (Tree number defect) catalog roll accepted is = one_of market streams text (Tree number defect) catalog roll accepted is
-no_finding market streams text (Seats section used free) catalog roll accepted is = one_of market streams text (Seats section used free) catalog roll accepted is
+no_finding market streams text (Seats section used free) catalog roll accepted is =
+    one_of market streams text (Seats section used free) catalog roll accepted is
 no_finding market streams text (Turn turn what) catalog roll accepted is = one_of market streams text (Turn turn what) catalog roll accepted is
 no_finding market streams text (NotQuiet turns) catalog roll accepted is = one_of market streams text (NotQuiet turns) catalog roll accepted is
 no_finding market streams text (Allocation number) catalog roll accepted is = one_of market streams text (Allocation number) catalog roll accepted is

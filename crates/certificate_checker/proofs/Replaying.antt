@@ -40,7 +40,9 @@ replayed_none streams order = record {
 own_last : (xs : List Entry) (e : Entry) (n : ℕ) → e.session ≡ n → commands_of_session n (xs ++ e ∷ []) ≡ commands_of_session n xs ++ e.command ∷ []
 own_last [] e n own = own_first e [] n own
 own_last (x ∷ xs) e n own = elim (eqb_tells x.session n) [
-  | inl same ↦ own_first x (xs ++ e ∷ []) n same.1 ∙ ap (λ rest. x.command ∷ rest) (own_last xs e n own) ∙ ap (λ all. all ++ e.command ∷ []) (sym (own_first x xs n same.1))
+  | inl same ↦
+      own_first x (xs ++ e ∷ []) n same.1 ∙ ap (λ rest. x.command ∷ rest) (own_last xs e n own)
+      ∙ ap (λ all. all ++ e.command ∷ []) (sym (own_first x xs n same.1))
   | inr other ↦ others_none x (xs ++ e ∷ []) n other.0 ∙ own_last xs e n own ∙ ap (λ all. all ++ e.command ∷ []) (sym (others_none x xs n other.0))
 ]
 
@@ -52,7 +54,8 @@ other_last (x ∷ xs) e n away = elim (eqb_tells x.session n) [
 ]
 
 -- a session that is given has said as many commands as are counted
-counted_of : (streams : List (List Command)) (order : List ℕ) (place session : ℕ) (entries : List Entry) (counts : List ℕ) → HasReplayed streams order place entries counts → 1 ≤ session → session ≤ length streams
+counted_of : (streams : List (List Command)) (order : List ℕ) (place session : ℕ) (entries : List Entry) (counts : List ℕ)
+    → HasReplayed streams order place entries counts → 1 ≤ session → session ≤ length streams
     → get_or counts (session - 1) 0 ≡ said session (take place order)
 counted_of streams order place session entries counts is low high =
     let number : (session - 1) + 1 ≡ session = omega arith in
@@ -60,14 +63,19 @@ counted_of streams order place session entries counts is low high =
     subst (λ n. get_or counts (session - 1) 0 ≡ said n (take place order)) number (is.counted (session - 1) below)
 
 -- the next entry has a command where its session has one left
-has_command : (streams : List (List Command)) (order : List ℕ) (place : ℕ) (entries : List Entry) (counts : List ℕ) → HasReplayed streams order place entries counts → HasNext streams counts (get_or order place 0) → HasCommand streams order place
+has_command : (streams : List (List Command)) (order : List ℕ) (place : ℕ) (entries : List Entry) (counts : List ℕ)
+    → HasReplayed streams order place entries counts → HasNext streams counts (get_or order place 0) → HasCommand streams order place
 has_command streams order place entries counts is has = record {
   numbered = has.numbered;
   given = has.given;
-  left = subst (λ n. n < commands_in streams (get_or order place 0)) (counted_of streams order place (get_or order place 0) entries counts is has.numbered has.given) has.left;
+  left =
+      subst (λ n. n < commands_in streams (get_or order place 0))
+      (counted_of streams order place (get_or order place 0) entries counts is has.numbered has.given)
+      has.left;
 }
 
-pub replayed_fails : (streams : List (List Command)) (order : List ℕ) (place : ℕ) (entries : List Entry) (counts : List ℕ) → HasReplayed streams order place entries counts → place < length order → ¬ HasNext streams counts (get_or order place 0)
+pub replayed_fails : (streams : List (List Command)) (order : List ℕ) (place : ℕ) (entries : List Entry) (counts : List ℕ)
+    → HasReplayed streams order place entries counts → place < length order → ¬ HasNext streams counts (get_or order place 0)
     → FailsFirstAt (length order) (HasCommand streams order) place
 replayed_fails streams order place entries counts is low none = record {
   within = low;
@@ -75,29 +83,44 @@ replayed_fails streams order place entries counts is low none = record {
   fails = λ has. none (record {
     numbered = has.numbered;
     given = has.given;
-    left = subst (λ n. n < commands_in streams (get_or order place 0)) (sym (counted_of streams order place (get_or order place 0) entries counts is has.numbered has.given)) has.left;
+    left =
+        subst (λ n. n < commands_in streams (get_or order place 0))
+        (sym (counted_of streams order place (get_or order place 0) entries counts is has.numbered has.given)) has.left;
   });
 }
 
 -- the count of one session goes up, and the others stay
-pub said_own : (order : List ℕ) (place n : ℕ) → place < length order → get_or order place 0 ≡ n → said n (take (place + 1) order) ≡ said n (take place order) + 1
+pub said_own : (order : List ℕ) (place n : ℕ) → place < length order → get_or order place 0 ≡ n
+    → said n (take (place + 1) order) ≡ said n (take place order) + 1
 said_own order place n low own = count_by_more_yes (λ (one : ℕ). nat_eq one n) order place 0 low (let at = own in grind (arith, nat_tests))
 
 said_other : (order : List ℕ) (place n : ℕ) → place < length order → get_or order place 0 ≢ n → said n (take (place + 1) order) ≡ said n (take place order)
 said_other order place n low other = count_by_more_no (λ (one : ℕ). nat_eq one n) order place 0 low (let at = other in grind (arith, nat_tests))
 
 -- one entry more: by the session of the next place, with its next command
-pub replayed_more : (streams : List (List Command)) (order : List ℕ) (place session : ℕ) (entries : List Entry) (counts after : List ℕ) (command : Command) (reply : Reply)
-    → HasReplayed streams order place entries counts → place < length order → session ≡ get_or order place 0 → IsNextCommand streams counts session after command
+pub replayed_more : (streams : List (List Command)) (order : List ℕ) (place session : ℕ) (entries : List Entry) (counts after : List ℕ) (command : Command)
+    (reply : Reply)
+    → HasReplayed streams order place entries counts → place < length order → session ≡ get_or order place 0
+    → IsNextCommand streams counts session after command
     → HasReplayed streams order (place + 1) (entries ++ entry_of session command reply ∷ []) after
 replayed_more streams order place session entries counts after command reply is low own next = record {
-  sessions = map-append (λ (entry : Entry). entry.session) entries (entry_of session command reply ∷ []) ∙ ap (λ all. all ++ session ∷ []) is.sessions ∙ ap (λ s. take place order ++ s ∷ []) own ∙ sym (take_more order place 0 low);
+  sessions =
+      map-append (λ (entry : Entry). entry.session) entries (entry_of session command reply ∷ []) ∙ ap (λ all. all ++ session ∷ []) is.sessions
+      ∙ ap (λ s. take place order ++ s ∷ []) own ∙ sym (take_more order place 0 low);
   given = All-append (λ (entry : Entry). (1 ≤ entry.session) × (entry.session ≤ length streams)) entries (entry_of session command reply ∷ []) is.given
-      (All-cons (λ (entry : Entry). (1 ≤ entry.session) × (entry.session ≤ length streams)) (entry_of session command reply) [] (next.has.numbered, next.has.given) (All-nil (λ (entry : Entry). (1 ≤ entry.session) × (entry.session ≤ length streams))));
+      (All-cons (λ (entry : Entry). (1 ≤ entry.session) × (entry.session ≤ length streams)) (entry_of session command reply) []
+      (next.has.numbered, next.has.given) (All-nil (λ (entry : Entry). (1 ≤ entry.session) × (entry.session ≤ length streams))));
   long = ap length next.counted ∙ length-set counts (session - 1) (get_or counts (session - 1) 0 + 1) ∙ is.long;
   counted = λ k below. elim (eqb_tells k (session - 1)) [
-    | inl same ↦ at_own k below same.1 ∙ ap (λ n. n + 1) (is.counted k below) ∙ sym (said_own order place (k + 1) low (let e : k ≡ session - 1 = same.1 in let o : session ≡ get_or order place 0 = own in let h : 1 ≤ session = next.has.numbered in omega arith))
-    | inr other ↦ at_other k other.1 ∙ is.counted k below ∙ sym (said_other order place (k + 1) low (λ e. other.1 (let o : session ≡ get_or order place 0 = own in omega arith)))
+    | inl same ↦
+        at_own k below same.1 ∙ ap (λ n. n + 1) (is.counted k below)
+        ∙ sym
+        (said_own order place (k + 1) low
+        (let e : k ≡ session - 1 = same.1 in let o : session ≡ get_or order place 0 = own in let h : 1
+        ≤ session = next.has.numbered in omega arith))
+    | inr other ↦
+        at_other k other.1 ∙ is.counted k below
+        ∙ sym (said_other order place (k + 1) low (λ e. other.1 (let o : session ≡ get_or order place 0 = own in omega arith)))
   ];
   within = λ k below. elim (eqb_tells k (session - 1)) [
     | inl same ↦ let now = at_own k below same.1 in let left = left_at k same.1 in omega arith
@@ -123,7 +146,8 @@ replayed_more streams order place session entries counts after command reply is 
     at_own : (k : ℕ) → k < length streams → k ≡ session - 1 → get_or after k 0 ≡ get_or counts k 0 + 1
     at_own k below same =
         let inside : session - 1 < length counts = let long = is.long in omega arith in
-        ap (λ n. get_or after n 0) same ∙ ap (λ all. get_or all (session - 1) 0) next.counted ∙ get_or-set_same counts (session - 1) (get_or counts (session - 1) 0 + 1) 0 inside ∙ ap (λ n. get_or counts n 0 + 1) (sym same)
+        ap (λ n. get_or after n 0) same ∙ ap (λ all. get_or all (session - 1) 0) next.counted
+        ∙ get_or-set_same counts (session - 1) (get_or counts (session - 1) 0 + 1) 0 inside ∙ ap (λ n. get_or counts n 0 + 1) (sym same)
 
     at_other : (k : ℕ) → k ≢ session - 1 → get_or after k 0 ≡ get_or counts k 0
     at_other k other = ap (λ all. get_or all k 0) next.counted ∙ get_or-set_other counts (session - 1) k (get_or counts (session - 1) 0 + 1) 0 other
@@ -139,7 +163,8 @@ replayed_more streams order place session entries counts after command reply is 
     away k other = let apart : session ≢ k + 1 = λ e. other (omega arith) in grind (arith, nat_tests)
 
 -- where all is said, the entries merge the streams
-pub replayed_all : (streams : List (List Command)) (order : List ℕ) (entries : List Entry) (counts : List ℕ) → HasReplayed streams order (length order) entries counts → SaidAll streams counts
+pub replayed_all : (streams : List (List Command)) (order : List ℕ) (entries : List Entry) (counts : List ℕ)
+    → HasReplayed streams order (length order) entries counts → SaidAll streams counts
     → (sessions_of entries ≡ order) × MergesStreams streams entries
 replayed_all streams order entries counts is all = (
   is.sessions ∙ take_all (length order) order (omega arith),
@@ -150,9 +175,11 @@ replayed_all streams order entries counts is all = (
 )
 
 -- where something is left, not all sessions say all their commands
-pub replayed_left : (streams : List (List Command)) (order : List ℕ) (entries : List Entry) (counts : List ℕ) → HasReplayed streams order (length order) entries counts → ¬ SaidAll streams counts → ¬ SaysAll streams order
+pub replayed_left : (streams : List (List Command)) (order : List ℕ) (entries : List Entry) (counts : List ℕ)
+    → HasReplayed streams order (length order) entries counts → ¬ SaidAll streams counts → ¬ SaysAll streams order
 replayed_left streams order entries counts is left says = left (λ k below.
     let same : get_or counts k 0 ≡ said (k + 1) order = is.counted k below ∙ ap (said (k + 1)) (take_all (length order) order (omega arith)) in
     let number : (k + 1) - 1 ≡ k = omega arith in
-    let here : length (slice_index_or streams k []) ≤ said (k + 1) order = subst (λ n. length (slice_index_or streams n []) ≤ said (k + 1) order) number (says k below) in
+    let here : length (slice_index_or streams k []) ≤ said (k + 1) order =
+    subst (λ n. length (slice_index_or streams n []) ≤ said (k + 1) order) number (says k below) in
     omega arith)

@@ -40,7 +40,8 @@ use Rattle.certificate_checker.proofs.Reading.{HasLengths, length_map, lengths, 
 use Rattle.certificate_checker.proofs.Turning.{is_due_turn, no_due_turn, turn_below, turn_is, turn_offer_is, turn_student}
 
 -- a turn is read where the passes have come so far
-pub record IsTurnAt (terms : Terms) (publication : declared.Publication) (place : ℕ) (order : List ℕ) (progress : Progress) (item : declared_turn.ProvedTurn) : Type 0 where
+pub record IsTurnAt (terms : Terms) (publication : declared.Publication) (place : ℕ) (order : List ℕ) (progress : Progress) (item : declared_turn.ProvedTurn) :
+    Type 0 where
   pub can : CanCheck terms (publication_of publication)
   pub low : place < length publication.turns.items
   pub printed : item ≡ get_or publication.turns.items place item
@@ -48,14 +49,16 @@ pub record IsTurnAt (terms : Terms) (publication : declared.Publication) (place 
   pub so_far : IsProgress (length terms.crowd.menus.items) (publication_of publication) place progress
 
 -- its student's menu, budget and raised budget, and the prices
-pub record IsTurnOf (terms : Terms) (publication : declared.Publication) (item : declared_turn.ProvedTurn) (m : MenuData) (b raised : Tokens) (prices : List Tokens) : Type 0 where
+pub record IsTurnOf (terms : Terms) (publication : declared.Publication) (item : declared_turn.ProvedTurn) (m : MenuData) (b raised : Tokens)
+    (prices : List Tokens) : Type 0 where
   pub menu : m ≡ get_or terms.crowd.menus.items item.student.0 m
   pub budget : b ≡ get_or terms.crowd.budgets.items item.student.0 b
   pub more : raised.0 ≡ raised_by terms.raise b.0
   pub prices_are : prices ≡ publication.prices.items
 
 -- each section of a student's menu has a price
-pub menu_priced : (terms : Terms) (publication : declared.Publication) (k : ℕ) (m : MenuData) (prices : List Tokens) {student : ℕ} → CanCheck terms (publication_of publication) → student < length terms.crowd.menus.items → k ≡ student → m ≡ get_or terms.crowd.menus.items k m
+pub menu_priced : (terms : Terms) (publication : declared.Publication) (k : ℕ) (m : MenuData) (prices : List Tokens) {student : ℕ}
+    → CanCheck terms (publication_of publication) → student < length terms.crowd.menus.items → k ≡ student → m ≡ get_or terms.crowd.menus.items k m
     → prices ≡ publication.prices.items → HasPrices m prices
 menu_priced terms publication k m prices is low same menu listed = λ j d inside.
     let long : HasLengths terms publication = lengths terms publication is in
@@ -65,15 +68,18 @@ menu_priced terms publication k m prices is low same menu listed = λ j d inside
     record {
       listed = omega arith;
       high = subst (λ (all : List Tokens). get_or (map (λ (t : Tokens). t.0) all) (get_or m.places j d).section.0 0 ≤ 1000001) (sym listed)
-          (is.is_publication.prices.each (get_or m.places j d).section.0 0 (let many = is.is_publication.prices.count in let sections = is.sections in omega arith));
+          (is.is_publication.prices.each (get_or m.places j d).section.0 0
+          (let many = is.is_publication.prices.count in let sections = is.sections in omega arith));
     }
 
 -- what is told of the choices at a floor is so of what the publication held, and of the turn's student
-pub told_choices : (seats : List ℕ) (held before : List (List ℕ)) (student k : ℕ) (choices : set.FinSet nat_cmp) → ((s : ℕ) → set.contains choices s ≡ may_choose seats held student s) → held ≡ before → student ≡ k
+pub told_choices : (seats : List ℕ) (held before : List (List ℕ)) (student k : ℕ) (choices : set.FinSet nat_cmp)
+    → ((s : ℕ) → set.contains choices s ≡ may_choose seats held student s) → held ≡ before → student ≡ k
     → (s : ℕ) → set.contains choices s ≡ may_choose seats before k s
 told_choices seats held before student k choices told same who s = told s ∙ (λ i. may_choose seats (same i) (who i) s)
 
-module _ (terms : Terms) (publication : declared.Publication) (place : ℕ) (order : List ℕ) (progress : Progress) (item : declared_turn.ProvedTurn) (at : IsTurnAt terms publication place order progress item) where
+module _ (terms : Terms) (publication : declared.Publication) (place : ℕ) (order : List ℕ) (progress : Progress) (item : declared_turn.ProvedTurn)
+    (at : IsTurnAt terms publication place order progress item) where
   read : turn_of item ≡ turn_in (publication_of publication) place
   read = sym (turn_is publication place item at.low at.printed)
 
@@ -87,81 +93,131 @@ module _ (terms : Terms) (publication : declared.Publication) (place : ℕ) (ord
   some = let long = students_length terms.crowd.menus.items terms.crowd.budgets.items at.can.whole.same in let student = who in omega arith
 
   goes : IsProgress (length (terms_of terms).crowd.students) (publication_of publication) place progress
-  goes = subst (λ n. IsProgress n (publication_of publication) place progress) (sym (students_length terms.crowd.menus.items terms.crowd.budgets.items at.can.whole.same)) at.so_far
+  goes =
+      subst (λ n. IsProgress n (publication_of publication) place progress)
+      (sym (students_length terms.crowd.menus.items terms.crowd.budgets.items at.can.whole.same)) at.so_far
 
   pub is_due : IsDueTurn order progress (turn_of item) → IsDue (terms_of terms).crowd (publication_of publication) place
-  is_due due = is_due_turn (terms_of terms).crowd (publication_of publication) place progress goes some (moved (λ (list : List ℕ) (turn : ProvedTurn). IsDueTurn list progress turn) order (order_in (terms_of terms).crowd) (turn_of item) (turn_in (publication_of publication) place) at.order_is read due)
+  is_due due =
+      is_due_turn (terms_of terms).crowd (publication_of publication) place progress goes some
+      (moved (λ (list : List ℕ) (turn : ProvedTurn). IsDueTurn list progress turn) order (order_in (terms_of terms).crowd) (turn_of item)
+      (turn_in (publication_of publication) place) at.order_is read due)
 
   pub not_due : ¬ IsDueTurn order progress (turn_of item) → HasTurnFault (terms_of terms) (publication_of publication) place fault.Order
-  not_due other = no_due_turn (terms_of terms).crowd (publication_of publication) place progress goes some (moved (λ (list : List ℕ) (turn : ProvedTurn). ¬ IsDueTurn list progress turn) order (order_in (terms_of terms).crowd) (turn_of item) (turn_in (publication_of publication) place) at.order_is read other)
+  not_due other =
+      no_due_turn (terms_of terms).crowd (publication_of publication) place progress goes some
+      (moved (λ (list : List ℕ) (turn : ProvedTurn). ¬ IsDueTurn list progress turn) order (order_in (terms_of terms).crowd) (turn_of item)
+      (turn_in (publication_of publication) place) at.order_is read other)
 
   module _ (m : MenuData) (b raised : Tokens) (prices : List Tokens) (of : IsTurnOf terms publication item m b raised prices) where
     -- what is offered, where these sections may be chosen
     abbrev offered : (ℕ → Bool) → Offer
     offered allowed = record { menu = m; price = price_in prices; budget = raised.0; allowed = allowed }
 
-    offered_is : (allowed : ℕ → Bool) → ((s : ℕ) → allowed s ≡ may_choose terms.seats.items (held_before (publication_of publication) place) item.student.0 s) → offered allowed ≡ turn_offer (terms_of terms) (publication_of publication) place
+    offered_is : (allowed : ℕ → Bool) → ((s : ℕ) → allowed s ≡ may_choose terms.seats.items (held_before (publication_of publication) place) item.student.0 s)
+        → offered allowed ≡ turn_offer (terms_of terms) (publication_of publication) place
     offered_is allowed told =
         ap (λ (list : List Tokens). record { menu = m; price = price_in list; budget = raised.0; allowed = allowed }) of.prices_are
-        ∙ sym (turn_offer_is terms.crowd.menus.items terms.crowd.budgets.items terms.crowd.sections terms.seats.items terms.raise place publication item m b raised allowed at.can.whole.same who of.menu of.budget (sym read) of.more told)
+        ∙ sym
+        (turn_offer_is terms.crowd.menus.items terms.crowd.budgets.items terms.crowd.sections terms.seats.items terms.raise place publication item m b raised
+        allowed at.can.whole.same who of.menu of.budget (sym read) of.more told)
 
     -- a fact of what is read is one of what is printed
-    pub told_of_turn : (P : Offer → ProvedTurn → Type 0) (allowed : ℕ → Bool) → ((s : ℕ) → allowed s ≡ may_choose terms.seats.items (held_before (publication_of publication) place) item.student.0 s) → P (offered allowed) (turn_of item) → P (turn_offer (terms_of terms) (publication_of publication) place) (turn_in (publication_of publication) place)
-    told_of_turn P allowed told is = moved P (offered allowed) (turn_offer (terms_of terms) (publication_of publication) place) (turn_of item) (turn_in (publication_of publication) place) (offered_is allowed told) read is
+    pub told_of_turn : (P : Offer → ProvedTurn → Type 0) (allowed : ℕ → Bool)
+        → ((s : ℕ) → allowed s ≡ may_choose terms.seats.items (held_before (publication_of publication) place) item.student.0 s)
+        → P (offered allowed) (turn_of item) → P (turn_offer (terms_of terms) (publication_of publication) place) (turn_in (publication_of publication) place)
+    told_of_turn P allowed told is =
+        moved P (offered allowed) (turn_offer (terms_of terms) (publication_of publication) place) (turn_of item) (turn_in (publication_of publication) place)
+        (offered_is allowed told) read is
 
     pub priced_turn : All (IsPriced prices) (sections_of item.bundle)
     priced_turn = all_priced terms publication prices (sections_of item.bundle) at.can of.prices_are fits
 
-    affordable_is : total (price_in prices) (sections_of item.bundle) ≤ raised.0 → IsAffordable (turn_offer (terms_of terms) (publication_of publication) place) (turn_in (publication_of publication) place).bundle
-    affordable_is is = told_of_turn (λ offer turn. IsAffordable offer turn.bundle) (may_choose terms.seats.items (held_before (publication_of publication) place) item.student.0) (λ s. refl) is
+    affordable_is : total (price_in prices) (sections_of item.bundle) ≤ raised.0
+        → IsAffordable (turn_offer (terms_of terms) (publication_of publication) place) (turn_in (publication_of publication) place).bundle
+    affordable_is is =
+        told_of_turn (λ offer turn. IsAffordable offer turn.bundle)
+        (may_choose terms.seats.items (held_before (publication_of publication) place) item.student.0)
+        (λ s. refl) is
 
-    feasible_is : IsFeasible (wishes_of m) (sections_of item.bundle) → MayTake (turn_offer (terms_of terms) (publication_of publication) place) (turn_in (publication_of publication) place).bundle
-    feasible_is is = told_of_turn (λ offer turn. MayTake offer turn.bundle) (may_choose terms.seats.items (held_before (publication_of publication) place) item.student.0) (λ s. refl) is
+    feasible_is : IsFeasible (wishes_of m) (sections_of item.bundle)
+        → MayTake (turn_offer (terms_of terms) (publication_of publication) place) (turn_in (publication_of publication) place).bundle
+    feasible_is is =
+        told_of_turn (λ offer turn. MayTake offer turn.bundle) (may_choose terms.seats.items (held_before (publication_of publication) place) item.student.0)
+        (λ s. refl) is
 
-    pub unaffordable_turn : IsDueTurn order progress (turn_of item) → ¬ (total (price_in prices) (sections_of item.bundle) ≤ raised.0) → HasTurnFault (terms_of terms) (publication_of publication) place fault.Unaffordable
-    unaffordable_turn due high = (is_due due, told_of_turn (λ offer turn. ¬ IsAffordable offer turn.bundle) (may_choose terms.seats.items (held_before (publication_of publication) place) item.student.0) (λ s. refl) high)
+    pub unaffordable_turn : IsDueTurn order progress (turn_of item) → ¬ (total (price_in prices) (sections_of item.bundle) ≤ raised.0)
+        → HasTurnFault (terms_of terms) (publication_of publication) place fault.Unaffordable
+    unaffordable_turn due high = (
+      is_due due,
+      told_of_turn (λ offer turn. ¬ IsAffordable offer turn.bundle)
+          (may_choose terms.seats.items (held_before (publication_of publication) place) item.student.0) (λ s. refl) high,
+    )
 
-    pub infeasible_turn : IsDueTurn order progress (turn_of item) → total (price_in prices) (sections_of item.bundle) ≤ raised.0 → ¬ IsFeasible (wishes_of m) (sections_of item.bundle) → HasTurnFault (terms_of terms) (publication_of publication) place fault.Infeasible
+    pub infeasible_turn : IsDueTurn order progress (turn_of item) → total (price_in prices) (sections_of item.bundle) ≤ raised.0
+        → ¬ IsFeasible (wishes_of m) (sections_of item.bundle) → HasTurnFault (terms_of terms) (publication_of publication) place fault.Infeasible
     infeasible_turn due affordable not = (
       is_due due,
       affordable_is affordable,
-      told_of_turn (λ offer turn. ¬ MayTake offer turn.bundle) (may_choose terms.seats.items (held_before (publication_of publication) place) item.student.0) (λ s. refl) not,
+      told_of_turn (λ offer turn. ¬ MayTake offer turn.bundle) (may_choose terms.seats.items (held_before (publication_of publication) place) item.student.0)
+          (λ s. refl) not,
     )
 
-    module _ (choices : set.FinSet nat_cmp) (told : (s : ℕ) → set.contains choices s ≡ may_choose terms.seats.items (held_before (publication_of publication) place) item.student.0 s) where
-      pub taken_turn : IsDueTurn order progress (turn_of item) → total (price_in prices) (sections_of item.bundle) ≤ raised.0 → IsFeasible (wishes_of m) (sections_of item.bundle) → ¬ ((s : ℕ) → has (sections_of item.bundle) s ≡ true → set.contains choices s ≡ true)
+    module _ (choices : set.FinSet nat_cmp)
+        (told : (s : ℕ) → set.contains choices s ≡ may_choose terms.seats.items (held_before (publication_of publication) place) item.student.0 s) where
+      pub taken_turn : IsDueTurn order progress (turn_of item) → total (price_in prices) (sections_of item.bundle) ≤ raised.0
+          → IsFeasible (wishes_of m) (sections_of item.bundle) → ¬ ((s : ℕ) → has (sections_of item.bundle) s ≡ true → set.contains choices s ≡ true)
           → HasTurnFault (terms_of terms) (publication_of publication) place fault.Taken
-      taken_turn due affordable feasible not = (is_due due, affordable_is affordable, feasible_is feasible, told_of_turn (λ offer turn. ¬ IsOffered offer turn.bundle) (set.contains choices) told not)
+      taken_turn due affordable feasible not = (
+        is_due due,
+        affordable_is affordable,
+        feasible_is feasible,
+        told_of_turn (λ offer turn. ¬ IsOffered offer turn.bundle) (set.contains choices) told not,
+      )
 
-      pub wrong_turn_tree : (tree : List ℕ) (defect : TreeDefect) → tree ≡ item.tree.items → IsDueTurn order progress (turn_of item) → total (price_in prices) (sections_of item.bundle) ≤ raised.0 → IsFeasible (wishes_of m) (sections_of item.bundle)
-          → ((s : ℕ) → has (sections_of item.bundle) s ≡ true → set.contains choices s ≡ true) → IsDefect (offer_of m prices raised.0 choices) (sections_of item.bundle) tree defect → HasTurnFault (terms_of terms) (publication_of publication) place (fault.Tree defect)
+      pub wrong_turn_tree : (tree : List ℕ) (defect : TreeDefect) → tree ≡ item.tree.items → IsDueTurn order progress (turn_of item)
+          → total (price_in prices) (sections_of item.bundle) ≤ raised.0 → IsFeasible (wishes_of m) (sections_of item.bundle)
+          → ((s : ℕ) → has (sections_of item.bundle) s ≡ true → set.contains choices s ≡ true)
+          → IsDefect (offer_of m prices raised.0 choices) (sections_of item.bundle) tree defect
+          → HasTurnFault (terms_of terms) (publication_of publication) place (fault.Tree defect)
       wrong_turn_tree tree defect same due affordable feasible chosen is = (
         is_due due,
         affordable_is affordable,
         feasible_is feasible,
         told_of_turn (λ offer turn. IsOffered offer turn.bundle) (set.contains choices) told chosen,
-        told_of_turn (λ offer turn. IsDefect offer turn.bundle turn.tree defect) (set.contains choices) told (subst (λ t. IsDefect (offer_of m prices raised.0 choices) (sections_of item.bundle) t defect) same is),
+        told_of_turn (λ offer turn. IsDefect offer turn.bundle turn.tree defect) (set.contains choices) told
+            (subst (λ t. IsDefect (offer_of m prices raised.0 choices) (sections_of item.bundle) t defect) same is),
       )
 
-      pub right_turn : (tree : List ℕ) → tree ≡ item.tree.items → IsDueTurn order progress (turn_of item) → total (price_in prices) (sections_of item.bundle) ≤ raised.0 → IsFeasible (wishes_of m) (sections_of item.bundle)
-          → ((s : ℕ) → has (sections_of item.bundle) s ≡ true → set.contains choices s ≡ true) → IsTreeText (offer_of m prices raised.0 choices) None (sections_of item.bundle) tree → IsRightTurn (terms_of terms) (publication_of publication) place
+      pub right_turn : (tree : List ℕ) → tree ≡ item.tree.items → IsDueTurn order progress (turn_of item)
+          → total (price_in prices) (sections_of item.bundle) ≤ raised.0 → IsFeasible (wishes_of m) (sections_of item.bundle)
+          → ((s : ℕ) → has (sections_of item.bundle) s ≡ true → set.contains choices s ≡ true)
+          → IsTreeText (offer_of m prices raised.0 choices) None (sections_of item.bundle) tree
+          → IsRightTurn (terms_of terms) (publication_of publication) place
       right_turn tree same due affordable feasible chosen is = record {
         due = is_due due;
         affordable = affordable_is affordable;
         feasible = feasible_is feasible;
         offered = told_of_turn (λ offer turn. IsOffered offer turn.bundle) (set.contains choices) told chosen;
-        proved = told_of_turn (λ offer turn. IsTreeText offer None turn.bundle turn.tree) (set.contains choices) told (subst (λ t. IsTreeText (offer_of m prices raised.0 choices) None (sections_of item.bundle) t) same is);
+        proved =
+            told_of_turn (λ offer turn. IsTreeText offer None turn.bundle turn.tree) (set.contains choices) told
+            (subst (λ t. IsTreeText (offer_of m prices raised.0 choices) None (sections_of item.bundle) t) same is);
       }
 
 -- the turns end quietly where the passes are over
-pub ends_quietly : (terms : Terms) (publication : declared.Publication) (place : ℕ) (progress : Progress) → CanCheck terms (publication_of publication) → place ≡ length publication.turns.items → IsProgress (length terms.crowd.menus.items) (publication_of publication) place progress → progress.over ≡ true
+pub ends_quietly : (terms : Terms) (publication : declared.Publication) (place : ℕ) (progress : Progress) → CanCheck terms (publication_of publication)
+    → place ≡ length publication.turns.items → IsProgress (length terms.crowd.menus.items) (publication_of publication) place progress → progress.over ≡ true
     → EndsQuietly (terms_of terms).crowd (publication_of publication)
 ends_quietly terms publication place progress can at is over = λ some.
-    moved (λ (n t : ℕ). HasQuietPass n (publication_of publication) t) (length terms.crowd.menus.items) (length (students_of terms.crowd.menus.items terms.crowd.budgets.items)) place (length (publication_of publication).turns)
-    (sym (students_length terms.crowd.menus.items terms.crowd.budgets.items can.whole.same)) (at ∙ sym (length_map turn_of publication.turns.items)) (is.is_over over)
+    moved (λ (n t : ℕ). HasQuietPass n (publication_of publication) t) (length terms.crowd.menus.items)
+    (length (students_of terms.crowd.menus.items terms.crowd.budgets.items)) place (length (publication_of publication).turns)
+    (sym (students_length terms.crowd.menus.items terms.crowd.budgets.items can.whole.same)) (at ∙ sym (length_map turn_of publication.turns.items))
+    (is.is_over over)
 
 -- and not where they go on
-pub ends_early : (terms : Terms) (publication : declared.Publication) (place : ℕ) (progress : Progress) → CanCheck terms (publication_of publication) → place ≡ length publication.turns.items → IsProgress (length terms.crowd.menus.items) (publication_of publication) place progress → 0 < length terms.crowd.menus.items → progress.over ≡ false
+pub ends_early : (terms : Terms) (publication : declared.Publication) (place : ℕ) (progress : Progress) → CanCheck terms (publication_of publication)
+    → place ≡ length publication.turns.items → IsProgress (length terms.crowd.menus.items) (publication_of publication) place progress
+    → 0 < length terms.crowd.menus.items → progress.over ≡ false
     → ¬ EndsQuietly (terms_of terms).crowd (publication_of publication)
 ends_early terms publication place progress can at is some over = λ ends.
     let students = students_length terms.crowd.menus.items terms.crowd.budgets.items can.whole.same in
@@ -170,8 +226,10 @@ ends_early terms publication place progress can at is some over = λ ends.
     students (length_map turn_of publication.turns.items ∙ sym at) (ends (omega arith)))
 
 -- what is found on a turn is the first finding, where what comes before it is right
-pub first_turn : (terms : TermsData) (p : Publication) (place : ℕ) (finding : Finding) → HoldsToSeats terms p → place < length p.turns → AllBelow place (IsRightTurn terms p) → IsTurnFinding terms p place finding → IsFirstIn terms p finding
-first_turn terms p place (Turn turn fault) seats inside before is = record { before = seats; found = record { place = place; number = is.0; within = inside; before = before; wrong = is.1 } }
+pub first_turn : (terms : TermsData) (p : Publication) (place : ℕ) (finding : Finding) → HoldsToSeats terms p → place < length p.turns
+    → AllBelow place (IsRightTurn terms p) → IsTurnFinding terms p place finding → IsFirstIn terms p finding
+first_turn terms p place (Turn turn fault) seats inside before is =
+    record { before = seats; found = record { place = place; number = is.0; within = inside; before = before; wrong = is.1 } }
 first_turn terms p place (Text line kind) seats inside before is = absurd is
 first_turn terms p place (Journal at) seats inside before is = absurd is
 first_turn terms p place (Budget number) seats inside before is = absurd is

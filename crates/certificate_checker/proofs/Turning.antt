@@ -37,17 +37,22 @@ use Rattle.certificate_checker.proofs.Progressing.{next_pass}
 use Rattle.certificate_checker.proofs.Reading.{length_map, so_of_has, student_is}
 
 -- the printed turn at a place
-pub turn_is : (publication : declared.Publication) (k : ℕ) (item : declared_turn.ProvedTurn) → k < length publication.turns.items → item ≡ get_or publication.turns.items k item → turn_in (publication_of publication) k ≡ turn_of item
+pub turn_is : (publication : declared.Publication) (k : ℕ) (item : declared_turn.ProvedTurn) → k < length publication.turns.items
+    → item ≡ get_or publication.turns.items k item → turn_in (publication_of publication) k ≡ turn_of item
 turn_is publication k item low is = get_or-map turn_of publication.turns.items k item _ low ∙ ap turn_of (sym is)
 
 -- what is offered at it, where these sections may be chosen
-pub turn_offer_is : (menus : List MenuData) (budgets : List Tokens) (sections : ℕ) (seats : List ℕ) (raise k : ℕ) (publication : declared.Publication) (item : declared_turn.ProvedTurn) (m : MenuData) (b raised : Tokens) (allowed : ℕ → Bool)
-    → length budgets ≡ length menus → item.student.0 < length menus → m ≡ get_or menus item.student.0 m → b ≡ get_or budgets item.student.0 b → turn_in (publication_of publication) k ≡ turn_of item → raised.0 ≡ raised_by raise b.0
+pub turn_offer_is : (menus : List MenuData) (budgets : List Tokens) (sections : ℕ) (seats : List ℕ) (raise k : ℕ) (publication : declared.Publication)
+    (item : declared_turn.ProvedTurn) (m : MenuData) (b raised : Tokens) (allowed : ℕ → Bool)
+    → length budgets ≡ length menus → item.student.0 < length menus → m ≡ get_or menus item.student.0 m → b ≡ get_or budgets item.student.0 b
+    → turn_in (publication_of publication) k ≡ turn_of item → raised.0 ≡ raised_by raise b.0
     → ((s : ℕ) → allowed s ≡ may_choose seats (held_before (publication_of publication) k) item.student.0 s)
-    → turn_offer (record { crowd = crowd_of menus budgets sections; seats = seats; raise = raise }) (publication_of publication) k ≡ record { menu = m; price = slice_index (map (λ (t : Tokens). t.0) publication.prices.items); budget = raised.0; allowed = allowed }
+    → turn_offer (record { crowd = crowd_of menus budgets sections; seats = seats; raise = raise }) (publication_of publication) k
+    ≡ record { menu = m; price = slice_index (map (λ (t : Tokens). t.0) publication.prices.items); budget = raised.0; allowed = allowed }
 turn_offer_is menus budgets sections seats raise k publication item m b raised allowed same low first second turn more told =
     let number : (turn_in (publication_of publication) k).student ≡ item.student.0 = ap (λ (t : ProvedTurn). t.student) turn in
-    let student : student_in (crowd_of menus budgets sections) item.student.0 ≡ record { menu = m; budget = b.0 } = student_is menus budgets sections item.student.0 m b same low first second in
+    let student : student_in (crowd_of menus budgets sections) item.student.0 ≡ record { menu = m; budget = b.0 } =
+    student_is menus budgets sections item.student.0 m b same low first second in
     let offered : ℕ → Student → Offer = λ n who. record {
       menu = who.menu;
       price = slice_index (map (λ (t : Tokens). t.0) publication.prices.items);
@@ -58,21 +63,30 @@ turn_offer_is menus budgets sections seats raise k publication item m b raised a
     ∙ (λ i. record { menu = m; price = slice_index (map (λ (t : Tokens). t.0) publication.prices.items); budget = sym more i; allowed = λ s. sym (told s) i })
 
 -- the turn has the form of a turn
-pub turn_form : (terms : Terms) (publication : declared.Publication) (k : ℕ) (item : declared_turn.ProvedTurn) (is : CanCheck terms (publication_of publication)) → k < length publication.turns.items → item ≡ get_or publication.turns.items k item → IsTurn is.tables.students is.tables.sections (turn_of item)
+pub turn_form : (terms : Terms) (publication : declared.Publication) (k : ℕ) (item : declared_turn.ProvedTurn)
+    (is : CanCheck terms (publication_of publication))
+    → k < length publication.turns.items → item ≡ get_or publication.turns.items k item → IsTurn is.tables.students is.tables.sections (turn_of item)
 turn_form terms publication k item is low read =
-    let one : IsTurn is.tables.students is.tables.sections (get_or (map turn_of publication.turns.items) k (turn_of item)) = is.is_publication.turns k (turn_of item) (let long = length_map turn_of publication.turns.items in omega arith) in
-    let same : get_or (map turn_of publication.turns.items) k (turn_of item) ≡ turn_of item = get_or-map turn_of publication.turns.items k item (turn_of item) low ∙ ap turn_of (sym read) in
+    let one : IsTurn is.tables.students is.tables.sections (get_or (map turn_of publication.turns.items) k (turn_of item)) =
+    is.is_publication.turns k (turn_of item) (let long = length_map turn_of publication.turns.items in omega arith) in
+    let same : get_or (map turn_of publication.turns.items) k (turn_of item) ≡ turn_of item =
+    get_or-map turn_of publication.turns.items k item (turn_of item) low ∙ ap turn_of (sym read) in
     subst (IsTurn is.tables.students is.tables.sections) same one
 
 -- its student is one of the crowd, and its sections are the catalogue's
-pub turn_student : (terms : Terms) (publication : declared.Publication) (k : ℕ) (item : declared_turn.ProvedTurn) → CanCheck terms (publication_of publication) → k < length publication.turns.items → item ≡ get_or publication.turns.items k item → item.student.0 < length terms.crowd.menus.items
+pub turn_student : (terms : Terms) (publication : declared.Publication) (k : ℕ) (item : declared_turn.ProvedTurn) → CanCheck terms (publication_of publication)
+    → k < length publication.turns.items → item ≡ get_or publication.turns.items k item → item.student.0 < length terms.crowd.menus.items
 turn_student terms publication k item is low read = subst (λ n. item.student.0 < n) is.students (turn_form terms publication k item is low read).student
 
-pub turn_below : (terms : Terms) (publication : declared.Publication) (k : ℕ) (item : declared_turn.ProvedTurn) → CanCheck terms (publication_of publication) → k < length publication.turns.items → item ≡ get_or publication.turns.items k item → All (λ s. s < terms.crowd.sections) (sections_of item.bundle)
-turn_below terms publication k item is low read = λ j d inside. subst (λ n. get_or (sections_of item.bundle) j d < n) is.sections ((turn_form terms publication k item is low read).bundle.of_catalog j d inside)
+pub turn_below : (terms : Terms) (publication : declared.Publication) (k : ℕ) (item : declared_turn.ProvedTurn) → CanCheck terms (publication_of publication)
+    → k < length publication.turns.items → item ≡ get_or publication.turns.items k item → All (λ s. s < terms.crowd.sections) (sections_of item.bundle)
+turn_below terms publication k item is low read =
+    λ j d inside. subst (λ n. get_or (sections_of item.bundle) j d < n) is.sections
+    ((turn_form terms publication k item is low read).bundle.of_catalog j d inside)
 
 -- one turn more
-pub held_more : (held : List (List ℕ)) (turns : List ProvedTurn) (turn : ProvedTurn) → held_after held (turns ++ turn ∷ []) ≡ slice_set (held_after held turns) turn.student turn.bundle
+pub held_more : (held : List (List ℕ)) (turns : List ProvedTurn) (turn : ProvedTurn)
+    → held_after held (turns ++ turn ∷ []) ≡ slice_set (held_after held turns) turn.student turn.bundle
 held_more held [] turn = refl
 held_more held (first ∷ turns) turn = held_more (slice_set held first.student first.bundle) turns turn
 
@@ -85,51 +99,69 @@ held_length held [] = refl
 held_length held (turn ∷ turns) = held_length (slice_set held turn.student turn.bundle) turns ∙ length-set held turn.student turn.bundle
 
 -- what is held stays within the catalogue
-set_below : (sections : ℕ) (held : List (List ℕ)) (i : ℕ) (bundle : List ℕ) → AreBelow sections held → ((s : ℕ) → has bundle s ≡ true → s < sections) → AreBelow sections (slice_set held i bundle)
+set_below : (sections : ℕ) (held : List (List ℕ)) (i : ℕ) (bundle : List ℕ) → AreBelow sections held → ((s : ℕ) → has bundle s ≡ true → s < sections)
+    → AreBelow sections (slice_set held i bundle)
 set_below sections held i bundle are fits = λ j d low. elim (eqb_tells j i) [
   | inl same ↦
       let inside : i < length held = (let e : j ≡ i = same.1 in let long = length-set held i bundle in omega arith) in
-      let there : get_or (slice_set held i bundle) j d ≡ bundle = ap (λ n. get_or (slice_set held i bundle) n d) same.1 ∙ get_or-set_same held i bundle d inside in
+      let there : get_or (slice_set held i bundle) j d ≡ bundle =
+      ap (λ n. get_or (slice_set held i bundle) n d) same.1 ∙ get_or-set_same held i bundle d inside in
       subst (λ (b : List ℕ). (s : ℕ) → has b s ≡ true → s < sections) (sym there) fits
   | inr other ↦
       let there : get_or (slice_set held i bundle) j d ≡ get_or held j d = get_or-set_other held i j bundle d other.1 in
       subst (λ (b : List ℕ). (s : ℕ) → has b s ≡ true → s < sections) (sym there) (are j d (let long = length-set held i bundle in omega arith))
 ]
 
-held_below : (sections : ℕ) (held : List (List ℕ)) (turns : List ProvedTurn) → AreBelow sections held → All (λ (turn : ProvedTurn). (s : ℕ) → has turn.bundle s ≡ true → s < sections) turns → AreBelow sections (held_after held turns)
+held_below : (sections : ℕ) (held : List (List ℕ)) (turns : List ProvedTurn) → AreBelow sections held
+    → All (λ (turn : ProvedTurn). (s : ℕ) → has turn.bundle s ≡ true → s < sections) turns → AreBelow sections (held_after held turns)
 held_below sections held [] are fit = are
-held_below sections held (turn ∷ turns) are fit = held_below sections (slice_set held turn.student turn.bundle) turns (set_below sections held turn.student turn.bundle are (fit 0 turn (omega arith))) (λ k d low. fit (suc k) d (omega arith))
+held_below sections held (turn ∷ turns) are fit =
+    held_below sections (slice_set held turn.student turn.bundle) turns (set_below sections held turn.student turn.bundle are (fit 0 turn (omega arith)))
+    (λ k d low. fit (suc k) d (omega arith))
 
-pub before_below : (terms : Terms) (publication : declared.Publication) (k : ℕ) → CanCheck terms (publication_of publication) → AreBelow terms.crowd.sections (held_before (publication_of publication) k)
+pub before_below : (terms : Terms) (publication : declared.Publication) (k : ℕ) → CanCheck terms (publication_of publication)
+    → AreBelow terms.crowd.sections (held_before (publication_of publication) k)
 before_below terms publication k is = held_below terms.crowd.sections (demanded (publication_of publication)) (take k (publication_of publication).turns) start
     (All-take (λ (turn : ProvedTurn). (s : ℕ) → has turn.bundle s ≡ true → s < terms.crowd.sections) k (publication_of publication).turns each)
   where
     start : AreBelow terms.crowd.sections (demanded (publication_of publication))
     start = λ j d low.
-        let inside : j < length (publication_of publication).bundles = (let long = length_map (λ (proved : Proved). proved.bundle) (publication_of publication).bundles in omega arith) in
+        let inside : j < length (publication_of publication).bundles =
+        (let long = length_map (λ (proved : Proved). proved.bundle) (publication_of publication).bundles in omega arith) in
         let none : Proved = record { bundle = d; tree = [] } in
         let one = is.is_publication.bundles.each j none inside in
-        let same : get_or (demanded (publication_of publication)) j d ≡ (get_or (publication_of publication).bundles j none).bundle = get_or-map (λ (proved : Proved). proved.bundle) (publication_of publication).bundles j none d inside in
-        λ s is_in. subst (λ n. s < n) is.sections (so_of_has (λ t. t < length is.tables.sections) (get_or (publication_of publication).bundles j none).bundle one.bundle.of_catalog s (subst (λ (b : List ℕ). has b s ≡ true) same is_in))
+        let same : get_or (demanded (publication_of publication)) j d ≡ (get_or (publication_of publication).bundles j none).bundle =
+        get_or-map (λ (proved : Proved). proved.bundle) (publication_of publication).bundles j none d inside in
+        λ s is_in. subst (λ n. s < n) is.sections
+        (so_of_has (λ t. t < length is.tables.sections) (get_or (publication_of publication).bundles j none).bundle one.bundle.of_catalog s
+        (subst (λ (b : List ℕ). has b s ≡ true) same is_in))
 
     each : All (λ (turn : ProvedTurn). (s : ℕ) → has turn.bundle s ≡ true → s < terms.crowd.sections) (publication_of publication).turns
     each = λ j d low.
         let one = is.is_publication.turns j d low in
-        λ s is_in. subst (λ n. s < n) is.sections (so_of_has (λ t. t < length is.tables.sections) (get_or (publication_of publication).turns j d).bundle one.bundle.of_catalog s is_in)
+        λ s is_in. subst (λ n. s < n) is.sections
+        (so_of_has (λ t. t < length is.tables.sections) (get_or (publication_of publication).turns j d).bundle one.bundle.of_catalog s is_in)
 
 -- after any turns as many bundles are held as there are students
-pub after_length : (terms : Terms) (publication : declared.Publication) (turns : List ProvedTurn) → CanCheck terms (publication_of publication) → length (held_after (demanded (publication_of publication)) turns) ≡ length terms.crowd.menus.items
+pub after_length : (terms : Terms) (publication : declared.Publication) (turns : List ProvedTurn) → CanCheck terms (publication_of publication)
+    → length (held_after (demanded (publication_of publication)) turns) ≡ length terms.crowd.menus.items
 after_length terms publication turns is =
-    held_length (demanded (publication_of publication)) turns ∙ length_map (λ (proved : Proved). proved.bundle) (publication_of publication).bundles ∙ is.is_publication.bundles.count ∙ is.students
+    held_length (demanded (publication_of publication)) turns ∙ length_map (λ (proved : Proved). proved.bundle) (publication_of publication).bundles
+    ∙ is.is_publication.bundles.count ∙ is.students
 
-pub before_length : (terms : Terms) (publication : declared.Publication) (k : ℕ) → CanCheck terms (publication_of publication) → length (held_before (publication_of publication) k) ≡ length terms.crowd.menus.items
+pub before_length : (terms : Terms) (publication : declared.Publication) (k : ℕ) → CanCheck terms (publication_of publication)
+    → length (held_before (publication_of publication) k) ≡ length terms.crowd.menus.items
 before_length terms publication k is = after_length terms publication (take k (publication_of publication).turns) is
 
 -- the bundles of stage two are within the catalogue
-pub stage_two_fits : (terms : Terms) (publication : declared.Publication) (i : ℕ) (bundles lent : List Bundle) (seats : List ℕ) → CanCheck terms (publication_of publication) → seats ≡ terms.seats.items → lent ≡ bundles
-    → map sections_of bundles ≡ map (λ (proved : Proved). proved.bundle) (map proved_of (take i publication.bundles.items)) → length publication.bundles.items ≤ i → AreBelow (length seats) (map sections_of lent)
+pub stage_two_fits : (terms : Terms) (publication : declared.Publication) (i : ℕ) (bundles lent : List Bundle) (seats : List ℕ)
+    → CanCheck terms (publication_of publication) → seats ≡ terms.seats.items → lent ≡ bundles
+    → map sections_of bundles ≡ map (λ (proved : Proved). proved.bundle) (map proved_of (take i publication.bundles.items))
+    → length publication.bundles.items ≤ i → AreBelow (length seats) (map sections_of lent)
 stage_two_fits terms publication i bundles lent seats is listed same made all =
-    let whole : map sections_of lent ≡ demanded (publication_of publication) = ap (map sections_of) same ∙ made ∙ ap (λ items. map (λ (proved : Proved). proved.bundle) (map proved_of items)) (take_all i publication.bundles.items all) in
+    let whole : map sections_of lent ≡ demanded (publication_of publication) =
+    ap (map sections_of) same ∙ made
+    ∙ ap (λ items. map (λ (proved : Proved). proved.bundle) (map proved_of items)) (take_all i publication.bundles.items all) in
     let size : terms.crowd.sections ≡ length seats = sym is.seats ∙ ap length (sym listed) in
     subst {A = ℕ × List (List ℕ)} (λ both. AreBelow both.0 both.1) (λ j. (size j, sym whole j)) (before_below terms publication 0 is)
 
@@ -150,17 +182,20 @@ enumerated_length [] n = refl
 enumerated_length (x ∷ xs) n = ap (λ k. suc k) (enumerated_length xs (n + 1))
 
 pub order_length : (budgets : List ℕ) → length (after_order_of budgets) ≡ length budgets
-order_length budgets = length_map (λ (one : ℕ × ℕ). one.0) (ordered (enumerate_from 0 budgets)) ∙ ordered_length (enumerate_from 0 budgets) ∙ enumerated_length budgets 0
+order_length budgets =
+    length_map (λ (one : ℕ × ℕ). one.0) (ordered (enumerate_from 0 budgets)) ∙ ordered_length (enumerate_from 0 budgets) ∙ enumerated_length budgets 0
 
 -- the budgets of a crowd are those that it was made of
-pub budgets_are : (menus : List MenuData) (budgets : List Tokens) → length budgets ≡ length menus → map (λ (student : Student). student.budget) (students_of menus budgets) ≡ amounts budgets
+pub budgets_are : (menus : List MenuData) (budgets : List Tokens) → length budgets ≡ length menus
+    → map (λ (student : Student). student.budget) (students_of menus budgets) ≡ amounts budgets
 budgets_are [] [] same = refl
 budgets_are [] (b ∷ budgets) same = absurd (omega arith)
 budgets_are (m ∷ menus) [] same = absurd (omega arith)
 budgets_are (m ∷ menus) (b ∷ budgets) same = ap (λ rest. b.0 ∷ rest) (budgets_are menus budgets (omega arith))
 
 -- the order is as long as there are students
-pub order_is_long : (terms : Terms) (publication : declared.Publication) (order : List StudentNo) → CanCheck terms (publication_of publication) → map (λ (student : StudentNo). student.0) order ≡ order_in (terms_of terms).crowd → length order ≡ length terms.crowd.menus.items
+pub order_is_long : (terms : Terms) (publication : declared.Publication) (order : List StudentNo) → CanCheck terms (publication_of publication)
+    → map (λ (student : StudentNo). student.0) order ≡ order_in (terms_of terms).crowd → length order ≡ length terms.crowd.menus.items
 order_is_long terms publication order is same =
     let students : List Student = students_of terms.crowd.menus.items terms.crowd.budgets.items in
     sym (length_map (λ (student : StudentNo). student.0) order) ∙ ap length same ∙ order_length (map (λ (student : Student). student.budget) students)
@@ -187,7 +222,8 @@ got_below (y ∷ ys) zero x is = omega arith
 got_below (y ∷ ys) (suc i) x is = let rest = got_below ys i x is in omega arith
 
 -- a turn with the pass and the student that come next is due
-pub is_due_turn : (crowd : CrowdData) (p : Publication) (k : ℕ) (progress : Progress) → IsProgress (length crowd.students) p k progress → 0 < length crowd.students → IsDueTurn (order_in crowd) progress (turn_in p k) → IsDue crowd p k
+pub is_due_turn : (crowd : CrowdData) (p : Publication) (k : ℕ) (progress : Progress) → IsProgress (length crowd.students) p k progress
+    → 0 < length crowd.students → IsDueTurn (order_in crowd) progress (turn_in p k) → IsDue crowd p k
 is_due_turn crowd p k progress is some due = record {
   pass = progress.pass;
   place = progress.place;
@@ -198,9 +234,11 @@ is_due_turn crowd p k progress is some due = record {
 }
 
 -- and no other is
-pub no_due_turn : (crowd : CrowdData) (p : Publication) (k : ℕ) (progress : Progress) → IsProgress (length crowd.students) p k progress → 0 < length crowd.students → ¬ IsDueTurn (order_in crowd) progress (turn_in p k) → ¬ IsDue crowd p k
+pub no_due_turn : (crowd : CrowdData) (p : Publication) (k : ℕ) (progress : Progress) → IsProgress (length crowd.students) p k progress
+    → 0 < length crowd.students → ¬ IsDueTurn (order_in crowd) progress (turn_in p k) → ¬ IsDue crowd p k
 no_due_turn crowd p k progress is some other = λ due.
-    let students : length (order_in crowd) ≡ length crowd.students = order_length (map (λ (student : Student). student.budget) crowd.students) ∙ length_map (λ (student : Student). student.budget) crowd.students in
+    let students : length (order_in crowd) ≡ length crowd.students =
+    order_length (map (λ (student : Student). student.budget) crowd.students) ∙ length_map (λ (student : Student). student.budget) crowd.students in
     let spot : due.place < length (order_in crowd) = got_below (order_in crowd) due.place (turn_in p k).student due.next in
     let small : due.place < length crowd.students = omega arith in
     let same = one_place (length crowd.students) progress.pass progress.place due.pass due.place (is.in_pass some) small (sym is.number ∙ due.number) in
@@ -211,7 +249,8 @@ no_due_turn crowd p k progress is some other = λ due.
     })
 
 -- a turn that gave its student another bundle made a change
-pub change_made : (p : Publication) (k : ℕ) (held : List (List ℕ)) (student : ℕ) (bundle : List ℕ) (moved : Bool) → held ≡ held_before p k → student ≡ (turn_in p k).student → bundle ≡ (turn_in p k).bundle → student < length held
+pub change_made : (p : Publication) (k : ℕ) (held : List (List ℕ)) (student : ℕ) (bundle : List ℕ) (moved : Bool) → held ≡ held_before p k
+    → student ≡ (turn_in p k).student → bundle ≡ (turn_in p k).bundle → student < length held
     → (moved ≡ true → slice_get held student ≢ Some bundle) → (moved ≡ false → slice_get held student ≡ Some bundle) → MadeChange p k moved
 change_made p k held student bundle moved before who what low gone stays =
     let is : slice_index_or held student [] ≡ slice_index_or (held_before p k) (turn_in p k).student [] = (λ i. slice_index_or (before i) (who i) []) in

@@ -18,16 +18,20 @@ IsWithinSeats seats p section = holders section (demanded p) ≤ slice_index sea
 
 -- the final bundle of a student is the one that it holds after the last turn
 abbrev pub IsAllocated : Publication → ℕ → Type 0
-IsAllocated p student = slice_index_or p.allocation student [] ≡ slice_index_or (held_after (demanded p) p.turns) student []
+IsAllocated p student =
+    slice_index_or p.allocation student []
+    ≡ slice_index_or (held_after (demanded p) p.turns) student []
 
 -- the printed seats of a section are the number of its final holders, and the catalogue's seats
 abbrev pub IsUseTold : List ℕ → Publication → ℕ → Type 0
-IsUseTold seats p section = slice_index_or p.used section (0, 0) ≡ (holders section p.allocation, slice_index seats section)
+IsUseTold seats p section =
+    slice_index_or p.used section (0, 0) ≡ (holders section p.allocation, slice_index seats section)
 
--- What is printed is right by these terms: each student's budget is the one that it draws; each bundle of stage two is affordable and feasible,
--- with its tree; no section is above its seats; each turn is the due one, and its bundle is affordable, feasible and of what is offered,
--- with its tree; the turns end with a pass without a change; the final bundles are those after the last turn; and the seats are those that
--- they use.
+-- What is printed is right by these terms: each student's budget is the one that it draws; each
+-- bundle of stage two is affordable and feasible, with its tree; no section is above its seats;
+-- each turn is the due one, and its bundle is affordable, feasible and of what is offered, with its
+-- tree; the turns end with a pass without a change; the final bundles are those after the last
+-- turn; and the seats are those that they use.
 pub record HoldsOf (terms : TermsData) (p : Publication) : Type 0 where
   pub budgets : AllBelow (length terms.crowd.students) (HasBudget terms.crowd p)
   pub bundles : AllBelow (length terms.crowd.students) (IsProvedBundle terms.crowd p)
@@ -37,15 +41,17 @@ pub record HoldsOf (terms : TermsData) (p : Publication) : Type 0 where
   pub allocation : AllBelow (length terms.crowd.students) (IsAllocated p)
   pub used : AllBelow terms.crowd.sections (IsUseTold terms.seats p)
 
--- The certificate holds of a publication: its order merges the streams, and what is printed is right by the crowd after the order's
--- journal, the seats of the catalogue and the raise of the settings.
+-- The certificate holds of a publication: its order merges the streams, and what is printed is
+-- right by the crowd after the order's journal, the seats of the catalogue and the raise of the
+-- settings.
 pub record Holds (market : Market) (streams : List (List Command)) (p : Publication) : Type 0 where
   pub crowd : CrowdData
   pub is_crowd : IsCrowdAfter market streams p.order crowd
   pub printed : HoldsOf (terms_in market crowd) p
 
 -- the same by this crowd, which is the one after the order's journal
-pub record HoldsBy (market : Market) (streams : List (List Command)) (p : Publication) (crowd : CrowdData) : Type 0 where
+pub record HoldsBy (market : Market) (streams : List (List Command)) (p : Publication)
+    (crowd : CrowdData) : Type 0 where
   pub is_crowd : IsCrowdAfter market streams p.order crowd
   pub printed : HoldsOf (terms_in market crowd) p
 
@@ -55,7 +61,8 @@ pub record IsTextOf (market : Market) (p : Publication) (text : List ℕ) : Type
   pub written : text ≡ text_of (tables_in market) p
 
 -- a text is accepted where it is that of a publication of which the certificate holds
-pub record IsAccepted (market : Market) (streams : List (List Command)) (text : List ℕ) : Type 0 where
+pub record IsAccepted (market : Market) (streams : List (List Command))
+    (text : List ℕ) : Type 0 where
   pub publication : Publication
   pub is_text : IsTextOf market publication text
   pub holds : Holds market streams publication

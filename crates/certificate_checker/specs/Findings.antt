@@ -30,10 +30,12 @@ pub record IsFirstStudent (crowd : CrowdData) (p : Publication) (student : ℕ) 
   pub within : student < length crowd.students
   pub before : AllBelow student (IsProvedBundle crowd p)
 
--- what is first wrong with a turn: its place; then its bundle's price, feasibility, sections and tree
+-- what is first wrong with a turn: its place; then its bundle's price, feasibility, sections and
+-- tree
 abbrev pub HasTurnFault : TermsData → Publication → ℕ → TurnFault → Type 0
 HasTurnFault terms p turn fault.Order = ¬ IsDue terms.crowd p turn
-HasTurnFault terms p turn fault.Unaffordable = IsDue terms.crowd p turn × (¬ IsAffordable (turn_offer terms p turn) (turn_in p turn).bundle)
+HasTurnFault terms p turn fault.Unaffordable =
+    IsDue terms.crowd p turn × (¬ IsAffordable (turn_offer terms p turn) (turn_in p turn).bundle)
 HasTurnFault terms p turn fault.Infeasible =
     let offer = turn_offer terms p turn in
     let bundle = (turn_in p turn).bundle in
@@ -41,14 +43,17 @@ HasTurnFault terms p turn fault.Infeasible =
 HasTurnFault terms p turn fault.Taken =
     let offer = turn_offer terms p turn in
     let bundle = (turn_in p turn).bundle in
-    IsDue terms.crowd p turn × IsAffordable offer bundle × MayTake offer bundle × (¬ IsOffered offer bundle)
+    IsDue terms.crowd p turn × IsAffordable offer bundle × MayTake offer bundle
+    × (¬ IsOffered offer bundle)
 HasTurnFault terms p turn (fault.Tree defect) =
     let offer = turn_offer terms p turn in
     let bundle = (turn_in p turn).bundle in
-    IsDue terms.crowd p turn × IsAffordable offer bundle × MayTake offer bundle × IsOffered offer bundle × IsDefect offer bundle (turn_in p turn).tree defect
+    IsDue terms.crowd p turn × IsAffordable offer bundle × MayTake offer bundle
+    × IsOffered offer bundle × IsDefect offer bundle (turn_in p turn).tree defect
 
 -- one of the turns, numbered from 1, and those before it are as they should be
-pub record IsFirstTurn (terms : TermsData) (p : Publication) (turn : ℕ) (fault : TurnFault) : Type 0 where
+pub record IsFirstTurn (terms : TermsData) (p : Publication) (turn : ℕ)
+    (fault : TurnFault) : Type 0 where
   pub place : ℕ
   pub number : turn ≡ place + 1
   pub within : place < length p.turns
@@ -57,12 +62,15 @@ pub record IsFirstTurn (terms : TermsData) (p : Publication) (turn : ℕ) (fault
 
 -- the finding is on this turn, and tells what is first wrong with it
 abbrev pub IsTurnFinding : TermsData → Publication → ℕ → Finding → Type 0
-IsTurnFinding terms p turn (Turn number fault) = (number ≡ turn + 1) × HasTurnFault terms p turn fault
+IsTurnFinding terms p turn (Turn number fault) =
+    (number ≡ turn + 1) × HasTurnFault terms p turn fault
 IsTurnFinding terms p turn finding = ⊥
 
--- the finding is on this student, and tells what is first wrong with its bundle of stage two: its price, its feasibility, or its tree
+-- the finding is on this student, and tells what is first wrong with its bundle of stage two: its
+-- price, its feasibility, or its tree
 abbrev pub IsBundleFinding : CrowdData → Publication → ℕ → Finding → Type 0
-IsBundleFinding crowd p student (Unaffordable number) = (number.0 ≡ student) × (¬ IsAffordable (offer_in crowd p student) (proved_in p student).bundle)
+IsBundleFinding crowd p student (Unaffordable number) =
+    (number.0 ≡ student) × (¬ IsAffordable (offer_in crowd p student) (proved_in p student).bundle)
 IsBundleFinding crowd p student (Infeasible number) =
     let offer = offer_in crowd p student in
     let bundle = (proved_in p student).bundle in
@@ -70,15 +78,19 @@ IsBundleFinding crowd p student (Infeasible number) =
 IsBundleFinding crowd p student (Tree number defect) =
     let offer = offer_in crowd p student in
     let bundle = (proved_in p student).bundle in
-    (number.0 ≡ student) × IsAffordable offer bundle × MayTake offer bundle × IsDefect offer bundle (proved_in p student).tree defect
+    (number.0 ≡ student) × IsAffordable offer bundle × MayTake offer bundle
+    × IsDefect offer bundle (proved_in p student).tree defect
 IsBundleFinding crowd p student finding = ⊥
 
 -- a finding is there, whatever is looked at before the part that it is of
 abbrev pub IsFound : TermsData → Publication → Finding → Type 0
 IsFound terms p (Text line kind) = ⊥
 IsFound terms p (Journal at) = ⊥
-IsFound terms p (Budget student) = FailsFirstAt (length terms.crowd.students) (HasBudget terms.crowd p) student.0
-IsFound terms p (Unaffordable student) = IsFirstStudent terms.crowd p student.0 × (¬ IsAffordable (offer_in terms.crowd p student.0) (proved_in p student.0).bundle)
+IsFound terms p (Budget student) =
+    FailsFirstAt (length terms.crowd.students) (HasBudget terms.crowd p) student.0
+IsFound terms p (Unaffordable student) =
+    IsFirstStudent terms.crowd p student.0
+    × (¬ IsAffordable (offer_in terms.crowd p student.0) (proved_in p student.0).bundle)
 IsFound terms p (Infeasible student) =
     let offer = offer_in terms.crowd p student.0 in
     let bundle = (proved_in p student.0).bundle in
@@ -86,24 +98,30 @@ IsFound terms p (Infeasible student) =
 IsFound terms p (Tree student defect) =
     let offer = offer_in terms.crowd p student.0 in
     let bundle = (proved_in p student.0).bundle in
-    IsFirstStudent terms.crowd p student.0 × IsAffordable offer bundle × MayTake offer bundle × IsDefect offer bundle (proved_in p student.0).tree defect
+    IsFirstStudent terms.crowd p student.0 × IsAffordable offer bundle × MayTake offer bundle
+    × IsDefect offer bundle (proved_in p student.0).tree defect
 IsFound terms p (Seats section used seats) =
-    FailsFirstAt terms.crowd.sections (IsWithinSeats terms.seats p) section.0 × (used ≡ holders section.0 (demanded p)) × (seats ≡ slice_index terms.seats section.0)
+    FailsFirstAt terms.crowd.sections (IsWithinSeats terms.seats p) section.0
+    × (used ≡ holders section.0 (demanded p)) × (seats ≡ slice_index terms.seats section.0)
 IsFound terms p (Turn turn fault) = IsFirstTurn terms p turn fault
 IsFound terms p (NotQuiet turns) = (turns ≡ length p.turns) × (¬ EndsQuietly terms.crowd p)
-IsFound terms p (Allocation student) = FailsFirstAt (length terms.crowd.students) (IsAllocated p) student.0
-IsFound terms p (Used section) = FailsFirstAt terms.crowd.sections (IsUseTold terms.seats p) section.0
+IsFound terms p (Allocation student) =
+    FailsFirstAt (length terms.crowd.students) (IsAllocated p) student.0
+IsFound terms p (Used section) =
+    FailsFirstAt terms.crowd.sections (IsUseTold terms.seats p) section.0
 
--- The parts that are looked at, in their order: the budgets; the bundles of stage two; the seats; the turns; how they end; the final
--- bundles. Each of these is all parts up to one.
+-- The parts that are looked at, in their order: the budgets; the bundles of stage two; the seats;
+-- the turns; how they end; the final bundles. Each of these is all parts up to one.
 abbrev pub HoldsToBudgets : TermsData → Publication → Type 0
 HoldsToBudgets terms p = AllBelow (length terms.crowd.students) (HasBudget terms.crowd p)
 
 abbrev pub HoldsToBundles : TermsData → Publication → Type 0
-HoldsToBundles terms p = HoldsToBudgets terms p × AllBelow (length terms.crowd.students) (IsProvedBundle terms.crowd p)
+HoldsToBundles terms p =
+    HoldsToBudgets terms p × AllBelow (length terms.crowd.students) (IsProvedBundle terms.crowd p)
 
 abbrev pub HoldsToSeats : TermsData → Publication → Type 0
-HoldsToSeats terms p = HoldsToBundles terms p × AllBelow terms.crowd.sections (IsWithinSeats terms.seats p)
+HoldsToSeats terms p =
+    HoldsToBundles terms p × AllBelow terms.crowd.sections (IsWithinSeats terms.seats p)
 
 abbrev pub HoldsToTurns : TermsData → Publication → Type 0
 HoldsToTurns terms p = HoldsToSeats terms p × AllBelow (length p.turns) (IsRightTurn terms p)
@@ -112,7 +130,8 @@ abbrev pub HoldsToTheEnd : TermsData → Publication → Type 0
 HoldsToTheEnd terms p = HoldsToTurns terms p × EndsQuietly terms.crowd p
 
 abbrev pub HoldsToAllocation : TermsData → Publication → Type 0
-HoldsToAllocation terms p = HoldsToTheEnd terms p × AllBelow (length terms.crowd.students) (IsAllocated p)
+HoldsToAllocation terms p =
+    HoldsToTheEnd terms p × AllBelow (length terms.crowd.students) (IsAllocated p)
 
 -- the parts that are looked at before that of the finding are as they should be
 abbrev pub HoldsBefore : TermsData → Publication → Finding → Type 0
@@ -133,16 +152,22 @@ pub record IsFirstIn (terms : TermsData) (p : Publication) (finding : Finding) :
   pub before : HoldsBefore terms p finding
   pub found : IsFound terms p finding
 
--- the first finding on a publication: on its order, or on what is printed, by the crowd after the order's journal
+-- the first finding on a publication: on its order, or on what is printed, by the crowd after the
+-- order's journal
 abbrev pub IsFirstOf : Market → List (List Command) → Publication → Finding → Type 0
 IsFirstOf market streams p (Text line kind) = ⊥
 IsFirstOf market streams p (Journal at) = FailsToMerge streams p.order at
-IsFirstOf market streams p finding = (crowd : CrowdData) × IsCrowdAfter market streams p.order crowd × IsFirstIn (terms_in market crowd) p finding
+IsFirstOf market streams p finding =
+    (crowd : CrowdData) × IsCrowdAfter market streams p.order crowd
+    × IsFirstIn (terms_in market crowd) p finding
 
--- The first finding on a text: its first defect, where it is the text of no publication; else the first finding on the publication.
+-- The first finding on a text: its first defect, where it is the text of no publication; else the
+-- first finding on the publication.
 abbrev pub IsFirstFinding : Market → List (List Command) → List ℕ → Finding → Type 0
-IsFirstFinding market streams text (Text line kind) = Finds (ArePublished (tables_in market)) 1 text line kind
-IsFirstFinding market streams text finding = (p : Publication) × IsTextOf market p text × IsFirstOf market streams p finding
+IsFirstFinding market streams text (Text line kind) =
+    Finds (ArePublished (tables_in market)) 1 text line kind
+IsFirstFinding market streams text finding =
+    (p : Publication) × IsTextOf market p text × IsFirstOf market streams p finding
 
 -- where a check ends with a finding, this is so of it
 abbrev pub OnFound : CheckEnd → (Finding → Type 0) → Type 0

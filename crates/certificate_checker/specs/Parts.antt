@@ -8,8 +8,8 @@ use Rattle.certificate_checker.specs.declared.terms.Terms.{Terms}
 use Rattle.certificate_checker.specs.Firsts.{AllBelow}
 use Rattle.certificate_checker.specs.Turns.{HasQuietPass, IsQuietTurn}
 
--- A publication may be looked at by these terms: a whole crowd, seats for each section, a raise of at most 50 percent, and a publication with
--- a line for each student and each section.
+-- A publication may be looked at by these terms: a whole crowd, seats for each section, a raise of
+-- at most 50 percent, and a publication with a line for each student and each section.
 pub record CanCheck (terms : Terms) (p : Publication) : Type 0 where
   pub tables : Tables
   pub is_publication : IsPublication tables p
@@ -19,14 +19,18 @@ pub record CanCheck (terms : Terms) (p : Publication) : Type 0 where
   pub seats : length terms.seats.items ≡ terms.crowd.sections
   pub raise : terms.raise ≤ 50
 
--- How far the passes have come after the first turns: so many whole passes, and so many turns of the next one; whether one of these made
--- a change; and whether some whole pass was without one.
-pub record IsProgress (students : ℕ) (p : Publication) (turns : ℕ) (progress : Progress) : Type 0 where
+-- How far the passes have come after the first turns: so many whole passes, and so many turns of
+-- the next one; whether one of these made a change; and whether some whole pass was without one.
+pub record IsProgress (students : ℕ) (p : Publication) (turns : ℕ)
+    (progress : Progress) : Type 0 where
   pub number : turns ≡ progress.pass * students + progress.place
   pub passes : progress.pass ≤ turns
   pub in_pass : 0 < students → progress.place < students
-  pub changed : progress.changed ≡ true → (place : ℕ) × (place < progress.place) × (¬ IsQuietTurn p (progress.pass * students + place))
-  pub same : progress.changed ≡ false → AllBelow progress.place (λ place. IsQuietTurn p (progress.pass * students + place))
+  pub changed : progress.changed ≡ true
+      → (place : ℕ) × (place < progress.place)
+      × (¬ IsQuietTurn p (progress.pass * students + place))
+  pub same : progress.changed ≡ false
+      → AllBelow progress.place (λ place. IsQuietTurn p (progress.pass * students + place))
   pub is_over : progress.over ≡ true → HasQuietPass students p turns
   pub goes_on : 0 < students → progress.over ≡ false → ¬ HasQuietPass students p turns
 

@@ -10,9 +10,15 @@ use Rattle.market_certificate.specs.Publications.{Proved, Publication}
 use Rattle.proof_tree.specs.Texts.{IsTreeText}
 use Rattle.published_parts.specs.Offers.{all_sections, offer_to}
 
--- the student of a number; a number that no student has stands for one that wants nothing and has a budget of 0
+-- the student of a number; a number that no student has stands for one that wants nothing and has a
+-- budget of 0
 abbrev pub student_in : CrowdData → ℕ → Student
-student_in crowd student = slice_index_or crowd.students student (record { menu = record { places = []; pairs = []; clashes = []; credits = 0; courses = 0 }; budget = 0 })
+student_in crowd student =
+    slice_index_or crowd.students student
+    (record {
+      menu = record { places = []; pairs = []; clashes = []; credits = 0; courses = 0 };
+      budget = 0;
+    })
 
 -- the bundle and the tree that are printed for it in stage two
 abbrev pub proved_in : Publication → ℕ → Proved
@@ -24,7 +30,9 @@ HasBudget crowd p student = slice_index p.budgets student ≡ (student_in crowd 
 
 -- what is offered to it in stage two: all sections at the printed prices, for its budget
 abbrev pub offer_in : CrowdData → Publication → ℕ → Offer
-offer_in crowd p student = offer_to (student_in crowd student) (slice_index p.prices) (student_in crowd student).budget (all_sections crowd.sections)
+offer_in crowd p student =
+    offer_to (student_in crowd student) (slice_index p.prices) (student_in crowd student).budget
+    (all_sections crowd.sections)
 
 -- the prices of the bundle sum to at most the budget
 abbrev pub IsAffordable : Offer → List ℕ → Type 0
@@ -42,4 +50,5 @@ IsOffered offer bundle = (s : ℕ) → has bundle s ≡ true → offer.allowed s
 pub record IsProvedBundle (crowd : CrowdData) (p : Publication) (student : ℕ) : Type 0 where
   pub affordable : IsAffordable (offer_in crowd p student) (proved_in p student).bundle
   pub feasible : MayTake (offer_in crowd p student) (proved_in p student).bundle
-  pub proved : IsTreeText (offer_in crowd p student) None (proved_in p student).bundle (proved_in p student).tree
+  pub proved : IsTreeText (offer_in crowd p student) None (proved_in p student).bundle
+      (proved_in p student).tree

@@ -11,4 +11,5 @@ pub record TermsData : Type 0 where
 
 -- those of a market with this crowd
 abbrev pub terms_in : Market → CrowdData → TermsData
-terms_in market crowd = record { crowd = crowd; seats = seats_in market; raise = market.settings.raise }
+terms_in market crowd =
+    record { crowd = crowd; seats = seats_in market; raise = market.settings.raise }

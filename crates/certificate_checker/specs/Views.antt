@@ -11,4 +11,10 @@ crowd_seen crowd = crowd_of crowd.menus.items crowd.budgets.items crowd.sections
 
 -- the crowd, the seats and the raise as plain data
 abbrev pub terms_of : declared.Terms → TermsData
-terms_of terms = record { crowd = crowd_of terms.crowd.menus.items terms.crowd.budgets.items terms.crowd.sections; seats = terms.seats.items; raise = terms.raise }
+terms_of terms =
+    record {
+      crowd = crowd_of terms.crowd.menus.items terms.crowd.budgets.items
+          terms.crowd.sections;
+      seats = terms.seats.items;
+      raise = terms.raise;
+    }

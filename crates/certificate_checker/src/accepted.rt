@@ -7,6 +7,7 @@ use market_certificate::Publication;
 pub struct Accepted {
     /// What the text publishes.
     pub publication: Publication,
-    /// The students with their menus, after the text's order, and with the budgets that the seed draws.
+    /// The students with their menus, after the text's order, and with the budgets that the seed
+    /// draws.
     pub crowd: Crowd,
 }

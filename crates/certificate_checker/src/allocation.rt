@@ -21,8 +21,11 @@ pub(crate) fn check_allocation(
 ) -> Result<(), Finding>
     requires terms { CanCheck terms.now (publication_of publication.now) }
     requires before { HoldsToTheEnd (terms_of terms.now) (publication_of publication.now) }
-    requires held { held_on floor.now ≡ held_after (demanded (publication_of publication.now)) (publication_of publication.now).turns }
-    ensures ok { OnOk result (HoldsToAllocation (terms_of terms.now) (publication_of publication.now)) }
+    requires held { held_on floor.now
+        ≡ held_after (demanded (publication_of publication.now))
+        (publication_of publication.now).turns }
+    ensures ok { OnOk result
+        (HoldsToAllocation (terms_of terms.now) (publication_of publication.now)) }
     ensures first { IfErr result (IsFirstIn (terms_of terms.now) (publication_of publication.now)) }
 {
     for place in 0..publication.allocation.len() {

@@ -13,7 +13,8 @@ use market_units::StudentNo;
 // Whether each student's printed budget is the one that the seed draws.
 pub(crate) fn check_budgets(terms: &Terms, publication: &Publication) -> Result<(), Finding>
     requires { CanCheck terms.now (publication_of publication.now) }
-    ensures ok { OnOk result (HoldsToBudgets (terms_of terms.now) (publication_of publication.now)) }
+    ensures ok { OnOk result
+        (HoldsToBudgets (terms_of terms.now) (publication_of publication.now)) }
     ensures first { IfErr result (IsFirstIn (terms_of terms.now) (publication_of publication.now)) }
 {
     for place in 0..publication.budgets.len() {

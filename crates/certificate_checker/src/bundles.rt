@@ -24,7 +24,8 @@ use proof_tree::check_tree;
 pub(crate) fn check_bundles(terms: &Terms, publication: &Publication) -> Result<(), Finding>
     requires terms { CanCheck terms.now (publication_of publication.now) }
     requires before { HoldsToBudgets (terms_of terms.now) (publication_of publication.now) }
-    ensures ok { OnOk result (HoldsToBundles (terms_of terms.now) (publication_of publication.now)) }
+    ensures ok { OnOk result
+        (HoldsToBundles (terms_of terms.now) (publication_of publication.now)) }
     ensures first { IfErr result (IsFirstIn (terms_of terms.now) (publication_of publication.now)) }
 {
     let all = SectionSet::full(terms.crowd.sections);
@@ -44,8 +45,10 @@ fn check_bundle(
     requires terms { CanCheck terms.now (publication_of publication.now) }
     requires all { (s : ℕ) → set.contains all.now s ≡ nat_lt s terms.now.crowd.sections }
     requires student { student < length terms.now.crowd.menus.items }
-    ensures ok { OnOk result (IsProvedBundle (terms_of terms.now).crowd (publication_of publication.now) student) }
-    ensures wrong { IfErr result (IsBundleFinding (terms_of terms.now).crowd (publication_of publication.now) student) }
+    ensures ok { OnOk result
+        (IsProvedBundle (terms_of terms.now).crowd (publication_of publication.now) student) }
+    ensures wrong { IfErr result
+        (IsBundleFinding (terms_of terms.now).crowd (publication_of publication.now) student) }
 {
     let menu = &terms.crowd.menus[student];
     let budget = terms.crowd.budgets[student];
@@ -78,7 +81,8 @@ pub(crate) fn is_affordable(prices: &[Tokens], budget: Tokens, bundle: &Bundle) 
 // Whether each section of the bundle is among the allowed ones.
 pub(crate) fn is_offered(allowed: &SectionSet, bundle: &Bundle) -> bool
     requires { All (λ section. section < 400) (sections_of bundle.now) }
-    ensures { IsTrue result ↔ ((s : ℕ) → has (sections_of bundle.now) s ≡ true → set.contains allowed.now s ≡ true) }
+    ensures { IsTrue result
+        ↔ ((s : ℕ) → has (sections_of bundle.now) s ≡ true → set.contains allowed.now s ≡ true) }
 {
     all_allowed(allowed, bundle.sections())
 }

@@ -31,11 +31,12 @@ use std::alloc::Global;
 use student_roll::Roll;
 use utility_language::Command;
 
-/// Whether the text is accepted for this market and these streams, one for each session: `Ok` exactly where it is the text
-/// of a publication of which the certificate holds, and else the first finding. Nothing is trusted of whoever wrote the
-/// text, and its prices are not judged. Whom a finding names is on the roll, or in the catalogue. The text has fewer than
-/// 4,294,967,295 bytes. `NoMemory` comes where memory is wanted, and has no other cause. The text is copied; `check_owned` takes
-/// it and lets it go as soon as it is read.
+/// Whether the text is accepted for this market and these streams, one for each session: `Ok`
+/// exactly where it is the text of a publication of which the certificate holds, and else the first
+/// finding. Nothing is trusted of whoever wrote the text, and its prices are not judged. Whom a
+/// finding names is on the roll, or in the catalogue. The text has fewer than 4,294,967,295 bytes.
+/// `NoMemory` comes where memory is wanted, and has no other cause. The text is copied;
+/// `check_owned` takes it and lets it go as soon as it is read.
 pub fn check(
     alloc: Global,
     catalog: &Catalog,
@@ -47,16 +48,25 @@ pub fn check(
     requires text { length text.now < 2 ^ 32 - 1 }
     requires spread { settings.now.spread ≤ 49 }
     requires raise { settings.now.raise ≤ 50 }
-    ensures accepted { OnOk result (IsAccepted (market_of catalog.now roll.now settings.now) (map (λ stream. stream.items) streams.now) text.now) }
-    ensures first { IfErr result (λ end. OnFound end (IsFirstFinding (market_of catalog.now roll.now settings.now) (map (λ stream. stream.items) streams.now) text.now)) }
-    ensures refused { IfErr result (λ end. OnFound end (λ _. ¬ IsAccepted (market_of catalog.now roll.now settings.now) (map (λ stream. stream.items) streams.now) text.now)) }
+    ensures accepted { OnOk result
+        (IsAccepted (market_of catalog.now roll.now settings.now)
+        (map (λ stream. stream.items) streams.now) text.now) }
+    ensures first { IfErr result
+        (λ end. OnFound end
+        (IsFirstFinding (market_of catalog.now roll.now settings.now)
+        (map (λ stream. stream.items) streams.now) text.now)) }
+    ensures refused { IfErr result
+        (λ end. OnFound end
+        (λ _. ¬ IsAccepted (market_of catalog.now roll.now settings.now)
+        (map (λ stream. stream.items) streams.now) text.now)) }
     ensures named { IfErr result (λ end. OnFound end (IsNamedIn (tables_of catalog.now roll.now))) }
 {
     let copy = text.to_vec(alloc)?;
     check_owned(alloc, catalog, roll, settings, streams, copy)
 }
 
-/// The same, of a text that is let go as soon as it is read: what the check makes stands in its room.
+/// The same, of a text that is let go as soon as it is read: what the check makes stands in its
+/// room.
 pub fn check_owned(
     alloc: Global,
     catalog: &Catalog,
@@ -68,17 +78,25 @@ pub fn check_owned(
     requires text { length text.items < 2 ^ 32 - 1 }
     requires spread { settings.now.spread ≤ 49 }
     requires raise { settings.now.raise ≤ 50 }
-    ensures accepted { OnOk result (IsAccepted (market_of catalog.now roll.now settings.now) (map (λ stream. stream.items) streams.now) text.items) }
-    ensures first { IfErr result (λ end. OnFound end (IsFirstFinding (market_of catalog.now roll.now settings.now) (map (λ stream. stream.items) streams.now) text.items)) }
-    ensures refused { IfErr result (λ end. OnFound end (λ _. ¬ IsAccepted (market_of catalog.now roll.now settings.now) (map (λ stream. stream.items) streams.now) text.items)) }
+    ensures accepted { OnOk result
+        (IsAccepted (market_of catalog.now roll.now settings.now)
+        (map (λ stream. stream.items) streams.now) text.items) }
+    ensures first { IfErr result
+        (λ end. OnFound end
+        (IsFirstFinding (market_of catalog.now roll.now settings.now)
+        (map (λ stream. stream.items) streams.now) text.items)) }
+    ensures refused { IfErr result
+        (λ end. OnFound end
+        (λ _. ¬ IsAccepted (market_of catalog.now roll.now settings.now)
+        (map (λ stream. stream.items) streams.now) text.items)) }
     ensures named { IfErr result (λ end. OnFound end (IsNamedIn (tables_of catalog.now roll.now))) }
 {
     let _accepted = accept(alloc, catalog, roll, settings, streams, text)?;
     Ok(())
 }
 
-/// The same as `check_owned`, with what an accepted text says, and the students' menus and budgets against which it was
-/// checked. It takes the text, and lets it go as soon as it is read.
+/// The same as `check_owned`, with what an accepted text says, and the students' menus and budgets
+/// against which it was checked. It takes the text, and lets it go as soon as it is read.
 pub fn accept(
     alloc: Global,
     catalog: &Catalog,
@@ -90,11 +108,24 @@ pub fn accept(
     requires text { length text.items < 2 ^ 32 - 1 }
     requires spread { settings.now.spread ≤ 49 }
     requires raise { settings.now.raise ≤ 50 }
-    ensures text { IfOk result (λ accepted. IsTextOf (market_of catalog.now roll.now settings.now) (publication_of accepted.publication) text.items) }
-    ensures holds { IfOk result (λ accepted. HoldsBy (market_of catalog.now roll.now settings.now) (map (λ stream. stream.items) streams.now) (publication_of accepted.publication) (crowd_seen accepted.crowd)) }
-    ensures whole { IfOk result (λ accepted. MakeCrowd accepted.crowd.menus.items accepted.crowd.budgets.items accepted.crowd.sections) }
-    ensures first { IfErr result (λ end. OnFound end (IsFirstFinding (market_of catalog.now roll.now settings.now) (map (λ stream. stream.items) streams.now) text.items)) }
-    ensures refused { IfErr result (λ end. OnFound end (λ _. ¬ IsAccepted (market_of catalog.now roll.now settings.now) (map (λ stream. stream.items) streams.now) text.items)) }
+    ensures text { IfOk result
+        (λ accepted. IsTextOf (market_of catalog.now roll.now settings.now)
+        (publication_of accepted.publication) text.items) }
+    ensures holds { IfOk result
+        (λ accepted. HoldsBy (market_of catalog.now roll.now settings.now)
+        (map (λ stream. stream.items) streams.now) (publication_of accepted.publication)
+        (crowd_seen accepted.crowd)) }
+    ensures whole { IfOk result
+        (λ accepted. MakeCrowd accepted.crowd.menus.items accepted.crowd.budgets.items
+        accepted.crowd.sections) }
+    ensures first { IfErr result
+        (λ end. OnFound end
+        (IsFirstFinding (market_of catalog.now roll.now settings.now)
+        (map (λ stream. stream.items) streams.now) text.items)) }
+    ensures refused { IfErr result
+        (λ end. OnFound end
+        (λ _. ¬ IsAccepted (market_of catalog.now roll.now settings.now)
+        (map (λ stream. stream.items) streams.now) text.items)) }
     ensures named { IfErr result (λ end. OnFound end (IsNamedIn (tables_of catalog.now roll.now))) }
 {
     let _few_sections = catalog.len();
@@ -105,8 +136,8 @@ pub fn accept(
     }
 }
 
-// The publication that the text is, or its first defect. The text, which may be the greater part of all that is held, is
-// let go here, before the check makes anything of its own.
+// The publication that the text is, or its first defect. The text, which may be the greater part of
+// all that is held, is let go here, before the check makes anything of its own.
 fn publication_in(
     alloc: Global,
     catalog: &Catalog,
@@ -114,16 +145,24 @@ fn publication_in(
     text: Vec<u8>,
 ) -> Result<Publication, TextRefusal>
     requires { length text.items < 2 ^ 32 - 1 }
-    ensures publication { IfOk result (λ publication. IsPublication (tables_of catalog.now roll.now) (publication_of publication)) }
-    ensures text { IfOk result (λ publication. text.items ≡ text_of (tables_of catalog.now roll.now) (publication_of publication)) }
-    ensures defect { IfErr result (λ refusal. OnDefect refusal (Finds (ArePublished (tables_of catalog.now roll.now)) 1 text.items)) }
-    ensures refused { IfErr result (λ refusal. OnDefect refusal (λ _ _. ¬ IsPublished (tables_of catalog.now roll.now) text.items)) }
+    ensures publication { IfOk result
+        (λ publication. IsPublication (tables_of catalog.now roll.now)
+        (publication_of publication)) }
+    ensures text { IfOk result
+        (λ publication. text.items
+        ≡ text_of (tables_of catalog.now roll.now) (publication_of publication)) }
+    ensures defect { IfErr result
+        (λ refusal. OnDefect refusal
+        (Finds (ArePublished (tables_of catalog.now roll.now)) 1 text.items)) }
+    ensures refused { IfErr result
+        (λ refusal. OnDefect refusal
+        (λ _ _. ¬ IsPublished (tables_of catalog.now roll.now) text.items)) }
 {
     read_publication(alloc, catalog, roll, &text)
 }
 
-// The publication, where the certificate holds of it, with the students' menus and budgets against which it was checked,
-// or the first finding.
+// The publication, where the certificate holds of it, with the students' menus and budgets against
+// which it was checked, or the first finding.
 fn accept_publication(
     alloc: Global,
     catalog: &Catalog,
@@ -132,15 +171,25 @@ fn accept_publication(
     streams: &[Vec<Command>],
     publication: Publication,
 ) -> Result<Accepted, CheckEnd>
-    requires publication { IsPublication (tables_of catalog.now roll.now) (publication_of publication) }
+    requires publication { IsPublication (tables_of catalog.now roll.now)
+        (publication_of publication) }
     requires entries { length publication.order.items < 2 ^ 32 - 1 }
     requires turns { length publication.turns.items < 2 ^ 32 - 1 }
     requires spread { settings.now.spread ≤ 49 }
     requires raise { settings.now.raise ≤ 50 }
-    ensures same { IfOk result (λ accepted. publication_of accepted.publication ≡ publication_of publication) }
-    ensures holds { IfOk result (λ accepted. HoldsBy (market_of catalog.now roll.now settings.now) (map (λ stream. stream.items) streams.now) (publication_of publication) (crowd_seen accepted.crowd)) }
-    ensures whole { IfOk result (λ accepted. MakeCrowd accepted.crowd.menus.items accepted.crowd.budgets.items accepted.crowd.sections) }
-    ensures first { IfErr result (λ end. OnFound end (IsFirstOf (market_of catalog.now roll.now settings.now) (map (λ stream. stream.items) streams.now) (publication_of publication))) }
+    ensures same { IfOk result
+        (λ accepted. publication_of accepted.publication ≡ publication_of publication) }
+    ensures holds { IfOk result
+        (λ accepted. HoldsBy (market_of catalog.now roll.now settings.now)
+        (map (λ stream. stream.items) streams.now) (publication_of publication)
+        (crowd_seen accepted.crowd)) }
+    ensures whole { IfOk result
+        (λ accepted. MakeCrowd accepted.crowd.menus.items accepted.crowd.budgets.items
+        accepted.crowd.sections) }
+    ensures first { IfErr result
+        (λ end. OnFound end
+        (IsFirstOf (market_of catalog.now roll.now settings.now)
+        (map (λ stream. stream.items) streams.now) (publication_of publication))) }
 {
     let terms = terms_after(alloc, catalog, roll, settings, streams, &publication.order)?;
     match check_printed(alloc, &terms, &publication) {
@@ -167,7 +216,8 @@ fn check_printed(alloc: Global, terms: &Terms, publication: &Publication) -> Res
     requires terms { CanCheck terms.now (publication_of publication.now) }
     requires few { length publication.now.turns.items < 2 ^ 32 - 1 }
     ensures holds { OnOk result (HoldsOf (terms_of terms.now) (publication_of publication.now)) }
-    ensures first { IfErr result (λ end. OnFound end (IsFirstIn (terms_of terms.now) (publication_of publication.now))) }
+    ensures first { IfErr result
+        (λ end. OnFound end (IsFirstIn (terms_of terms.now) (publication_of publication.now))) }
 {
     check_budgets(terms, publication)?;
     check_bundles(terms, publication)?;
@@ -182,7 +232,8 @@ fn check_printed(alloc: Global, terms: &Terms, publication: &Publication) -> Res
 // What is held in stage two.
 fn stage_two(alloc: Global, terms: &Terms, publication: &Publication) -> Result<Floor, NoMemory>
     requires { CanCheck terms.now (publication_of publication.now) }
-    ensures held { IfOk result (λ floor. held_on floor ≡ demanded (publication_of publication.now)) }
+    ensures held { IfOk result
+        (λ floor. held_on floor ≡ demanded (publication_of publication.now)) }
     ensures floor { IfOk result (λ floor. IsFloor terms.now.seats.items floor) }
 {
     let mut bundles = Vec::with_capacity(alloc, publication.bundles.len())?;

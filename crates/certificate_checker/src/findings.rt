@@ -17,13 +17,13 @@ pub enum TurnFault {
     Infeasible,
     /// A section of the bundle is neither held by the student nor free.
     Taken,
-    /// The tree does not prove the bundle the best of what is offered: a better one exists, or the tree is not the
-    /// canonical one.
+    /// The tree does not prove the bundle the best of what is offered: a better one exists, or the
+    /// tree is not the canonical one.
     Tree(TreeDefect),
 }
 
-/// The first thing that is wrong with a published text, in the order in which it is looked for. Each supposes that what
-/// is looked at before is right.
+/// The first thing that is wrong with a published text, in the order in which it is looked for.
+/// Each supposes that what is looked at before is right.
 #[derive(Clone, Copy, Debug, PartialEq, Eq)]
 pub enum Finding {
     /// The text is not that of a publication: its first defect.
@@ -35,8 +35,8 @@ pub enum Finding {
     },
     /// The order does not merge the streams.
     Journal {
-        /// The first entry, from 1, whose session is not given or has no command left; or one more than there are entries,
-        /// where commands are left.
+        /// The first entry, from 1, whose session is not given or has no command left; or one more
+        /// than there are entries, where commands are left.
         at: u32,
     },
     /// The first student whose budget is not the one that the seed draws.
@@ -54,8 +54,8 @@ pub enum Finding {
         /// The student.
         student: StudentNo,
     },
-    /// The first student with a wrong bundle in stage two: the tree does not prove the bundle the best of what is
-    /// offered: a better one exists, or the tree is not the canonical one.
+    /// The first student with a wrong bundle in stage two: the tree does not prove the bundle the
+    /// best of what is offered: a better one exists, or the tree is not the canonical one.
     Tree {
         /// The student.
         student: StudentNo,
@@ -88,8 +88,8 @@ pub enum Finding {
         /// The student.
         student: StudentNo,
     },
-    /// The first section whose used seats are not as many as it has final holders, or whose seats are not the
-    /// catalogue's.
+    /// The first section whose used seats are not as many as it has final holders, or whose seats
+    /// are not the catalogue's.
     Used {
         /// The section.
         section: SectionNo,

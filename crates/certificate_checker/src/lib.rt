@@ -1,4 +1,5 @@
-//! Whether a published text is accepted: a check that trusts nothing of who published it, and does not judge its prices.
+//! Whether a published text is accepted: a check that trusts nothing of who published it, and does
+//! not judge its prices.
 // Neither: that the prices came from a search or an elimination, and that the order is the one in
 // which sessions came, since the check does not ask for either; how long it takes.
 #![tactic(auto)]

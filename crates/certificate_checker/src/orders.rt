@@ -15,8 +15,8 @@ use std::alloc::Global;
 use student_roll::Roll;
 use utility_language::Command;
 
-// The desk after the commands of an order: each entry is its session's next command. Else the first entry at which the
-// order does not merge the streams.
+// The desk after the commands of an order: each entry is its session's next command. Else the first
+// entry at which the order does not merge the streams.
 pub(crate) fn replay(
     alloc: Global,
     catalog: &Catalog,
@@ -25,9 +25,13 @@ pub(crate) fn replay(
     order: &[u8],
 ) -> Result<Desk, CheckEnd>
     requires { length order.now < 2 ^ 32 - 1 }
-    ensures names { IfOk result (λ desk. names_of desk ≡ market_names catalog.now.sections roll.now.students) }
-    ensures journal { IfOk result (λ desk. IsJournalOf (market_names catalog.now.sections roll.now.students) (map (λ stream. stream.items) streams.now) order.now (entries_of desk)) }
-    ensures fails { IfErr result (λ end. OnFound end (IsOrderFinding (map (λ stream. stream.items) streams.now) order.now)) }
+    ensures names { IfOk result
+        (λ desk. names_of desk ≡ market_names catalog.now.sections roll.now.students) }
+    ensures journal { IfOk result
+        (λ desk. IsJournalOf (market_names catalog.now.sections roll.now.students)
+        (map (λ stream. stream.items) streams.now) order.now (entries_of desk)) }
+    ensures fails { IfErr result
+        (λ end. OnFound end (IsOrderFinding (map (λ stream. stream.items) streams.now) order.now)) }
 {
     let mut desk = Desk::prepare(alloc, catalog, roll, order.len() as u32)?;
     let mut said = vec![in alloc; 0usize; streams.len()]?;
@@ -57,11 +61,15 @@ fn failed_at(place: usize) -> CheckEnd
     })
 }
 
-// The session's next command, which then is said; none where the session is not given or has no command left.
+// The session's next command, which then is said; none where the session is not given or has no
+// command left.
 fn next_command(streams: &[Vec<Command>], said: &mut [usize], session: u8) -> Option<Command>
     requires { length said.old ≡ length streams.now }
-    ensures some { IfSome result (λ command. IsNextCommand (map (λ stream. stream.items) streams.now) said.old session said.new command) }
-    ensures none { IfNone result (¬ HasNext (map (λ stream. stream.items) streams.now) said.old session) }
+    ensures some { IfSome result
+        (λ command. IsNextCommand (map (λ stream. stream.items) streams.now) said.old session
+        said.new command) }
+    ensures none { IfNone result
+        (¬ HasNext (map (λ stream. stream.items) streams.now) said.old session) }
 {
     if session == 0 || usize::from(session) > streams.len() {
         return None;

@@ -3,8 +3,8 @@ ghost use Rattle.std.specs.Prelude.{◌≡◌, ◌<◌, ◌+◌, ◌^◌, ℕ, f
 ghost use Rattle.market_certificate.specs.Publications.{Publication};
 ghost use Rattle.certificate_checker.specs.Parts.{IsProgress, MadeChange};
 
-// The number of whole passes, the place in the next one, whether it made a change so far, and whether some whole pass
-// was without one.
+// The number of whole passes, the place in the next one, whether it made a change so far, and
+// whether some whole pass was without one.
 #[derive(Clone, Copy)]
 pub(crate) struct Progress {
     pub pass: u64,
@@ -31,7 +31,8 @@ impl Progress {
         requires place { self.place < students }
         requires passes { self.pass < 2 ^ 32 }
         requires goes_on { self.over ≡ false }
-        ensures { (p : Publication) (turns : ℕ) → IsProgress students p turns self → MadeChange p turns moved → IsProgress students p (turns + 1) result }
+        ensures { (p : Publication) (turns : ℕ) → IsProgress students p turns self
+            → MadeChange p turns moved → IsProgress students p (turns + 1) result }
     {
         let changed = self.changed | moved;
         if self.place + 1 < students {

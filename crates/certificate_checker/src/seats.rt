@@ -15,7 +15,8 @@ use held_seats::Floor;
 use market_certificate::Publication;
 use market_units::SectionNo;
 
-// Whether no section has more students in stage two than seats, where their bundles are held on the floor.
+// Whether no section has more students in stage two than seats, where their bundles are held on the
+// floor.
 pub(crate) fn check_seats(
     terms: &Terms,
     publication: &Publication,
@@ -42,8 +43,8 @@ pub(crate) fn check_seats(
     Ok(())
 }
 
-// Whether the printed seats of each section are the number of its final holders, who are those on the floor, and the
-// catalogue's seats.
+// Whether the printed seats of each section are the number of its final holders, who are those on
+// the floor, and the catalogue's seats.
 pub(crate) fn check_used(
     terms: &Terms,
     publication: &Publication,
@@ -53,7 +54,9 @@ pub(crate) fn check_used(
     requires before { HoldsToAllocation (terms_of terms.now) (publication_of publication.now) }
     requires held { held_on floor.now ≡ (publication_of publication.now).allocation }
     requires floor { IsFloor terms.now.seats.items floor.now }
-    ensures ok { OnOk result (AllBelow (terms_of terms.now).crowd.sections (IsUseTold (terms_of terms.now).seats (publication_of publication.now))) }
+    ensures ok { OnOk result
+        (AllBelow (terms_of terms.now).crowd.sections
+        (IsUseTold (terms_of terms.now).seats (publication_of publication.now))) }
     ensures first { IfErr result (IsFirstIn (terms_of terms.now) (publication_of publication.now)) }
 {
     for place in 0..terms.seats.len() {

@@ -30,7 +30,8 @@ pub(crate) struct Terms {
     pub raise: u8,
 }
 
-// The terms of a market after the commands of an order, or the first entry at which it does not merge the streams.
+// The terms of a market after the commands of an order, or the first entry at which it does not
+// merge the streams.
 pub(crate) fn terms_after(
     alloc: Global,
     catalog: &Catalog,
@@ -41,10 +42,17 @@ pub(crate) fn terms_after(
 ) -> Result<Terms, CheckEnd>
     requires few { length order.now < 2 ^ 32 - 1 }
     requires spread { settings.now.spread ≤ 49 }
-    ensures terms { IfOk result (λ terms. terms_of terms ≡ terms_in (market_of catalog.now roll.now settings.now) (terms_of terms).crowd) }
-    ensures crowd { IfOk result (λ terms. IsCrowdAfter (market_of catalog.now roll.now settings.now) (map (λ stream. stream.items) streams.now) order.now (terms_of terms).crowd) }
-    ensures whole { IfOk result (λ terms. MakeCrowd terms.crowd.menus.items terms.crowd.budgets.items terms.crowd.sections) }
-    ensures fails { IfErr result (λ end. OnFound end (IsOrderFinding (map (λ stream. stream.items) streams.now) order.now)) }
+    ensures terms { IfOk result
+        (λ terms. terms_of terms
+        ≡ terms_in (market_of catalog.now roll.now settings.now) (terms_of terms).crowd) }
+    ensures crowd { IfOk result
+        (λ terms. IsCrowdAfter (market_of catalog.now roll.now settings.now)
+        (map (λ stream. stream.items) streams.now) order.now (terms_of terms).crowd) }
+    ensures whole { IfOk result
+        (λ terms. MakeCrowd terms.crowd.menus.items terms.crowd.budgets.items
+        terms.crowd.sections) }
+    ensures fails { IfErr result
+        (λ end. OnFound end (IsOrderFinding (map (λ stream. stream.items) streams.now) order.now)) }
 {
     let desk = replay(alloc, catalog, roll, streams, order)?;
     let crowd = make_crowd(

@@ -20,8 +20,8 @@ use market_units::StudentNo;
 use proof_tree::check_tree;
 use std::alloc::Global;
 
-// Whether each turn is right, and whether they end with a whole pass without a change. The floor, on which the bundles
-// of stage two are held, is then as after the last turn.
+// Whether each turn is right, and whether they end with a whole pass without a change. The floor,
+// on which the bundles of stage two are held, is then as after the last turn.
 pub(crate) fn check_turns(
     alloc: Global,
     terms: &Terms,
@@ -34,9 +34,13 @@ pub(crate) fn check_turns(
     requires held { held_on floor.old ≡ demanded (publication_of publication.now) }
     requires floor { IsFloor terms.now.seats.items floor.old }
     ensures ok { OnOk result (HoldsToTheEnd (terms_of terms.now) (publication_of publication.now)) }
-    ensures held { OnOk result (held_on floor.new ≡ held_after (demanded (publication_of publication.now)) (publication_of publication.now).turns) }
+    ensures held { OnOk result
+        (held_on floor.new
+        ≡ held_after (demanded (publication_of publication.now))
+        (publication_of publication.now).turns) }
     ensures floor { OnOk result (IsFloor terms.now.seats.items floor.new) }
-    ensures first { IfErr result (λ end. OnFound end (IsFirstIn (terms_of terms.now) (publication_of publication.now))) }
+    ensures first { IfErr result
+        (λ end. OnFound end (IsFirstIn (terms_of terms.now) (publication_of publication.now))) }
 {
     let order = after_order(alloc, &terms.crowd.budgets)?;
     let mut progress = Progress::start();
@@ -54,7 +58,8 @@ pub(crate) fn check_turns(
     }))
 }
 
-// The turn at this place, where it is right: its student then holds its bundle, and the passes go on.
+// The turn at this place, where it is right: its student then holds its bundle, and the passes go
+// on.
 fn take_turn(
     terms: &Terms,
     publication: &Publication,
@@ -67,14 +72,20 @@ fn take_turn(
     requires few { length publication.now.turns.items < 2 ^ 32 - 1 }
     requires place { place < length publication.now.turns.items }
     requires order { map (λ student. student.0) order.now ≡ order_in (terms_of terms.now).crowd }
-    requires progress { IsProgress (length terms.now.crowd.menus.items) (publication_of publication.now) place progress }
+    requires progress { IsProgress (length terms.now.crowd.menus.items)
+        (publication_of publication.now) place progress }
     requires held { held_on floor.old ≡ held_before (publication_of publication.now) place }
     requires floor { IsFloor terms.now.seats.items floor.old }
-    ensures right { IfOk result (λ next. IsRightTurn (terms_of terms.now) (publication_of publication.now) place) }
-    ensures progress { IfOk result (λ next. IsProgress (length terms.now.crowd.menus.items) (publication_of publication.now) (place + 1) next) }
-    ensures held { IfOk result (λ next. held_on floor.new ≡ held_before (publication_of publication.now) (place + 1)) }
+    ensures right { IfOk result
+        (λ next. IsRightTurn (terms_of terms.now) (publication_of publication.now) place) }
+    ensures progress { IfOk result
+        (λ next. IsProgress (length terms.now.crowd.menus.items) (publication_of publication.now)
+        (place + 1) next) }
+    ensures held { IfOk result
+        (λ next. held_on floor.new ≡ held_before (publication_of publication.now) (place + 1)) }
     ensures floor { IfOk result (λ next. IsFloor terms.now.seats.items floor.new) }
-    ensures wrong { IfErr result (IsTurnFinding (terms_of terms.now) (publication_of publication.now) place) }
+    ensures wrong { IfErr result
+        (IsTurnFinding (terms_of terms.now) (publication_of publication.now) place) }
 {
     match check_turn(terms, publication, floor, order, progress, place) {
         Ok(()) => {}
@@ -90,7 +101,8 @@ fn take_turn(
     Ok(progress.after_turn(order.len(), moved))
 }
 
-// What is first wrong with the turn at this place, where so much is held before it and the passes have come so far.
+// What is first wrong with the turn at this place, where so much is held before it and the passes
+// have come so far.
 fn check_turn(
     terms: &Terms,
     publication: &Publication,
@@ -103,12 +115,17 @@ fn check_turn(
     requires few { length publication.now.turns.items < 2 ^ 32 - 1 }
     requires place { place < length publication.now.turns.items }
     requires order { map (λ student. student.0) order.now ≡ order_in (terms_of terms.now).crowd }
-    requires progress { IsProgress (length terms.now.crowd.menus.items) (publication_of publication.now) place progress }
+    requires progress { IsProgress (length terms.now.crowd.menus.items)
+        (publication_of publication.now) place progress }
     requires held { held_on floor.now ≡ held_before (publication_of publication.now) place }
     requires floor { IsFloor terms.now.seats.items floor.now }
-    ensures due { OnOk result (IsDueTurn (map (λ student. student.0) order.now) progress (turn_in (publication_of publication.now) place)) }
-    ensures right { OnOk result (IsRightTurn (terms_of terms.now) (publication_of publication.now) place) }
-    ensures wrong { IfErr result (HasTurnFault (terms_of terms.now) (publication_of publication.now) place) }
+    ensures due { OnOk result
+        (IsDueTurn (map (λ student. student.0) order.now) progress
+        (turn_in (publication_of publication.now) place)) }
+    ensures right { OnOk result
+        (IsRightTurn (terms_of terms.now) (publication_of publication.now) place) }
+    ensures wrong { IfErr result
+        (HasTurnFault (terms_of terms.now) (publication_of publication.now) place) }
 {
     let turn = &publication.turns[place];
     if !is_due(order, progress, turn) {
@@ -137,7 +154,8 @@ fn check_turn(
 // Whether the turn has the pass and the student that are due.
 fn is_due(order: &[StudentNo], progress: Progress, turn: &ProvedTurn) -> bool
     requires { progress.pass < 2 ^ 32 }
-    ensures { IsTrue result ↔ IsDueTurn (map (λ student. student.0) order.now) progress (turn_of turn.now) }
+    ensures { IsTrue result
+        ↔ IsDueTurn (map (λ student. student.0) order.now) progress (turn_of turn.now) }
 {
     if progress.over || turn.pass != progress.pass + 1 {
         return false;

@@ -13,8 +13,8 @@ use proof_tree::TreeDefect;
 use status_line::Line;
 use student_roll::Roll;
 
-/// The line that tells a finding on a text, in which students and sections stand by the names of this roll and this
-/// catalogue. It takes no memory.
+/// The line that tells a finding on a text, in which students and sections stand by the names of
+/// this roll and this catalogue. It takes no memory.
 pub fn finding_line(catalog: &Catalog, roll: &Roll, finding: Finding) -> Line
     requires { IsNamedIn (tables_of catalog.now roll.now) finding }
     ensures { result ≡ finding_line (tables_of catalog.now roll.now) finding }

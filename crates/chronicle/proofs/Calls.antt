@@ -14,22 +14,28 @@ use Rattle.chronicle.specs.Views.{waiting, in_turn, done}
 use Rattle.chronicle.proofs.ViewLists.{same_view}
 use Rattle.chronicle.proofs.HistoryLaws.{legal_with_step, calls_by-own, none_between}
 
-module _ {T B S Q A : Type 0} (base_of : T → B) (state_of : T → S) (room : T → ℕ) (sound : B → Q → Bool) (after : B → S → ℕ → Q → S) (reply : B → S → ℕ → Q → A) where
+module _ {T B S Q A : Type 0} (base_of : T → B) (state_of : T → S) (room : T → ℕ) (sound : B → Q → Bool) (after : B → S → ℕ → Q → S)
+    (reply : B → S → ℕ → Q → A) where
   -- what a seat at rest tells is in its view
   told : (table : TableId) (number : ℕ) (me : Place T B S Q A) (old : Standing B S Q A) (rest : IsAtRest number me) → standing_of table number me.0 ≡ old
       → standing (Some (origin table rest.view.base rest.view.opening rest.view.allotments)) number rest.view.left rest.view.seen rest.view.own ≡ old
   told table number me old rest is = sym (ap (λ (m : Place T B S Q A). standing_of table number m.0) rest.is) ∙ is
 
   -- so is its chronicle
-  told_origin : (table : TableId) (self : Origin B S) (number : ℕ) (me : Place T B S Q A) (old : Standing B S Q A) (rest : IsAtRest number me) → standing_of table number me.0 ≡ old → old.chronicle ≡ Some self
+  told_origin : (table : TableId) (self : Origin B S) (number : ℕ) (me : Place T B S Q A) (old : Standing B S Q A) (rest : IsAtRest number me)
+      → standing_of table number me.0 ≡ old → old.chronicle ≡ Some self
       → origin table rest.view.base rest.view.opening rest.view.allotments ≡ self
-  told_origin table self number me old rest is ours = same_view (origin table rest.view.base rest.view.opening rest.view.allotments) self (ap (λ (s : Standing B S Q A). s.chronicle) (told table number me old rest is) ∙ ours)
+  told_origin table self number me old rest is ours =
+      same_view (origin table rest.view.base rest.view.opening rest.view.allotments) self
+      (ap (λ (s : Standing B S Q A). s.chronicle) (told table number me old rest is) ∙ ours)
 
   -- a seat of the chronicle has its place at the chronicle's table
-  pub table_of : (table : TableId) (self : Origin B S) (number : ℕ) (me : Place T B S Q A) (old : Standing B S Q A) → IsAtRest number me → standing_of table number me.0 ≡ old → old.chronicle ≡ Some self → table ≡ self.table
+  pub table_of : (table : TableId) (self : Origin B S) (number : ℕ) (me : Place T B S Q A) (old : Standing B S Q A) → IsAtRest number me
+      → standing_of table number me.0 ≡ old → old.chronicle ≡ Some self → table ≡ self.table
   table_of table self number me old rest is ours = ap (λ (o : Origin B S). o.table) (told_origin table self number me old rest is ours)
 
-  pub may_call : (table : TableId) (number : ℕ) (me : Place T B S Q A) (old : Standing B S Q A) → IsAtRest number me → standing_of table number me.0 ≡ old → 1 ≤ old.left → MayCall me
+  pub may_call : (table : TableId) (number : ℕ) (me : Place T B S Q A) (old : Standing B S Q A) → IsAtRest number me → standing_of table number me.0 ≡ old
+      → 1 ≤ old.left → MayCall me
   may_call table number me old rest is some_left =
       let left : rest.view.left ≡ old.left = ap (λ (s : Standing B S Q A). s.left) (told table number me old rest is) in
       (rest.view, rest.is, rest.idle, rest.alone.0, rest.alone.2, (let goal : 0 < rest.view.left = omega arith in goal))
@@ -37,8 +43,10 @@ module _ {T B S Q A : Type 0} (base_of : T → B) (state_of : T → S) (room : T
   pub is_waiting : (number ticket : ℕ) (me drawn : Place T B S Q A) → IsAtRest number me → Draws me ticket drawn → IsWaiting ticket drawn
   is_waiting number ticket me drawn rest draws = (waiting rest.view ticket, draws rest.view rest.is, refl, rest.alone.0, rest.alone.2)
 
-  pub may_step : (table : TableId) (self : Origin B S) (number ticket : ℕ) (request : Q) (me drawn turned : Place T B S Q A) (old : Standing B S Q A) → IsAtRest number me → standing_of table number me.0 ≡ old → old.chronicle ≡ Some self
-      → sound self.base request ≡ true → Draws me ticket drawn → ((v : View B S Q A) → At drawn v → Serves base_of state_of room sound after reply v ticket turned)
+  pub may_step : (table : TableId) (self : Origin B S) (number ticket : ℕ) (request : Q) (me drawn turned : Place T B S Q A) (old : Standing B S Q A)
+      → IsAtRest number me → standing_of table number me.0 ≡ old → old.chronicle ≡ Some self
+      → sound self.base request ≡ true → Draws me ticket drawn
+      → ((v : View B S Q A) → At drawn v → Serves base_of state_of room sound after reply v ticket turned)
       → MayStep base_of state_of room sound after reply number request turned
   may_step table self number ticket request me drawn turned old rest is ours ok draws serves =
       let v : View B S Q A = rest.view in
@@ -52,8 +60,10 @@ module _ {T B S Q A : Type 0} (base_of : T → B) (state_of : T → S) (room : T
         sound_request = ap (λ (b : B). sound b request) base_is ∙ ok;
       }
 
-  pub has_to_pass : (number : ℕ) (request : Q) (answer : A) (turned stepped : Place T B S Q A) → MayStep base_of state_of room sound after reply number request turned
-      → Steps base_of state_of room sound after reply number request answer turned stepped → HasToPass base_of state_of room sound after reply (step_of number request answer) stepped
+  pub has_to_pass : (number : ℕ) (request : Q) (answer : A) (turned stepped : Place T B S Q A)
+      → MayStep base_of state_of room sound after reply number request turned
+      → Steps base_of state_of room sound after reply number request answer turned stepped
+      → HasToPass base_of state_of room sound after reply (step_of number request answer) stepped
   has_to_pass number request answer turned stepped may steps =
       let made = steps may.view may.kept may.is in record {
         view = may.view;
@@ -68,7 +78,8 @@ module _ {T B S Q A : Type 0} (base_of : T → B) (state_of : T → S) (room : T
       }
 
   -- what a call ensures, of a chronicle and a seat, which has the place `me` afterwards
-  pub record CallMade (self : Origin B S) (number : ℕ) (request : Q) (answer : A) (old new : Standing B S Q A) (table : TableId) (at : ℕ) (me : Place T B S Q A) : Type 0 where
+  pub record CallMade (self : Origin B S) (number : ℕ) (request : Q) (answer : A) (old new : Standing B S Q A) (table : TableId) (at : ℕ) (me : Place T B S Q A)
+      : Type 0 where
     pub at_rest : IsAtRest at me
     pub chronicle : origin_of table me.0 ≡ old.chronicle
     pub seen : Extends old.seen new.seen (step_of number request answer)
@@ -78,8 +89,11 @@ module _ {T B S Q A : Type 0} (base_of : T → B) (state_of : T → S) (room : T
     pub others : (between : List (StepOf Q A)) → new.seen ≡ (old.seen ++ between) ++ step_of number request answer ∷ [] → calls_by number between ≡ []
     pub left : new.left + 1 ≡ old.left
 
-  pub call_made : (table : TableId) (self : Origin B S) (number ticket : ℕ) (request : Q) (answer : A) (me drawn turned stepped passed : Place T B S Q A) (old : Standing B S Q A) → IsAtRest number me → standing_of table number me.0 ≡ old → old.chronicle ≡ Some self → 1 ≤ old.left
-      → sound self.base request ≡ true → Draws me ticket drawn → ((v : View B S Q A) → At drawn v → Serves base_of state_of room sound after reply v ticket turned)
+  pub call_made : (table : TableId) (self : Origin B S) (number ticket : ℕ) (request : Q) (answer : A) (me drawn turned stepped passed : Place T B S Q A)
+      (old : Standing B S Q A)
+      → IsAtRest number me → standing_of table number me.0 ≡ old → old.chronicle ≡ Some self → 1 ≤ old.left
+      → sound self.base request ≡ true → Draws me ticket drawn
+      → ((v : View B S Q A) → At drawn v → Serves base_of state_of room sound after reply v ticket turned)
       → Steps base_of state_of room sound after reply number request answer turned stepped → Passes stepped passed
       → CallMade self old.number request answer old (standing_of table number passed.0) table number passed
   unfolding may_step
@@ -99,9 +113,12 @@ module _ {T B S Q A : Type 0} (base_of : T → B) (state_of : T → S) (room : T
       let origin_is = told_origin table self number me old rest is ours in
       let base_is : v.base ≡ self.base = ap (λ (x : Origin B S). x.base) origin_is in
       let opening_is : v.opening ≡ self.opening = ap (λ (x : Origin B S). x.opening) origin_is in
-      let legal : IsLegal sound after reply v.base v.opening (turn.history ++ entry ∷ []) = legal_with_step sound after reply v.base v.opening turn.history entry turn.ready.legal may.sound_request made.0 in
-      let calls : calls_by v.number (turn.history ++ entry ∷ []) ≡ v.own ++ entry ∷ [] = calls_by-own v.number turn.history entry (sym rest.numbered.0) ∙ ap (λ (l : List (StepOf Q A)). l ++ entry ∷ []) turn.own in
-      let all_own : calls_by number (turn.history ++ entry ∷ []) ≡ v.own ++ entry ∷ [] = ap (λ (n : ℕ). calls_by n (turn.history ++ entry ∷ [])) (sym rest.numbered.0) ∙ calls in
+      let legal : IsLegal sound after reply v.base v.opening (turn.history ++ entry ∷ []) =
+      legal_with_step sound after reply v.base v.opening turn.history entry turn.ready.legal may.sound_request made.0 in
+      let calls : calls_by v.number (turn.history ++ entry ∷ []) ≡ v.own ++ entry ∷ [] =
+      calls_by-own v.number turn.history entry (sym rest.numbered.0) ∙ ap (λ (l : List (StepOf Q A)). l ++ entry ∷ []) turn.own in
+      let all_own : calls_by number (turn.history ++ entry ∷ []) ≡ v.own ++ entry ∷ [] =
+      ap (λ (n : ℕ). calls_by n (turn.history ++ entry ∷ [])) (sym rest.numbered.0) ∙ calls in
       let own : v.own ++ entry ∷ [] ≡ old.own ++ entry ∷ [] = ap (λ (l : List (StepOf Q A)). l ++ entry ∷ []) own_is in
       let before : calls_by number old.seen ≡ old.own = sym (λ i. calls_by (rest.numbered.0 i) (seen_is i)) ∙ rest.all_own ∙ own_is in
       let begins : BeginsWith turn.history old.seen = subst (λ (l : List (StepOf Q A)). BeginsWith turn.history l) seen_is turn.begins in
@@ -120,6 +137,8 @@ module _ {T B S Q A : Type 0} (base_of : T → B) (state_of : T → S) (room : T
         legal = subst (λ (y : B × S). IsLegal sound after reply y.0 y.1 (turn.history ++ entry ∷ [])) (λ i. (base_is i, opening_is i)) legal;
         own = own;
         all_own = all_own;
-        others = λ between more. none_between number old.seen between old.own entry refl before (ap (λ (l : List (StepOf Q A)). calls_by number l) (sym more) ∙ all_own ∙ own);
+        others =
+            λ between more. none_between number old.seen between old.own entry refl before
+            (ap (λ (l : List (StepOf Q A)). calls_by number l) (sym more) ∙ all_own ∙ own);
         left = (let left : ℕ = v.left in let goal : (left - 1) + 1 ≡ old.left = omega arith in goal);
       })

@@ -42,7 +42,9 @@ sum_with_next i calls xs below so_far = ap (λ (n : ℕ). n + slice_index xs i) 
 pub sum_of-take-le : (i : ℕ) (xs : List ℕ) → sum_of (take i xs) ≤ sum_of xs
 sum_of-take-le zero xs = (let k : ℕ = sum_of xs in let goal : 0 ≤ k = omega arith in goal)
 sum_of-take-le (suc i) [] = (let goal : 0 ≤ 0 = omega arith in goal)
-sum_of-take-le (suc i) (x ∷ xs) = let rest = sum_of-take-le i xs in let a : ℕ = sum_of (take i xs) in let b : ℕ = sum_of xs in let rest' : a ≤ b = rest in let goal : x + a ≤ x + b = omega arith in goal
+sum_of-take-le (suc i) (x ∷ xs) =
+    let rest = sum_of-take-le i xs in
+    let a : ℕ = sum_of (take i xs) in let b : ℕ = sum_of xs in let rest' : a ≤ b = rest in let goal : x + a ≤ x + b = omega arith in goal
 
 drop_some : (i : ℕ) (xs : List ℕ) → i < length xs → drop i xs ≢ []
 drop_some zero [] below e = (let clash : ⊥ = omega arith in clash)
@@ -84,7 +86,8 @@ module _ {T B S Q A : Type 0} where
   })
 
   -- once one more seat is split off
-  pub dealing_next : (o : Origin B S) (number : ℕ) (me new : Place T B S Q A) → IsDealing o number me → new ≡ (split_left me.0, me.1) → IsDealing o (number + 1) new
+  pub dealing_next : (o : Origin B S) (number : ℕ) (me new : Place T B S Q A) → IsDealing o number me → new ≡ (split_left me.0, me.1)
+      → IsDealing o (number + 1) new
   dealing_next o number me new d is =
       let v : View B S Q A = d.view in
       let a : ℕ = first_of v.plan in
@@ -109,7 +112,8 @@ module _ {T B S Q A : Type 0} where
       }
 
   -- the seat that was split off is at rest, and tells its number and allotment
-  pub dealt_at_rest : (o : Origin B S) (number : ℕ) (me new : Place T B S Q A) → IsDealing o number me → number < 65535 → new ≡ (split_right me.0, []) → IsAtRest number new
+  pub dealt_at_rest : (o : Origin B S) (number : ℕ) (me new : Place T B S Q A) → IsDealing o number me → number < 65535 → new ≡ (split_right me.0, [])
+      → IsAtRest number new
   dealt_at_rest o number me new d low is = record {
     view = dealt_seat d.view;
     is = is ∙ ap (λ (m : Place T B S Q A). (split_right m.0, [])) d.is;
@@ -119,13 +123,15 @@ module _ {T B S Q A : Type 0} where
     all_own = refl;
   }
 
-  pub dealt_tells : (o : Origin B S) (table : TableId) (number : ℕ) (me new : Place T B S Q A) → IsDealing o number me → table ≡ o.table → new ≡ (split_right me.0, [])
+  pub dealt_tells : (o : Origin B S) (table : TableId) (number : ℕ) (me new : Place T B S Q A) → IsDealing o number me → table ≡ o.table
+      → new ≡ (split_right me.0, [])
       → standing_of table number new.0 ≡ standing (Some o) number (slice_index o.allotments number) [] []
   dealt_tells o table number me new d same is =
       let v : View B S Q A = d.view in
       let at : new ≡ (Some (dealt_seat v), []) = is ∙ ap (λ (m : Place T B S Q A). (split_right m.0, [])) d.is in
       let left : first_of v.plan ≡ slice_index o.allotments number = ap first_of d.plan_is ∙ first_of-drop number o.allotments in
-      ap (λ (m : Place T B S Q A). standing_of table number m.0) at ∙ (λ i. standing (Some (origin (same i) (d.same_base i) (d.same_opening i) (d.same_allotments i))) number (left i) [] [])
+      ap (λ (m : Place T B S Q A). standing_of table number m.0) at
+      ∙ (λ i. standing (Some (origin (same i) (d.same_base i) (d.same_opening i) (d.same_allotments i))) number (left i) [] [])
 
   -- the first seat, when all are made, is at rest, and tells its own allotment
   last_plan : (o : Origin B S) (number : ℕ) (me : Place T B S Q A) (d : IsDealing o number me) → length o.allotments ≤ number → d.view.plan ≡ []
@@ -141,7 +147,8 @@ module _ {T B S Q A : Type 0} where
     all_own = ap (λ (l : List (StepOf Q A)). calls_by d.view.number l) d.nothing_seen.0 ∙ sym d.nothing_seen.1;
   }
 
-  pub first_tells : (o : Origin B S) (table : TableId) (number : ℕ) (me : Place T B S Q A) → IsDealing o number me → length o.allotments ≤ number → table ≡ o.table
+  pub first_tells : (o : Origin B S) (table : TableId) (number : ℕ) (me : Place T B S Q A) → IsDealing o number me → length o.allotments ≤ number
+      → table ≡ o.table
       → standing_of table 0 me.0 ≡ standing (Some o) 0 (first_of o.allotments) [] []
   first_tells o table number me d all same =
       let v : View B S Q A = d.view in
@@ -158,28 +165,39 @@ length-new_seats Q A o n (x ∷ xs) = ap suc (length-new_seats Q A o (n + 1) xs)
 
 module _ {B S Q A : Type 0} where
   -- one more of the seats that are new
-  pub new_seats-push : (o : Origin B S) (n a : ℕ) (xs : List ℕ) → new_seats {Q = Q} {A = A} o n (xs ++ a ∷ []) ≡ new_seats o n xs ++ standing (Some o) (n + length xs) a [] [] ∷ []
+  pub new_seats-push : (o : Origin B S) (n a : ℕ) (xs : List ℕ)
+      → new_seats {Q = Q} {A = A} o n (xs ++ a ∷ []) ≡ new_seats o n xs ++ standing (Some o) (n + length xs) a [] [] ∷ []
   new_seats-push o n a [] = ap (λ (m : ℕ). standing (Some o) m a [] [] ∷ []) (let goal : n ≡ n + 0 = omega arith in goal)
   new_seats-push o n a (x ∷ xs) = ap (λ (l : List (Standing B S Q A)). standing (Some o) n x [] [] ∷ l)
-      (new_seats-push o (n + 1) a xs ∙ ap (λ (m : ℕ). new_seats o (n + 1) xs ++ standing (Some o) m a [] [] ∷ []) (let k : ℕ = length xs in let goal : n + 1 + k ≡ n + suc k = omega arith in goal))
+      (new_seats-push o (n + 1) a xs
+      ∙ ap (λ (m : ℕ). new_seats o (n + 1) xs ++ standing (Some o) m a [] [] ∷ [])
+      (let k : ℕ = length xs in let goal : n + 1 + k ≡ n + suc k = omega arith in goal))
 
   -- the seat at an index
-  pub new_seats-at : (o : Origin B S) (n : ℕ) (xs : List ℕ) (i : ℕ) (d : Standing B S Q A) → i < length xs → slice_index_or (new_seats o n xs) i d ≡ standing (Some o) (n + i) (slice_index xs i) [] []
+  pub new_seats-at : (o : Origin B S) (n : ℕ) (xs : List ℕ) (i : ℕ) (d : Standing B S Q A) → i < length xs
+      → slice_index_or (new_seats o n xs) i d ≡ standing (Some o) (n + i) (slice_index xs i) [] []
   new_seats-at o n [] i d below = absurd (omega arith)
   new_seats-at o n (x ∷ xs) zero d below = ap (λ (m : ℕ). standing (Some o) m x [] []) (let goal : n ≡ n + 0 = omega arith in goal)
-  new_seats-at o n (x ∷ xs) (suc i) d below = new_seats-at o (n + 1) xs i d (omega arith) ∙ ap (λ (m : ℕ). standing (Some o) m (slice_index xs i) [] []) (let goal : n + 1 + i ≡ n + suc i = omega arith in goal)
+  new_seats-at o n (x ∷ xs) (suc i) d below =
+      new_seats-at o (n + 1) xs i d (omega arith)
+      ∙ ap (λ (m : ℕ). standing (Some o) m (slice_index xs i) [] []) (let goal : n + 1 + i ≡ n + suc i = omega arith in goal)
 
-module _ {T B S Q A : Type 0} (base_of : T → B) (state_of : T → S) (room : T → ℕ) (sound : B → Q → Bool) (after : B → S → ℕ → Q → S) (reply : B → S → ℕ → Q → A) where
-  pub opens_at : (xs : List (Kept T Q A)) (kept : Kept T Q A) (base : B) (state : S) (allotments : List ℕ) → xs ≡ kept ∷ [] → base ≡ base_of kept.object → state ≡ state_of kept.object
-      → 1 ≤ length allotments → kept.journal.items ≡ [] → sum_of allotments ≤ room kept.object → sum_of allotments ≤ vec_capacity kept.journal → sum_of allotments < 2 ^ 64
+module _ {T B S Q A : Type 0} (base_of : T → B) (state_of : T → S) (room : T → ℕ) (sound : B → Q → Bool) (after : B → S → ℕ → Q → S)
+    (reply : B → S → ℕ → Q → A) where
+  pub opens_at : (xs : List (Kept T Q A)) (kept : Kept T Q A) (base : B) (state : S) (allotments : List ℕ) → xs ≡ kept ∷ [] → base ≡ base_of kept.object
+      → state ≡ state_of kept.object
+      → 1 ≤ length allotments → kept.journal.items ≡ [] → sum_of allotments ≤ room kept.object → sum_of allotments ≤ vec_capacity kept.journal
+      → sum_of allotments < 2 ^ 64
       → Keeps base_of state_of room sound after reply (opening (0 ∷ 0 ∷ []) xs (first_view base state allotments))
   opens_at xs kept base state allotments ex eb es some_seat empty roomy wide few =
-      subst (λ (y : List (Kept T Q A) × B × S). Keeps base_of state_of room sound after reply (opening (0 ∷ 0 ∷ []) y.0 (first_view y.1 y.2 allotments))) (λ i. (sym ex i, sym eb i, sym es i))
+      subst (λ (y : List (Kept T Q A) × B × S). Keeps base_of state_of room sound after reply (opening (0 ∷ 0 ∷ []) y.0 (first_view y.1 y.2 allotments)))
+      (λ i. (sym ex i, sym eb i, sym es i))
       (opens base_of state_of room sound after reply kept allotments some_seat empty roomy wide few)
 
   pub deals_at : (id : ℕ) (o : Origin B S) (number : ℕ) (me : Place T B S Q A) → IsDealing o number me → number < length o.allotments
       → Splits (Keeps base_of state_of room sound after reply) id me.0 (split_left me.0) (split_right me.0)
-  deals_at id o number me d below = subst (λ (m : Place T B S Q A). Splits (Keeps base_of state_of room sound after reply) id m.0 (split_left m.0) (split_right m.0)) (sym d.is)
+  deals_at id o number me d below =
+      subst (λ (m : Place T B S Q A). Splits (Keeps base_of state_of room sound after reply) id m.0 (split_left m.0) (split_right m.0)) (sym d.is)
       (deals base_of state_of room sound after reply id d.view d.idle (λ none. drop_some number o.allotments below (sym d.plan_is ∙ none)))
 
 rest_of-push : (xs : List ℕ) (a : ℕ) → 1 ≤ length xs → rest_of (xs ++ a ∷ []) ≡ rest_of xs ++ a ∷ []
@@ -206,19 +224,26 @@ module _ {B S Q A : Type 0} where
       let a : ℕ = slice_index o.allotments number in
       let long : length front ≡ number = length-take-le number o.allotments (let goal : number ≤ length o.allotments = omega arith in goal) in
       let some_seat : 1 ≤ length front = omega arith in
-      let next : take (number + 1) o.allotments ≡ front ++ a ∷ [] = ap (λ (n : ℕ). take n o.allotments) (let step : number + 1 ≡ suc number = omega arith in step) ∙ take-suc o.allotments number 0 below in
+      let next : take (number + 1) o.allotments ≡ front ++ a ∷ [] =
+      ap (λ (n : ℕ). take n o.allotments) (let step : number + 1 ≡ suc number = omega arith in step) ∙ take-suc o.allotments number 0 below in
       let k : ℕ = length (rest_of front) in
       let short : k + 1 ≡ length front = length-rest_of front some_seat in
       let at : number ≡ 1 + k = omega arith in
       (λ i. so_far i ++ is i ∷ []) ∙ ap (λ (n : ℕ). new_seats o 1 (rest_of front) ++ standing (Some o) n a [] [] ∷ []) at
-      ∙ sym (new_seats-push o 1 a (rest_of front)) ∙ ap (λ (l : List ℕ). new_seats o 1 l) (sym (rest_of-push front a some_seat)) ∙ ap (λ (l : List ℕ). new_seats o 1 (rest_of l)) (sym next)
+      ∙ sym (new_seats-push o 1 a (rest_of front)) ∙ ap (λ (l : List ℕ). new_seats o 1 l) (sym (rest_of-push front a some_seat))
+      ∙ ap (λ (l : List ℕ). new_seats o 1 (rest_of l)) (sym next)
 
-  from_first : (o : Origin B S) (xs : List ℕ) → 1 ≤ length xs → new_seats {Q = Q} {A = A} o 0 xs ≡ standing (Some o) 0 (first_of xs) [] [] ∷ new_seats o 1 (rest_of xs)
+  from_first : (o : Origin B S) (xs : List ℕ) → 1 ≤ length xs
+      → new_seats {Q = Q} {A = A} o 0 xs ≡ standing (Some o) 0 (first_of xs) [] [] ∷ new_seats o 1 (rest_of xs)
   from_first o [] some_seat = absurd (omega arith)
   from_first o (x ∷ xs) some_seat = refl
 
   -- with the first, they are all
-  pub every_seat : (o : Origin B S) (number : ℕ) (seats : List (Standing B S Q A)) (first : Standing B S Q A) → 1 ≤ length o.allotments → length o.allotments ≤ number
-      → seats ≡ new_seats o 1 (rest_of (take number o.allotments)) → first ≡ standing (Some o) 0 (first_of o.allotments) [] [] → first ∷ seats ≡ new_seats o 0 o.allotments
+  pub every_seat : (o : Origin B S) (number : ℕ) (seats : List (Standing B S Q A)) (first : Standing B S Q A) → 1 ≤ length o.allotments
+      → length o.allotments ≤ number
+      → seats ≡ new_seats o 1 (rest_of (take number o.allotments)) → first ≡ standing (Some o) 0 (first_of o.allotments) [] []
+      → first ∷ seats ≡ new_seats o 0 o.allotments
   every_seat o number seats first some_seat all so_far is =
-      (λ i. is i ∷ so_far i) ∙ ap (λ (l : List ℕ). standing (Some o) 0 (first_of o.allotments) [] [] ∷ new_seats o 1 (rest_of l)) (take_all number o.allotments all) ∙ sym (from_first o o.allotments some_seat)
+      (λ i. is i ∷ so_far i)
+      ∙ ap (λ (l : List ℕ). standing (Some o) 0 (first_of o.allotments) [] [] ∷ new_seats o 1 (rest_of l)) (take_all number o.allotments all)
+      ∙ sym (from_first o o.allotments some_seat)

@@ -14,6 +14,8 @@ any_at P (x ∷ xs) (suc n) below at =
     (suc k, later.1, (let m : ℕ = length xs in let goal : suc k < suc m = omega arith in goal), later.3, later.4)
 
 -- each number below the count is the number of the seat at that place
-pub all_at_their_numbers : {B S Q A : Type 0} (count : ℕ) (seats : List (Standing B S Q A)) → count ≤ length seats → ((n : ℕ) (d : Standing B S Q A) → n < count → (slice_index_or seats n d).number ≡ n)
+pub all_at_their_numbers : {B S Q A : Type 0} (count : ℕ) (seats : List (Standing B S Q A)) → count ≤ length seats
+    → ((n : ℕ) (d : Standing B S Q A) → n < count → (slice_index_or seats n d).number ≡ n)
     → (n : ℕ) → n < count → Any (λ (seat : Standing B S Q A). seat.number ≡ n) seats
-all_at_their_numbers count seats enough at n below = any_at (λ seat. seat.number ≡ n) seats n (let goal : n < length seats = omega arith in goal) (λ d. at n d below)
+all_at_their_numbers count seats enough at n below =
+    any_at (λ seat. seat.number ≡ n) seats n (let goal : n < length seats = omega arith in goal) (λ d. at n d below)

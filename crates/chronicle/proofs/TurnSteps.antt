@@ -50,14 +50,16 @@ module _ {Q A : Type 0} where
 
 module _ {B S Q A : Type 0} where
   -- where nobody is in turn after a view changed that was in no turn, nobody was before
-  pub nobody_before : (vs : List (Option (View B S Q A))) (id : ℕ) (v : View B S Q A) (w : Option (View B S Q A)) → get_elem? vs id ≡ some (Some v) → ((t : ℕ) → v.phase ≢ phase.InTurn t)
+  pub nobody_before : (vs : List (Option (View B S Q A))) (id : ℕ) (v : View B S Q A) (w : Option (View B S Q A)) → get_elem? vs id ≡ some (Some v)
+      → ((t : ℕ) → v.phase ≢ phase.InTurn t)
       → NobodyInTurn (set vs id w) → NobodyInTurn vs
   nobody_before vs id v w at out nobody j u t there turn =
       dite (ℕ_discrete j id)
       (λ same. out t (ap (λ (y : View B S Q A). y.phase) (sym (same_place vs id j v u at there same)) ∙ turn))
       (λ other. nobody j u t (set_else vs id j w other ∙ there) turn)
 
-module _ {T B S Q A : Type 0} (base_of : T → B) (state_of : T → S) (room : T → ℕ) (sound : B → Q → Bool) (after : B → S → ℕ → Q → S) (reply : B → S → ℕ → Q → A) where
+module _ {T B S Q A : Type 0} (base_of : T → B) (state_of : T → S) (room : T → ℕ) (sound : B → Q → Bool) (after : B → S → ℕ → Q → S)
+    (reply : B → S → ℕ → Q → A) where
   abbrev W : Type 0
   W = View B S Q A
 
@@ -115,7 +117,10 @@ module _ {T B S Q A : Type 0} (base_of : T → B) (state_of : T → S) (room : T
                 calls = mine.calls;
                 numbered = mine.numbered;
                 joined_idle = λ some_joined. absurd (some_joined alone);
-                waits = λ t e. (let same : x ≡ t = cc in subst (λ (y : ℕ). (n ≤ y) × (y < x + 1) × (holder y ≡ id)) same ((let a : n ≤ x = omega arith in a), (let b : x < x + 1 = omega arith in b), new_holder));
+                waits =
+                    λ t e. (let same : x
+                    ≡ t = cc in subst (λ (y : ℕ). (n ≤ y) × (y < x + 1) × (holder y ≡ id)) same
+                    ((let a : n ≤ x = omega arith in a), (let b : x < x + 1 = omega arith in b), new_holder));
                 turn = λ t e. absurd (cc);
                 deals = λ some_plan. absurd (some_plan dealt);
               })
@@ -125,12 +130,20 @@ module _ {T B S Q A : Type 0} (base_of : T → B) (state_of : T → S) (room : T
                 calls = f.calls;
                 numbered = f.numbered;
                 joined_idle = f.joined_idle;
-                waits = λ t e. (let q = f.waits t e in let below : t < r.tickets = q.1 in (q.0, (let a : t < x + 1 = omega arith in a), old_holder t below ∙ q.2));
-                turn = λ t e. (let q = f.turn t e in let below : t < r.tickets = q.1 in (q.0, (let a : t < x + 1 = omega arith in a), old_holder t below ∙ q.2, q.3));
+                waits =
+                    λ t e. (let q = f.waits t e in let below : t < r.tickets = q.1 in (q.0, (let a : t < x + 1 = omega arith in a), old_holder t below ∙ q.2));
+                turn =
+                    λ t e. (let q = f.turn t e in let below : t
+                    < r.tickets = q.1 in (q.0, (let a : t < x + 1 = omega arith in a), old_holder t below ∙ q.2, q.3));
                 deals = f.deals;
               }));
           held = λ t low high. dite (ℕ_discrete t x)
-              (λ same. (w, ap (λ (j : ℕ). get_elem? (set s.views id (Some w)) j) (ap holder same ∙ new_holder) ∙ set_here s.views id (Some w) (at_below s.views id (Some v) at), inl (ap (λ (y : ℕ). phase.Waits y) (sym same))))
+              (λ same. (
+                w,
+                ap (λ (j : ℕ). get_elem? (set s.views id (Some w)) j) (ap holder same ∙ new_holder)
+                    ∙ set_here s.views id (Some w) (at_below s.views id (Some v) at),
+                inl (ap (λ (y : ℕ). phase.Waits y) (sym same)),
+              ))
               (λ other. (let below : t < r.tickets = omega arith in subst (λ (j : ℕ). (u : W) × (get_elem? (set s.views id (Some w)) j ≡ some (Some u)) × HasTicket u t) (sym (old_holder t below))
               (there_set (λ (u : W). HasTicket u t) s.views id v w (r.holder t) at (λ h. absurd (no_ticket t h)) (r.held t low below))));
           stands = λ m below. there_set (λ (u : W). IsIn m (numbers u)) s.views id v w (r.home m) at (λ h. h) (r.stands m below);
@@ -142,7 +155,8 @@ module _ {T B S Q A : Type 0} (base_of : T → B) (state_of : T → S) (room : T
       )
 
   -- where a waiting seat's ticket is served, no view is in turn
-  nobody_yet : (s : St) (r : Rule s) (id : ℕ) (v : W) (ticket : ℕ) → get_elem? s.views id ≡ some (Some v) → v.phase ≡ phase.Waits ticket → ticket ≡ length r.history → NobodyInTurn s.views
+  nobody_yet : (s : St) (r : Rule s) (id : ℕ) (v : W) (ticket : ℕ) → get_elem? s.views id ≡ some (Some v) → v.phase ≡ phase.Waits ticket
+      → ticket ≡ length r.history → NobodyInTurn s.views
   nobody_yet s r id v ticket at waits served j u t there turn =
       let theirs = (r.fits j u there).turn t turn in
       let ours = (r.fits id v at).waits ticket waits in
@@ -151,7 +165,8 @@ module _ {T B S Q A : Type 0} (base_of : T → B) (state_of : T → S) (room : T
       absurd (cc)
 
   -- the seat whose ticket is served takes the object
-  taking : (slots id : ℕ) (v : W) (ticket : ℕ) → v.phase ≡ phase.Waits ticket → (s : St) (r : Rule s) → get_elem? s.views id ≡ some (Some v) → v.joined ≡ [] → v.plan ≡ [] → get_or s.words 0 0 ≡ ticket
+  taking : (slots id : ℕ) (v : W) (ticket : ℕ) → v.phase ≡ phase.Waits ticket → (s : St) (r : Rule s) → get_elem? s.views id ≡ some (Some v) → v.joined ≡ []
+      → v.plan ≡ [] → get_or s.words 0 0 ≡ ticket
       → (kept : Kept T Q A) × (get_elem? s.homes 0 ≡ some (some kept))
       × Rule (record { words = set s.words 0 (get_or s.words 0 0); homes = set s.homes 0 none; views = set s.views id (Some (in_turn v ticket r.history)) })
       × BeginsWith r.history v.seen × (calls_by v.number r.history ≡ v.own) × IsReady base_of state_of room sound after reply (in_turn v ticket r.history) kept
@@ -200,13 +215,17 @@ module _ {T B S Q A : Type 0} (base_of : T → B) (state_of : T → S) (room : T
                 numbered = mine.numbered;
                 joined_idle = λ some_joined. absurd (some_joined alone);
                 waits = λ t e. absurd (cc);
-                turn = λ t e. (let same : ticket ≡ t = cc in subst (λ (y : ℕ). (y ≡ n) × (y < r.tickets) × (r.holder y ≡ id) × (r.history ≡ r.history)) same (served, drawn, queue.2, refl));
+                turn =
+                    λ t e. (let same : ticket
+                    ≡ t = cc in subst (λ (y : ℕ). (y ≡ n) × (y < r.tickets) × (r.holder y ≡ id) × (r.history ≡ r.history)) same
+                    (served, drawn, queue.2, refl));
                 deals = mine.deals;
               })
               (λ j u other there. r.fits j u there);
           held = λ t low high. there_set (λ (u : W). HasTicket u t) s.views id v w (r.holder t) at
               (λ h. ⊎_elim
-              (λ (e : v.phase ≡ phase.Waits t). inr (let same : ticket ≡ t = (let both : phase.Waits ticket ≡ phase.Waits t = sym waits ∙ e in cc) in ap (λ (y : ℕ). phase.InTurn y) same))
+              (λ (e : v.phase ≡ phase.Waits t). inr
+              (let same : ticket ≡ t = (let both : phase.Waits ticket ≡ phase.Waits t = sym waits ∙ e in cc) in ap (λ (y : ℕ). phase.InTurn y) same))
               (λ (e : v.phase ≡ phase.InTurn t). let clash : phase.Waits ticket ≡ phase.InTurn t = sym waits ∙ e in absurd (cc)) h)
               (r.held t low high);
           stands = λ m below. there_set (λ (u : W). IsIn m (numbers u)) s.views id v w (r.home m) at (λ h. h) (r.stands m below);
@@ -218,7 +237,9 @@ module _ {T B S Q A : Type 0} (base_of : T → B) (state_of : T → S) (room : T
         record {
           turn = (ticket, refl);
           legal = subst (λ (y : B × S). IsLegal sound after reply y.0 y.1 r.history) (λ i. (sym mine.same.0 i, sym mine.same.1 i)) r.legal;
-          is_after = subst (λ (y : B × S × List ℕ). IsAfter base_of state_of room sound after reply y.0 y.1 y.2 r.history kept) (λ i. (sym mine.same.0 i, sym mine.same.1 i, sym mine.same.2 i)) fits;
+          is_after =
+              subst (λ (y : B × S × List ℕ). IsAfter base_of state_of room sound after reply y.0 y.1 y.2 r.history kept)
+              (λ i. (sym mine.same.0 i, sym mine.same.1 i, sym mine.same.2 i)) fits;
           fits = subst (λ (y : List ℕ). n < sum_of y) (sym mine.same.2) (let goal : n < sum_of r.allotments = omega arith in goal);
           alone = (alone, dealt);
         },
@@ -228,8 +249,10 @@ module _ {T B S Q A : Type 0} (base_of : T → B) (state_of : T → S) (room : T
       → Allows Rule slots id (Some v, []) 0 (λ n. n) (looked base_of state_of room sound after reply (step slots 0 0 0 none) (Some v, []))
   looks slots id v ticket waits alone dealt s r wide at small =
       let x : ℕ = get_or s.words 0 0 in
-      let other_words : (u : W) (t : ℕ) → At {T = T} {B = B} {S = S} {Q = Q} {A = A} (Some v, []) u → u.phase ≡ phase.Waits t → (v ≡ u) × (ticket ≡ t) = λ u t is e.
-      (let same : v ≡ u = one_view (Some v, []) v u [] [] refl is in let both : phase.Waits ticket ≡ phase.Waits t = sym waits ∙ ap (λ (y : W). y.phase) same ∙ e in (same, let eq : ticket ≡ t = cc in eq)) in
+      let other_words : (u : W) (t : ℕ) → At {T = T} {B = B} {S = S} {Q = Q} {A = A} (Some v, []) u → u.phase ≡ phase.Waits t → (v ≡ u) × (ticket ≡ t) =
+      λ u t is e.
+      (let same : v ≡ u = one_view (Some v, []) v u [] [] refl is in let both : phase.Waits ticket
+      ≡ phase.Waits t = sym waits ∙ ap (λ (y : W). y.phase) same ∙ e in (same, let eq : ticket ≡ t = cc in eq)) in
       dite (ℕ_discrete x ticket)
       (λ hit.
       let took = taking slots id v ticket waits s r at alone dealt hit in
@@ -256,7 +279,8 @@ module _ {T B S Q A : Type 0} (base_of : T → B) (state_of : T → S) (room : T
         Some v,
         keeps,
         tt,
-        subst (λ (y : St). Rule y) (λ i. record { words = sym (set-get_or s.words 0 0) i; homes = s.homes; views = sym (set_again s.views id (Some v) at) i }) r,
+        subst (λ (y : St). Rule y) (λ i. record { words = sym (set-get_or s.words 0 0) i; homes = s.homes; views = sym (set_again s.views id (Some v) at) i })
+            r,
         (λ u t is e. (let same = other_words u t is e in ((λ _. refl), (λ hit. absurd (miss (hit ∙ sym same.1)))))),
       ))
 
@@ -268,11 +292,15 @@ module _ {T B S Q A : Type 0} (base_of : T → B) (state_of : T → S) (room : T
     same_base = stepped.same_base;
     last = stepped.last ∙ sym (state_after-append after v.base v.opening v.seen (taken ∷ []));
     journal = stepped.journal;
-    roomy = (let n : ℕ = length v.seen in let m : ℕ = length (v.seen ++ taken ∷ []) in let more : m ≡ n + 1 = length-append v.seen (taken ∷ []) in let q : ℕ = room kept.object in let a : sum_of v.allotments ≤ n + 1 + q = stepped.roomy in let goal : sum_of v.allotments ≤ m + q = omega arith in goal);
+    roomy =
+        (let n : ℕ = length v.seen in let m : ℕ = length (v.seen ++ taken ∷ []) in let more : m
+        ≡ n + 1 = length-append v.seen (taken ∷ []) in let q : ℕ = room kept.object in let a : sum_of v.allotments
+        ≤ n + 1 + q = stepped.roomy in let goal : sum_of v.allotments ≤ m + q = omega arith in goal);
     reserved = stepped.reserved;
   })
 
-  pub passes : (slots id : ℕ) (v : W) (kept : Kept T Q A) (t : ℕ) (taken : StepOf Q A) → v.phase ≡ phase.InTurn t → v.number ≡ taken.seat → v.joined ≡ [] → v.plan ≡ []
+  pub passes : (slots id : ℕ) (v : W) (kept : Kept T Q A) (t : ℕ) (taken : StepOf Q A) → v.phase ≡ phase.InTurn t → v.number ≡ taken.seat → v.joined ≡ []
+      → v.plan ≡ []
       → sound v.base taken.request ≡ true → taken.reply ≡ reply v.base (state_after after v.base v.opening v.seen) taken.seat taken.request
       → HasStepped base_of state_of room sound after reply v taken kept
       → Allows Rule slots id (Some v, (0, kept) ∷ []) 0 (λ n. (n + 1) % 2 ^ 64) (passed (step slots 0 1 0 none) (Some v, (0, kept) ∷ []))
@@ -296,7 +324,8 @@ module _ {T B S Q A : Type 0} (base_of : T → B) (state_of : T → S) (room : T
       let all : r.tickets + k ≡ sum_of r.allotments = r.balance in
       let limit : sum_of r.allotments < 2 ^ 64 = r.small in
       let next : (x + 1) % 2 ^ 64 ≡ length history = omega arith in
-      let others_call : (j : ℕ) (u : W) (m : ℕ) → j ≢ id → get_elem? s.views j ≡ some (Some u) → IsIn m (numbers u) → m ≢ taken.seat = λ j u m other there stands same.
+      let others_call : (j : ℕ) (u : W) (m : ℕ) → j ≢ id → get_elem? s.views j ≡ some (Some u) → IsIn m (numbers u) → m ≢ taken.seat =
+      λ j u m other there stands same.
       other (sym ((r.fits j u there).numbered m stands).1 ∙ ap r.home (same ∙ sym numbered) ∙ ours.1) in
       let not_now : (j : ℕ) (u : W) (p : ℕ) → j ≢ id → p ≡ n → r.holder p ≡ j → ⊥ = λ j u p other is holds. other (sym holds ∙ ap r.holder is ∙ holder_is) in
       let none_left : (p : ℕ) → n + 1 ≤ p → HasTicket v p → ⊥ = λ p low h. ⊎_elim
@@ -318,7 +347,8 @@ module _ {T B S Q A : Type 0} (base_of : T → B) (state_of : T → S) (room : T
           one_slot = length-set s.homes 0 (some kept) ∙ r.one_slot;
           legal = legal_with_step sound after reply r.base r.opening r.history taken r.legal
               (subst (λ (y : B). sound y taken.request ≡ true) mine.same.0 ok)
-              (subst (λ (y : B × S × List (StepOf Q A)). taken.reply ≡ reply y.0 (state_after after y.0 y.1 y.2) taken.seat taken.request) (λ i. (mine.same.0 i, mine.same.1 i, seen i)) replied);
+              (subst (λ (y : B × S × List (StepOf Q A)). taken.reply ≡ reply y.0 (state_after after y.0 y.1 y.2) taken.seat taken.request)
+              (λ i. (mine.same.0 i, mine.same.1 i, seen i)) replied);
           entries = each-append (λ (y : StepOf Q A). y.seat < r.made) r.history (taken ∷ []) r.entries (subst (λ (y : ℕ). y < r.made) numbered ours.0, tt);
           made_few = r.made_few;
           balance = (let goal : r.tickets + k' ≡ sum_of r.allotments = omega arith in goal);
@@ -327,8 +357,14 @@ module _ {T B S Q A : Type 0} (base_of : T → B) (state_of : T → S) (room : T
           fits = fits_set (Fits r.base r.opening r.allotments history r.tickets r.made r.holder r.home) s.views id w
               (record {
                 same = mine.same;
-                begins = (subst (λ (l : List (StepOf Q A)). BeginsWith history (l ++ taken ∷ [])) (sym seen) (begins-itself history), each_so (BeginsWith r.history) (BeginsWith history) v.noted (λ l h. begins-longer r.history l (taken ∷ []) h) mine.begins.1);
-                calls = (calls_by-own v.number r.history taken (sym numbered) ∙ ap (λ (l : List (StepOf Q A)). l ++ taken ∷ []) mine.calls.0, subst (λ (l : List (ℕ × List (StepOf Q A))). Each (λ (y : ℕ × List (StepOf Q A)). calls_by y.0 history ≡ y.1) l) (sym alone) tt);
+                begins = (
+                  subst (λ (l : List (StepOf Q A)). BeginsWith history (l ++ taken ∷ [])) (sym seen) (begins-itself history),
+                  each_so (BeginsWith r.history) (BeginsWith history) v.noted (λ l h. begins-longer r.history l (taken ∷ []) h) mine.begins.1,
+                );
+                calls = (
+                  calls_by-own v.number r.history taken (sym numbered) ∙ ap (λ (l : List (StepOf Q A)). l ++ taken ∷ []) mine.calls.0,
+                  subst (λ (l : List (ℕ × List (StepOf Q A))). Each (λ (y : ℕ × List (StepOf Q A)). calls_by y.0 history ≡ y.1) l) (sym alone) tt,
+                );
                 numbered = mine.numbered;
                 joined_idle = λ _. refl;
                 waits = λ p e. absurd (cc);
@@ -337,11 +373,19 @@ module _ {T B S Q A : Type 0} (base_of : T → B) (state_of : T → S) (room : T
               })
               (λ j u other there. (let f = r.fits j u there in record {
                 same = f.same;
-                begins = (begins-longer r.history u.seen (taken ∷ []) f.begins.0, each_so (BeginsWith r.history) (BeginsWith history) u.noted (λ l h. begins-longer r.history l (taken ∷ []) h) f.begins.1);
-                calls = (calls_by-other u.number r.history taken (λ same. others_call j u u.number other there (inl refl) (sym same)) ∙ f.calls.0, joined_stay r.history taken u.joined (λ m stands. others_call j u m other there (inr stands)) f.calls.1);
+                begins = (
+                  begins-longer r.history u.seen (taken ∷ []) f.begins.0,
+                  each_so (BeginsWith r.history) (BeginsWith history) u.noted (λ l h. begins-longer r.history l (taken ∷ []) h) f.begins.1,
+                );
+                calls = (
+                  calls_by-other u.number r.history taken (λ same. others_call j u u.number other there (inl refl) (sym same)) ∙ f.calls.0,
+                  joined_stay r.history taken u.joined (λ m stands. others_call j u m other there (inr stands)) f.calls.1,
+                );
                 numbered = f.numbered;
                 joined_idle = f.joined_idle;
-                waits = λ p e. (let q = f.waits p e in let low : n ≤ p = q.0 in let apart : p ≢ n = λ same. not_now j u p other same q.2 in ((let goal : length history ≤ p = omega arith in goal), q.1, q.2));
+                waits =
+                    λ p e. (let q = f.waits p e in let low : n ≤ p = q.0 in let apart : p
+                    ≢ n = λ same. not_now j u p other same q.2 in ((let goal : length history ≤ p = omega arith in goal), q.1, q.2));
                 turn = λ p e. (let q = f.turn p e in absurd (not_now j u p other q.0 q.2));
                 deals = f.deals;
               }));
@@ -353,15 +397,20 @@ module _ {T B S Q A : Type 0} (base_of : T → B) (state_of : T → S) (room : T
             (let one : length s.homes ≡ 1 = r.one_slot in set_here s.homes 0 (some kept) (omega arith)),
             stepped_after r.base r.opening r.allotments r.history v taken kept mine.same.0 mine.same.1 mine.same.2 seen stepped,
           );
-          out = λ j u p there e. fits_set (λ (i : ℕ) (y : W). (q : ℕ) → y.phase ≡ phase.InTurn q → get_elem? (set s.homes 0 (some kept)) 0 ≡ some none) s.views id w
+          out =
+              λ j u p there e. fits_set (λ (i : ℕ) (y : W). (q : ℕ) → y.phase ≡ phase.InTurn q → get_elem? (set s.homes 0 (some kept)) 0 ≡ some none) s.views id
+              w
               (λ q e'. absurd (cc))
               (λ i y other there' q e'. (let f = (r.fits i y there').turn q e' in absurd (not_now i y q other f.0 f.2)))
               j u there p e;
         },
         (λ u kept' step' is journal. (
             let same : v ≡ u = one_view (Some v, (0, kept) ∷ []) v u ((0, kept) ∷ []) ((0, kept') ∷ []) refl is in
-            let same_kept : kept ≡ kept' = (let pairs : (0, kept) ∷ [] ≡ (0, kept') ∷ [] = ap (λ (m : Place T B S Q A). m.1) is in ap (λ (l : List (ℕ × Kept T Q A)). first_kept l kept) pairs) in
-            let longer : u.seen ++ step' ∷ [] ≡ u.seen ++ taken ∷ [] = sym journal ∙ ap (λ (y : Kept T Q A). y.journal.items) (sym same_kept) ∙ stepped.journal ∙ ap (λ (y : W). y.seen ++ taken ∷ []) same in
+            let same_kept : kept ≡ kept' =
+            (let pairs : (0, kept) ∷ []
+            ≡ (0, kept') ∷ [] = ap (λ (m : Place T B S Q A). m.1) is in ap (λ (l : List (ℕ × Kept T Q A)). first_kept l kept) pairs) in
+            let longer : u.seen ++ step' ∷ [] ≡ u.seen ++ taken ∷ [] =
+            sym journal ∙ ap (λ (y : Kept T Q A). y.journal.items) (sym same_kept) ∙ stepped.journal ∙ ap (λ (y : W). y.seen ++ taken ∷ []) same in
             let same_step : taken ≡ step' = same_last u.seen taken step' (sym longer) in
             λ i. (Some (done (same i) (same_step i)), [])
             )),
@@ -369,27 +418,33 @@ module _ {T B S Q A : Type 0} (base_of : T → B) (state_of : T → S) (room : T
 
   -- the same of a seat that meets what a step asks
   pub draws_at : (slots id : ℕ) (me : Place T B S Q A) → MayCall me → Allows Rule slots id me 1 (λ n. (n + 1) % 2 ^ 64) (drew (step slots 1 1 0 none) me)
-  draws_at slots id me (v, is, idle, alone, dealt, some_left) = subst (λ (m : Place T B S Q A). Allows Rule slots id m 1 (λ n. (n + 1) % 2 ^ 64) (drew (step slots 1 1 0 none) m)) (sym is)
+  draws_at slots id me (v, is, idle, alone, dealt, some_left) =
+      subst (λ (m : Place T B S Q A). Allows Rule slots id m 1 (λ n. (n + 1) % 2 ^ 64) (drew (step slots 1 1 0 none) m)) (sym is)
       (draws slots id v idle alone dealt some_left)
 
-  pub looks_at : (slots id : ℕ) (me : Place T B S Q A) (ticket : ℕ) → IsWaiting ticket me → Allows Rule slots id me 0 (λ n. n) (looked base_of state_of room sound after reply (step slots 0 0 0 none) me)
-  looks_at slots id me ticket (v, is, waits, alone, dealt) = subst (λ (m : Place T B S Q A). Allows Rule slots id m 0 (λ n. n) (looked base_of state_of room sound after reply (step slots 0 0 0 none) m)) (sym is)
+  pub looks_at : (slots id : ℕ) (me : Place T B S Q A) (ticket : ℕ) → IsWaiting ticket me
+      → Allows Rule slots id me 0 (λ n. n) (looked base_of state_of room sound after reply (step slots 0 0 0 none) me)
+  looks_at slots id me ticket (v, is, waits, alone, dealt) =
+      subst (λ (m : Place T B S Q A). Allows Rule slots id m 0 (λ n. n) (looked base_of state_of room sound after reply (step slots 0 0 0 none) m)) (sym is)
       (looks slots id v ticket waits alone dealt)
 
   pub passes_at : (slots id : ℕ) (me : Place T B S Q A) (taken : StepOf Q A) → HasToPass base_of state_of room sound after reply taken me
       → Allows Rule slots id me 0 (λ n. (n + 1) % 2 ^ 64) (passed (step slots 0 1 0 none) me)
-  passes_at slots id me taken due = subst (λ (m : Place T B S Q A). Allows Rule slots id m 0 (λ n. (n + 1) % 2 ^ 64) (passed (step slots 0 1 0 none) m)) (sym due.is)
+  passes_at slots id me taken due =
+      subst (λ (m : Place T B S Q A). Allows Rule slots id m 0 (λ n. (n + 1) % 2 ^ 64) (passed (step slots 0 1 0 none) m)) (sym due.is)
       (passes slots id due.view due.kept due.turn.0 taken due.turn.1 due.numbered due.alone.0 due.alone.1 due.sound_request due.replied due.stepped)
 
   -- a waiting seat whose ticket was found is served
-  pub served : (me new : Place T B S Q A) (found ticket : ℕ) → IsWaiting ticket me → looked base_of state_of room sound after reply (step 1 0 0 0 none) me found new → found ≡ ticket
+  pub served : (me new : Place T B S Q A) (found ticket : ℕ) → IsWaiting ticket me
+      → looked base_of state_of room sound after reply (step 1 0 0 0 none) me found new → found ≡ ticket
       → (v : W) → At me v → Serves base_of state_of room sound after reply v ticket new
   served me new found ticket (w, is, waits, alone, dealt) told hit v at =
       let same : w ≡ v = one_view me w v [] [] is at in
       (told v ticket at (ap (λ (y : W). y.phase) (sym same) ∙ waits)).1 hit
 
   -- and one whose ticket was not found is as it was
-  pub not_served : (me new : Place T B S Q A) (found ticket : ℕ) → IsWaiting ticket me → looked base_of state_of room sound after reply (step 1 0 0 0 none) me found new → found ≢ ticket → new ≡ me
+  pub not_served : (me new : Place T B S Q A) (found ticket : ℕ) → IsWaiting ticket me
+      → looked base_of state_of room sound after reply (step 1 0 0 0 none) me found new → found ≢ ticket → new ≡ me
   not_served me new found ticket (w, is, waits, alone, dealt) told miss = (told w ticket is waits).0 miss
 
   -- the slot that was lent is the one that the seat has
@@ -399,7 +454,8 @@ module _ {T B S Q A : Type 0} (base_of : T → B) (state_of : T → S) (room : T
       ap (λ (l : List (ℕ × Kept T Q A)). first_kept l kept) pairs
 
   -- what a step of the object asks
-  pub may_step_now : (me : Place T B S Q A) (number : ℕ) (request : Q) (found : Kept T Q A) → MayStep base_of state_of room sound after reply number request me → me.1 ≡ (0, found) ∷ rest me.1
+  pub may_step_now : (me : Place T B S Q A) (number : ℕ) (request : Q) (found : Kept T Q A) → MayStep base_of state_of room sound after reply number request me
+      → me.1 ≡ (0, found) ∷ rest me.1
       → (sound (base_of found.object) request ≡ true) × (1 ≤ room found.object) × (length found.journal.items < vec_capacity found.journal)
   may_step_now me number request found due lent =
       let fits = due.ready.is_after in
@@ -411,11 +467,13 @@ module _ {T B S Q A : Type 0} (base_of : T → B) (state_of : T → S) (room : T
       let wide : sum_of due.view.allotments ≤ cap = fits.reserved in
       let m : ℕ = length due.kept.journal.items in
       let long : m ≡ n = ap length fits.journal in
-      subst (λ (y : Kept T Q A). (sound (base_of y.object) request ≡ true) × (1 ≤ room y.object) × (length y.journal.items < vec_capacity y.journal)) (one_kept me due.view due.kept found due.is lent)
+      subst (λ (y : Kept T Q A). (sound (base_of y.object) request ≡ true) × (1 ≤ room y.object) × (length y.journal.items < vec_capacity y.journal))
+      (one_kept me due.view due.kept found due.is lent)
       (ap (λ (b : B). sound b request) fits.same_base ∙ due.sound_request, (let goal : 1 ≤ q = omega arith in goal), (let goal : m < cap = omega arith in goal))
 
   -- and what it leaves
-  pub steps_on : (me : Place T B S Q A) (found now : Kept T Q A) (number : ℕ) (request : Q) (answer : A) → MayStep base_of state_of room sound after reply number request me → me.1 ≡ (0, found) ∷ rest me.1
+  pub steps_on : (me : Place T B S Q A) (found now : Kept T Q A) (number : ℕ) (request : Q) (answer : A)
+      → MayStep base_of state_of room sound after reply number request me → me.1 ≡ (0, found) ∷ rest me.1
       → base_of now.object ≡ base_of found.object → state_of now.object ≡ after (base_of found.object) (state_of found.object) number request
       → answer ≡ reply (base_of found.object) (state_of found.object) number request → room now.object + 1 ≡ room found.object
       → now.journal.items ≡ found.journal.items ++ step_of number request answer ∷ [] → vec_capacity now.journal ≡ vec_capacity found.journal
@@ -425,7 +483,8 @@ module _ {T B S Q A : Type 0} (base_of : T → B) (state_of : T → S) (room : T
       let same : due.view ≡ v = one_view me due.view v ((0, due.kept) ∷ []) ((0, kept) ∷ []) due.is has in
       let taken : due.kept ≡ found = one_kept me due.view due.kept found due.is lent in
       let base_is : base_of found.object ≡ due.view.base = ap (λ (y : Kept T Q A). base_of y.object) (sym taken) ∙ fits.same_base in
-      let state_is : state_of found.object ≡ state_after after due.view.base due.view.opening due.view.seen = ap (λ (y : Kept T Q A). state_of y.object) (sym taken) ∙ fits.last in
+      let state_is : state_of found.object ≡ state_after after due.view.base due.view.opening due.view.seen =
+      ap (λ (y : Kept T Q A). state_of y.object) (sym taken) ∙ fits.last in
       let n : ℕ = length due.view.seen in
       let q : ℕ = room found.object in
       let p : ℕ = room now.object in
@@ -435,9 +494,15 @@ module _ {T B S Q A : Type 0} (base_of : T → B) (state_of : T → S) (room : T
       let stepped : HasStepped base_of state_of room sound after reply due.view (step_of number request answer) now = record {
         same_base = same_base ∙ base_is;
         last = moved ∙ (λ i. after (base_is i) (state_is i) number request);
-        journal = noted ∙ ap (λ (l : List (StepOf Q A)). l ++ step_of number request answer ∷ []) (ap (λ (y : Kept T Q A). y.journal.items) (sym taken) ∙ fits.journal);
+        journal =
+            noted
+            ∙ ap (λ (l : List (StepOf Q A)). l ++ step_of number request answer ∷ []) (ap (λ (y : Kept T Q A). y.journal.items) (sym taken) ∙ fits.journal);
         roomy = (let goal : sum_of due.view.allotments ≤ n + 1 + p = omega arith in goal);
         reserved = subst (λ (m : ℕ). sum_of due.view.allotments ≤ m) (ap (λ (y : Kept T Q A). vec_capacity y.journal) taken ∙ sym reserved) fits.reserved;
       } in
-      subst (λ (y : W). (answer ≡ reply y.base (state_after after y.base y.opening y.seen) number request) × ((k : Kept T Q A) × Has (me.0, (0, now) ∷ rest me.1) v k × HasStepped base_of state_of room sound after reply y (step_of number request answer) k)) same
+      subst
+      (λ (y : W). (answer ≡ reply y.base (state_after after y.base y.opening y.seen) number request)
+      × ((k : Kept T Q A) × Has (me.0, (0, now) ∷ rest me.1) v k
+      × HasStepped base_of state_of room sound after reply y (step_of number request answer) k))
+      same
       (answered ∙ (λ i. reply (base_is i) (state_is i) number request), (now, tail, stepped))

@@ -13,14 +13,19 @@ use Rattle.chronicle.specs.Members.{IsIn}
 -- a sum in which one item changes
 pub total-set : {X : Type 0} (f : X → ℕ) (xs : List X) (i : ℕ) (v w : X) → get_elem? xs i ≡ some v → total f (set xs i w) + f v ≡ total f xs + f w
 total-set f [] i v w e = absurd (some-ne-none v (sym e))
-total-set f (x ∷ xs) zero v w e = let same : f x ≡ f v = ap f (some-injective x v e) in let k : ℕ = total f xs in let goal : f w + k + f v ≡ f x + k + f w = omega arith in goal
-total-set f (x ∷ xs) (suc i) v w e = let rest = total-set f xs i v w e in let a : ℕ = total f (set xs i w) in let b : ℕ = total f xs in let h : a + f v ≡ b + f w = rest in let goal : f x + a + f v ≡ f x + b + f w = omega arith in goal
+total-set f (x ∷ xs) zero v w e =
+    let same : f x ≡ f v = ap f (some-injective x v e) in let k : ℕ = total f xs in let goal : f w + k + f v ≡ f x + k + f w = omega arith in goal
+total-set f (x ∷ xs) (suc i) v w e =
+    let rest = total-set f xs i v w e in
+    let a : ℕ = total f (set xs i w) in
+    let b : ℕ = total f xs in let h : a + f v ≡ b + f w = rest in let goal : f x + a + f v ≡ f x + b + f w = omega arith in goal
 
 -- one item is no more than the sum
 pub term_le : {X : Type 0} (f : X → ℕ) (xs : List X) (i : ℕ) (v : X) → get_elem? xs i ≡ some v → f v ≤ total f xs
 term_le f [] i v e = absurd (some-ne-none v (sym e))
 term_le f (x ∷ xs) zero v e = let same : f x ≡ f v = ap f (some-injective x v e) in let k : ℕ = total f xs in let goal : f v ≤ f x + k = omega arith in goal
-term_le f (x ∷ xs) (suc i) v e = let rest = term_le f xs i v e in let k : ℕ = total f xs in let h : f v ≤ k = rest in let goal : f v ≤ f x + k = omega arith in goal
+term_le f (x ∷ xs) (suc i) v e =
+    let rest = term_le f xs i v e in let k : ℕ = total f xs in let h : f v ≤ k = rest in let goal : f v ≤ f x + k = omega arith in goal
 
 pub at_below : {X : Type 0} (xs : List X) (i : ℕ) (x : X) → get_elem? xs i ≡ some x → i < length xs
 at_below [] i x e = absurd (some-ne-none x (sym e))
@@ -97,5 +102,9 @@ module _ {W : Type 0} where
       → ((u : W) × (get_elem? vs j ≡ some (Some u)) × P u) → (u : W) × (get_elem? (set vs id (Some w)) j ≡ some (Some u)) × P u
   there_set P vs id v w j at so (u, there, holds) =
       dite (ℕ_discrete j id)
-      (λ same. (w, ap (λ k. get_elem? (set vs id (Some w)) k) same ∙ set_here vs id (Some w) (at_below vs id (Some v) at), so (subst P (same_place vs id j v u at there same) holds)))
+      (λ same. (
+        w,
+        ap (λ k. get_elem? (set vs id (Some w)) k) same ∙ set_here vs id (Some w) (at_below vs id (Some v) at),
+        so (subst P (same_place vs id j v u at there same) holds),
+      ))
       (λ other. (u, set_else vs id j (Some w) other ∙ there, holds))

@@ -1,4 +1,6 @@
--- A history: a list of steps on one object, which opens in a state. Of the object these are given: which requests are sound, and the state after a step and its reply, by base, state, seat and request.
+-- A history: a list of steps on one object, which opens in a state. Of the object these are given:
+-- which requests are sound, and the state after a step and its reply, by base, state, seat and
+-- request.
 use Rattle.std.specs.Prelude.{◌≡◌, ℕ, Bool, true, List, [], ◌∷◌, ◌++◌, ⊤}
 use Rattle.market_units.specs.Merges.{part_of}
 use Rattle.chronicle.specs.declared.journal.StepOf.{StepOf}
@@ -7,10 +9,12 @@ module _ {B S Q A : Type 0} where
   -- the state after these steps
   abbrev pub state_after : (B → S → ℕ → Q → S) → B → S → List (StepOf Q A) → S
   state_after after base state [] = state
-  state_after after base state (step ∷ more) = state_after after base (after base state step.seat step.request) more
+  state_after after base state (step ∷ more) =
+      state_after after base (after base state step.seat step.request) more
 
   -- each request is sound, and each reply is the object's in the state after the steps before it
-  abbrev pub IsLegal : (B → Q → Bool) → (B → S → ℕ → Q → S) → (B → S → ℕ → Q → A) → B → S → List (StepOf Q A) → Type 0
+  abbrev pub IsLegal : (B → Q → Bool) → (B → S → ℕ → Q → S) → (B → S → ℕ → Q → A) → B → S
+      → List (StepOf Q A) → Type 0
   IsLegal sound after reply base state [] = ⊤
   IsLegal sound after reply base state (step ∷ more) =
       (sound base step.request ≡ true) × (step.reply ≡ reply base state step.seat step.request)

@@ -1,4 +1,5 @@
--- What each step of a call tells the seat that takes it. A seat is its view with the slots that it holds.
+-- What each step of a call tells the seat that takes it. A seat is its view with the slots that it
+-- holds.
 use Rattle.std.specs.Prelude.{◌≡◌, ◌≢◌, ℕ, ◌+◌, ◌<◌, ◌≤◌, Bool, true, Option, Some, List, [], ◌∷◌, ◌++◌, length}
 use Rattle.std.specs.Vec.{vec_capacity}
 use Rattle.atomic_table.specs.Table.{Me, Step}
@@ -26,11 +27,15 @@ module _ {T B S Q A : Type 0} where
 
   -- a seat that makes no call, has joined no other, and has calls left
   abbrev pub MayCall : Place T B S Q A → Type 0
-  MayCall me = (v : View B S Q A) × At me v × (v.phase ≡ phase.Idle) × (v.joined ≡ []) × (v.plan ≡ []) × (0 < v.left)
+  MayCall me =
+      (v : View B S Q A) × At me v × (v.phase ≡ phase.Idle) × (v.joined ≡ []) × (v.plan ≡ [])
+      × (0 < v.left)
 
   -- a seat that waits with this ticket
   abbrev pub IsWaiting : ℕ → Place T B S Q A → Type 0
-  IsWaiting ticket me = (v : View B S Q A) × At me v × (v.phase ≡ phase.Waits ticket) × (v.joined ≡ []) × (v.plan ≡ [])
+  IsWaiting ticket me =
+      (v : View B S Q A) × At me v × (v.phase ≡ phase.Waits ticket) × (v.joined ≡ [])
+      × (v.plan ≡ [])
 
   -- a ticket was drawn
   abbrev pub Draws : Place T B S Q A → ℕ → Place T B S Q A → Type 0
@@ -38,7 +43,9 @@ module _ {T B S Q A : Type 0} where
 
   -- the call that was made, the journal's last, was passed on
   abbrev pub Passes : Place T B S Q A → Place T B S Q A → Type 0
-  Passes me new = (v : View B S Q A) (kept : Kept T Q A) (step : StepOf Q A) → Has me v kept → kept.journal.items ≡ v.seen ++ step ∷ [] → At new (done v step)
+  Passes me new =
+      (v : View B S Q A) (kept : Kept T Q A) (step : StepOf Q A) → Has me v kept
+      → kept.journal.items ≡ v.seen ++ step ∷ [] → At new (done v step)
 
   abbrev pub drew : Step (Kept T Q A) → Place T B S Q A → ℕ → Place T B S Q A → Type 0
   drew step me found new = Draws me found new
@@ -47,11 +54,13 @@ module _ {T B S Q A : Type 0} where
   passed step me found new = Passes me new
 
 module _ {T B S Q A : Type 0} (base_of : T → B) (state_of : T → S) (room : T → ℕ) (sound : B → Q → Bool) (after : B → S → ℕ → Q → S) (reply : B → S → ℕ → Q → A) where
-  -- the seat has what the slot held, the object after the whole history, all of which it has seen; and its call fits
+  -- the seat has what the slot held, the object after the whole history, all of which it has seen;
+  -- and its call fits
   pub record IsReady (v : View B S Q A) (kept : Kept T Q A) : Type 0 where
     pub turn : (t : ℕ) × (v.phase ≡ phase.InTurn t)
     pub legal : IsLegal sound after reply v.base v.opening v.seen
-    pub is_after : IsAfter base_of state_of room sound after reply v.base v.opening v.allotments v.seen kept
+    pub is_after : IsAfter base_of state_of room sound after reply v.base v.opening v.allotments
+        v.seen kept
     pub fits : length v.seen < sum_of v.allotments
     pub alone : (v.joined ≡ []) × (v.plan ≡ [])
 
@@ -67,12 +76,14 @@ module _ {T B S Q A : Type 0} (base_of : T → B) (state_of : T → S) (room : T
   -- where the ticket that was found is the seat's it is served, and else nothing happened
   abbrev pub looked : Step (Kept T Q A) → Place T B S Q A → ℕ → Place T B S Q A → Type 0
   looked step me found new =
-      (v : View B S Q A) (ticket : ℕ) → At me v → v.phase ≡ phase.Waits ticket → (found ≢ ticket → new ≡ me) × (found ≡ ticket → Serves v ticket new)
+      (v : View B S Q A) (ticket : ℕ) → At me v → v.phase ≡ phase.Waits ticket
+      → (found ≢ ticket → new ≡ me) × (found ≡ ticket → Serves v ticket new)
 
   -- the object took the step and noted it
   pub record HasStepped (v : View B S Q A) (step : StepOf Q A) (kept : Kept T Q A) : Type 0 where
     pub same_base : base_of kept.object ≡ v.base
-    pub last : state_of kept.object ≡ after v.base (state_after after v.base v.opening v.seen) step.seat step.request
+    pub last : state_of kept.object
+        ≡ after v.base (state_after after v.base v.opening v.seen) step.seat step.request
     pub journal : kept.journal.items ≡ v.seen ++ step ∷ []
     pub roomy : sum_of v.allotments ≤ length v.seen + 1 + room kept.object
     pub reserved : sum_of v.allotments ≤ vec_capacity kept.journal
@@ -102,5 +113,7 @@ module _ {T B S Q A : Type 0} (base_of : T → B) (state_of : T → S) (room : T
     pub numbered : view.number ≡ step.seat
     pub alone : (view.joined ≡ []) × (view.plan ≡ [])
     pub sound_request : sound view.base step.request ≡ true
-    pub replied : step.reply ≡ reply view.base (state_after after view.base view.opening view.seen) step.seat step.request
+    pub replied : step.reply
+        ≡ reply view.base (state_after after view.base view.opening view.seen) step.seat
+        step.request
     pub stepped : HasStepped view step kept

@@ -42,7 +42,8 @@ module _ {B S Q A : Type 0} where
 
   -- the first seat, before the others are split off
   abbrev pub first_view : B → S → List ℕ → Option (View B S Q A)
-  first_view base opening allotments = Some (fresh base opening allotments 0 (sum_of allotments) 1 (rest_of allotments))
+  first_view base opening allotments =
+      Some (fresh base opening allotments 0 (sum_of allotments) 1 (rest_of allotments))
 
   -- what is left of a seat from which the next was split off
   abbrev pub dealt : View B S Q A → View B S Q A
@@ -60,7 +61,8 @@ module _ {B S Q A : Type 0} where
   split_right None = None
   split_right (Some v) = Some (dealt_seat v)
 
-  -- a seat that joined another: it has the longer list and what the other had left, and it notes both lists, the other's number with its calls, and what the other had noted
+  -- a seat that joined another: it has the longer list and what the other had left, and it notes
+  -- both lists, the other's number with its calls, and what the other had noted
   abbrev pub with_seat : View B S Q A → View B S Q A → View B S Q A
   with_seat v w = record v {
     left = v.left + w.left;
@@ -103,4 +105,5 @@ module _ {B S Q A : Type 0} where
 
   -- it made a call
   abbrev pub done : View B S Q A → StepOf Q A → View B S Q A
-  done v step = record v { phase = phase.Idle; seen = v.seen ++ step ∷ []; own = v.own ++ step ∷ [] }
+  done v step =
+      record v { phase = phase.Idle; seen = v.seen ++ step ∷ []; own = v.own ++ step ∷ [] }

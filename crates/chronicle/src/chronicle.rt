@@ -75,9 +75,14 @@ impl<O: Object> Chronicle<O> {
     ) -> Result<(Chronicle<O>, Vec<Seat<O>>), NoMemory>
         requires seats { (1 ≤ vec_len allotments) × (vec_len allotments ≤ 65535) }
         requires room { sum_of allotments.items ≤ O.room object }
-        ensures chronicle { IfOk result (λ r. (r.0.base ≡ O.base object) × (r.0.opening ≡ O.state object) × (r.0.allotments ≡ allotments.items)) }
+        ensures chronicle { IfOk result
+            (λ r. (r.0.base ≡ O.base object) × (r.0.opening ≡ O.state object)
+            × (r.0.allotments ≡ allotments.items)) }
         ensures count { IfOk result (λ r. vec_len r.1 ≡ vec_len allotments) }
-        ensures seats { IfOk result (λ r. (n : ℕ) (d : _) → n < vec_len allotments → slice_index_or r.1.items n d ≡ standing (Some r.0) n (slice_index allotments.items n) [] []) }
+        ensures seats { IfOk result
+            (λ r. (n : ℕ) (d : _) → n < vec_len allotments
+            → slice_index_or r.1.items n d
+            ≡ standing (Some r.0) n (slice_index allotments.items n) [] []) }
     {
         let key = Key {
             object: Snapshot::of(&object),
@@ -106,7 +111,10 @@ impl<O: Object> Chronicle<O> {
         requires count { count ≡ length key.now.allotments.value.items }
         requires calls { calls ≡ sum_of key.now.allotments.value.items }
         requires room { calls ≤ O.room object }
-        ensures chronicle { IfOk result (λ r. r.0 ≡ origin r.0.table (O.base key.now.object.value) (O.state key.now.object.value) key.now.allotments.value.items) }
+        ensures chronicle { IfOk result
+            (λ r. r.0
+            ≡ origin r.0.table (O.base key.now.object.value) (O.state key.now.object.value)
+            key.now.allotments.value.items) }
         ensures own { IfOk result (λ r. r.1.table_id ≡ r.0.table) }
         ensures first { IfOk result (λ r. IsDealing r.0 1 r.1.me) }
     {
@@ -154,7 +162,8 @@ impl<O: Object> Chronicle<O> {
         requires next { (number < length self.now.allotments) × (number < 65535) }
         ensures own { (first.new.table_id ≡ first.old.table_id) × (first.new.id ≡ first.old.id) }
         ensures dealing { IsDealing self.now (number + 1) first.new.me }
-        ensures seat { result ≡ standing (Some self.now) number (slice_index self.now.allotments number) [] [] }
+        ensures seat { result
+            ≡ standing (Some self.now) number (slice_index self.now.allotments number) [] [] }
     {
         let place = self.table.shared.split_seat::<Deal>(first);
         Seat { number, place }
@@ -169,7 +178,9 @@ impl<O: Object> Chronicle<O> {
         ensures seats { All (λ step. Any (λ s. s.number ≡ step.seat) seats.items) result.1 }
         ensures own { All (λ s. calls_by s.number result.1 ≡ s.own) seats.items }
         ensures seen { All (λ s. BeginsWith result.1 s.seen) seats.items }
-        ensures others { All (λ s. (rest : _) → result.1 ≡ s.seen ++ rest → calls_by s.number rest ≡ []) seats.items }
+        ensures others { All
+            (λ s. (rest : _) → result.1 ≡ s.seen ++ rest → calls_by s.number rest ≡ [])
+            seats.items }
         ensures base { O.base result.0 ≡ self.base }
         ensures last { O.state result.0 ≡ state_after O.after self.base self.opening result.1 }
     {
@@ -204,8 +215,10 @@ impl<O: Object> Chronicle<O> {
         requires own { keeper.old.table_id ≡ self.now.table }
         requires chronicle { seat.chronicle ≡ Some self.now }
         requires keeper { HasJoined self.now [] keeper.old.me }
-        ensures own { (keeper.new.table_id ≡ keeper.old.table_id) × (keeper.new.id ≡ keeper.old.id) }
-        ensures joined { (joined : _) → HasJoined self.now joined keeper.old.me → HasJoined self.now (seat ∷ joined) keeper.new.me }
+        ensures own { (keeper.new.table_id ≡ keeper.old.table_id)
+            × (keeper.new.id ≡ keeper.old.id) }
+        ensures joined { (joined : _) → HasJoined self.now joined keeper.old.me
+            → HasJoined self.now (seat ∷ joined) keeper.new.me }
     {
         self.table
             .shared
@@ -217,13 +230,19 @@ impl<O: Object> Chronicle<O> {
         requires chronicle { seat.old.chronicle ≡ Some self.now }
         requires left { 1 ≤ seat.old.left }
         requires sound { O.sound self.now.base request ≡ true }
-        ensures seen { Extends seat.old.seen seat.new.seen (step_of seat.old.number request result) }
-        ensures legal { IsLegal O.sound O.after O.reply self.now.base self.now.opening seat.new.seen }
+        ensures seen { Extends seat.old.seen seat.new.seen
+            (step_of seat.old.number request result) }
+        ensures legal { IsLegal O.sound O.after O.reply self.now.base self.now.opening
+            seat.new.seen }
         ensures own { seat.new.own ≡ seat.old.own ++ step_of seat.old.number request result ∷ [] }
         ensures all_own { calls_by seat.old.number seat.new.seen ≡ seat.new.own }
-        ensures others { (between : _) → seat.new.seen ≡ (seat.old.seen ++ between) ++ step_of seat.old.number request result ∷ [] → calls_by seat.old.number between ≡ [] }
+        ensures others { (between : _)
+            → seat.new.seen
+            ≡ (seat.old.seen ++ between) ++ step_of seat.old.number request result ∷ []
+            → calls_by seat.old.number between ≡ [] }
         ensures left { seat.new.left + 1 ≡ seat.old.left }
-        ensures same { (seat.new.chronicle ≡ seat.old.chronicle) × (seat.new.number ≡ seat.old.number) }
+        ensures same { (seat.new.chronicle ≡ seat.old.chronicle)
+            × (seat.new.number ≡ seat.old.number) }
     {
         let number = seat.number;
         let place = &mut seat.place;
@@ -266,7 +285,8 @@ impl<O: Object> Chronicle<O> {
         requires own { place.old.table_id ≡ self.now.table }
         requires waits { IsWaiting ticket place.old.me }
         ensures own { (place.new.table_id ≡ place.old.table_id) × (place.new.id ≡ place.old.id) }
-        ensures turn { (v : _) → place.old.me ≡ (Some v, []) → Serves O.base O.state O.room O.sound O.after O.reply v ticket place.new.me }
+        ensures turn { (v : _) → place.old.me ≡ (Some v, [])
+            → Serves O.base O.state O.room O.sound O.after O.reply v ticket place.new.me }
     {
         for _ in rt.forever() {
             if self.table.shared.load::<Look<O>>(place, SERVING) == ticket {
@@ -301,9 +321,11 @@ impl<O: Object> Chronicle<O> {
     fn act(&self, place: &mut Place<O>, number: u16, request: O::Request) -> O::Reply
         requires own { place.old.table_id ≡ self.now.table }
         requires number { number < 65535 }
-        requires may_step { MayStep O.base O.state O.room O.sound O.after O.reply number request place.old.me }
+        requires may_step { MayStep O.base O.state O.room O.sound O.after O.reply number request
+            place.old.me }
         ensures own { (place.new.table_id ≡ place.old.table_id) × (place.new.id ≡ place.old.id) }
-        ensures steps { Steps O.base O.state O.room O.sound O.after O.reply number request result place.old.me place.new.me }
+        ensures steps { Steps O.base O.state O.room O.sound O.after O.reply number request result
+            place.old.me place.new.me }
     {
         let kept = place.slot_mut(&self.table.shared, 0);
         kept.step(number, request)
@@ -316,7 +338,8 @@ impl<O: Object> Chronicle<O> {
     // reach 2^64, so equal numbers are one ticket.
     fn pass(&self, place: &mut Place<O>, number: u16, request: &O::Request, reply: &O::Reply)
         requires own { place.old.table_id ≡ self.now.table }
-        requires has_to_pass { HasToPass O.base O.state O.room O.sound O.after O.reply (step_of number request.now reply.now) place.old.me }
+        requires has_to_pass { HasToPass O.base O.state O.room O.sound O.after O.reply
+            (step_of number request.now reply.now) place.old.me }
         ensures own { (place.new.table_id ≡ place.old.table_id) × (place.new.id ≡ place.old.id) }
         ensures passes { Passes place.old.me place.new.me }
     {

@@ -19,10 +19,13 @@ impl<O: Object> Kept<O, O::Request, O::Reply> {
         requires seat { seat < 65535 }
         requires reserved { length self.old.journal.items < vec_capacity self.old.journal }
         ensures base { O.base self.new.object ≡ O.base self.old.object }
-        ensures state { O.state self.new.object ≡ O.after (O.base self.old.object) (O.state self.old.object) seat request }
-        ensures reply { result ≡ O.reply (O.base self.old.object) (O.state self.old.object) seat request }
+        ensures state { O.state self.new.object
+            ≡ O.after (O.base self.old.object) (O.state self.old.object) seat request }
+        ensures reply { result
+            ≡ O.reply (O.base self.old.object) (O.state self.old.object) seat request }
         ensures room { O.room self.new.object + 1 ≡ O.room self.old.object }
-        ensures noted { self.new.journal.items ≡ self.old.journal.items ++ step_of seat request result ∷ [] }
+        ensures noted { self.new.journal.items
+            ≡ self.old.journal.items ++ step_of seat request result ∷ [] }
         ensures reserved { vec_capacity self.new.journal ≡ vec_capacity self.old.journal }
     {
         let reply = self.object.step(seat, request);

@@ -27,7 +27,8 @@ const PATIENCE: u32 = 30_000;
 fn close_in_order(chronicle: Chronicle<Adder>, seats: Vec<Seat<Adder>>) -> (Adder, Journal<Adder>)
     requires chronicle { All (λ s. s.chronicle ≡ Some chronicle) seats.items }
     requires count { length chronicle.allotments ≤ length seats.items }
-    requires numbers { (n : ℕ) (d : _) → n < length seats.items → (slice_index_or seats.items n d).number ≡ n }
+    requires numbers { (n : ℕ) (d : _) → n < length seats.items
+        → (slice_index_or seats.items n d).number ≡ n }
 {
     chronicle.close(seats)
 }
@@ -94,8 +95,10 @@ fn call_all<R: Threads + Wait + Sync>(
     seats: &mut [Seat<Adder>],
 )
     requires { All (λ s. (s.chronicle ≡ Some chronicle.now) × (s.left ≡ CALLS)) seats.old }
-    ensures chronicle { (i : ℕ) (d : _) → i < length seats.old → (slice_index_or seats.new i d).chronicle ≡ (slice_index_or seats.old i d).chronicle }
-    ensures number { (i : ℕ) (d : _) → i < length seats.old → (slice_index_or seats.new i d).number ≡ (slice_index_or seats.old i d).number }
+    ensures chronicle { (i : ℕ) (d : _) → i < length seats.old
+        → (slice_index_or seats.new i d).chronicle ≡ (slice_index_or seats.old i d).chronicle }
+    ensures number { (i : ℕ) (d : _) → i < length seats.old
+        → (slice_index_or seats.new i d).number ≡ (slice_index_or seats.old i d).number }
 {
     let threads = seats.len();
     if threads == 0 {
@@ -164,7 +167,8 @@ fn watch<R: Clock + Abort>(rt: &R, is_done: &AtomicU64) {
     panic!(rt; "a thread was not woken");
 }
 
-// Several real threads share one history. Each sleeps while the others have their turns, and is woken.
+// Several real threads share one history. Each sleeps while the others have their turns, and is
+// woken.
 #[test]
 fn threads_share_one_history(rt: HostRuntime) -> Result<(), Fail> {
     let is_done = AtomicU64::new(0);

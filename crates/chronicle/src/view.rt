@@ -27,7 +27,8 @@ pub struct View<B, S, Q, A> {
     // A beginning of the history.
     pub ghost seen: { List (StepOf Q A) },
     pub ghost own: { List (StepOf Q A) },
-    // Of the seat that splits the others off: how many there are, and the allotments of those to come.
+    // Of the seat that splits the others off: how many there are, and the allotments of those to
+    // come.
     pub ghost made: { ℕ },
     pub ghost plan: { List ℕ },
     // Of the seats that it joined: each number with its calls, and what had been seen.

@@ -93,7 +93,8 @@ fn call_all<R: Threads + Wait + Sync>(
     task: Task,
 )
     requires some { 1 ≤ length seats.old }
-    requires seats { All (λ s. (s.chronicle ≡ Some chronicle.now) × (s.left ≡ task.calls)) seats.old }
+    requires seats { All (λ s. (s.chronicle ≡ Some chronicle.now) × (s.left ≡ task.calls))
+        seats.old }
 {
     let threads = seats.len();
     thread::for_each_mut(

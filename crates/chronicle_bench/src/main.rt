@@ -1,5 +1,5 @@
-//! Times the calls of a chronicle by threads that work between them. Prints its figures where it is given words, and
-//! else nothing.
+//! Times the calls of a chronicle by threads that work between them. Prints its figures where it is
+//! given words, and else nothing.
 // Neither: the figures that it prints.
 #![tactic(auto)]
 

@@ -1,4 +1,5 @@
--- How far counts are from the seats, at given prices: three lists of one length, with an item for each section.
+-- How far counts are from the seats, at given prices: three lists of one length, with an item for
+-- each section.
 use Rattle.std.specs.Prelude.{ℕ, ◌+◌, ◌-◌, ◌*◌, ℤ, pos, ◌-ℤ◌, nat_abs, nat_lt, if◌then◌else◌, List, [], ◌∷◌}
 use Rattle.market_units.specs.declared.units.Tokens.{Tokens}
 
@@ -6,7 +7,8 @@ use Rattle.market_units.specs.declared.units.Tokens.{Tokens}
 abbrev pub excess : ℕ → ℕ → ℤ
 excess count seats = pos count -ℤ pos seats
 
--- a section's part: the excess where its price is above 0, and the greater of the excess and 0 where it is 0
+-- a section's part: the excess where its price is above 0, and the greater of the excess and 0
+-- where it is 0
 abbrev pub part : ℕ → ℕ → ℕ → ℤ
 part count seats price = if nat_lt 0 price then excess count seats else pos (count - seats)
 
@@ -19,4 +21,5 @@ abbrev pub error : List ℕ → List ℕ → List Tokens → ℕ
 error [] seats prices = 0
 error (count ∷ counts) [] prices = 0
 error (count ∷ counts) (seats ∷ more) [] = 0
-error (count ∷ counts) (seats ∷ more) (price ∷ prices) = squared (part count seats price.0) + error counts more prices
+error (count ∷ counts) (seats ∷ more) (price ∷ prices) =
+    squared (part count seats price.0) + error counts more prices

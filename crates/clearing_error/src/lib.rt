@@ -16,7 +16,8 @@ mod tests {
     type Case = ([u32; 4], [u16; 4], [u32; 4], u64);
 
     const CASES: [Case; 5] = [
-        // The ordinary term at zero prices: one student more than seats for the first section, free seats for others.
+        // The ordinary term at zero prices: one student more than seats for the first section, free
+        // seats for others.
         ([2, 1, 1, 1], [1, 2, 2, 1], [0, 0, 0, 0], 1),
         // Its last prices clear the market, since seats stay free at price 0 alone.
         ([1, 1, 1, 1], [1, 2, 2, 1], [104, 0, 0, 0], 0),

@@ -4,8 +4,8 @@ ghost use Rattle.clearing_error.specs.Errors.{excess, part, squared, error};
 
 use market_units::Tokens;
 
-/// The excess of a section: the students who take it minus its seats, below 0 where seats are free. The count is at
-/// most 2,000.
+/// The excess of a section: the students who take it minus its seats, below 0 where seats are free.
+/// The count is at most 2,000.
 pub fn excess(count: u32, seats: u16) -> i32
     requires { count ≤ 2000 }
     ensures { result ≡ excess count seats }
@@ -13,10 +13,10 @@ pub fn excess(count: u32, seats: u16) -> i32
     count as i32 - i32::from(seats)
 }
 
-/// The clearing error (Budish 2011), of which no root is taken: the sum of the squared parts of all sections. A
-/// section's part is its excess where its price is above 0, and the greater of the excess and 0 where it is 0, since
-/// free seats at price 0 are no error. There is a seat number and a price for each count, at most 400 of them, and
-/// each count is at most 2,000.
+/// The clearing error (Budish 2011), of which no root is taken: the sum of the squared parts of all
+/// sections. A section's part is its excess where its price is above 0, and the greater of the
+/// excess and 0 where it is 0, since free seats at price 0 are no error. There is a seat number and
+/// a price for each count, at most 400 of them, and each count is at most 2,000.
 pub fn error(counts: &[u32], seats: &[u16], prices: &[Tokens]) -> u64
     requires counts { All (λ count. count ≤ 2000) counts.now }
     requires few { length counts.now ≤ 400 }

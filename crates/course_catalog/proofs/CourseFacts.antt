@@ -37,30 +37,40 @@ kept_numbers (s ∷ more) courses y known =
     let here : list_any (bytes_eq s.course) courses ≡ true = parts.0 in
     let rest = kept_numbers more courses y parts.1 in
     let found : (list_any (bytes_eq s.course) courses || bytes_eq s.course y) ≡ true = rw here refl in
-    let place : position_or_len (bytes_eq s.course) (courses ++ y ∷ []) ≡ position_or_len (bytes_eq s.course) courses = position_or_len-snoc (bytes_eq s.course) courses y found in
+    let place : position_or_len (bytes_eq s.course) (courses ++ y ∷ []) ≡ position_or_len (bytes_eq s.course) courses =
+    position_or_len-snoc (bytes_eq s.course) courses y found in
     let any : list_any (bytes_eq s.course) (courses ++ y ∷ []) ≡ true = list_any-append (bytes_eq s.course) courses (y ∷ []) ∙ rw here refl in
     (rw (place, rest.0) refl, rw (any, rest.1) refl)
 
 -- one more section
-numbered_by : (seen : Bool) (sections : List Section) (courses : List (List ℕ)) (numbers : List ℕ) (s : Section) → list_any (bytes_eq s.course) courses ≡ seen → Numbered sections courses numbers
+numbered_by : (seen : Bool) (sections : List Section) (courses : List (List ℕ)) (numbers : List ℕ) (s : Section) → list_any (bytes_eq s.course) courses ≡ seen
+    → Numbered sections courses numbers
     → Numbered (sections ++ s ∷ []) (cond seen courses (courses ++ s.course ∷ [])) (numbers ++ position_or_len (bytes_eq s.course) courses ∷ [])
 numbered_by true sections courses numbers s seen old = record {
   firsts =
-      let has : list_any (bytes_eq s.course) (map (λ t. t.course) sections) ≡ true = sym (any-first_occurrences s.course (map (λ t. t.course) sections)) ∙ ap (list_any (bytes_eq s.course)) (sym old.firsts) ∙ seen in
+      let has : list_any (bytes_eq s.course) (map (λ t. t.course) sections) ≡ true =
+      sym (any-first_occurrences s.course (map (λ t. t.course) sections)) ∙ ap (list_any (bytes_eq s.course)) (sym old.firsts) ∙ seen in
       rw (map-append (λ (t : Section). t.course) sections (s ∷ []), first_occurrences-snoc (map (λ t. t.course) sections) s.course, has) old.firsts;
-  each = ap (λ (ns : List ℕ). ns ++ position_or_len (bytes_eq s.course) courses ∷ []) old.each ∙ sym (map-append (λ (t : Section). position_or_len (bytes_eq t.course) courses) sections (s ∷ []));
+  each =
+      ap (λ (ns : List ℕ). ns ++ position_or_len (bytes_eq s.course) courses ∷ []) old.each
+      ∙ sym (map-append (λ (t : Section). position_or_len (bytes_eq t.course) courses) sections (s ∷ []));
   known = list_all-append (λ (t : Section). list_any (bytes_eq t.course) courses) sections (s ∷ []) ∙ rw (old.known, seen) refl;
   few = omega (arith, old.few, length-append sections (s ∷ []));
 }
 numbered_by false sections courses numbers s seen old =
-    let lacks : list_any (bytes_eq s.course) (map (λ t. t.course) sections) ≡ false = sym (any-first_occurrences s.course (map (λ t. t.course) sections)) ∙ ap (list_any (bytes_eq s.course)) (sym old.firsts) ∙ seen in
+    let lacks : list_any (bytes_eq s.course) (map (λ t. t.course) sections) ≡ false =
+    sym (any-first_occurrences s.course (map (λ t. t.course) sections)) ∙ ap (list_any (bytes_eq s.course)) (sym old.firsts) ∙ seen in
     let itself : bytes_eq s.course s.course ≡ true = same-bytes_eq s.course s.course refl in
     let found : (list_any (bytes_eq s.course) courses || bytes_eq s.course s.course) ≡ true = rw (seen, itself) refl in
-    let place : position_or_len (bytes_eq s.course) (courses ++ s.course ∷ []) ≡ position_or_len (bytes_eq s.course) courses = position_or_len-snoc (bytes_eq s.course) courses s.course found in
+    let place : position_or_len (bytes_eq s.course) (courses ++ s.course ∷ []) ≡ position_or_len (bytes_eq s.course) courses =
+    position_or_len-snoc (bytes_eq s.course) courses s.course found in
     let kept = kept_numbers sections courses s.course old.known in
-    let any : list_any (bytes_eq s.course) (courses ++ s.course ∷ []) ≡ true = list_any-append (bytes_eq s.course) courses (s.course ∷ []) ∙ rw (seen, itself) refl in
+    let any : list_any (bytes_eq s.course) (courses ++ s.course ∷ []) ≡ true =
+    list_any-append (bytes_eq s.course) courses (s.course ∷ []) ∙ rw (seen, itself) refl in
     record {
-      firsts = rw (map-append (λ (t : Section). t.course) sections (s ∷ []), first_occurrences-snoc (map (λ t. t.course) sections) s.course, lacks) (ap (λ (cs : List (List ℕ)). cs ++ s.course ∷ []) old.firsts);
+      firsts =
+          rw (map-append (λ (t : Section). t.course) sections (s ∷ []), first_occurrences-snoc (map (λ t. t.course) sections) s.course, lacks)
+          (ap (λ (cs : List (List ℕ)). cs ++ s.course ∷ []) old.firsts);
       each =
           ap (λ (ns : List ℕ). ns ++ position_or_len (bytes_eq s.course) courses ∷ []) (old.each ∙ kept.0)
           ∙ ap (λ n. map (λ (t : Section). position_or_len (bytes_eq t.course) (courses ++ s.course ∷ [])) sections ++ n ∷ []) (sym place)
@@ -77,7 +87,8 @@ position_or_len-names : (p : List ℕ → Bool) (names : List Name) → position
 position_or_len-names p [] = refl
 position_or_len-names p (n ∷ ns) = elim (cases_Bool (p (name_bytes n))) [ inl t ↦ rw t refl | inr f ↦ rw f (ap (λ k. 1 + k) (position_or_len-names p ns)) ]
 
-bytes_of-added : (seen : Bool) (names : List Name) (name : Name) → bytes_of (cond seen names (names ++ name ∷ [])) ≡ cond seen (bytes_of names) (bytes_of names ++ name_bytes name ∷ [])
+bytes_of-added : (seen : Bool) (names : List Name) (name : Name)
+    → bytes_of (cond seen names (names ++ name ∷ [])) ≡ cond seen (bytes_of names) (bytes_of names ++ name_bytes name ∷ [])
 bytes_of-added true names name = refl
 bytes_of-added false names name = map-append name_bytes names (name ∷ [])
 
@@ -97,5 +108,6 @@ one_more sections names new numbers s course number is keys index old =
     rw (added, place) (numbered_by (list_any (bytes_eq s.course) (bytes_of names)) sections (bytes_of names) numbers s refl old)
 
 -- all sections
-pub all_numbered : (sections : List Section) (courses : List (List ℕ)) (numbers : List ℕ) → Numbered sections courses numbers → numbers ≡ course_numbers sections
+pub all_numbered : (sections : List Section) (courses : List (List ℕ)) (numbers : List ℕ) → Numbered sections courses numbers
+    → numbers ≡ course_numbers sections
 all_numbered sections courses numbers done = done.each ∙ ap (λ (cs : List (List ℕ)). map (λ s. position_or_len (bytes_eq s.course) cs) sections) done.firsts

@@ -20,7 +20,8 @@ bytes_eq-other_way : (x y : List ℕ) → bytes_eq x y ≡ bytes_eq y x
 bytes_eq-other_way x y = same_from_decides (bytes_eq x y) (bytes_eq y x) (bytes_eq-Decides x y) (λ t. sym (bytes_eq-same y x t), λ e. same-bytes_eq y x (sym e))
 
 -- among the first occurrences without one name are the others
-any-without : (x y : List ℕ) (names : List (List ℕ)) → bytes_eq x y ≡ false → list_any (bytes_eq x) (filter (λ other. not (bytes_eq y other)) names) ≡ list_any (bytes_eq x) names
+any-without : (x y : List ℕ) (names : List (List ℕ)) → bytes_eq x y ≡ false
+    → list_any (bytes_eq x) (filter (λ other. not (bytes_eq y other)) names) ≡ list_any (bytes_eq x) names
 any-without x y [] differ = refl
 any-without x y (n ∷ ns) differ = elim (cases_Bool (bytes_eq y n)) [
   | inl t ↦
@@ -44,19 +45,22 @@ snoc-step x y firsts true = elim (cases_Bool (bytes_eq y x)) [ inl t ↦ rw t re
 snoc-step x y firsts false = elim (cases_Bool (bytes_eq y x)) [
   | inl t ↦
       let back : bytes_eq x y ≡ true = bytes_eq-other_way x y ∙ t in
-      rw (filter-append (λ other. not (bytes_eq x other)) firsts (y ∷ []), back, t) (ap (λ (rest : List (List ℕ)). x ∷ rest) (append-nil (filter (λ other. not (bytes_eq x other)) firsts)))
+      rw (filter-append (λ other. not (bytes_eq x other)) firsts (y ∷ []), back, t)
+      (ap (λ (rest : List (List ℕ)). x ∷ rest) (append-nil (filter (λ other. not (bytes_eq x other)) firsts)))
   | inr f ↦
       let back : bytes_eq x y ≡ false = bytes_eq-other_way x y ∙ f in
       rw (filter-append (λ other. not (bytes_eq x other)) firsts (y ∷ []), back, f) refl
 ]
 
 -- one more name comes last, unless it occurred
-pub first_occurrences-snoc : (names : List (List ℕ)) (y : List ℕ) → first_occurrences (names ++ y ∷ []) ≡ cond (list_any (bytes_eq y) names) (first_occurrences names) (first_occurrences names ++ y ∷ [])
+pub first_occurrences-snoc : (names : List (List ℕ)) (y : List ℕ)
+    → first_occurrences (names ++ y ∷ []) ≡ cond (list_any (bytes_eq y) names) (first_occurrences names) (first_occurrences names ++ y ∷ [])
 first_occurrences-snoc [] y = refl
 first_occurrences-snoc (x ∷ names) y = rw (first_occurrences-snoc names y) (snoc-step x y (first_occurrences names) (list_any (bytes_eq y) names))
 
 -- a name that is there, or comes last, has its place after one more
-pub position_or_len-snoc : (p : List ℕ → Bool) (xs : List (List ℕ)) (y : List ℕ) → (list_any p xs || p y) ≡ true → position_or_len p (xs ++ y ∷ []) ≡ position_or_len p xs
+pub position_or_len-snoc : (p : List ℕ → Bool) (xs : List (List ℕ)) (y : List ℕ) → (list_any p xs || p y) ≡ true
+    → position_or_len p (xs ++ y ∷ []) ≡ position_or_len p xs
 position_or_len-snoc p [] y found = rw found refl
 position_or_len-snoc p (x ∷ xs) y found = elim (cases_Bool (p x)) [
   | inl t ↦ rw t refl
@@ -64,7 +68,8 @@ position_or_len-snoc p (x ∷ xs) y found = elim (cases_Bool (p x)) [
 ]
 
 -- two names of the list with one place are equal
-pub same_place : (names : List (List ℕ)) (x y : List ℕ) → list_any (bytes_eq x) names ≡ true → list_any (bytes_eq y) names ≡ true → position_or_len (bytes_eq x) names ≡ position_or_len (bytes_eq y) names → x ≡ y
+pub same_place : (names : List (List ℕ)) (x y : List ℕ) → list_any (bytes_eq x) names ≡ true → list_any (bytes_eq y) names ≡ true
+    → position_or_len (bytes_eq x) names ≡ position_or_len (bytes_eq y) names → x ≡ y
 same_place [] x y has_x has_y e = absurd (cc)
 same_place (n ∷ ns) x y has_x has_y e = elim (cases_Bool (bytes_eq x n)) [
   | inl t ↦ elim (cases_Bool (bytes_eq y n)) [
@@ -79,7 +84,8 @@ same_place (n ∷ ns) x y has_x has_y e = elim (cases_Bool (bytes_eq x n)) [
 ]
 
 -- names of the list are equal where their places are
-pub same_number : (names : List (List ℕ)) (x y : List ℕ) → list_any (bytes_eq x) names ≡ true → list_any (bytes_eq y) names ≡ true → eqb (position_or_len (bytes_eq x) names) (position_or_len (bytes_eq y) names) ≡ bytes_eq x y
+pub same_number : (names : List (List ℕ)) (x y : List ℕ) → list_any (bytes_eq x) names ≡ true → list_any (bytes_eq y) names ≡ true
+    → eqb (position_or_len (bytes_eq x) names) (position_or_len (bytes_eq y) names) ≡ bytes_eq x y
 same_number names x y has_x has_y =
     let places = Decides-eqb (position_or_len (bytes_eq x) names) (position_or_len (bytes_eq y) names) in
     same_from_decides (eqb (position_or_len (bytes_eq x) names) (position_or_len (bytes_eq y) names)) (bytes_eq x y) places

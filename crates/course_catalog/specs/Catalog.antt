@@ -21,7 +21,8 @@ pub record IsListed (version : ℕ) (section : Section) : Type 0 where
   pub is_section : IsSection section
   pub whole : version ≡ 1 → section.parts ≡ whole_term
 
--- of version 1 or 2; at most 400 sections, of different names, within their ranges; in version 1 each runs in the whole term
+-- of version 1 or 2; at most 400 sections, of different names, within their ranges; in version 1
+-- each runs in the whole term
 pub record IsCatalog (catalog : CatalogData) : Type 0 where
   pub some_version : 1 ≤ catalog.version
   pub known_version : catalog.version ≤ 2
@@ -29,10 +30,13 @@ pub record IsCatalog (catalog : CatalogData) : Type 0 where
   pub distinct : IsDistinct bytes_eq (map (λ section. section.name) catalog.sections)
   pub each : All (IsListed catalog.version) catalog.sections
 
--- what is kept beside the sections, each worked out once: their names, seats, course numbers and clashes
-pub record KeepsCatalog (catalog : CatalogData) (name_keys : List Name) (seat_list course_list : List ℕ) (table : List (set.FinSet nat_cmp)) : Type 0 where
+-- what is kept beside the sections, each worked out once: their names, seats, course numbers and
+-- clashes
+pub record KeepsCatalog (catalog : CatalogData) (name_keys : List Name)
+    (seat_list course_list : List ℕ) (table : List (set.FinSet nat_cmp)) : Type 0 where
   pub is_catalog : IsCatalog catalog
   pub names : bytes_of name_keys ≡ map (λ section. section.name) catalog.sections
   pub seats : seat_list ≡ map (λ section. section.seats) catalog.sections
   pub courses : course_list ≡ course_numbers catalog.sections
-  pub clashes : IsClashTable (map (λ section. section.meetings) catalog.sections) (course_numbers catalog.sections) (map (λ section. section.parts) catalog.sections) table
+  pub clashes : IsClashTable (map (λ section. section.meetings) catalog.sections)
+      (course_numbers catalog.sections) (map (λ section. section.parts) catalog.sections) table

@@ -7,7 +7,8 @@ use Rattle.course_catalog.specs.Sections.{Section}
 -- each name once, where it first occurs
 abbrev pub first_occurrences : List (List ℕ) → List (List ℕ)
 first_occurrences [] = []
-first_occurrences (name ∷ more) = name ∷ filter (λ other. not (bytes_eq name other)) (first_occurrences more)
+first_occurrences (name ∷ more) =
+    name ∷ filter (λ other. not (bytes_eq name other)) (first_occurrences more)
 
 -- the names of the courses, by first occurrence
 abbrev pub courses_of : List Section → List (List ℕ)

@@ -1,4 +1,5 @@
--- The catalogue that bytes stand for, or the refusal of its first bad record at its first bad column.
+-- The catalogue that bytes stand for, or the refusal of its first bad record at its first bad
+-- column.
 use Rattle.std.specs.Prelude.{ℕ, ◌==◌, if◌then◌else◌, true, List, [], ◌∷◌, ◌++◌, codes, Option, Some, Result, Ok}
 use Rattle.timetable_rules.specs.declared.parts.Parts.{Parts}
 use Rattle.timetable_rules.specs.Parts.{spelled_parts, whole_term}
@@ -12,11 +13,14 @@ use Rattle.course_catalog.specs.Refusal.{refusal_of}
 use Rattle.course_catalog.specs.Catalog.{CatalogData}
 use Rattle.course_catalog.specs.Sections.{Section}
 
--- the parts of the term in which a row's section runs: in version 1 the whole term, in version 2 what column 6 spells
+-- the parts of the term in which a row's section runs: in version 1 the whole term, in version 2
+-- what column 6 spells
 abbrev pub parts_in : ℕ → List (List ℕ) → Option Parts
-parts_in version fields = if version == 1 then Some whole_term else spelled_parts (field_in 6 fields)
+parts_in version fields =
+    if version == 1 then Some whole_term else spelled_parts (field_in 6 fields)
 
--- the section that the fields of a row are: its name, its course, at most 9,999 seats, at most 100 credits, its meetings, its parts
+-- the section that the fields of a row are: its name, its course, at most 9,999 seats, at most 100
+-- credits, its meetings, its parts
 abbrev pub section_of : ℕ → ℕ → List (List ℕ) → Result Section CatalogRefusal
 section_of version row fields = do
   course ← name_or (refusal.Name row 2) (field_in 2 fields)
@@ -24,13 +28,22 @@ section_of version row fields = do
   credits ← number_or (refusal.Number row 4) 100 (field_in 4 fields)
   meetings ← or_refused (refusal.Meetings row) (spelled (field_in 5 fields))
   parts ← or_refused (refusal.Parts row) (parts_in version fields)
-  Ok (record { name = first_field fields; course = course; seats = seats; credits = credits; meetings = meetings; parts = parts })
+  Ok
+      (record {
+        name = first_field fields;
+        course = course;
+        seats = seats;
+        credits = credits;
+        meetings = meetings;
+        parts = parts;
+      })
 
 -- the fields of the first record in version 1
 abbrev pub first_header : List (List ℕ)
 first_header = codes "section" ∷ codes "course" ∷ codes "seats" ∷ codes "credits" ∷ codes "meetings" ∷ []
 
--- the rules of the catalogue: its headers, the second with one column more, at most 400 rows, any name, and what a row is
+-- the rules of the catalogue: its headers, the second with one column more, at most 400 rows, any
+-- name, and what a row is
 abbrev pub catalog_rules : Rules Section CatalogRefusal
 catalog_rules = record {
   headers = first_header ∷ (first_header ++ codes "parts" ∷ []) ∷ [];

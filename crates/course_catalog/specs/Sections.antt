@@ -8,7 +8,8 @@ use Rattle.timetable_rules.specs.declared.parts.Parts.{Parts}
 use Rattle.timetable_rules.specs.Parts.{SharePart, no_part, share_part}
 use Rattle.timetable_rules.specs.Overlap.{SomeOverlap, some_overlap}
 
--- a section: its name, the name of its course, its seats, its credits, its meetings, and the parts of the term in which it runs
+-- a section: its name, the name of its course, its seats, its credits, its meetings, and the parts
+-- of the term in which it runs
 pub record Section : Type 0 where
   pub name : List ℕ
   pub course : List ℕ
@@ -27,24 +28,30 @@ pub record IsSection (section : Section) : Type 0 where
   pub each_meeting : All IsMeeting section.meetings
   pub some_part : IsTrue (section.parts.first || section.parts.second)
 
--- the section that an ordinal beyond the last one stands for: of no name, without seats, credits, meetings and parts
+-- the section that an ordinal beyond the last one stands for: of no name, without seats, credits,
+-- meetings and parts
 abbrev pub no_section : Section
-no_section = record { name = []; course = []; seats = 0; credits = 0; meetings = []; parts = no_part }
+no_section =
+    record { name = []; course = []; seats = 0; credits = 0; meetings = []; parts = no_part }
 
 -- the section of an ordinal
 abbrev pub section_at : List Section → ℕ → Section
 section_at sections s = slice_index_or sections s no_section
 
--- Two different sections clash: they have the same course, or share a part of the term and a meeting of the one overlaps
--- a meeting of the other.
+-- Two different sections clash: they have the same course, or share a part of the term and a
+-- meeting of the one overlaps a meeting of the other.
 pub record SectionsClash (sections : List Section) (a b : ℕ) : Type 0 where
   pub different : a ≢ b
   pub cause : ((section_at sections a).course ≡ (section_at sections b).course)
-      ⊎ (SharePart (section_at sections a).parts (section_at sections b).parts × SomeOverlap (section_at sections a).meetings (section_at sections b).meetings)
+      ⊎
+      (SharePart (section_at sections a).parts (section_at sections b).parts
+      × SomeOverlap (section_at sections a).meetings (section_at sections b).meetings)
 
 -- the same as a test, for definitions that compute
 abbrev pub sections_clash : List Section → ℕ → ℕ → Bool
 sections_clash sections a b =
     let one = section_at sections a in
     let other = section_at sections b in
-    not (a == b) && (bytes_eq one.course other.course || (share_part one.parts other.parts && some_overlap one.meetings other.meetings))
+    not (a == b)
+    && (bytes_eq one.course other.course
+    || (share_part one.parts other.parts && some_overlap one.meetings other.meetings))

@@ -18,7 +18,8 @@ use std::marker::Model;
 use table_records::{Rows, place_of};
 use timetable_rules::{ClashTable, Meetings, Parts};
 
-/// The sections of a term, in the order of the table: at most 400, of different names; and the version of the table.
+/// The sections of a term, in the order of the table: at most 400, of different names; and the
+/// version of the table.
 #[derive(Drop)]
 pub struct Catalog {
     version: u8,
@@ -43,9 +44,11 @@ impl Model for Catalog {
 impl Catalog {
     /// The catalogue of these rows.
     pub(crate) fn of(alloc: Global, read: Rows<Row>) -> Result<Catalog, NoMemory>
-        requires catalog { IsCatalog (record { version = read.version; sections = read.rows.items }) }
+        requires catalog { IsCatalog
+            (record { version = read.version; sections = read.rows.items }) }
         requires names { bytes_of read.names.keys ≡ map (λ section. section.name) read.rows.items }
-        ensures { IfOk result (λ catalog. catalog ≡ record { version = read.version; sections = read.rows.items }) }
+        ensures { IfOk result
+            (λ catalog. catalog ≡ record { version = read.version; sections = read.rows.items }) }
     {
         let Rows {
             version,
@@ -107,10 +110,12 @@ impl Catalog {
         &self.seats
     }
 
-    /// The number of the section's course. Courses are numbered from 0 by the first occurrence of their names.
+    /// The number of the section's course. Courses are numbered from 0 by the first occurrence of
+    /// their names.
     pub fn course(&self, section: SectionNo) -> u16
         requires { section.0 < length self.now.sections }
-        ensures { result ≡ course_number self.now.sections (section_at self.now.sections section.0).course }
+        ensures { result
+            ≡ course_number self.now.sections (section_at self.now.sections section.0).course }
     {
         self.courses[usize::from(section.0)]
     }
@@ -131,8 +136,8 @@ impl Catalog {
         self.rows[usize::from(section.0)].parts
     }
 
-    /// Whether the sections clash: they are different, and have the same course, or share a part of the term and have
-    /// meetings that overlap.
+    /// Whether the sections clash: they are different, and have the same course, or share a part of
+    /// the term and have meetings that overlap.
     pub fn clash(&self, a: SectionNo, b: SectionNo) -> bool
         requires first { a.0 < length self.now.sections }
         requires second { b.0 < length self.now.sections }
@@ -164,7 +169,8 @@ fn seats_of(alloc: Global, rows: &[Row]) -> Result<Vec<u16>, NoMemory>
 }
 
 fn meetings_of_rows(alloc: Global, rows: &[Row]) -> Result<Vec<Meetings>, NoMemory>
-    ensures { IfOk result (λ all. map meetings_of all.items ≡ map (λ section. section.meetings) rows.now) }
+    ensures { IfOk result
+        (λ all. map meetings_of all.items ≡ map (λ section. section.meetings) rows.now) }
 {
     let mut all = Vec::with_capacity(alloc, rows.len())?;
     for row in rows {

@@ -8,8 +8,8 @@ use crate::{Catalog, CatalogRefusal};
 use std::alloc::Global;
 use table_records::{End, read_rows};
 
-/// Reads a catalogue: its version, which is that of its header, and its sections; or why the first bad record is refused,
-/// at its first bad column. The reading stops there.
+/// Reads a catalogue: its version, which is that of its header, and its sections; or why the first
+/// bad record is refused, at its first bad column. The reading stops there.
 pub fn read_catalog(alloc: Global, bytes: &[u8]) -> Result<Catalog, CatalogRefusal>
     requires { length bytes.now < 2 ^ 32 - 1 }
     ensures read { IfOk result (λ catalog. catalog_of bytes.now ≡ Ok catalog) }

@@ -1,8 +1,8 @@
 // Why a catalogue is refused.
 use thiserror::Error;
 
-/// The first bad record of a catalogue, and in it the first bad column. Rows are numbers of records and
-/// columns are counted from 1; the header is row 1.
+/// The first bad record of a catalogue, and in it the first bad column. Rows are numbers of records
+/// and columns are counted from 1; the header is row 1.
 #[derive(Clone, Copy, PartialEq, Eq, Debug, Error)]
 pub enum CatalogRefusal {
     /// The first record is no header of a catalogue, or there is none.

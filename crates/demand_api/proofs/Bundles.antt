@@ -17,17 +17,21 @@ counted_first before after x rest s up low counted = elim (cases_Bool (x.0 == s)
   | inl here ↦
       let e : s ≡ x.0 = grind (arith, nat_tests) in
       let none : has (ordinals rest) s ≡ false = none_below x.0 (ordinals rest) up.0 s (omega arith) in
-      let value : slice_index (slice_set before x.0 (slice_index before x.0 + 1)) s ≡ slice_index before s + 1 = rw e (get_or-set_same before x.0 (slice_index before x.0 + 1) 0 low) in
+      let value : slice_index (slice_set before x.0 (slice_index before x.0 + 1)) s ≡ slice_index before s + 1 =
+      rw e (get_or-set_same before x.0 (slice_index before x.0 + 1) 0 low) in
       let so_far : slice_index after s ≡ slice_index (slice_set before x.0 (slice_index before x.0 + 1)) s + 0 = rw none at counted in
       rw here (omega (arith, value, so_far))
   | inr there ↦
       let other : s ≢ x.0 = λ e. grind (arith, nat_tests) in
-      let value : slice_index (slice_set before x.0 (slice_index before x.0 + 1)) s ≡ slice_index before s = get_or-set_other before x.0 s (slice_index before x.0 + 1) 0 other in
+      let value : slice_index (slice_set before x.0 (slice_index before x.0 + 1)) s ≡ slice_index before s =
+      get_or-set_other before x.0 s (slice_index before x.0 + 1) 0 other in
       rw there (counted ∙ ap (λ n. n + (if has (ordinals rest) s then 1 else 0)) value)
 ]
 
-pub counted_slice : (before after : List ℕ) (sections : List SectionNo) (place s : ℕ) → 1 ≤ length sections → IsAscending (ordinals sections) → place ≡ (slice_index_or sections 0 (record { 0 = 0 })).0 → place < length before
-    → HasCounted (slice_set before place (slice_index before place + 1)) after (ordinals (take (length sections - 1) (drop 1 sections))) s → HasCounted before after (ordinals sections) s
+pub counted_slice : (before after : List ℕ) (sections : List SectionNo) (place s : ℕ) → 1 ≤ length sections → IsAscending (ordinals sections)
+    → place ≡ (slice_index_or sections 0 (record { 0 = 0 })).0 → place < length before
+    → HasCounted (slice_set before place (slice_index before place + 1)) after (ordinals (take (length sections - 1) (drop 1 sections))) s
+    → HasCounted before after (ordinals sections) s
 counted_slice before after sections place s some up at low counted =
     let first : SectionNo = slice_index_or sections 0 (record { 0 = 0 }) in
     let rest : List SectionNo = take (length sections - 1) (drop 1 sections) in

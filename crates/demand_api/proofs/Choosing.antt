@@ -12,17 +12,23 @@ use Rattle.demand_api.specs.Crowds.{IsWithin}
 use Rattle.demand_api.specs.Made.{MakeCrowd}
 use Rattle.demand_api.specs.Choosing.{AreChosen}
 
-pub chosen_more : {A : Type 0} (items : List A) (students : List StudentNo) (i : ℕ) (d : StudentNo) (picked later : List A) (item : A) → i < length students → AreChosen items (take i students) picked
+pub chosen_more : {A : Type 0} (items : List A) (students : List StudentNo) (i : ℕ) (d : StudentNo) (picked later : List A) (item : A) → i < length students
+    → AreChosen items (take i students) picked
     → later ≡ picked ++ item ∷ [] → slice_get items (slice_index_or students i d).0 ≡ Some item → AreChosen items (take (i + 1) students) later
 chosen_more {A} items students i d picked later item low all more is =
-    rw (more, take_more students i d low) (all_zipped_more (λ (student : StudentNo) (one : A). slice_get items student.0 ≡ Some one) (take i students) picked (slice_index_or students i d) item all is)
+    rw (more, take_more students i d low)
+    (all_zipped_more (λ (student : StudentNo) (one : A). slice_get items student.0 ≡ Some one) (take i students) picked (slice_index_or students i d) item
+    all is)
 
 -- the same for an item that is read at the student's place
-pub chosen_at : {A : Type 0} (items : List A) (students : List StudentNo) (i : ℕ) (d : StudentNo) (picked later : List A) (item : A) (place : ℕ) → i < length students → (n : ℕ) → n ≡ length items → All (λ student. student.0 < n) students
-    → AreChosen items (take i students) picked → later ≡ picked ++ item ∷ [] → place ≡ (slice_index_or students i d).0 → item ≡ slice_index_or items place item → AreChosen items (take (i + 1) students) later
+pub chosen_at : {A : Type 0} (items : List A) (students : List StudentNo) (i : ℕ) (d : StudentNo) (picked later : List A) (item : A) (place : ℕ)
+    → i < length students → (n : ℕ) → n ≡ length items → All (λ student. student.0 < n) students
+    → AreChosen items (take i students) picked → later ≡ picked ++ item ∷ [] → place ≡ (slice_index_or students i d).0 → item ≡ slice_index_or items place item
+    → AreChosen items (take (i + 1) students) later
 chosen_at items students i d picked later item place low n size range all more at is =
     let place_low : (slice_index_or students i d).0 < n = range i d low in
-    chosen_more items students i d picked later item low all more (slice_get_read items n (slice_index_or students i d).0 item size place_low (subst (λ k. item ≡ slice_index_or items k item) at is))
+    chosen_more items students i d picked later item low all more
+    (slice_get_read items n (slice_index_or students i d).0 item size place_low (subst (λ k. item ≡ slice_index_or items k item) at is))
 
 -- what holds of each item holds of one that was read
 all_get : {A : Type 0} (P : A → Type 0) (items : List A) (n : ℕ) (item : A) → slice_get items n ≡ Some item → All P items → P item
@@ -30,21 +36,26 @@ all_get P [] n item is all = absurd cc
 all_get P (x ∷ xs) zero item is all = let e : x ≡ item = cc is in subst P e (all 0 x (omega arith))
 all_get P (x ∷ xs) (suc n) item is all = all_get P xs n item is (λ i d low. all (suc i) d (let h : suc i < suc (length xs) = omega arith in h))
 
-pub chosen_all : {A : Type 0} (P : A → Type 0) (items : List A) (students : List StudentNo) (picked : List A) → AreChosen items students picked → All P items → All P picked
+pub chosen_all : {A : Type 0} (P : A → Type 0) (items : List A) (students : List StudentNo) (picked : List A) → AreChosen items students picked → All P items
+    → All P picked
 chosen_all P items [] [] chosen = λ all i d low. absurd (omega arith)
 chosen_all P items [] (x ∷ xs) chosen = absurd chosen
 chosen_all P items (s ∷ ss) [] chosen = absurd chosen
 chosen_all P items (s ∷ ss) (x ∷ xs) chosen = λ all. All-cons P x xs (all_get P items s.0 x chosen.0 all) (chosen_all P items ss xs chosen.1 all)
 
 -- all students were looked at
-pub chosen_done : {A : Type 0} (items : List A) (students : List StudentNo) (i : ℕ) (picked : List A) → length students ≤ i → AreChosen items (take i students) picked → AreChosen items students picked
+pub chosen_done : {A : Type 0} (items : List A) (students : List StudentNo) (i : ℕ) (picked : List A) → length students ≤ i
+    → AreChosen items (take i students) picked → AreChosen items students picked
 chosen_done items students i picked done chosen = rw (take_all i students done) at chosen
 
-pub chosen_crowd : (menus : List MenuData) (budgets : List Tokens) (sections : ℕ) (students : List StudentNo) (picked : List MenuData) (amounts : List Tokens) → MakeCrowd menus budgets sections → length students ≤ 2000
+pub chosen_crowd : (menus : List MenuData) (budgets : List Tokens) (sections : ℕ) (students : List StudentNo) (picked : List MenuData) (amounts : List Tokens)
+    → MakeCrowd menus budgets sections → length students ≤ 2000
     → AreChosen menus students picked → AreChosen budgets students amounts → MakeCrowd picked amounts sections
 chosen_crowd menus budgets sections students picked amounts is few chosen paid =
-    let one : length picked ≡ length students = AllZip-long (λ (student : StudentNo) (one : MenuData). slice_get menus student.0 ≡ Some one) students picked chosen in
-    let other : length amounts ≡ length students = AllZip-long (λ (student : StudentNo) (one : Tokens). slice_get budgets student.0 ≡ Some one) students amounts paid in
+    let one : length picked ≡ length students =
+    AllZip-long (λ (student : StudentNo) (one : MenuData). slice_get menus student.0 ≡ Some one) students picked chosen in
+    let other : length amounts ≡ length students =
+    AllZip-long (λ (student : StudentNo) (one : Tokens). slice_get budgets student.0 ≡ Some one) students amounts paid in
     record {
       same = other ∙ sym one;
       few = omega arith;

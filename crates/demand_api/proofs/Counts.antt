@@ -45,21 +45,26 @@ unfolding demands
 count_taken crowd price s = total-map (λ bundle. if has bundle s then 1 else 0) (demand crowd.sections price) crowd.students
 
 -- a student that lacks the section lacks it at a higher price of it
-pub taken_falls : (sections s : ℕ) (before after : ℕ → ℕ) → IsRaised s before after → (student : Student) → taken sections after s student ≤ taken sections before s student
+pub taken_falls : (sections s : ℕ) (before after : ℕ → ℕ) → IsRaised s before after → (student : Student)
+    → taken sections after s student ≤ taken sections before s student
 taken_falls sections s before after is student = elim (cases_Bool (has (demand sections before student) s)) [
   | inl has_it ↦ elim (cases_Bool (has (demand sections after student) s)) [
     | inl still ↦ rw (has_it, still) (omega arith)
     | inr lost ↦ rw (has_it, lost) (omega arith)
   ]
   | inr lacks ↦
-      let stays : IsBest (wishes_of student.menu) after student.budget (λ t. nat_lt t sections) (demand sections before student) = best_without_stays (wishes_of student.menu) s before after student.budget (λ t. nat_lt t sections) (demand sections before student) is lacks (best-is student.menu before student.budget (λ t. nat_lt t sections)) in
-      let same : demand sections before student ≡ demand sections after student = best-only student.menu after student.budget (λ t. nat_lt t sections) (demand sections before student) stays in
+      let stays : IsBest (wishes_of student.menu) after student.budget (λ t. nat_lt t sections) (demand sections before student) =
+      best_without_stays (wishes_of student.menu) s before after student.budget (λ t. nat_lt t sections) (demand sections before student) is lacks
+      (best-is student.menu before student.budget (λ t. nat_lt t sections)) in
+      let same : demand sections before student ≡ demand sections after student =
+      best-only student.menu after student.budget (λ t. nat_lt t sections) (demand sections before student) stays in
       rw (← same) (rw lacks (omega arith))
 ]
 
 pub count_falls : (crowd : CrowdData) (s : ℕ) (before after : ℕ → ℕ) → IsRaised s before after → count crowd after s ≤ count crowd before s
 count_falls crowd s before after is =
-    let falls : total (taken crowd.sections after s) crowd.students ≤ total (taken crowd.sections before s) crowd.students = total-le (taken crowd.sections after s) (taken crowd.sections before s) crowd.students (taken_falls crowd.sections s before after is) in
+    let falls : total (taken crowd.sections after s) crowd.students ≤ total (taken crowd.sections before s) crowd.students =
+    total-le (taken crowd.sections after s) (taken crowd.sections before s) crowd.students (taken_falls crowd.sections s before after is) in
     omega (arith, falls, count_taken crowd after s, count_taken crowd before s)
 
 -- a member's price is at most the sum
@@ -74,7 +79,8 @@ member_le price (t ∷ ts) s is = elim (has-cases t ts s is) [
 pub not_taken : (sections s : ℕ) (price : ℕ → ℕ) (student : Student) → student.budget < price s → taken sections price s student ≡ 0
 not_taken sections s price student high = elim (cases_Bool (has (demand sections price student) s)) [
   | inl has_it ↦
-      let best : IsBest (wishes_of student.menu) price student.budget (λ t. nat_lt t sections) (demand sections price student) = best-is student.menu price student.budget (λ t. nat_lt t sections) in
+      let best : IsBest (wishes_of student.menu) price student.budget (λ t. nat_lt t sections) (demand sections price student) =
+      best-is student.menu price student.budget (λ t. nat_lt t sections) in
       let cost : total price (demand sections price student) ≤ student.budget = best.choice.affordable in
       let part : price s ≤ total price (demand sections price student) = member_le price (demand sections price student) s has_it in
       absurd (omega arith)
@@ -96,39 +102,50 @@ total_none {A} (x ∷ xs) = omega (arith, total_none xs)
 pub none_at_top : (crowd : CrowdData) (s : ℕ) (price : ℕ → ℕ) → top crowd ≤ price s → count crowd price s ≡ 0
 none_at_top crowd s price high =
     count_taken crowd price s
-    ∙ total_same (taken crowd.sections price s) (λ student. 0) (λ student. student.budget < top crowd) crowd.students (λ student below. not_taken crowd.sections s price student (omega arith)) (top_above crowd)
+    ∙ total_same (taken crowd.sections price s) (λ student. 0) (λ student. student.budget < top crowd) crowd.students
+    (λ student below. not_taken crowd.sections s price student (omega arith)) (top_above crowd)
     ∙ total_none crowd.students
 
 -- where prices are the same up to a price above the budgets, each student takes the same
-pub same_demands : (above sections : ℕ) (one other : ℕ → ℕ) (students : List Student) → IsAboveBudgets above students → ((t : ℕ) → min (one t) above ≡ min (other t) above) → map (demand sections one) students ≡ map (demand sections other) students
+pub same_demands : (above sections : ℕ) (one other : ℕ → ℕ) (students : List Student) → IsAboveBudgets above students
+    → ((t : ℕ) → min (one t) above ≡ min (other t) above) → map (demand sections one) students ≡ map (demand sections other) students
 same_demands above sections one other [] all same = refl
 same_demands above sections one other (student ∷ students) all same =
     let allowed : ℕ → Bool = λ t. nat_lt t sections in
-    let stays : IsBest (wishes_of student.menu) other student.budget allowed (demand sections one student) = best_too (wishes_of student.menu) one other above student.budget allowed (all 0 student (omega arith)) same (demand sections one student) (best-is student.menu one student.budget allowed) in
-    let here : demand sections one student ≡ demand sections other student = best-only student.menu other student.budget allowed (demand sections one student) stays in
-    let rest : map (demand sections one) students ≡ map (demand sections other) students = same_demands above sections one other students (λ i d low. all (suc i) d (let k : suc i < suc (length students) = omega arith in k)) same in
+    let stays : IsBest (wishes_of student.menu) other student.budget allowed (demand sections one student) =
+    best_too (wishes_of student.menu) one other above student.budget allowed (all 0 student (omega arith)) same (demand sections one student)
+    (best-is student.menu one student.budget allowed) in
+    let here : demand sections one student ≡ demand sections other student =
+    best-only student.menu other student.budget allowed (demand sections one student) stays in
+    let rest : map (demand sections one) students ≡ map (demand sections other) students =
+    same_demands above sections one other students (λ i d low. all (suc i) d (let k : suc i < suc (length students) = omega arith in k)) same in
     rw (here, rest) refl
 
-pub demands_by_top : (crowd : CrowdData) (one other : ℕ → ℕ) → ((t : ℕ) → min (one t) (top crowd) ≡ min (other t) (top crowd)) → demands crowd one ≡ demands crowd other
+pub demands_by_top : (crowd : CrowdData) (one other : ℕ → ℕ) → ((t : ℕ) → min (one t) (top crowd) ≡ min (other t) (top crowd))
+    → demands crowd one ≡ demands crowd other
 unfolding demands
 demands_by_top crowd one other same = same_demands (top crowd) crowd.sections one other crowd.students (top_above crowd) same
 
-pub counts_by_top : (crowd : CrowdData) (one other : ℕ → ℕ) → ((t : ℕ) → min (one t) (top crowd) ≡ min (other t) (top crowd)) → counts crowd one ≡ counts crowd other
+pub counts_by_top : (crowd : CrowdData) (one other : ℕ → ℕ) → ((t : ℕ) → min (one t) (top crowd) ≡ min (other t) (top crowd))
+    → counts crowd one ≡ counts crowd other
 counts_by_top crowd one other same = ap (λ bundles. map (λ s. holders s bundles) (places_from 0 crowd.sections)) (demands_by_top crowd one other same)
 
 -- lists of prices that are the same up to a price say so of each section
-pub same_up_to : (most : ℕ) (one other : List Tokens) → map (λ price. min price.0 most) one ≡ map (λ price. min price.0 most) other → (s : ℕ) → min (price_in one s) most ≡ min (price_in other s) most
+pub same_up_to : (most : ℕ) (one other : List Tokens) → map (λ price. min price.0 most) one ≡ map (λ price. min price.0 most) other → (s : ℕ)
+    → min (price_in one s) most ≡ min (price_in other s) most
 same_up_to most [] [] same s = refl
 same_up_to most [] (q ∷ qs) same s = absurd cc
 same_up_to most (p ∷ ps) [] same s = absurd cc
 same_up_to most (p ∷ ps) (q ∷ qs) same zero = let head : min p.0 most ≡ min q.0 most = cc in head
-same_up_to most (p ∷ ps) (q ∷ qs) same (suc s) = let tail : map (λ price. min price.0 most) ps ≡ map (λ price. min price.0 most) qs = cc in same_up_to most ps qs tail s
+same_up_to most (p ∷ ps) (q ∷ qs) same (suc s) =
+    let tail : map (λ price. min price.0 most) ps ≡ map (λ price. min price.0 most) qs = cc in same_up_to most ps qs tail s
 
 pub top_some : (crowd : CrowdData) → 1 ≤ top crowd
 unfolding top
 top_some crowd = omega arith
 
-pub errors_by_top : (crowd : CrowdData) (seats : List ℕ) (one other : List Tokens) → map (λ price. min price.0 (top crowd)) one ≡ map (λ price. min price.0 (top crowd)) other
+pub errors_by_top : (crowd : CrowdData) (seats : List ℕ) (one other : List Tokens)
+    → map (λ price. min price.0 (top crowd)) one ≡ map (λ price. min price.0 (top crowd)) other
     → error (counts crowd (price_in one)) seats one ≡ error (counts crowd (price_in other)) seats other
 errors_by_top crowd seats one other same =
     ap (λ found. error found seats one) (counts_by_top crowd (price_in one) (price_in other) (same_up_to (top crowd) one other same))

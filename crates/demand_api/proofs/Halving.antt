@@ -49,8 +49,10 @@ price_kept prices s p t other =
 -- prices that are the same have the same counts
 pub count_same : (crowd : CrowdData) (one other : ℕ → ℕ) (s : ℕ) → ((t : ℕ) → one t ≡ other t) → count crowd one s ≡ count crowd other s
 count_same crowd one other s same =
-    let down : count crowd other s ≤ count crowd one s = count_falls crowd s one other (record { others = λ t apart. sym (same t); raised = let e : one s ≡ other s = same s in omega arith }) in
-    let up : count crowd one s ≤ count crowd other s = count_falls crowd s other one (record { others = λ t apart. same t; raised = let e : one s ≡ other s = same s in omega arith }) in
+    let down : count crowd other s ≤ count crowd one s =
+    count_falls crowd s one other (record { others = λ t apart. sym (same t); raised = let e : one s ≡ other s = same s in omega arith }) in
+    let up : count crowd one s ≤ count crowd other s =
+    count_falls crowd s other one (record { others = λ t apart. same t; raised = let e : one s ≡ other s = same s in omega arith }) in
     omega arith
 
 -- the price that is put in stands there
@@ -80,7 +82,8 @@ with_raised price s p q more = record {
 pub count_falls_with : (crowd : CrowdData) (price : ℕ → ℕ) (s p q : ℕ) → p ≤ q → count crowd (with_price price s q) s ≤ count crowd (with_price price s p) s
 count_falls_with crowd price s p q more = count_falls crowd s (with_price price s p) (with_price price s q) (with_raised price s p q more)
 
-pub halving_begins : (crowd : CrowdData) (prices trial : List Tokens) (s limit low high before : ℕ) → ArePricesFor crowd prices → IsTrial crowd prices trial → s < crowd.sections
+pub halving_begins : (crowd : CrowdData) (prices trial : List Tokens) (s limit low high before : ℕ) → ArePricesFor crowd prices → IsTrial crowd prices trial
+    → s < crowd.sections
     → low ≡ (slice_index_or prices s (record { 0 = 0 })).0 → high ≡ top crowd → IsHalving crowd prices trial s limit low high before before
 halving_begins crowd prices trial s limit low high before are is in_range at at_top =
     let length_is : length prices ≡ crowd.sections = are.same in
@@ -94,14 +97,16 @@ halving_begins crowd prices trial s limit low high before are is in_range at at_
       below_top = omega arith;
       lower = λ p from below. absurd (omega arith);
       within =
-          let none : count crowd (with_price (price_in prices) s high) s ≡ 0 = none_at_top crowd s (with_price (price_in prices) s high) (rw (with_here (price_in prices) s high) (omega arith)) in
+          let none : count crowd (with_price (price_in prices) s high) s ≡ 0 =
+          none_at_top crowd s (with_price (price_in prices) s high) (rw (with_here (price_in prices) s high) (omega arith)) in
           omega arith;
       kept = omega arith;
       asked = λ digits fits. (digits, omega arith, omega arith);
     }
 
 -- the prices of the trial are the given ones with the tried price
-pub tried : (crowd : CrowdData) (prices trial : List Tokens) (s p : ℕ) → ArePricesFor crowd trial → ((t : ℕ) → t ≢ s → price_in trial t ≡ price_in prices t) → s < crowd.sections
+pub tried : (crowd : CrowdData) (prices trial : List Tokens) (s p : ℕ) → ArePricesFor crowd trial → ((t : ℕ) → t ≢ s → price_in trial t ≡ price_in prices t)
+    → s < crowd.sections
     → (t : ℕ) → price_in (slice_set trial s (record { 0 = p })) t ≡ with_price (price_in prices) s p t
 tried crowd prices trial s p fits others in_range t = elim (cases_Bool (t == s)) [
   | inl here ↦
@@ -113,7 +118,8 @@ tried crowd prices trial s p fits others in_range t = elim (cases_Bool (t == s))
       price_kept trial s p t other ∙ others t other ∙ sym (with_there (price_in prices) s p t other)
 ]
 
-module _ (crowd : CrowdData) (prices trial : List Tokens) (s limit low high before now : ℕ) (is : IsHalving crowd prices trial s limit low high before now) (in_range : s < crowd.sections) (apart : low < high) where
+module _ (crowd : CrowdData) (prices trial : List Tokens) (s limit low high before now : ℕ) (is : IsHalving crowd prices trial s limit low high before now)
+    (in_range : s < crowd.sections) (apart : low < high) where
   -- the price in the middle
   abbrev middle : ℕ
   middle = low + (high - low) / 2
@@ -128,9 +134,12 @@ module _ (crowd : CrowdData) (prices trial : List Tokens) (s limit low high befo
   others_then t other = price_kept trial s middle t other ∙ is.others t other
 
   count_then : count crowd (price_in (slice_set trial s (record { 0 = middle }))) s ≡ count crowd (with_price (price_in prices) s middle) s
-  count_then = count_same crowd (price_in (slice_set trial s (record { 0 = middle }))) (with_price (price_in prices) s middle) s (tried crowd prices trial s middle is.trial_fits is.others in_range)
+  count_then =
+      count_same crowd (price_in (slice_set trial s (record { 0 = middle }))) (with_price (price_in prices) s middle) s
+      (tried crowd prices trial s middle is.trial_fits is.others in_range)
 
-  pub halving_up : limit < count crowd (price_in (slice_set trial s (record { 0 = middle }))) s → IsHalving crowd prices (slice_set trial s (record { 0 = middle })) s limit (middle + 1) high before (one_more now)
+  pub halving_up : limit < count crowd (price_in (slice_set trial s (record { 0 = middle }))) s
+      → IsHalving crowd prices (slice_set trial s (record { 0 = middle })) s limit (middle + 1) high before (one_more now)
   halving_up more =
       let from : price_in prices s ≤ low = is.from in
       record {
@@ -140,21 +149,25 @@ module _ (crowd : CrowdData) (prices trial : List Tokens) (s limit low high befo
         ordered = omega arith;
         below_top = is.below_top;
         lower = λ p at below.
-            let falls : count crowd (with_price (price_in prices) s middle) s ≤ count crowd (with_price (price_in prices) s p) s = count_falls_with crowd (price_in prices) s p middle (omega arith) in
-            let same : count crowd (price_in (slice_set trial s (record { 0 = middle }))) s ≡ count crowd (with_price (price_in prices) s middle) s = count_then in
+            let falls : count crowd (with_price (price_in prices) s middle) s ≤ count crowd (with_price (price_in prices) s p) s =
+            count_falls_with crowd (price_in prices) s p middle (omega arith) in
+            let same : count crowd (price_in (slice_set trial s (record { 0 = middle }))) s ≡ count crowd (with_price (price_in prices) s middle) s =
+            count_then in
             omega arith;
         within = is.within;
         kept = let so_far : min before (2 ^ 64 - 1) ≤ now = is.kept in omega arith;
         asked = λ digits fits. asked_up digits (is.asked digits fits);
       }
     where
-      asked_up : (digits : ℕ) → (left : ℕ) × (high - low < 2 ^ left) × (now + left ≤ before + digits) → (left : ℕ) × (high - (middle + 1) < 2 ^ left) × (one_more now + left ≤ before + digits)
+      asked_up : (digits : ℕ) → (left : ℕ) × (high - low < 2 ^ left) × (now + left ≤ before + digits)
+          → (left : ℕ) × (high - (middle + 1) < 2 ^ left) × (one_more now + left ≤ before + digits)
       asked_up digits (zero, small, few) = absurd (omega arith)
       asked_up digits (suc less, small, few) =
           let double : 2 ^ suc less ≡ 2 ^ less * 2 = pow-suc 2 less in
           (less, omega arith, omega arith)
 
-  pub halving_down : ¬ (limit < count crowd (price_in (slice_set trial s (record { 0 = middle }))) s) → IsHalving crowd prices (slice_set trial s (record { 0 = middle })) s limit low middle before (one_more now)
+  pub halving_down : ¬ (limit < count crowd (price_in (slice_set trial s (record { 0 = middle }))) s)
+      → IsHalving crowd prices (slice_set trial s (record { 0 = middle })) s limit low middle before (one_more now)
   halving_down few_enough =
       let capped : high ≤ top crowd = is.below_top in
       record {
@@ -165,7 +178,8 @@ module _ (crowd : CrowdData) (prices trial : List Tokens) (s limit low high befo
         below_top = omega arith;
         lower = is.lower;
         within =
-            let same : count crowd (price_in (slice_set trial s (record { 0 = middle }))) s ≡ count crowd (with_price (price_in prices) s middle) s = count_then in
+            let same : count crowd (price_in (slice_set trial s (record { 0 = middle }))) s ≡ count crowd (with_price (price_in prices) s middle) s =
+            count_then in
             elim (cases_lt limit (count crowd (price_in (slice_set trial s (record { 0 = middle }))) s)) [
               | inl more ↦ absurd (few_enough more)
               | inr within ↦ omega arith
@@ -174,25 +188,35 @@ module _ (crowd : CrowdData) (prices trial : List Tokens) (s limit low high befo
         asked = λ digits fits. asked_down digits (is.asked digits fits);
       }
     where
-      asked_down : (digits : ℕ) → (left : ℕ) × (high - low < 2 ^ left) × (now + left ≤ before + digits) → (left : ℕ) × (middle - low < 2 ^ left) × (one_more now + left ≤ before + digits)
+      asked_down : (digits : ℕ) → (left : ℕ) × (high - low < 2 ^ left) × (now + left ≤ before + digits)
+          → (left : ℕ) × (middle - low < 2 ^ left) × (one_more now + left ≤ before + digits)
       asked_down digits (zero, small, few) = absurd (omega arith)
       asked_down digits (suc less, small, few) =
           let double : 2 ^ suc less ≡ 2 ^ less * 2 = pow-suc 2 less in
           (less, omega arith, omega arith)
 
 -- a step, as the code has it
-pub step_up : (crowd : CrowdData) (prices trial : List Tokens) (s index limit low high before now after : ℕ) → IsHalving crowd prices trial s limit low high before now → s < crowd.sections → low < high → index ≡ s → after ≡ one_more now
-    → limit < count crowd (price_in (slice_set trial index (record { 0 = low + (high - low) / 2 }))) s → IsHalving crowd prices (slice_set trial index (record { 0 = low + (high - low) / 2 })) s limit (low + (high - low) / 2 + 1) high before after
+pub step_up : (crowd : CrowdData) (prices trial : List Tokens) (s index limit low high before now after : ℕ)
+    → IsHalving crowd prices trial s limit low high before now → s < crowd.sections → low < high → index ≡ s → after ≡ one_more now
+    → limit < count crowd (price_in (slice_set trial index (record { 0 = low + (high - low) / 2 }))) s
+    → IsHalving crowd prices (slice_set trial index (record { 0 = low + (high - low) / 2 })) s limit (low + (high - low) / 2 + 1) high before after
 step_up crowd prices trial s index limit low high before now after is in_range apart at asked more =
-    rw (at, asked) (halving_up crowd prices trial s limit low high before now is in_range apart (subst (λ i. limit < count crowd (price_in (slice_set trial i (record { 0 = low + (high - low) / 2 }))) s) at more))
+    rw (at, asked)
+    (halving_up crowd prices trial s limit low high before now is in_range apart
+    (subst (λ i. limit < count crowd (price_in (slice_set trial i (record { 0 = low + (high - low) / 2 }))) s) at more))
 
-pub step_down : (crowd : CrowdData) (prices trial : List Tokens) (s index limit low high before now after : ℕ) → IsHalving crowd prices trial s limit low high before now → s < crowd.sections → low < high → index ≡ s → after ≡ one_more now
-    → ¬ (limit < count crowd (price_in (slice_set trial index (record { 0 = low + (high - low) / 2 }))) s) → IsHalving crowd prices (slice_set trial index (record { 0 = low + (high - low) / 2 })) s limit low (low + (high - low) / 2) before after
+pub step_down : (crowd : CrowdData) (prices trial : List Tokens) (s index limit low high before now after : ℕ)
+    → IsHalving crowd prices trial s limit low high before now → s < crowd.sections → low < high → index ≡ s → after ≡ one_more now
+    → ¬ (limit < count crowd (price_in (slice_set trial index (record { 0 = low + (high - low) / 2 }))) s)
+    → IsHalving crowd prices (slice_set trial index (record { 0 = low + (high - low) / 2 })) s limit low (low + (high - low) / 2) before after
 step_down crowd prices trial s index limit low high before now after is in_range apart at asked few =
-    rw (at, asked) (halving_down crowd prices trial s limit low high before now is in_range apart (subst (λ i. ¬ (limit < count crowd (price_in (slice_set trial i (record { 0 = low + (high - low) / 2 }))) s)) at few))
+    rw (at, asked)
+    (halving_down crowd prices trial s limit low high before now is in_range apart
+    (subst (λ i. ¬ (limit < count crowd (price_in (slice_set trial i (record { 0 = low + (high - low) / 2 }))) s)) at few))
 
 -- the price is put back
-pub trial_again : (crowd : CrowdData) (prices trial : List Tokens) (s index limit low high before now : ℕ) (d : Tokens) → ArePricesFor crowd prices → IsHalving crowd prices trial s limit low high before now → s < crowd.sections → index ≡ s
+pub trial_again : (crowd : CrowdData) (prices trial : List Tokens) (s index limit low high before now : ℕ) (d : Tokens) → ArePricesFor crowd prices
+    → IsHalving crowd prices trial s limit low high before now → s < crowd.sections → index ≡ s
     → IsTrial crowd prices (slice_set trial index (slice_index_or prices index d))
 trial_again crowd prices trial s index limit low high before now d are is in_range at =
     let length_is : length prices ≡ crowd.sections = are.same in
@@ -213,7 +237,8 @@ trial_again crowd prices trial s index limit low high before now d are is in_ran
     ]
 
 -- what is left when low meets high
-pub halved : (crowd : CrowdData) (prices trial : List Tokens) (s limit low high before now : ℕ) → IsHalving crowd prices trial s limit low high before now → ¬ (low < high) → IsLeastFrom (price_in prices s) crowd (price_in prices) s limit low
+pub halved : (crowd : CrowdData) (prices trial : List Tokens) (s limit low high before now : ℕ) → IsHalving crowd prices trial s limit low high before now
+    → ¬ (low < high) → IsLeastFrom (price_in prices s) crowd (price_in prices) s limit low
 halved crowd prices trial s limit low high before now is met =
     let ordered : low ≤ high = is.ordered in
     let e : high ≡ low = omega arith in

@@ -11,9 +11,11 @@ use Rattle.demand_api.specs.Prices.{IsRaised}
 -- a sum over no more of each member is no more
 pub total_has_le : (f g : ℕ → ℕ) (ss : List ℕ) → ((s : ℕ) → has ss s ≡ true → f s ≤ g s) → total f ss ≤ total g ss
 total_has_le f g [] each = omega arith
-total_has_le f g (s ∷ ss) each = let here : f s ≤ g s = each s (has-here s ss) in omega (arith, here, total_has_le f g ss (λ t is. each t (has-there s ss t is)))
+total_has_le f g (s ∷ ss) each =
+    let here : f s ≤ g s = each s (has-here s ss) in omega (arith, here, total_has_le f g ss (λ t is. each t (has-there s ss t is)))
 
-pub best_stays : (w : Wishes) (before after : ℕ → ℕ) (budget : ℕ) (allowed : ℕ → Bool) (bundle : List ℕ) → ((s : ℕ) → 0 < w.rating s → before s ≤ after s) → total after bundle ≤ budget
+pub best_stays : (w : Wishes) (before after : ℕ → ℕ) (budget : ℕ) (allowed : ℕ → Bool) (bundle : List ℕ) → ((s : ℕ) → 0 < w.rating s → before s ≤ after s)
+    → total after bundle ≤ budget
     → IsBest w before budget allowed bundle → IsBest w after budget allowed bundle
 best_stays w before after budget allowed bundle no_cheaper affordable best = record {
   choice = record { feasible = best.choice.feasible; affordable = affordable; within = best.choice.within };
@@ -33,9 +35,12 @@ none_falls s before after is t = elim (cases_order t s) [
 
 -- and what lacks the section costs the same
 pub same_cost : (s : ℕ) (before after : ℕ → ℕ) (bundle : List ℕ) → IsRaised s before after → has bundle s ≡ false → total after bundle ≤ total before bundle
-same_cost s before after bundle is lacks = total_has_le after before bundle (λ t in_it. let e : after t ≡ before t = is.others t (λ e. false≢true (sym lacks ∙ subst (λ u. has bundle u ≡ true) e in_it)) in omega arith)
+same_cost s before after bundle is lacks =
+    total_has_le after before bundle
+    (λ t in_it. let e : after t ≡ before t = is.others t (λ e. false≢true (sym lacks ∙ subst (λ u. has bundle u ≡ true) e in_it)) in omega arith)
 
-pub best_without_stays : (w : Wishes) (s : ℕ) (before after : ℕ → ℕ) (budget : ℕ) (allowed : ℕ → Bool) (bundle : List ℕ) → IsRaised s before after → has bundle s ≡ false
+pub best_without_stays : (w : Wishes) (s : ℕ) (before after : ℕ → ℕ) (budget : ℕ) (allowed : ℕ → Bool) (bundle : List ℕ) → IsRaised s before after
+    → has bundle s ≡ false
     → IsBest w before budget allowed bundle → IsBest w after budget allowed bundle
 best_without_stays w s before after budget allowed bundle is lacks best =
     let cost : total before bundle ≤ budget = best.choice.affordable in

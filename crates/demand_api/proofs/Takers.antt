@@ -23,18 +23,23 @@ use Rattle.demand_api.specs.Counting.{AreCounts, HasCounted}
 use Rattle.demand_api.proofs.Halving.{price_at}
 
 -- allowed sets that say the same have the same best bundles
-choice_by_allowed : (menu : MenuData) (price : ℕ → ℕ) (budget : ℕ) (one other : ℕ → Bool) (bundle : List ℕ) → ((s : ℕ) → one s ≡ other s) → IsChoice (wishes_of menu) price budget one bundle → IsChoice (wishes_of menu) price budget other bundle
-choice_by_allowed menu price budget one other bundle same choice = record { feasible = choice.feasible; affordable = choice.affordable; within = λ s in_it. sym (same s) ∙ choice.within s in_it }
+choice_by_allowed : (menu : MenuData) (price : ℕ → ℕ) (budget : ℕ) (one other : ℕ → Bool) (bundle : List ℕ) → ((s : ℕ) → one s ≡ other s)
+    → IsChoice (wishes_of menu) price budget one bundle → IsChoice (wishes_of menu) price budget other bundle
+choice_by_allowed menu price budget one other bundle same choice =
+    record { feasible = choice.feasible; affordable = choice.affordable; within = λ s in_it. sym (same s) ∙ choice.within s in_it }
 
-pub is_demand : (menu : MenuData) (price : ℕ → ℕ) (budget sections : ℕ) (allowed : ℕ → Bool) (bundle : List ℕ) → ((s : ℕ) → allowed s ≡ nat_lt s sections) → IsBest (wishes_of menu) price budget allowed bundle
+pub is_demand : (menu : MenuData) (price : ℕ → ℕ) (budget sections : ℕ) (allowed : ℕ → Bool) (bundle : List ℕ) → ((s : ℕ) → allowed s ≡ nat_lt s sections)
+    → IsBest (wishes_of menu) price budget allowed bundle
     → bundle ≡ demand sections price (record { menu = menu; budget = budget })
 is_demand menu price budget sections allowed bundle same best = best-only menu price budget (λ s. nat_lt s sections) bundle (record {
   choice = choice_by_allowed menu price budget allowed (λ s. nat_lt s sections) bundle same best.choice;
-  preferred = λ other choice apart. best.preferred other (choice_by_allowed menu price budget (λ s. nat_lt s sections) allowed other (λ s. sym (same s)) choice) apart;
+  preferred =
+      λ other choice apart. best.preferred other (choice_by_allowed menu price budget (λ s. nat_lt s sections) allowed other (λ s. sym (same s)) choice) apart;
 })
 
 -- the student at a place has the menu and the budget at that place
-student_at : (menus : List MenuData) (budgets : List Tokens) (i : ℕ) (d : Student) (m : MenuData) (b : Tokens) → length budgets ≡ length menus → i < length menus
+student_at : (menus : List MenuData) (budgets : List Tokens) (i : ℕ) (d : Student) (m : MenuData) (b : Tokens) → length budgets ≡ length menus
+    → i < length menus
     → slice_index_or (students_of menus budgets) i d ≡ record { menu = slice_index_or menus i m; budget = (slice_index_or budgets i b).0 }
 student_at [] budgets i d m b same low = absurd (omega arith)
 student_at (x ∷ xs) [] i d m b same low = absurd (omega arith)
@@ -47,8 +52,10 @@ students_length (x ∷ xs) [] same = absurd (omega arith)
 students_length (x ∷ xs) (y ∷ ys) same = omega (arith, students_length xs ys (omega arith))
 
 -- what the student at a place takes
-pub demand_at : (menus : List MenuData) (budgets : List Tokens) (sections : ℕ) (price : ℕ → ℕ) (i : ℕ) (m : MenuData) (b : Tokens) → length budgets ≡ length menus → i < length menus
-    → demand_of (crowd_of menus budgets sections) price i ≡ demand sections price (record { menu = slice_index_or menus i m; budget = (slice_index_or budgets i b).0 })
+pub demand_at : (menus : List MenuData) (budgets : List Tokens) (sections : ℕ) (price : ℕ → ℕ) (i : ℕ) (m : MenuData) (b : Tokens)
+    → length budgets ≡ length menus → i < length menus
+    → demand_of (crowd_of menus budgets sections) price i
+    ≡ demand sections price (record { menu = slice_index_or menus i m; budget = (slice_index_or budgets i b).0 })
 unfolding demands
 demand_at menus budgets sections price i m b same low =
     let d : Student = record { menu = m; budget = b.0 } in
@@ -56,17 +63,22 @@ demand_at menus budgets sections price i m b same low =
     ∙ ap (demand sections price) (student_at menus budgets i d m b same low)
 
 -- the best bundle of the menu and budget at a place is what that student takes
-pub found_demand : (menus : List MenuData) (budgets : List Tokens) (sections : ℕ) (price : ℕ → ℕ) (i : ℕ) (menu : MenuData) (budget : Tokens) (allowed : ℕ → Bool) (bundle : List ℕ) → length budgets ≡ length menus → i < length menus
-    → menu ≡ slice_index_or menus i menu → budget ≡ slice_index_or budgets i budget → ((s : ℕ) → allowed s ≡ nat_lt s sections) → IsBest (wishes_of menu) price budget.0 allowed bundle → bundle ≡ demand_of (crowd_of menus budgets sections) price i
+pub found_demand : (menus : List MenuData) (budgets : List Tokens) (sections : ℕ) (price : ℕ → ℕ) (i : ℕ) (menu : MenuData) (budget : Tokens)
+    (allowed : ℕ → Bool) (bundle : List ℕ)
+    → length budgets ≡ length menus → i < length menus
+    → menu ≡ slice_index_or menus i menu → budget ≡ slice_index_or budgets i budget → ((s : ℕ) → allowed s ≡ nat_lt s sections)
+    → IsBest (wishes_of menu) price budget.0 allowed bundle → bundle ≡ demand_of (crowd_of menus budgets sections) price i
 found_demand menus budgets sections price i menu budget allowed bundle same low is has_it told best =
     is_demand menu price budget.0 sections allowed bundle told best
     ∙ same_student
     ∙ sym (demand_at menus budgets sections price i menu budget same low)
   where
-    same_student : demand sections price (record { menu = menu; budget = budget.0 }) ≡ demand sections price (record { menu = slice_index_or menus i menu; budget = (slice_index_or budgets i budget).0 })
+    same_student : demand sections price (record { menu = menu; budget = budget.0 })
+        ≡ demand sections price (record { menu = slice_index_or menus i menu; budget = (slice_index_or budgets i budget).0 })
     same_student = rw (← is, ← has_it) refl
 
-pub demands_length : (menus : List MenuData) (budgets : List Tokens) (sections : ℕ) (price : ℕ → ℕ) → length budgets ≡ length menus → length (demands (crowd_of menus budgets sections) price) ≡ length menus
+pub demands_length : (menus : List MenuData) (budgets : List Tokens) (sections : ℕ) (price : ℕ → ℕ) → length budgets ≡ length menus
+    → length (demands (crowd_of menus budgets sections) price) ≡ length menus
 unfolding demands
 demands_length menus budgets sections price same = length_map (demand sections price) (students_of menus budgets) ∙ students_length menus budgets same
   where
@@ -81,7 +93,9 @@ demand_within crowd price i s is = among crowd.students i is
   where
     among : (students : List Student) (k : ℕ) → has (slice_index_or (map (demand crowd.sections price) students) k []) s ≡ true → s < crowd.sections
     among [] k is = absurd (false≢true is)
-    among (x ∷ xs) zero is = let allowed : nat_lt s crowd.sections ≡ true = (best-is x.menu price x.budget (λ t. nat_lt t crowd.sections)).choice.within s is in grind (arith, nat_tests)
+    among (x ∷ xs) zero is =
+        let allowed : nat_lt s crowd.sections ≡ true = (best-is x.menu price x.budget (λ t. nat_lt t crowd.sections)).choice.within s is in
+        grind (arith, nat_tests)
     among (x ∷ xs) (suc k) is = among xs k is
 
 -- each section of a list is in it
@@ -90,9 +104,11 @@ listed_in [] k d low = absurd (omega arith)
 listed_in (x ∷ xs) zero d low = has-here x.0 (ordinals xs)
 listed_in (x ∷ xs) (suc k) d low = has-there x.0 (ordinals xs) (slice_index_or xs k d).0 (listed_in xs k d (omega arith))
 
-pub sections_low : (crowd : CrowdData) (price : ℕ → ℕ) (i n : ℕ) (sections : List SectionNo) (bundle : List ℕ) → ordinals sections ≡ bundle → bundle ≡ demand_of crowd price i → n ≡ crowd.sections → All (λ section. section.0 < n) sections
+pub sections_low : (crowd : CrowdData) (price : ℕ → ℕ) (i n : ℕ) (sections : List SectionNo) (bundle : List ℕ) → ordinals sections ≡ bundle
+    → bundle ≡ demand_of crowd price i → n ≡ crowd.sections → All (λ section. section.0 < n) sections
 sections_low crowd price i n sections bundle listed is size k d low =
-    let in_it : has (demand_of crowd price i) (slice_index_or sections k d).0 ≡ true = ap (λ b. has b (slice_index_or sections k d).0) (sym (listed ∙ is)) ∙ listed_in sections k d low in
+    let in_it : has (demand_of crowd price i) (slice_index_or sections k d).0 ≡ true =
+    ap (λ b. has b (slice_index_or sections k d).0) (sym (listed ∙ is)) ∙ listed_in sections k d low in
     rw size (demand_within crowd price i (slice_index_or sections k d).0 in_it)
 
 -- a bundle has at most 8 sections
@@ -108,16 +124,21 @@ sections_few sections bundle listed is =
     as_long (x ∷ xs) = omega (arith, as_long xs)
 
 -- one item more
-pub listed_more : {A B C : Type 0} (g : A → C) (f : B → C) (xs : List B) (i : ℕ) (d : B) (found later : List A) (x : A) → i < length xs → map g found ≡ map f (take i xs) → later ≡ found ++ x ∷ [] → g x ≡ f (slice_index_or xs i d) → map g later ≡ map f (take (i + 1) xs)
+pub listed_more : {A B C : Type 0} (g : A → C) (f : B → C) (xs : List B) (i : ℕ) (d : B) (found later : List A) (x : A) → i < length xs
+    → map g found ≡ map f (take i xs) → later ≡ found ++ x ∷ [] → g x ≡ f (slice_index_or xs i d) → map g later ≡ map f (take (i + 1) xs)
 listed_more g f xs i d found later x low so_far more is =
-    rw (more, take_more xs i d low) (map-append g found (x ∷ []) ∙ ap (λ ys. ys ++ g x ∷ []) so_far ∙ ap (λ y. map f (take i xs) ++ y ∷ []) is ∙ sym (map-append f (take i xs) (slice_index_or xs i d ∷ [])))
+    rw (more, take_more xs i d low)
+    (map-append g found (x ∷ []) ∙ ap (λ ys. ys ++ g x ∷ []) so_far ∙ ap (λ y. map f (take i xs) ++ y ∷ []) is
+    ∙ sym (map-append f (take i xs) (slice_index_or xs i d ∷ [])))
 
 -- all items are listed
-pub listed_all : {A B C : Type 0} (g : A → C) (f : B → C) (xs : List B) (i : ℕ) (found : List A) → length xs ≤ i → map g found ≡ map f (take i xs) → map g found ≡ map f xs
+pub listed_all : {A B C : Type 0} (g : A → C) (f : B → C) (xs : List B) (i : ℕ) (found : List A) → length xs ≤ i → map g found ≡ map f (take i xs)
+    → map g found ≡ map f xs
 listed_all g f xs i found past so_far = so_far ∙ ap (map f) (take_all i xs past)
 
 -- one bundle more
-pub holders_more : (s : ℕ) (bundles : List (List ℕ)) (i : ℕ) → i < length bundles → holders s (take (i + 1) bundles) ≡ holders s (take i bundles) + (if has (slice_index_or bundles i []) s then 1 else 0)
+pub holders_more : (s : ℕ) (bundles : List (List ℕ)) (i : ℕ) → i < length bundles
+    → holders s (take (i + 1) bundles) ≡ holders s (take i bundles) + (if has (slice_index_or bundles i []) s then 1 else 0)
 holders_more s bundles i low =
     let one_more = take_more bundles i [] low in
     let sums = total-append (λ bundle. if has bundle s then 1 else 0) (take i bundles) (slice_index_or bundles i [] ∷ []) in
@@ -141,7 +162,8 @@ holders_so_far s i bundles =
     omega arith
 
 -- the count of the first places, as the loop goes on
-pub counted : (s : ℕ) (bundles : List (List ℕ)) (i : ℕ) (bundle : List ℕ) (takes : Bool) (n : ℕ) → i < length bundles → takes ≡ has bundle s → bundle ≡ slice_index_or bundles i [] → n ≡ holders s (take i bundles)
+pub counted : (s : ℕ) (bundles : List (List ℕ)) (i : ℕ) (bundle : List ℕ) (takes : Bool) (n : ℕ) → i < length bundles → takes ≡ has bundle s
+    → bundle ≡ slice_index_or bundles i [] → n ≡ holders s (take i bundles)
     → holders s (take (i + 1) bundles) ≡ n + (if takes then 1 else 0)
 counted s bundles i bundle takes n low told is so_far =
     holders_more s bundles i low
@@ -150,11 +172,14 @@ counted s bundles i bundle takes n low told is so_far =
     ∙ ap (λ m. m + (if takes then 1 else 0)) (sym so_far)
 
 -- a list is known by its items
-pub listed_by_place : (f : ℕ → ℕ) (xs : List ℕ) (first : ℕ) → ((i : ℕ) → i < length xs → slice_index xs i ≡ f (first + i)) → xs ≡ map f (places_from first (length xs))
+pub listed_by_place : (f : ℕ → ℕ) (xs : List ℕ) (first : ℕ) → ((i : ℕ) → i < length xs → slice_index xs i ≡ f (first + i))
+    → xs ≡ map f (places_from first (length xs))
 listed_by_place f [] first each = refl
 listed_by_place f (x ∷ xs) first each =
     let here : x ≡ f first = each 0 (omega arith) ∙ ap f (let e : first + 0 ≡ first = omega arith in e) in
-    let rest : xs ≡ map f (places_from (suc first) (length xs)) = listed_by_place f xs (suc first) (λ i low. each (suc i) (let h : suc i < suc (length xs) = omega arith in h) ∙ ap f (let e : first + suc i ≡ suc first + i = omega arith in e)) in
+    let rest : xs ≡ map f (places_from (suc first) (length xs)) =
+    listed_by_place f xs (suc first)
+    (λ i low. each (suc i) (let h : suc i < suc (length xs) = omega arith in h) ∙ ap f (let e : first + suc i ≡ suc first + i = omega arith in e)) in
     ap (λ y. y ∷ xs) here ∙ ap (λ ys. f first ∷ ys) rest
 
 -- the greatest budget of the students
@@ -164,7 +189,8 @@ greatest_same [] (y ∷ ys) same = absurd (omega arith)
 greatest_same (x ∷ xs) [] same = absurd (omega arith)
 greatest_same (x ∷ xs) (y ∷ ys) same = let rest : greatest_budget (students_of xs ys) ≡ greatest ys = greatest_same xs ys (omega arith) in rw rest refl
 
-pub top_found : (menus : List MenuData) (budgets : List Tokens) (sections found : ℕ) → length budgets ≡ length menus → found ≡ greatest budgets → found + 1 ≡ top (crowd_of menus budgets sections)
+pub top_found : (menus : List MenuData) (budgets : List Tokens) (sections found : ℕ) → length budgets ≡ length menus → found ≡ greatest budgets
+    → found + 1 ≡ top (crowd_of menus budgets sections)
 unfolding top
 top_found menus budgets sections found same is = omega (arith, is, greatest_same menus budgets same)
 
@@ -184,18 +210,24 @@ crowd_made menus budgets sections make = record {
   menus = all_menus menus budgets make.within;
 }
   where
-    all_budgets : (ms : List MenuData) (bs : List Tokens) → All (λ budget. budget.0 ≤ 1000000) bs → All (λ student. student.budget ≤ 1000000) (students_of ms bs)
+    all_budgets : (ms : List MenuData) (bs : List Tokens) → All (λ budget. budget.0 ≤ 1000000) bs
+        → All (λ student. student.budget ≤ 1000000) (students_of ms bs)
     all_budgets [] bs all = λ i d low. absurd (omega arith)
     all_budgets (m ∷ ms) [] all = λ i d low. absurd (omega arith)
-    all_budgets (m ∷ ms) (b ∷ bs) all = All-cons (λ student. student.budget ≤ 1000000) (record { menu = m; budget = b.0 }) (students_of ms bs) (all 0 b (omega arith)) (all_budgets ms bs (λ i d low. all (suc i) d (let h : suc i < suc (length bs) = omega arith in h)))
+    all_budgets (m ∷ ms) (b ∷ bs) all =
+        All-cons (λ student. student.budget ≤ 1000000) (record { menu = m; budget = b.0 }) (students_of ms bs) (all 0 b (omega arith))
+        (all_budgets ms bs (λ i d low. all (suc i) d (let h : suc i < suc (length bs) = omega arith in h)))
 
     all_menus : (ms : List MenuData) (bs : List Tokens) → All (IsWithin sections) ms → All (λ student. IsWithin sections student.menu) (students_of ms bs)
     all_menus [] bs all = λ i d low. absurd (omega arith)
     all_menus (m ∷ ms) [] all = λ i d low. absurd (omega arith)
-    all_menus (m ∷ ms) (b ∷ bs) all = All-cons (λ student. IsWithin sections student.menu) (record { menu = m; budget = b.0 }) (students_of ms bs) (all 0 m (omega arith)) (all_menus ms bs (λ i d low. all (suc i) d (let h : suc i < suc (length ms) = omega arith in h)))
+    all_menus (m ∷ ms) (b ∷ bs) all =
+        All-cons (λ student. IsWithin sections student.menu) (record { menu = m; budget = b.0 }) (students_of ms bs) (all 0 m (omega arith))
+        (all_menus ms bs (λ i d low. all (suc i) d (let h : suc i < suc (length ms) = omega arith in h)))
 
 -- each section of each menu has a price
-pub all_menus_priced : (menus : List MenuData) (budgets : List Tokens) (sections : ℕ) (prices : List Tokens) → MakeCrowd menus budgets sections → ArePricesFor (crowd_of menus budgets sections) prices → All (λ menu. HasPrices menu prices) menus
+pub all_menus_priced : (menus : List MenuData) (budgets : List Tokens) (sections : ℕ) (prices : List Tokens) → MakeCrowd menus budgets sections
+    → ArePricesFor (crowd_of menus budgets sections) prices → All (λ menu. HasPrices menu prices) menus
 all_menus_priced menus budgets sections prices is are k d low k' d' low' =
     let below : (slice_index_or (slice_index_or menus k d).places k' d').section.0 < sections = is.within k d low k' d' low' in
     let size : length prices ≡ sections = are.same in
@@ -208,7 +240,9 @@ all_menus_priced menus budgets sections prices is are k d low k' d' low' =
     record { listed = omega arith; high = omega arith }
 
 -- the menu at a place has its prices
-pub priced_at : (menus : List MenuData) (budgets : List Tokens) (sections : ℕ) (prices : List Tokens) (i : ℕ) (menu : MenuData) → MakeCrowd menus budgets sections → ArePricesFor (crowd_of menus budgets sections) prices → i < length menus → menu ≡ slice_index_or menus i menu → HasPrices menu prices
+pub priced_at : (menus : List MenuData) (budgets : List Tokens) (sections : ℕ) (prices : List Tokens) (i : ℕ) (menu : MenuData)
+    → MakeCrowd menus budgets sections → ArePricesFor (crowd_of menus budgets sections) prices → i < length menus → menu ≡ slice_index_or menus i menu
+    → HasPrices menu prices
 priced_at menus budgets sections prices i menu make are low is = rw is (all_menus_priced menus budgets sections prices make are i menu low)
 
 -- an item, read in two ways
@@ -217,14 +251,18 @@ index_same [] k d low = absurd (omega arith)
 index_same (x ∷ xs) zero d low = refl
 index_same (x ∷ xs) (suc k) d low = index_same xs k d (omega arith)
 
-pub counts_done : (crowd : CrowdData) (price : ℕ → ℕ) (i : ℕ) (found : List ℕ) → length (demands crowd price) ≤ i → AreCounts crowd.sections (take i (demands crowd price)) found → found ≡ counts crowd price
+pub counts_done : (crowd : CrowdData) (price : ℕ → ℕ) (i : ℕ) (found : List ℕ) → length (demands crowd price) ≤ i
+    → AreCounts crowd.sections (take i (demands crowd price)) found → found ≡ counts crowd price
 counts_done crowd price i found past are =
     let same : length found ≡ crowd.sections = are.len in
-    listed_by_place (count crowd price) found 0 (λ s low. are.each s (omega arith) ∙ ap (holders s) (take_all i (demands crowd price) past) ∙ ap (count crowd price) (let e : s ≡ 0 + s = omega arith in e))
+    listed_by_place (count crowd price) found 0
+    (λ s low. are.each s (omega arith) ∙ ap (holders s) (take_all i (demands crowd price) past)
+    ∙ ap (count crowd price) (let e : s ≡ 0 + s = omega arith in e))
     ∙ ap (λ n. map (count crowd price) (places_from 0 n)) same
 
 -- a count has room for one bundle more
-pub counts_room : (n : ℕ) (bundles : List (List ℕ)) (i : ℕ) (found lent : List ℕ) (sections : List SectionNo) (bundle : List ℕ) → AreCounts n (take i bundles) found → lent ≡ found → i ≤ 2000
+pub counts_room : (n : ℕ) (bundles : List (List ℕ)) (i : ℕ) (found lent : List ℕ) (sections : List SectionNo) (bundle : List ℕ)
+    → AreCounts n (take i bundles) found → lent ≡ found → i ≤ 2000
     → ordinals sections ≡ bundle → IsBundle bundle → All (λ n. n + length sections < 4294967296) lent
 counts_room n bundles i found lent sections bundle are same few listed is k d low =
     let size : length found ≡ n = are.len in
@@ -240,8 +278,10 @@ pub lent_back : {A : Type 0} (len : ℕ) (new old : List A) → len ≡ length n
 lent_back len new old whole = ap (λ n. take n (new ++ drop (length new) old)) whole ∙ take-append_seam new (drop (length new) old)
 
 -- the counts with one bundle more
-pub counts_more : (n : ℕ) (bundles : List (List ℕ)) (i len : ℕ) (found lent new : List ℕ) (sections : List SectionNo) (bundle : List ℕ) → AreCounts n (take i bundles) found → lent ≡ found → i < length bundles
-    → ordinals sections ≡ bundle → bundle ≡ slice_index_or bundles i [] → len ≡ length found → length new ≡ length lent → ((s : ℕ) → s < length lent → HasCounted lent new (ordinals sections) s)
+pub counts_more : (n : ℕ) (bundles : List (List ℕ)) (i len : ℕ) (found lent new : List ℕ) (sections : List SectionNo) (bundle : List ℕ)
+    → AreCounts n (take i bundles) found → lent ≡ found → i < length bundles
+    → ordinals sections ≡ bundle → bundle ≡ slice_index_or bundles i [] → len ≡ length found → length new ≡ length lent
+    → ((s : ℕ) → s < length lent → HasCounted lent new (ordinals sections) s)
     → AreCounts n (take (i + 1) bundles) (take len (new ++ drop (length new) found))
 counts_more n bundles i len found lent new sections bundle are same low listed is whole back counted_so =
     rw (lent_back len new found (whole ∙ ap length (sym same) ∙ sym back)) record {

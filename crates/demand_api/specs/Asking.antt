@@ -12,7 +12,8 @@ pub record ArePricesFor (crowd : CrowdData) (prices : List Tokens) : Type 0 wher
 abbrev pub one_more : ℕ → ℕ
 one_more asked = min (asked + 1) (2 ^ 64 - 1)
 
--- the count, which is a u64, did not fall, and rose at most by so many times the binary digits of n plus 1
+-- the count, which is a u64, did not fall, and rose at most by so many times the binary digits of n
+-- plus 1
 pub record RoseByDigits (times n before now : ℕ) : Type 0 where
   pub kept : min before (2 ^ 64 - 1) ≤ now
   pub most : (digits : ℕ) → n < 2 ^ digits → now ≤ before + times * (digits + 1)

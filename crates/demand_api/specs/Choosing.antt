@@ -5,4 +5,5 @@ use Rattle.market_units.specs.declared.units.StudentNo.{StudentNo}
 
 -- the items of the listed students, in the list's order
 abbrev pub AreChosen : {A : Type 0} → List A → List StudentNo → List A → Type 0
-AreChosen items students chosen = AllZip (λ student item. slice_get items student.0 ≡ Some item) students chosen
+AreChosen items students chosen =
+    AllZip (λ student item. slice_get items student.0 ≡ Some item) students chosen

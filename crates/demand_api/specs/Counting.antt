@@ -5,7 +5,8 @@ use Rattle.demand_api.specs.Crowds.{holders}
 
 -- one more at the section where the bundle has it, and no change where not
 abbrev pub HasCounted : List ℕ → List ℕ → List ℕ → ℕ → Type 0
-HasCounted before after bundle s = slice_index after s ≡ slice_index before s + (if has bundle s then 1 else 0)
+HasCounted before after bundle s =
+    slice_index after s ≡ slice_index before s + (if has bundle s then 1 else 0)
 
 -- each section's count so far
 pub record AreCounts (sections : ℕ) (bundles : List (List ℕ)) (counts : List ℕ) : Type 0 where

@@ -8,13 +8,16 @@ use Rattle.demand_api.specs.Crowds.{Student, CrowdData, IsWithin}
 abbrev pub students_of : List MenuData → List Tokens → List Student
 students_of [] budgets = []
 students_of (menu ∷ menus) [] = []
-students_of (menu ∷ menus) (budget ∷ budgets) = record { menu = menu; budget = budget.0 } ∷ students_of menus budgets
+students_of (menu ∷ menus) (budget ∷ budgets) =
+    record { menu = menu; budget = budget.0 } ∷ students_of menus budgets
 
 -- the crowd of these menus and budgets
 abbrev pub crowd_of : List MenuData → List Tokens → ℕ → CrowdData
-crowd_of menus budgets sections = record { students = students_of menus budgets; sections = sections }
+crowd_of menus budgets sections =
+    record { students = students_of menus budgets; sections = sections }
 
--- as many budgets as menus, at most 2,000, each budget at most 1,000,000; at most 400 sections, among which are those of the menus
+-- as many budgets as menus, at most 2,000, each budget at most 1,000,000; at most 400 sections,
+-- among which are those of the menus
 pub record MakeCrowd (menus : List MenuData) (budgets : List Tokens) (sections : ℕ) : Type 0 where
   pub same : length budgets ≡ length menus
   pub few : length menus ≤ 2000

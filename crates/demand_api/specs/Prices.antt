@@ -15,11 +15,15 @@ pub record IsRaised (s : ℕ) (before after : ℕ → ℕ) : Type 0 where
   pub raised : before s ≤ after s
 
 -- the least price of the section, from this one up, at which at most so many students take it
-pub record IsLeastFrom (low : ℕ) (crowd : CrowdData) (price : ℕ → ℕ) (s limit least : ℕ) : Type 0 where
+pub record IsLeastFrom (low : ℕ) (crowd : CrowdData) (price : ℕ → ℕ)
+    (s limit least : ℕ) : Type 0 where
   pub from : low ≤ least
   pub within : count crowd (with_price price s least) s ≤ limit
   pub lower : (p : ℕ) → low ≤ p → p < least → limit < count crowd (with_price price s p) s
 
--- for each pair of a section and a limit the least price of the section from its present one up, in their order
+-- for each pair of a section and a limit the least price of the section from its present one up, in
+-- their order
 abbrev pub AreLeastPrices : CrowdData → (ℕ → ℕ) → List (SectionNo × ℕ) → List Tokens → Type 0
-AreLeastPrices crowd price pairs found = AllZip (λ pair least. IsLeastFrom (price pair.0.0) crowd price pair.0.0 pair.1 least.0) pairs found
+AreLeastPrices crowd price pairs found =
+    AllZip (λ pair least. IsLeastFrom (price pair.0.0) crowd price pair.0.0 pair.1 least.0) pairs
+    found

@@ -13,10 +13,11 @@ use std::alloc::Global;
 use std::sync::Wait;
 use std::thread::Threads;
 
-/// A crowd that is asked what it demands. Whoever implements this may use any method: each answer is fixed by the
-/// crowd and the prices. A vector of prices has one price for each section, each at most the top. Besides its value,
-/// a call can only answer that memory was wanted. That threads may share `rt`, which the bound `Sync` says, is a clause
-/// beside it: in a trait's method the bound alone tells a body nothing.
+/// A crowd that is asked what it demands. Whoever implements this may use any method: each answer
+/// is fixed by the crowd and the prices. A vector of prices has one price for each section, each at
+/// most the top. Besides its value, a call can only answer that memory was wanted. That threads may
+/// share `rt`, which the bound `Sync` says, is a clause beside it: in a trait's method the bound
+/// alone tells a body nothing.
 pub trait Demands {
     /// The crowd, which no call changes.
     ghost crowd: { Self → CrowdData };
@@ -60,7 +61,8 @@ pub trait Demands {
         requires sync { IsSync R.row }
         requires prices { ArePricesFor (crowd self.old) prices.now }
         requires few { length students.now ≤ 2000 }
-        requires range { All (λ student. student.0 < length (crowd self.old).students) students.now }
+        requires range { All (λ student. student.0 < length (crowd self.old).students)
+            students.now }
         ensures crowd { crowd self.new ≡ crowd self.old }
         ensures asked { asked self.new ≡ one_more (asked self.old) }
         ensures value { IfOk result (λ bundles. map sections_of bundles.items ≡ map (λ student. demand_of (crowd self.old) (price_in prices.now) student.0) students.now) };
@@ -81,10 +83,11 @@ pub trait Demands {
         ensures asked { asked self.new ≡ one_more (asked self.old) }
         ensures value { IfOk result (λ more. IsTrue more ↔ (limit < count (crowd self.old) (price_in prices.now) section.0)) };
 
-    /// For each of at most 400 pairs of a section and a limit the least price of the section, from its present one
-    /// up, at which at most that many students take it, the other prices as given. The number of calls made does not
-    /// fall, and rises at most by the binary digits of the top, and one more, for each pair. The provided body halves;
-    /// who knows the students' other choices can answer from them.
+    /// For each of at most 400 pairs of a section and a limit the least price of the section, from
+    /// its present one up, at which at most that many students take it, the other prices as given.
+    /// The number of calls made does not fall, and rises at most by the binary digits of the top,
+    /// and one more, for each pair. The provided body halves; who knows the students' other choices
+    /// can answer from them.
     fn least_prices<R: Threads + Wait + Sync>(
         &mut self,
         rt: &R,
@@ -97,8 +100,10 @@ pub trait Demands {
         requires few { length pairs.now ≤ 400 }
         requires sections { All (λ pair. pair.0.0 < (crowd self.old).sections) pairs.now }
         ensures crowd { crowd self.new ≡ crowd self.old }
-        ensures asked { RoseByDigits (length pairs.now) (top (crowd self.old)) (asked self.old) (asked self.new) }
-        ensures value { IfOk result (λ least. AreLeastPrices (crowd self.old) (price_in prices.now) pairs.now least.items) }
+        ensures asked { RoseByDigits (length pairs.now) (top (crowd self.old)) (asked self.old)
+            (asked self.new) }
+        ensures value { IfOk result
+            (λ least. AreLeastPrices (crowd self.old) (price_in prices.now) pairs.now least.items) }
     {
         let mut found = Vec::new(alloc);
         let mut trial = prices.to_vec(alloc)?;

@@ -9,9 +9,9 @@ use bundle_rules::{Menu, Rated};
 use market_units::{MAX_BUDGET, MAX_SECTIONS, MAX_STUDENTS, NoMemory, StudentNo, Tokens};
 use std::alloc::Global;
 
-/// A menu and a budget for each student, and the number of sections. Each call that takes a crowd needs as many
-/// budgets as menus, at most 2,000, each budget at most 1,000,000, and at most 400 sections, among which are those
-/// of the menus.
+/// A menu and a budget for each student, and the number of sections. Each call that takes a crowd
+/// needs as many budgets as menus, at most 2,000, each budget at most 1,000,000, and at most 400
+/// sections, among which are those of the menus.
 #[derive(Drop)]
 pub struct Crowd {
     /// What each student may choose from, in file order: at most 2,000.
@@ -25,7 +25,8 @@ pub struct Crowd {
 impl Crowd {
     /// Whether the crowd meets the condition of each call that takes one.
     pub fn is_whole(&self) -> bool
-        ensures { IsTrue result ↔ MakeCrowd self.now.menus.items self.now.budgets.items self.now.sections }
+        ensures { IsTrue result
+            ↔ MakeCrowd self.now.menus.items self.now.budgets.items self.now.sections }
     {
         if self.budgets.len() != self.menus.len() {
             return false;
@@ -39,10 +40,13 @@ impl Crowd {
         all_within(&self.menus, self.sections)
     }
 
-    /// Whether there is one price for each section, each at most the top: what can be asked of the crowd.
+    /// Whether there is one price for each section, each at most the top: what can be asked of the
+    /// crowd.
     pub fn has_prices(&self, prices: &[Tokens]) -> bool
         requires { MakeCrowd self.now.menus.items self.now.budgets.items self.now.sections }
-        ensures { IsTrue result ↔ ArePricesFor (crowd_of self.now.menus.items self.now.budgets.items self.now.sections) prices.now }
+        ensures { IsTrue result
+            ↔ ArePricesFor (crowd_of self.now.menus.items self.now.budgets.items self.now.sections)
+            prices.now }
     {
         if prices.len() != usize::from(self.sections) {
             return false;
@@ -53,21 +57,25 @@ impl Crowd {
     /// The top price: one more than the greatest budget, and 1 without students.
     pub fn top(&self) -> Tokens
         requires { MakeCrowd self.now.menus.items self.now.budgets.items self.now.sections }
-        ensures { result.0 ≡ top (crowd_of self.now.menus.items self.now.budgets.items self.now.sections) }
+        ensures { result.0
+            ≡ top (crowd_of self.now.menus.items self.now.budgets.items self.now.sections) }
     {
         Tokens(greatest_budget(&self.budgets) + 1)
     }
 
-    /// The crowd of at most 2,000 listed students, in this order. A student that is listed twice is there twice.
-    /// The one error is the want of memory.
+    /// The crowd of at most 2,000 listed students, in this order. A student that is listed twice is
+    /// there twice. The one error is the want of memory.
     pub fn choose(&self, alloc: Global, students: &[StudentNo]) -> Result<Crowd, NoMemory>
         requires crowd { MakeCrowd self.now.menus.items self.now.budgets.items self.now.sections }
         requires few { length students.now ≤ 2000 }
         requires range { All (λ student. student.0 < length self.now.menus.items) students.now }
-        ensures menus { IfOk result (λ crowd. AreChosen self.now.menus.items students.now crowd.menus.items) }
-        ensures budgets { IfOk result (λ crowd. AreChosen self.now.budgets.items students.now crowd.budgets.items) }
+        ensures menus { IfOk result
+            (λ crowd. AreChosen self.now.menus.items students.now crowd.menus.items) }
+        ensures budgets { IfOk result
+            (λ crowd. AreChosen self.now.budgets.items students.now crowd.budgets.items) }
         ensures sections { IfOk result (λ crowd. crowd.sections ≡ self.now.sections) }
-        ensures crowd { IfOk result (λ crowd. MakeCrowd crowd.menus.items crowd.budgets.items crowd.sections) }
+        ensures crowd { IfOk result
+            (λ crowd. MakeCrowd crowd.menus.items crowd.budgets.items crowd.sections) }
     {
         let mut menus = Vec::new(alloc);
         let mut budgets = Vec::new(alloc);

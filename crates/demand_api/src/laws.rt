@@ -1,8 +1,8 @@
 //! What holds of demand: each call here does nothing, and its contract is a law.
 ghost use Rattle.demand_api.specs.Laws.{BestStays, TopIsEnough, DemandsByTop, CountsByTop, ErrorsByTop};
 
-/// A best bundle that is still affordable stays the best where no rated section is cheaper: what is forgone was
-/// worse before, and nothing new became affordable.
+/// A best bundle that is still affordable stays the best where no rated section is cheaper: what is
+/// forgone was worse before, and nothing new became affordable.
 pub fn best_stays()
     ensures { BestStays }
 {}

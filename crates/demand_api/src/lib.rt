@@ -71,7 +71,12 @@ mod tests {
     // Whether each of these vectors has prices that can be asked of the crowd.
     fn all_have_prices(crowd: &Crowd, batch: &[Vec<Tokens>]) -> bool
         requires { MakeCrowd crowd.now.menus.items crowd.now.budgets.items crowd.now.sections }
-        ensures { IsTrue result → All (λ prices. ArePricesFor (crowd_of crowd.now.menus.items crowd.now.budgets.items crowd.now.sections) prices.items) batch.now }
+        ensures { IsTrue result
+            → All
+            (λ prices. ArePricesFor
+            (crowd_of crowd.now.menus.items crowd.now.budgets.items crowd.now.sections)
+            prices.items)
+            batch.now }
     {
         match batch {
             [] => true,
@@ -159,7 +164,8 @@ mod tests {
         let crowd = Arc::new(alloc, crowd).expect(&rt, "memory");
         let mut demands = PlainDemands::make(crowd);
         let section = SectionNo(0);
-        // From the present price up: no price below 50, though four students take the section there too.
+        // From the present price up: no price below 50, though four students take the section there
+        // too.
         let pairs = [(section, 2), (section, 4), (section, 0), (section, 1)];
         let found = demands
             .least_prices(&rt, alloc, &prices, &pairs)

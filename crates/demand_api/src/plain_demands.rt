@@ -11,7 +11,8 @@ use std::alloc::Global;
 use std::sync::{Arc, Wait};
 use std::thread::Threads;
 
-/// A crowd that is asked in one thread. It tries every choice of each student, so it serves small crowds.
+/// A crowd that is asked in one thread. It tries every choice of each student, so it serves small
+/// crowds.
 #[derive(Drop)]
 pub struct PlainDemands {
     crowd: Arc<Crowd>,
@@ -22,8 +23,11 @@ pub struct PlainDemands {
 impl PlainDemands {
     /// The demands of this crowd, of which nothing was asked.
     pub fn make(crowd: Arc<Crowd>) -> PlainDemands
-        requires { MakeCrowd (arc_value crowd).menus.items (arc_value crowd).budgets.items (arc_value crowd).sections }
-        ensures crowd { ⟦<PlainDemands as Demands>⟧.crowd result ≡ crowd_of (arc_value crowd).menus.items (arc_value crowd).budgets.items (arc_value crowd).sections }
+        requires { MakeCrowd (arc_value crowd).menus.items (arc_value crowd).budgets.items
+            (arc_value crowd).sections }
+        ensures crowd { ⟦<PlainDemands as Demands>⟧.crowd result
+            ≡ crowd_of (arc_value crowd).menus.items (arc_value crowd).budgets.items
+            (arc_value crowd).sections }
         ensures asked { ⟦<PlainDemands as Demands>⟧.asked result ≡ 0 }
     {
         PlainDemands { crowd, asked: 0 }

@@ -17,14 +17,17 @@ use Rattle.demand_oracle.specs.Covers.{AreApartFrom}
 use Rattle.demand_oracle.specs.Values.{hope, hopes_from, most_added, value}
 
 -- a sum over ascending places of a range is at most that of what is above zero over the whole range
-within_range : (f : ℕ → ℤ) (h : ℕ → ℕ) (first count : ℕ) (ps : List ℕ) → IsAscending ps → ((p : ℕ) → has ps p ≡ true → first ≤ p) → ((p : ℕ) → has ps p ≡ true → p < first + count) → ((p : ℕ) → has ps p ≡ true → f p ≤ℤ pos (h p))
+within_range : (f : ℕ → ℤ) (h : ℕ → ℕ) (first count : ℕ) (ps : List ℕ) → IsAscending ps → ((p : ℕ) → has ps p ≡ true → first ≤ p)
+    → ((p : ℕ) → has ps p ≡ true → p < first + count) → ((p : ℕ) → has ps p ≡ true → f p ≤ℤ pos (h p))
     → signed_total f ps ≤ℤ pos (total h (places_from first count))
 within_range f h first count [] up low high each = omega (arith, ints)
 within_range f h first zero (p ∷ ps) up low high each = let a = low p (has-here p ps) in let b = high p (has-here p ps) in absurd (omega arith)
 within_range f h first (suc count) (p ∷ ps) up low high each =
     elim (cases_order first p) [
       | inl here ↦
-          let rest = within_range f h (suc first) count ps up.1 (λ q is. let above = has-above p ps q up.0 is in omega arith) (λ q is. let b = high q (has-there p ps q is) in omega arith) (λ q is. each q (has-there p ps q is)) in
+          let rest =
+          within_range f h (suc first) count ps up.1 (λ q is. let above = has-above p ps q up.0 is in omega arith)
+          (λ q is. let b = high q (has-there p ps q is) in omega arith) (λ q is. each q (has-there p ps q is)) in
           let z : ℤ = signed_total f ps in
           let t : ℕ = total h (places_from (suc first) count) in
           let rest' : z ≤ℤ pos t = rest in
@@ -32,7 +35,8 @@ within_range f h first (suc count) (p ∷ ps) up low high each =
           let goal : (f p +ℤ z) ≤ℤ pos (h p + t) = omega (arith, ints) in
           subst (λ q. (f p +ℤ z) ≤ℤ pos (h q + t)) (sym here) goal
       | inr (inl below) ↦
-          let rest = within_range f h (suc first) count (p ∷ ps) up (λ q is. at_least first p ps up below q is) (λ q is. let b = high q is in omega arith) each in
+          let rest =
+          within_range f h (suc first) count (p ∷ ps) up (λ q is. at_least first p ps up below q is) (λ q is. let b = high q is in omega arith) each in
           let z : ℤ = signed_total f (p ∷ ps) in
           let t : ℕ = total h (places_from (suc first) count) in
           let rest' : z ≤ℤ pos t = rest in
@@ -41,7 +45,8 @@ within_range f h first (suc count) (p ∷ ps) up low high each =
     ]
   where
     at_least : (first p : ℕ) (ps : List ℕ) → IsAscending (p ∷ ps) → first < p → (q : ℕ) → has (p ∷ ps) q ≡ true → suc first ≤ q
-    at_least first p ps up below q is = elim (has-cases p ps q is) [ inl here ↦ omega arith | inr there ↦ let above = has-above p ps q up.0 there in omega arith ]
+    at_least first p ps up below q is =
+        elim (has-cases p ps q is) [ inl here ↦ omega arith | inr there ↦ let above = has-above p ps q up.0 there in omega arith ]
 
 -- what follows the first of apart places is apart, and after it
 pub rest_from : (offer : Offer) (k d : ℕ) (ds : List ℕ) → AreApartFrom offer k (d ∷ ds) → AreApartFrom offer (d + 1) ds
@@ -55,9 +60,11 @@ rest_from offer k d ds free = record {
 
 module _ (offer : Offer) where
   -- the adjustments of a place with allowed places of a range are at most what they can add
-  adjustments_hope : (k place : ℕ) (ps : List ℕ) → AreApartFrom offer k ps → signed_total (adjustment_in offer.menu.pairs place) ps ≤ℤ pos (hopes_from offer k place)
+  adjustments_hope : (k place : ℕ) (ps : List ℕ) → AreApartFrom offer k ps
+      → signed_total (adjustment_in offer.menu.pairs place) ps ≤ℤ pos (hopes_from offer k place)
   adjustments_hope k place ps free =
-      within_range (adjustment_in offer.menu.pairs place) (hope offer place) k (length offer.menu.places - k) ps free.ascending free.later (λ p is. let a = free.later p is in let b = free.on_menu p is in omega arith)
+      within_range (adjustment_in offer.menu.pairs place) (hope offer place) k (length offer.menu.places - k) ps free.ascending free.later
+      (λ p is. let a = free.later p is in let b = free.on_menu p is in omega arith)
       (λ p is. rw (free.allowed p is) (at_most_above (adjustment_in offer.menu.pairs place p)))
 
   -- among places from k on, each adds no more than the most that it can
@@ -81,7 +88,8 @@ module _ (offer : Offer) where
   own_hope k c ds free = adjustments_hope k c ds free
 
   -- what places from k on add to chosen ones is at most what the chosen ones hope for and the most that each can add
-  pub gain_hoped : (k : ℕ) (cs ds : List ℕ) → AreApartFrom offer k ds → gain (by_place offer.menu) cs ds ≤ℤ pos (total (hopes_from offer k) cs + total (most_added offer) ds)
+  pub gain_hoped : (k : ℕ) (cs ds : List ℕ) → AreApartFrom offer k ds
+      → gain (by_place offer.menu) cs ds ≤ℤ pos (total (hopes_from offer k) cs + total (most_added offer) ds)
   gain_hoped k [] ds free =
       let g : ℤ = gain (by_place offer.menu) [] ds in
       let t : ℕ = total (most_added offer) ds in
@@ -101,7 +109,9 @@ module _ (offer : Offer) where
       let goal : g ≤ℤ pos ((x + s) + t) = omega (arith, ints) in goal
 
   -- and the most that each can add is its value with what is paid for it
-  most_added_paid : (multipliers : Multipliers) (ds : List ℕ) → 1000000 * total (most_added offer) ds ≤ total (value offer multipliers) ds + (multipliers.money * total (price_at offer) ds + multipliers.credits * total (credits_at offer.menu.places) ds)
+  most_added_paid : (multipliers : Multipliers) (ds : List ℕ)
+      → 1000000 * total (most_added offer) ds
+      ≤ total (value offer multipliers) ds + (multipliers.money * total (price_at offer) ds + multipliers.credits * total (credits_at offer.menu.places) ds)
   most_added_paid multipliers [] = omega arith
   most_added_paid multipliers (d ∷ ds) =
       let rest = most_added_paid multipliers ds in
@@ -113,12 +123,15 @@ module _ (offer : Offer) where
       let b : ℕ = most_added offer d in
       let q : ℕ = multipliers.money * price_at offer d in
       let m : ℕ = multipliers.credits * credits_at offer.menu.places d in
-      let first : multipliers.money * (price_at offer d + total (price_at offer) ds) ≡ q + p = mul-add multipliers.money (price_at offer d) (total (price_at offer) ds) in
-      let second : multipliers.credits * (credits_at offer.menu.places d + total (credits_at offer.menu.places) ds) ≡ m + l = mul-add multipliers.credits (credits_at offer.menu.places d) (total (credits_at offer.menu.places) ds) in
+      let first : multipliers.money * (price_at offer d + total (price_at offer) ds) ≡ q + p =
+      mul-add multipliers.money (price_at offer d) (total (price_at offer) ds) in
+      let second : multipliers.credits * (credits_at offer.menu.places d + total (credits_at offer.menu.places) ds) ≡ m + l =
+      mul-add multipliers.credits (credits_at offer.menu.places d) (total (credits_at offer.menu.places) ds) in
       rw (first, second) (let goal : 1000000 * (b + a) ≤ ((1000000 * b - (q + m)) + v) + ((q + p) + (m + l)) = omega arith in goal)
 
   -- within what is left of the budget and of the credits
-  pub most_added_within : (multipliers : Multipliers) (ds : List ℕ) (budget credits : ℕ) → total (price_at offer) ds ≤ budget → total (credits_at offer.menu.places) ds ≤ credits
+  pub most_added_within : (multipliers : Multipliers) (ds : List ℕ) (budget credits : ℕ) → total (price_at offer) ds ≤ budget
+      → total (credits_at offer.menu.places) ds ≤ credits
       → 1000000 * total (most_added offer) ds ≤ total (value offer multipliers) ds + (multipliers.money * budget + multipliers.credits * credits)
   most_added_within multipliers ds budget credits affordable fits =
       let a : ℕ = total (most_added offer) ds in

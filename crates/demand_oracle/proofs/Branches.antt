@@ -15,32 +15,42 @@ none_fits offer chosen s full takable =
     let count : length (chosen ++ s ∷ []) ≡ length chosen + 1 = length-append chosen (s ∷ []) in omega arith
 
 -- where as many sections are chosen as may be taken, all later places are passed over
-pub full_to_end : (offer : Offer) (wanted : List ℕ → Bool) (k : ℕ) (chosen undecided champion result : List ℕ) → offer.menu.courses ≤ length chosen → IsSearched offer wanted k chosen [] champion result → IsSearched offer wanted k chosen undecided champion result
+pub full_to_end : (offer : Offer) (wanted : List ℕ → Bool) (k : ℕ) (chosen undecided champion result : List ℕ) → offer.menu.courses ≤ length chosen
+    → IsSearched offer wanted k chosen [] champion result → IsSearched offer wanted k chosen undecided champion result
 full_to_end offer wanted k chosen [] champion result full ended = ended
-full_to_end offer wanted k chosen (s ∷ undecided) champion result full ended = inr (inr (none_fits offer chosen s full, full_to_end offer wanted (k + 1) chosen undecided champion result full ended))
+full_to_end offer wanted k chosen (s ∷ undecided) champion result full ended =
+    inr (inr (none_fits offer chosen s full, full_to_end offer wanted (k + 1) chosen undecided champion result full ended))
 
 module _ (offer : Offer) (wanted : List ℕ → Bool) (k : ℕ) (chosen : List ℕ) where
   -- all places are decided
-  pub ended_here : (champion result : List ℕ) → length offer.menu.places ≤ k → IsSearched offer wanted k chosen [] champion result → IsSearched offer wanted k chosen (drop k (menu_sections offer.menu)) champion result
-  ended_here champion result past ended = subst (λ later. IsSearched offer wanted k chosen later champion result) (sym (none_undecided offer.menu.places k past)) ended
+  pub ended_here : (champion result : List ℕ) → length offer.menu.places ≤ k → IsSearched offer wanted k chosen [] champion result
+      → IsSearched offer wanted k chosen (drop k (menu_sections offer.menu)) champion result
+  ended_here champion result past ended =
+      subst (λ later. IsSearched offer wanted k chosen later champion result) (sym (none_undecided offer.menu.places k past)) ended
 
   module _ (low : k < length offer.menu.places) where
-    closed_branch : (champion : List ℕ) → MayClose offer wanted k chosen champion → IsSearched offer wanted k chosen (section_at offer.menu.places k ∷ drop (k + 1) (menu_sections offer.menu)) champion champion
+    closed_branch : (champion : List ℕ) → MayClose offer wanted k chosen champion
+        → IsSearched offer wanted k chosen (section_at offer.menu.places k ∷ drop (k + 1) (menu_sections offer.menu)) champion champion
     closed_branch champion may = inl (may, refl)
 
     -- the node is closed
-    pub closed_here : (champion : List ℕ) → MayClose offer wanted k chosen champion → IsSearched offer wanted k chosen (drop k (menu_sections offer.menu)) champion champion
-    closed_here champion may = subst (λ later. IsSearched offer wanted k chosen later champion champion) (sym (next_section offer.menu.places k low)) (closed_branch champion may)
+    pub closed_here : (champion : List ℕ) → MayClose offer wanted k chosen champion
+        → IsSearched offer wanted k chosen (drop k (menu_sections offer.menu)) champion champion
+    closed_here champion may =
+        subst (λ later. IsSearched offer wanted k chosen later champion champion) (sym (next_section offer.menu.places k low)) (closed_branch champion may)
 
-    shut_branch : (champion result : List ℕ) → (IsTakable offer (chosen ++ section_at offer.menu.places k ∷ []) → ⊥) → IsSearched offer wanted (k + 1) chosen (drop (k + 1) (menu_sections offer.menu)) champion result
+    shut_branch : (champion result : List ℕ) → (IsTakable offer (chosen ++ section_at offer.menu.places k ∷ []) → ⊥)
+        → IsSearched offer wanted (k + 1) chosen (drop (k + 1) (menu_sections offer.menu)) champion result
         → IsSearched offer wanted k chosen (section_at offer.menu.places k ∷ drop (k + 1) (menu_sections offer.menu)) champion result
     shut_branch champion result shut without = inr (inr (shut, without))
 
     -- the next section may not be taken
-    pub shut_here : (champion result : List ℕ) → (IsTakable offer (chosen ++ section_at offer.menu.places k ∷ []) → ⊥) → IsSearched offer wanted (k + 1) chosen (drop (k + 1) (menu_sections offer.menu)) champion result
+    pub shut_here : (champion result : List ℕ) → (IsTakable offer (chosen ++ section_at offer.menu.places k ∷ []) → ⊥)
+        → IsSearched offer wanted (k + 1) chosen (drop (k + 1) (menu_sections offer.menu)) champion result
         → IsSearched offer wanted k chosen (drop k (menu_sections offer.menu)) champion result
     shut_here champion result shut without =
-        subst (λ later. IsSearched offer wanted k chosen later champion result) (sym (next_section offer.menu.places k low)) (shut_branch champion result shut without)
+        subst (λ later. IsSearched offer wanted k chosen later champion result) (sym (next_section offer.menu.places k low))
+        (shut_branch champion result shut without)
 
     open_branch : (champion between result : List ℕ) → IsTakable offer (chosen ++ section_at offer.menu.places k ∷ [])
         → IsSearched offer wanted (k + 1) (chosen ++ section_at offer.menu.places k ∷ []) (drop (k + 1) (menu_sections offer.menu)) champion between
@@ -54,4 +64,5 @@ module _ (offer : Offer) (wanted : List ℕ → Bool) (k : ℕ) (chosen : List �
         → IsSearched offer wanted (k + 1) chosen (drop (k + 1) (menu_sections offer.menu)) between result
         → IsSearched offer wanted k chosen (drop k (menu_sections offer.menu)) champion result
     open_here champion between result takable with_it without =
-        subst (λ later. IsSearched offer wanted k chosen later champion result) (sym (next_section offer.menu.places k low)) (open_branch champion between result takable with_it without)
+        subst (λ later. IsSearched offer wanted k chosen later champion result) (sym (next_section offer.menu.places k low))
+        (open_branch champion between result takable with_it without)

@@ -23,9 +23,13 @@ pub record IsWeighed (offer : Offer) (k : ℕ) (chosen champion : List ℕ) (add
   pub lacks : lacking ≡ (worth -ℤ u) -ℤ pos hopes
   pub high : lacking ≤ℤ pos (2 ^ 34)
 
-module _ (offer : Offer) (wanted : List ℕ → Bool) (k : ℕ) (chosen champion : List ℕ) (added : ℤ) (hopes : ℕ) (u worth lacking : ℤ) (is : IsWeighed offer k chosen champion added hopes u worth lacking) where
+module _ (offer : Offer) (wanted : List ℕ → Bool) (k : ℕ) (chosen champion : List ℕ) (added : ℤ) (hopes : ℕ) (u worth lacking : ℤ)
+    (is : IsWeighed offer k chosen champion added hopes u worth lacking) where
   -- a bundle that completes the node has no more than what is hoped for and added
-  most_reached : (bundle : List ℕ) → (pos 1000000 *ℤ utility (wishes_of offer.menu) bundle) ≤ℤ ((pos 1000000 *ℤ (utility (by_place offer.menu) (places_of offer.menu chosen) +ℤ pos (total (hopes_from offer k) (places_of offer.menu chosen)))) +ℤ added)
+  most_reached : (bundle : List ℕ)
+      → (pos 1000000 *ℤ utility (wishes_of offer.menu) bundle)
+      ≤ℤ ((pos 1000000 *ℤ (utility (by_place offer.menu) (places_of offer.menu chosen) +ℤ pos (total (hopes_from offer k) (places_of offer.menu chosen))))
+      +ℤ added)
       → (pos 1000000 *ℤ utility (wishes_of offer.menu) bundle) ≤ℤ ((pos 1000000 *ℤ (u +ℤ pos hopes)) +ℤ added)
   most_reached bundle reached = rw (is.u_is, is.hopes_are) reached
 
@@ -62,7 +66,8 @@ module _ (offer : Offer) (wanted : List ℕ → Bool) (k : ℕ) (chosen champion
       ]
 
 -- the hopes that are read from a row are those of the chosen places
-pub hopes_read : (offer : Offer) (table : List (List ℕ)) (k row : ℕ) (cs : List ℕ) → HoldsHopes offer table 0 → row ≡ k → k ≤ length offer.menu.places → ((c : ℕ) → has cs c ≡ true → c < k) → total (number_at table row) cs ≡ total (hopes_from offer k) cs
+pub hopes_read : (offer : Offer) (table : List (List ℕ)) (k row : ℕ) (cs : List ℕ) → HoldsHopes offer table 0 → row ≡ k → k ≤ length offer.menu.places
+    → ((c : ℕ) → has cs c ≡ true → c < k) → total (number_at table row) cs ≡ total (hopes_from offer k) cs
 hopes_read offer table k row [] holds is on below = refl
 hopes_read offer table k row (c ∷ cs) holds is on below =
     let rest = hopes_read offer table k row cs holds is on (λ d in_it. below d (has-there c cs d in_it)) in

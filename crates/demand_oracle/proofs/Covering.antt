@@ -26,7 +26,8 @@ module _ (offer : Offer) (multipliers : Multipliers) (shift : ℕ) where
   -- past the last place there is none
   pub covers_past : (k count units most : ℕ) → length offer.menu.places ≤ k → CoversWithin offer multipliers shift k count units most
   covers_past k count units most past [] free few cheap = omega arith
-  covers_past k count units most past (p ∷ ps) free few cheap = let a = free.later p (has-here p ps) in let b = free.on_menu p (has-here p ps) in absurd (omega arith)
+  covers_past k count units most past (p ∷ ps) free few cheap =
+      let a = free.later p (has-here p ps) in let b = free.on_menu p (has-here p ps) in absurd (omega arith)
 
   -- no place adds nothing
   pub covers_none : (k units most : ℕ) → CoversWithin offer multipliers shift k 0 units most
@@ -34,7 +35,8 @@ module _ (offer : Offer) (multipliers : Multipliers) (shift : ℕ) where
   covers_none k units most (p ∷ ps) free few cheap = absurd (omega arith)
 
   -- a place that is not allowed is none of them
-  pub covers_not_allowed : (k count units most : ℕ) → allowed_at offer k ≡ false → CoversWithin offer multipliers shift (k + 1) count units most → CoversWithin offer multipliers shift k count units most
+  pub covers_not_allowed : (k count units most : ℕ) → allowed_at offer k ≡ false → CoversWithin offer multipliers shift (k + 1) count units most
+      → CoversWithin offer multipliers shift k count units most
   covers_not_allowed k count units most off covers [] free few cheap = omega arith
   covers_not_allowed k count units most off covers (p ∷ ps) free few cheap =
       elim (cases_order k p) [
@@ -44,7 +46,8 @@ module _ (offer : Offer) (multipliers : Multipliers) (shift : ℕ) where
       ]
 
   -- nor is one that costs more
-  pub covers_dear : (k count units most : ℕ) → units < units_at offer shift k → CoversWithin offer multipliers shift (k + 1) count units most → CoversWithin offer multipliers shift k count units most
+  pub covers_dear : (k count units most : ℕ) → units < units_at offer shift k → CoversWithin offer multipliers shift (k + 1) count units most
+      → CoversWithin offer multipliers shift k count units most
   covers_dear k count units most dear covers [] free few cheap = omega arith
   covers_dear k count units most dear covers (p ∷ ps) free few cheap =
       elim (cases_order k p) [
@@ -59,7 +62,8 @@ module _ (offer : Offer) (multipliers : Multipliers) (shift : ℕ) where
       ]
 
   -- places after the first that do not clash with it are places from the first one on that does not
-  after_clashes : (k next : ℕ) (ps : List ℕ) → ((other : ℕ) → k + 1 ≤ other → other < next → clash_in offer.menu.clashes k other ≡ true) → AreApartFrom offer k (k ∷ ps) → AreApartFrom offer next ps
+  after_clashes : (k next : ℕ) (ps : List ℕ) → ((other : ℕ) → k + 1 ≤ other → other < next → clash_in offer.menu.clashes k other ≡ true)
+      → AreApartFrom offer k (k ∷ ps) → AreApartFrom offer next ps
   after_clashes k next ps between free =
       let rest = rest_from offer k k ps free in record {
         ascending = rest.ascending;
@@ -76,8 +80,11 @@ module _ (offer : Offer) (multipliers : Multipliers) (shift : ℕ) where
       }
 
   -- with a place or without it
-  pub covers_place : (k next count units later apart v : ℕ) → ((other : ℕ) → k + 1 ≤ other → other < next → clash_in offer.menu.clashes k other ≡ true) → units_at offer shift k ≤ units → value offer multipliers k ≤ 1000 * v
-      → CoversWithin offer multipliers shift (k + 1) (count + 1) units later → CoversWithin offer multipliers shift next count (units - units_at offer shift k) apart → CoversWithin offer multipliers shift k (count + 1) units (max later (apart + v))
+  pub covers_place : (k next count units later apart v : ℕ) → ((other : ℕ) → k + 1 ≤ other → other < next → clash_in offer.menu.clashes k other ≡ true)
+      → units_at offer shift k ≤ units → value offer multipliers k ≤ 1000 * v
+      → CoversWithin offer multipliers shift (k + 1) (count + 1) units later
+      → CoversWithin offer multipliers shift next count (units - units_at offer shift k) apart
+      → CoversWithin offer multipliers shift k (count + 1) units (max later (apart + v))
   covers_place k next count units later apart v between fits high without with_it [] free few cheap = omega arith
   covers_place k next count units later apart v between fits high without with_it (p ∷ ps) free few cheap =
       elim (cases_order k p) [
@@ -102,8 +109,10 @@ module _ (offer : Offer) (multipliers : Multipliers) (shift : ℕ) where
       ]
 
   -- the numbers of a place cover what can be added from it on
-  placed_at : (k next v cost : ℕ) (old new : List (List ℕ)) → k < length offer.menu.places → next ≤ length offer.menu.places → IsPlaced offer.menu.courses v cost k next old new → k + 1 ≤ next → HoldsCovers offer multipliers shift old (k + 1)
-      → ((other : ℕ) → k + 1 ≤ other → other < next → clash_in offer.menu.clashes k other ≡ true) → value offer multipliers k ≤ 1000 * v → cost ≡ units_at offer shift k
+  placed_at : (k next v cost : ℕ) (old new : List (List ℕ)) → k < length offer.menu.places → next ≤ length offer.menu.places
+      → IsPlaced offer.menu.courses v cost k next old new → k + 1 ≤ next → HoldsCovers offer multipliers shift old (k + 1)
+      → ((other : ℕ) → k + 1 ≤ other → other < next → clash_in offer.menu.clashes k other ≡ true) → value offer multipliers k ≤ 1000 * v
+      → cost ≡ units_at offer shift k
       → (count units : ℕ) → count ≤ offer.menu.courses → units < 64 → CoversWithin offer multipliers shift k count units (within_at new k count units)
   placed_at k next v cost old new low on is up holds between high costs zero units few cheap = covers_none k units (within_at new k 0 units)
   placed_at k next v cost old new low on is up holds between high costs (suc count) units few cheap =
@@ -112,9 +121,11 @@ module _ (offer : Offer) (multipliers : Multipliers) (shift : ℕ) where
       subst (λ n. CoversWithin offer multipliers shift k n units (within_at new k n units)) (sym e) (elim (cases_lt units cost) [
         | inl dear ↦
             let read : within_at old (k + 1) (count + 1) units ≡ within_at new k (count + 1) units = sym (is.dear count units (omega arith) cheap dear) in
-            subst (CoversWithin offer multipliers shift k (count + 1) units) read (covers_dear k (count + 1) units (within_at old (k + 1) (count + 1) units) (subst (λ n. units < n) costs dear) without)
+            subst (CoversWithin offer multipliers shift k (count + 1) units) read
+            (covers_dear k (count + 1) units (within_at old (k + 1) (count + 1) units) (subst (λ n. units < n) costs dear) without)
         | inr fits ↦
-            let read : max (within_at old (k + 1) (count + 1) units) (within_at old next count (units - cost) + v) ≡ within_at new k (count + 1) units = sym (is.more count units (omega arith) cheap (omega arith)) in
+            let read : max (within_at old (k + 1) (count + 1) units) (within_at old next count (units - cost) + v) ≡ within_at new k (count + 1) units =
+            sym (is.more count units (omega arith) cheap (omega arith)) in
             let with_it = holds next count (units - cost) up on (omega arith) (omega arith) in
             subst (CoversWithin offer multipliers shift k (count + 1) units) read
             (covers_place k next count units (within_at old (k + 1) (count + 1) units) (within_at old next count (units - cost)) v between (subst (λ n. n ≤ units) costs (omega arith)) high without
@@ -122,31 +133,44 @@ module _ (offer : Offer) (multipliers : Multipliers) (shift : ℕ) where
       ])
 
   -- those of one that is not allowed
-  not_placed_at : (k next v cost : ℕ) (old new : List (List ℕ)) → k < length offer.menu.places → IsPlaced offer.menu.courses v cost k next old new → HoldsCovers offer multipliers shift old (k + 1) → allowed_at offer k ≡ false → 64 ≤ cost
+  not_placed_at : (k next v cost : ℕ) (old new : List (List ℕ)) → k < length offer.menu.places → IsPlaced offer.menu.courses v cost k next old new
+      → HoldsCovers offer multipliers shift old (k + 1) → allowed_at offer k ≡ false → 64 ≤ cost
       → (count units : ℕ) → count ≤ offer.menu.courses → units < 64 → CoversWithin offer multipliers shift k count units (within_at new k count units)
   not_placed_at k next v cost old new low is holds off dear zero units few cheap = covers_none k units (within_at new k 0 units)
   not_placed_at k next v cost old new low is holds off dear (suc count) units few cheap =
       let e : suc count ≡ count + 1 = omega arith in
       let without = holds (k + 1) (count + 1) units (omega arith) (omega arith) (omega arith) cheap in
       let read : within_at old (k + 1) (count + 1) units ≡ within_at new k (count + 1) units = sym (is.dear count units (omega arith) cheap (omega arith)) in
-      subst (λ n. CoversWithin offer multipliers shift k n units (within_at new k n units)) (sym e) (subst (CoversWithin offer multipliers shift k (count + 1) units) read (covers_not_allowed k (count + 1) units (within_at old (k + 1) (count + 1) units) off without))
+      subst (λ n. CoversWithin offer multipliers shift k n units (within_at new k n units)) (sym e)
+      (subst (CoversWithin offer multipliers shift k (count + 1) units) read
+      (covers_not_allowed k (count + 1) units (within_at old (k + 1) (count + 1) units) off without))
 
   -- with the numbers of a place the table covers what can be added from it on
-  with_place : (k next v cost : ℕ) (old new : List (List ℕ)) → offer.menu.courses ≤ 8 → IsPlaced offer.menu.courses v cost k next old new → HoldsCovers offer multipliers shift old (k + 1)
-      → ((count units : ℕ) → count ≤ offer.menu.courses → units < 64 → CoversWithin offer multipliers shift k count units (within_at new k count units)) → HoldsCovers offer multipliers shift new k
+  with_place : (k next v cost : ℕ) (old new : List (List ℕ)) → offer.menu.courses ≤ 8 → IsPlaced offer.menu.courses v cost k next old new
+      → HoldsCovers offer multipliers shift old (k + 1)
+      → ((count units : ℕ) → count ≤ offer.menu.courses → units < 64 → CoversWithin offer multipliers shift k count units (within_at new k count units))
+      → HoldsCovers offer multipliers shift new k
   with_place k next v cost old new capped is holds here j count units from on few cheap =
       elim (cases_order j k) [
         | inl same ↦ subst (λ n. CoversWithin offer multipliers shift n count units (within_at new n count units)) (sym same) (here count units few cheap)
         | inr (inl below) ↦ absurd (omega arith)
-        | inr (inr above) ↦ subst (CoversWithin offer multipliers shift j count units) (sym (is.later j count units (omega arith) (omega arith))) (holds j count units (omega arith) on few cheap)
+        | inr (inr above) ↦
+            subst (CoversWithin offer multipliers shift j count units) (sym (is.later j count units (omega arith) (omega arith)))
+            (holds j count units (omega arith) on few cheap)
       ]
 
-  pub covers_placed : (k next v cost : ℕ) (old new : List (List ℕ)) → offer.menu.courses ≤ 8 → k < length offer.menu.places → next ≤ length offer.menu.places → k + 1 ≤ next → IsPlaced offer.menu.courses v cost k next old new
-      → ((other : ℕ) → k + 1 ≤ other → other < next → clash_in offer.menu.clashes k other ≡ true) → value offer multipliers k ≤ 1000 * v → cost ≡ units_at offer shift k → HoldsCovers offer multipliers shift old (k + 1) → HoldsCovers offer multipliers shift new k
-  covers_placed k next v cost old new capped low on up is between high costs holds = with_place k next v cost old new capped is holds (placed_at k next v cost old new low on is up holds between high costs)
+  pub covers_placed : (k next v cost : ℕ) (old new : List (List ℕ)) → offer.menu.courses ≤ 8 → k < length offer.menu.places → next ≤ length offer.menu.places
+      → k + 1 ≤ next → IsPlaced offer.menu.courses v cost k next old new
+      → ((other : ℕ) → k + 1 ≤ other → other < next → clash_in offer.menu.clashes k other ≡ true) → value offer multipliers k ≤ 1000 * v
+      → cost ≡ units_at offer shift k → HoldsCovers offer multipliers shift old (k + 1) → HoldsCovers offer multipliers shift new k
+  covers_placed k next v cost old new capped low on up is between high costs holds =
+      with_place k next v cost old new capped is holds (placed_at k next v cost old new low on is up holds between high costs)
 
-  pub covers_not_placed : (k next v cost : ℕ) (old new : List (List ℕ)) → offer.menu.courses ≤ 8 → k < length offer.menu.places → IsPlaced offer.menu.courses v cost k next old new → allowed_at offer k ≡ false → 64 ≤ cost → HoldsCovers offer multipliers shift old (k + 1) → HoldsCovers offer multipliers shift new k
-  covers_not_placed k next v cost old new capped low is off dear holds = with_place k next v cost old new capped is holds (not_placed_at k next v cost old new low is holds off dear)
+  pub covers_not_placed : (k next v cost : ℕ) (old new : List (List ℕ)) → offer.menu.courses ≤ 8 → k < length offer.menu.places
+      → IsPlaced offer.menu.courses v cost k next old new → allowed_at offer k ≡ false → 64 ≤ cost → HoldsCovers offer multipliers shift old (k + 1)
+      → HoldsCovers offer multipliers shift new k
+  covers_not_placed k next v cost old new capped low is off dear holds =
+      with_place k next v cost old new capped is holds (not_placed_at k next v cost old new low is holds off dear)
 
   -- past the last place
   pub covers_last : (table : List (List ℕ)) → HoldsCovers offer multipliers shift table (length offer.menu.places)
@@ -157,18 +181,22 @@ pub nothing_more : (table : List (List ℕ)) (place count room : ℕ) → place 
     → (c u : ℕ) → c < count + 1 → within_at (set table (place * 9 + count) (replicate room 0)) place c u ≡ 0
 nothing_more table place count room low before c u few =
     elim (cases_order c count) [
-      | inl same ↦ ap (λ n. within_at (set table (place * 9 + count) (replicate room 0)) place n u) same ∙ row_same table (place * 9 + count) (replicate room 0) u low ∙ zero_row room u
+      | inl same ↦
+          ap (λ n. within_at (set table (place * 9 + count) (replicate room 0)) place n u) same ∙ row_same table (place * 9 + count) (replicate room 0) u low
+          ∙ zero_row room u
       | inr (inl below) ↦ row_other table (place * 9 + count) (place * 9 + c) (replicate room 0) u (λ e. absurd (omega arith)) ∙ before c u below
       | inr (inr above) ↦ absurd (omega arith)
     ]
 
 -- numbers stay small
-pub small_placed : (courses v cost k next last : ℕ) (old new : List (List ℕ)) → courses ≤ 8 → v ≤ 65635001 → k < last → k + 1 ≤ next → next ≤ last → IsPlaced courses v cost k next old new → AreSmall courses old (k + 1) last → AreSmall courses new k last
+pub small_placed : (courses v cost k next last : ℕ) (old new : List (List ℕ)) → courses ≤ 8 → v ≤ 65635001 → k < last → k + 1 ≤ next → next ≤ last
+    → IsPlaced courses v cost k next old new → AreSmall courses old (k + 1) last → AreSmall courses new k last
 small_placed courses v cost k next last old new capped high low up on is small j count units from to few cheap =
     elim (cases_order j k) [
       | inl same ↦ subst (λ n. within_at new n count units ≤ 65635001 * count) (sym same) (here count few)
       | inr (inl below) ↦ absurd (omega arith)
-      | inr (inr above) ↦ subst (λ n. n ≤ 65635001 * count) (sym (is.later j count units (omega arith) (omega arith))) (small j count units (omega arith) to few cheap)
+      | inr (inr above) ↦
+          subst (λ n. n ≤ 65635001 * count) (sym (is.later j count units (omega arith) (omega arith))) (small j count units (omega arith) to few cheap)
     ]
   where
     here : (n : ℕ) → n ≤ courses → within_at new k n units ≤ 65635001 * n
@@ -179,7 +207,8 @@ small_placed courses v cost k next last old new capped high low up on is small j
         subst (λ m. within_at new k m units ≤ 65635001 * m) (sym e) (elim (cases_lt units cost) [
           | inl dear ↦ subst (λ x. x ≤ 65635001 * (n + 1)) (sym (is.dear n units (omega arith) cheap dear)) a
           | inr fits ↦
-              let read : within_at new k (n + 1) units ≡ max (within_at old (k + 1) (n + 1) units) (within_at old next n (units - cost) + v) = is.more n units (omega arith) cheap (omega arith) in
+              let read : within_at new k (n + 1) units ≡ max (within_at old (k + 1) (n + 1) units) (within_at old next n (units - cost) + v) =
+              is.more n units (omega arith) cheap (omega arith) in
               let b : within_at old next n (units - cost) ≤ 65635001 * n = small next n (units - cost) up on (omega arith) (omega arith) in
               let goal : within_at new k (n + 1) units ≤ 65635001 * (n + 1) = omega arith in goal
         ])

@@ -35,7 +35,8 @@ module _ (m : MenuData) (menu : IsMenu m) (price : ℕ → ℕ) (branch : Branch
   chosen_below t in_it =
       let on = place_of_rated m (chosen_of branch) is.rated t in_it in
       let at : section_at m.places (place_in m.places t) ≡ t = section_at-place_in m.places t on in
-      subst (λ x. x < section_at m.places branch.node.place) at (section_at-rises m.places (place_in m.places t) branch.node.place menu.places.ascending (is.decided t in_it) low)
+      subst (λ x. x < section_at m.places branch.node.place) at
+      (section_at-rises m.places (place_in m.places t) branch.node.place menu.places.ascending (is.decided t in_it) low)
 
   pub ascending_next : IsAscending (chosen_of branch) → IsAscending (with_next_of m branch)
   ascending_next up = ascending-last (chosen_of branch) (section_at m.places branch.node.place) up chosen_below
@@ -53,7 +54,8 @@ module _ (m : MenuData) (menu : IsMenu m) (price : ℕ → ℕ) (branch : Branch
     | inr last ↦ let at : place_in m.places s ≡ branch.node.place = ap (place_in m.places) (sym last) ∙ place_of_next in omega arith
   ]
 
-  pub places_next : length (chosen_of branch) < length branch.places → take (length (with_next_of m branch)) (set branch.places (length (chosen_of branch)) branch.node.place) ≡ places_of m (with_next_of m branch)
+  pub places_next : length (chosen_of branch) < length branch.places
+      → take (length (with_next_of m branch)) (set branch.places (length (chosen_of branch)) branch.node.place) ≡ places_of m (with_next_of m branch)
   places_next room =
       let chosen = chosen_of branch in
       let more : length (with_next_of m branch) ≡ length chosen + 1 = length-append chosen (section_at m.places branch.node.place ∷ []) in
@@ -74,7 +76,8 @@ module _ (m : MenuData) (menu : IsMenu m) (price : ℕ → ℕ) (branch : Branch
   credits_next =
       let t : ℕ = total (wishes_of m).credits (chosen_of branch) in
       let p : ℕ = credits_at m.places (place_in m.places (section_at m.places branch.node.place)) in
-      let whole : total (wishes_of m).credits (with_next_of m branch) ≡ t + (p + 0) = total-append (wishes_of m).credits (chosen_of branch) (section_at m.places branch.node.place ∷ []) in
+      let whole : total (wishes_of m).credits (with_next_of m branch) ≡ t + (p + 0) =
+      total-append (wishes_of m).credits (chosen_of branch) (section_at m.places branch.node.place ∷ []) in
       let before : branch.credits ≡ t = is.credits in
       let own : p ≡ credits_at m.places branch.node.place = ap (credits_at m.places) place_of_next in omega arith
 
@@ -90,10 +93,13 @@ module _ (m : MenuData) (menu : IsMenu m) (price : ℕ → ℕ) (branch : Branch
       let whole : utility (wishes_of m) (with_next_of m branch) ≡ u +ℤ (((pos r +ℤ a) +ℤ pos 0) +ℤ pos 0) = utility-append (wishes_of m) chosen (s ∷ []) in
       let before : branch.utility ≡ u = is.utility in
       let own : r ≡ rating_at m.places branch.node.place = ap (rating_at m.places) place_of_next in
-      let by_place : adjustments ≡ a = are ∙ signed_total-map (λ other. adjustment_in m.pairs other branch.node.place) (place_in m.places) chosen ∙ ap (λ k. signed_total (λ c. adjustment_in m.pairs (place_in m.places c) k) chosen) (sym place_of_next) in
+      let by_place : adjustments ≡ a =
+      are ∙ signed_total-map (λ other. adjustment_in m.pairs other branch.node.place) (place_in m.places) chosen
+      ∙ ap (λ k. signed_total (λ c. adjustment_in m.pairs (place_in m.places c) k) chosen) (sym place_of_next) in
       omega (arith, ints)
 
-  pub small_next : (p k r : ℕ) (adjustments : ℤ) → p ≤ 1000001 → k ≤ 100 → r ≤ 100 → length (chosen_of branch) < 8 → neg_ℤ (pos (200 * length (chosen_of branch))) ≤ℤ adjustments → adjustments ≤ℤ pos (200 * length (chosen_of branch))
+  pub small_next : (p k r : ℕ) (adjustments : ℤ) → p ≤ 1000001 → k ≤ 100 → r ≤ 100 → length (chosen_of branch) < 8
+      → neg_ℤ (pos (200 * length (chosen_of branch))) ≤ℤ adjustments → adjustments ≤ℤ pos (200 * length (chosen_of branch))
       → AreSmallSums (length (with_next_of m branch)) (branch.paid + p) (branch.credits + k) ((branch.utility +ℤ pos r) +ℤ adjustments)
   small_next p k r adjustments p_high k_high r_high room low_a high_a =
       let n : ℕ = length (chosen_of branch) in
@@ -106,10 +112,13 @@ module _ (m : MenuData) (menu : IsMenu m) (price : ℕ → ℕ) (branch : Branch
       rw more record { paid_high = omega arith; credits_high = omega arith; utility_low = omega (arith, ints); utility_high = omega (arith, ints) }
 
   -- the branch with one more section
-  pub next_branch : (bundle : Bundle) (ps : List ℕ) (paid credits : ℕ) (utility_ : ℤ) → sections_of bundle ≡ with_next_of m branch → take (length (with_next_of m branch)) ps ≡ places_of m (with_next_of m branch)
-      → paid ≡ total price (with_next_of m branch) → credits ≡ total (wishes_of m).credits (with_next_of m branch) → utility_ ≡ utility (wishes_of m) (with_next_of m branch)
+  pub next_branch : (bundle : Bundle) (ps : List ℕ) (paid credits : ℕ) (utility_ : ℤ) → sections_of bundle ≡ with_next_of m branch
+      → take (length (with_next_of m branch)) ps ≡ places_of m (with_next_of m branch)
+      → paid ≡ total price (with_next_of m branch) → credits ≡ total (wishes_of m).credits (with_next_of m branch)
+      → utility_ ≡ utility (wishes_of m) (with_next_of m branch)
       → AreSmallSums (length (with_next_of m branch)) paid credits utility_
-      → IsBranch m price (record { node = record { place = branch.node.place + 1; chosen = bundle }; places = ps; paid = paid; credits = credits; utility = utility_ })
+      → IsBranch m price
+      (record { node = record { place = branch.node.place + 1; chosen = bundle }; places = ps; paid = paid; credits = credits; utility = utility_ })
   next_branch bundle ps paid credits utility_ same places paid_is credits_are utility_is small = record {
     rated = subst (AllRated (wishes_of m)) (sym same) rated_next;
     decided = subst (λ l. (s : ℕ) → has l s ≡ true → place_in m.places s < branch.node.place + 1) (sym same) decided_next;

@@ -25,7 +25,8 @@ module _ (offer : Offer) where
   hopes_step k place low =
       let split : length offer.menu.places - k ≡ suc (length offer.menu.places - (k + 1)) = omega arith in
       let next : suc k ≡ k + 1 = omega arith in
-      ap (λ n. total (hope offer place) (places_from k n)) split ∙ ap (λ n. hope offer place k + total (hope offer place) (places_from n (length offer.menu.places - (k + 1)))) next
+      ap (λ n. total (hope offer place) (places_from k n)) split
+      ∙ ap (λ n. hope offer place k + total (hope offer place) (places_from n (length offer.menu.places - (k + 1)))) next
 
   -- past the last place there is nothing to hope for
   pub hopes_past : (k place : ℕ) → length offer.menu.places ≤ k → hopes_from offer k place ≡ 0
@@ -40,7 +41,8 @@ module _ (offer : Offer) where
       let goal : hopes_from offer k place ≡ h = omega arith in goal
 
   -- an allowed one what its adjustment can
-  pub hopes_allowed : (k place : ℕ) → k < length offer.menu.places → allowed_at offer k ≡ true → hopes_from offer k place ≡ above_zero (adjustment_in offer.menu.pairs place k) + hopes_from offer (k + 1) place
+  pub hopes_allowed : (k place : ℕ) → k < length offer.menu.places → allowed_at offer k ≡ true
+      → hopes_from offer k place ≡ above_zero (adjustment_in offer.menu.pairs place k) + hopes_from offer (k + 1) place
   hopes_allowed k place low on = let step = hopes_step k place low in rw on at step
 
   above_zero-high : (z : ℤ) → z ≤ℤ pos 200 → above_zero z ≤ 200
@@ -72,7 +74,8 @@ module _ (offer : Offer) where
       let goal : t ≤ 12000 = omega arith in goal
 
 -- whether the place of a section that was read is allowed
-pub allowed_read : (menu : MenuData) (prices : List Tokens) (budget : ℕ) (allowed : fin.FinSet nat_cmp) (place : ℕ) (rated : Rated) → slice_get menu.places place ≡ Some rated → allowed_at (offer_of menu prices budget allowed) place ≡ fin.contains allowed rated.section.0
+pub allowed_read : (menu : MenuData) (prices : List Tokens) (budget : ℕ) (allowed : fin.FinSet nat_cmp) (place : ℕ) (rated : Rated)
+    → slice_get menu.places place ≡ Some rated → allowed_at (offer_of menu prices budget allowed) place ≡ fin.contains allowed rated.section.0
 allowed_read menu prices budget allowed place rated is = ap (fin.contains allowed) (section_at-is menu.places place rated is)
 
 -- a row of a table after another row was written
@@ -83,20 +86,24 @@ pub row_other : (table : List (List ℕ)) (i j : ℕ) (row : List ℕ) (place : 
 row_other table i j row place other = ap (λ r. slice_index r place) (get_or-set_other table i j row [] other)
 
 -- a table that holds what can be hoped for from the next place on, with the row of a place
-pub holds_more : (offer : Offer) (table : List (List ℕ)) (k : ℕ) (row : List ℕ) → k < length table → HoldsHopes offer table (k + 1) → ((place : ℕ) → place < k → slice_index row place ≡ hopes_from offer k place) → HoldsHopes offer (set table k row) k
+pub holds_more : (offer : Offer) (table : List (List ℕ)) (k : ℕ) (row : List ℕ) → k < length table → HoldsHopes offer table (k + 1)
+    → ((place : ℕ) → place < k → slice_index row place ≡ hopes_from offer k place) → HoldsHopes offer (set table k row) k
 holds_more offer table k row low holds is j place from on before =
     elim (cases_order j k) [
       | inl same ↦
-          ap (λ n. number_at (set table k row) n place) same ∙ row_same table k row place low ∙ is place (omega arith) ∙ ap (λ n. hopes_from offer n place) (sym same)
+          ap (λ n. number_at (set table k row) n place) same ∙ row_same table k row place low ∙ is place (omega arith)
+          ∙ ap (λ n. hopes_from offer n place) (sym same)
       | inr (inl below) ↦ absurd (omega arith)
       | inr (inr above) ↦ row_other table k j row place (λ e. absurd (omega arith)) ∙ holds j place (omega arith) on before
     ]
 
 -- the row past the last place
-pub holds_last : (offer : Offer) (table : List (List ℕ)) (row : List ℕ) → length offer.menu.places < length table → ((place : ℕ) → slice_index row place ≡ 0) → HoldsHopes offer (set table (length offer.menu.places) row) (length offer.menu.places)
+pub holds_last : (offer : Offer) (table : List (List ℕ)) (row : List ℕ) → length offer.menu.places < length table → ((place : ℕ) → slice_index row place ≡ 0)
+    → HoldsHopes offer (set table (length offer.menu.places) row) (length offer.menu.places)
 holds_last offer table row low zeros j place from on before =
     let same : j ≡ length offer.menu.places = omega arith in
-    ap (λ n. number_at (set table (length offer.menu.places) row) n place) same ∙ row_same table (length offer.menu.places) row place low ∙ zeros place ∙ sym (hopes_past offer j place from)
+    ap (λ n. number_at (set table (length offer.menu.places) row) n place) same ∙ row_same table (length offer.menu.places) row place low ∙ zeros place
+    ∙ sym (hopes_past offer j place from)
 
 -- a row of zeros
 pub zero_row : (n place : ℕ) → slice_index (replicate n 0) place ≡ 0

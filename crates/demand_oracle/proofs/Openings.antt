@@ -19,7 +19,8 @@ pub record IsOpenAt (offer : Offer) (branch : Branch) (place : ℕ) : Type 0 whe
   pub courses : 1 ≤ offer.menu.courses - length (chosen_of branch)
   pub apart : is_apart offer (places_of offer.menu (chosen_of branch)) place ≡ true
 
-module _ (offer : Offer) (menu : IsMenu offer.menu) (branch : Branch) (is : IsBranch offer.menu offer.price branch) (node : IsNode offer branch.node.place (chosen_of branch)) where
+module _ (offer : Offer) (menu : IsMenu offer.menu) (branch : Branch) (is : IsBranch offer.menu offer.price branch)
+    (node : IsNode offer branch.node.place (chosen_of branch)) where
   -- what a branch leaves is what its node leaves
   pub budget_kept : offer.budget - branch.paid ≡ budget_left offer (places_of offer.menu (chosen_of branch))
   budget_kept = ap (λ n. offer.budget - n) (is.paid ∙ sym (prices_by_place offer (chosen_of branch) (on_menu offer (chosen_of branch) node.takable)))

@@ -58,7 +58,8 @@ has-drop (suc k) [] s is = is
 has-drop (suc k) (x ∷ ss) s is = has-there x ss s (has-drop k ss s is)
 
 -- the section of a decided place is not undecided
-decided_section : (places : List Rated) (k p : ℕ) → IsAscending (sections places) → p < k → p < length places → has (drop k (sections places)) (section_at places p) ≡ true → ⊥
+decided_section : (places : List Rated) (k p : ℕ) → IsAscending (sections places) → p < k → p < length places
+    → has (drop k (sections places)) (section_at places p) ≡ true → ⊥
 decided_section [] k p up low on is = omega arith
 decided_section (r ∷ rs) zero p up low on is = omega arith
 decided_section (r ∷ rs) (suc k) zero up low on is =
@@ -75,7 +76,8 @@ module _ (offer : Offer) (menu : IsMenu offer.menu) where
   extends_completes : (k : ℕ) (chosen bundle : List ℕ) → Extends chosen (drop k (menu_sections offer.menu)) bundle → Completes offer k chosen bundle
   extends_completes k chosen bundle extends place low on =
       ap (λ b. has b (section_at offer.menu.places place)) extends.whole
-      ∙ has-append_none chosen extends.more (section_at offer.menu.places place) (λ is. decided_section offer.menu.places k place menu.places.ascending low on (extends.among _ is))
+      ∙ has-append_none chosen extends.more (section_at offer.menu.places place)
+      (λ is. decided_section offer.menu.places k place menu.places.ascending low on (extends.among _ is))
 
   -- what a search leaves: as good as the champion before and as all below the node that are wanted
   pub record IsFound (wanted : List ℕ → Bool) (chosen undecided champion result : List ℕ) : Type 0 where
@@ -84,40 +86,56 @@ module _ (offer : Offer) (menu : IsMenu offer.menu) where
     pub over_all : (bundle : List ℕ) → IsTakable offer bundle → wanted bundle ≡ true → Extends chosen undecided bundle → IsAsGood offer result bundle
 
   -- what extends the chosen sections by nothing is the chosen sections
-  over_extensions : (chosen : List ℕ) → IsTakable offer chosen → (bundle : List ℕ) → IsTakable offer bundle → Extends chosen [] bundle → IsAsGood offer chosen bundle
+  over_extensions : (chosen : List ℕ) → IsTakable offer chosen → (bundle : List ℕ) → IsTakable offer bundle → Extends chosen [] bundle
+      → IsAsGood offer chosen bundle
   over_extensions chosen takable bundle is extends =
-      as_good_where_other offer chosen bundle takable.feasible.set is.feasible.set ((nothing_later (wishes_of offer.menu) offer.price offer.budget offer.allowed chosen takable).preferred bundle is extends)
+      as_good_where_other offer chosen bundle takable.feasible.set is.feasible.set
+      ((nothing_later (wishes_of offer.menu) offer.price offer.budget offer.allowed chosen takable).preferred bundle is extends)
 
   no_more : (front other : List ℕ) (e : Extends front [] other) (more : List ℕ) → e.more ≡ more → other ≡ front
   no_more front other e [] is = e.whole ∙ ap (λ xs. front ++ xs) is ∙ append-nil front
   no_more front other e (x ∷ xs) is = absurd (true≢false (sym (e.among x (subst (λ ys. has ys x ≡ true) (sym is) (has-here x xs)))))
 
   module _ (wanted : List ℕ → Bool) where
-    finds : (k : ℕ) (chosen undecided champion result : List ℕ) → IsNode offer k chosen → undecided ≡ drop k (menu_sections offer.menu) → IsAscending (chosen ++ undecided) → IsTakable offer champion
+    finds : (k : ℕ) (chosen undecided champion result : List ℕ) → IsNode offer k chosen → undecided ≡ drop k (menu_sections offer.menu)
+        → IsAscending (chosen ++ undecided) → IsTakable offer champion
         → IsSearched offer wanted k chosen undecided champion result → IsFound wanted chosen undecided champion result
     finds k chosen [] champion result node is up takable (inl more) =
-        subst (IsFound wanted chosen [] champion) (sym more.1) record { takable = node.takable; over_champion = inr more.0.1; over_all = λ bundle may is_wanted extends. over_extensions chosen node.takable bundle may extends }
+        subst (IsFound wanted chosen [] champion) (sym more.1)
+        record {
+          takable = node.takable;
+          over_champion = inr more.0.1;
+          over_all = λ bundle may is_wanted extends. over_extensions chosen node.takable bundle
+              may extends;
+        }
     finds k chosen [] champion result node is up takable (inr none) =
         subst (IsFound wanted chosen [] champion) (sym none.1) record {
           takable = takable;
           over_champion = inl refl;
           over_all = λ bundle may is_wanted extends.
               let same : bundle ≡ chosen = no_more chosen bundle extends extends.more refl in
-              subst (IsAsGood offer champion) (sym same) (as_good_where_not offer champion chosen takable.feasible.set node.takable.feasible.set (λ more. none.0 (subst (λ b. wanted b ≡ true) same is_wanted, more)));
+              subst (IsAsGood offer champion) (sym same)
+              (as_good_where_not offer champion chosen takable.feasible.set node.takable.feasible.set
+              (λ more. none.0 (subst (λ b. wanted b ≡ true) same is_wanted, more)));
         }
     finds k chosen (s ∷ undecided) champion result node is up takable (inl closed) =
         subst (IsFound wanted chosen (s ∷ undecided) champion) (sym closed.1) record {
           takable = takable;
           over_champion = inl refl;
-          over_all = λ bundle may is_wanted extends. closed.0 bundle may is_wanted (extends_completes k chosen bundle (subst (λ later. Extends chosen later bundle) is extends));
+          over_all =
+              λ bundle may is_wanted extends. closed.0 bundle may is_wanted
+              (extends_completes k chosen bundle (subst (λ later. Extends chosen later bundle) is extends));
         }
     finds k chosen (s ∷ undecided) champion result node is up takable (inr (inl both)) =
         let split = split_off offer.menu.places k s undecided is in
         let at : chosen ++ s ∷ [] ≡ chosen ++ section_at offer.menu.places k ∷ [] = ap (λ x. chosen ++ x ∷ []) split.first in
-        let node' : IsNode offer (k + 1) (chosen ++ s ∷ []) = subst (IsNode offer (k + 1)) (sym at) (node_with offer k chosen menu split.on_menu node (subst (IsTakable offer) at both.1)) in
+        let node' : IsNode offer (k + 1) (chosen ++ s ∷ []) =
+        subst (IsNode offer (k + 1)) (sym at) (node_with offer k chosen menu split.on_menu node (subst (IsTakable offer) at both.1)) in
         let up' : IsAscending ((chosen ++ s ∷ []) ++ undecided) = rw append_assoc up in
         let first = finds (k + 1) (chosen ++ s ∷ []) undecided champion both.0 node' split.later up' takable both.2 in
-        let second = finds (k + 1) chosen undecided both.0 result (node_without offer k chosen node) split.later (IsAscending-middle chosen s undecided up) first.takable both.3 in
+        let second =
+        finds (k + 1) chosen undecided both.0 result (node_without offer k chosen node) split.later (IsAscending-middle chosen s undecided up) first.takable
+        both.3 in
         record {
           takable = second.takable;
           over_champion = as_good_trans offer result both.0 champion second.over_champion first.over_champion;
@@ -128,18 +146,25 @@ module _ (offer : Offer) (menu : IsMenu offer.menu) where
         }
     finds k chosen (s ∷ undecided) champion result node is up takable (inr (inr shut)) =
         let split = split_off offer.menu.places k s undecided is in
-        let rest = finds (k + 1) chosen undecided champion result (node_without offer k chosen node) split.later (IsAscending-middle chosen s undecided up) takable shut.1 in
+        let rest =
+        finds (k + 1) chosen undecided champion result (node_without offer k chosen node) split.later (IsAscending-middle chosen s undecided up) takable
+        shut.1 in
         record {
           takable = rest.takable;
           over_champion = rest.over_champion;
           over_all = λ bundle may is_wanted extends. elim (with_or_without chosen s undecided bundle up may.feasible.set extends) [
-            | inl with_it ↦ absurd (shut.0 (choice_front (wishes_of offer.menu) offer.price offer.budget offer.allowed (chosen ++ s ∷ []) with_it.more (subst (IsTakable offer) with_it.whole may)))
+            | inl with_it ↦
+                absurd
+                (shut.0
+                (choice_front (wishes_of offer.menu) offer.price offer.budget offer.allowed (chosen ++ s ∷ []) with_it.more
+                (subst (IsTakable offer) with_it.whole may)))
             | inr without ↦ rest.over_all bundle may is_wanted without
           ];
         }
 
   -- a search that begins with a wanted champion leaves a wanted one
-  stays_wanted : (wanted : List ℕ → Bool) (k : ℕ) (chosen undecided champion result : List ℕ) → wanted champion ≡ true → IsSearched offer wanted k chosen undecided champion result → wanted result ≡ true
+  stays_wanted : (wanted : List ℕ → Bool) (k : ℕ) (chosen undecided champion result : List ℕ) → wanted champion ≡ true
+      → IsSearched offer wanted k chosen undecided champion result → wanted result ≡ true
   stays_wanted wanted k chosen [] champion result fits (inl more) = subst (λ b. wanted b ≡ true) (sym more.1) more.0.0
   stays_wanted wanted k chosen [] champion result fits (inr none) = subst (λ b. wanted b ≡ true) (sym none.1) fits
   stays_wanted wanted k chosen (s ∷ undecided) champion result fits (inl closed) = subst (λ b. wanted b ≡ true) (sym closed.1) fits
@@ -148,20 +173,25 @@ module _ (offer : Offer) (menu : IsMenu offer.menu) where
   stays_wanted wanted k chosen (s ∷ undecided) champion result fits (inr (inr shut)) = stays_wanted wanted (k + 1) chosen undecided champion result fits shut.1
 
   -- a search of all places leaves what leads all that is wanted
-  pub leads_wanted : (wanted : List ℕ → Bool) (champion result : List ℕ) → IsTakable offer champion → IsSearched offer wanted 0 [] (menu_sections offer.menu) champion result → LeadsWanted offer wanted result
+  pub leads_wanted : (wanted : List ℕ → Bool) (champion result : List ℕ) → IsTakable offer champion
+      → IsSearched offer wanted 0 [] (menu_sections offer.menu) champion result → LeadsWanted offer wanted result
   leads_wanted wanted champion result takable searched =
       let found = finds wanted 0 [] (menu_sections offer.menu) champion result (nothing_chosen offer 0) refl menu.places.ascending takable searched in
       record {
         takable = found.takable;
-        over = λ other is is_wanted. found.over_all other is is_wanted record { more = other; whole = refl; among = choice_among offer.menu offer.price offer.budget offer.allowed other is };
+        over =
+            λ other is is_wanted. found.over_all other is is_wanted
+            record { more = other; whole = refl; among = choice_among offer.menu offer.price offer.budget offer.allowed other is };
       }
 
   -- and a wanted one, where it began with one
-  pub wanted_at_end : (wanted : List ℕ → Bool) (champion result : List ℕ) → wanted champion ≡ true → IsSearched offer wanted 0 [] (menu_sections offer.menu) champion result → wanted result ≡ true
+  pub wanted_at_end : (wanted : List ℕ → Bool) (champion result : List ℕ) → wanted champion ≡ true
+      → IsSearched offer wanted 0 [] (menu_sections offer.menu) champion result → wanted result ≡ true
   wanted_at_end wanted champion result = stays_wanted wanted 0 [] (menu_sections offer.menu) champion result
 
 -- what leads all that is wanted, and is wanted, is the best of it
-pub best_of_wanted : (offer : Offer) (wanted : List ℕ → Bool) (bundle : List ℕ) → LeadsWanted offer wanted bundle → wanted bundle ≡ true → IsBestOf (wishes_of offer.menu) offer.price offer.budget offer.allowed wanted bundle
+pub best_of_wanted : (offer : Offer) (wanted : List ℕ → Bool) (bundle : List ℕ) → LeadsWanted offer wanted bundle → wanted bundle ≡ true
+    → IsBestOf (wishes_of offer.menu) offer.price offer.budget offer.allowed wanted bundle
 best_of_wanted offer wanted bundle leads fits = record {
   choice = leads.takable;
   is_wanted = fits;
@@ -170,4 +200,5 @@ best_of_wanted offer wanted bundle leads fits = record {
 
 pub search_finds_the_best : SearchFindsTheBest
 search_finds_the_best offer wanted champion result menu takable fits searched =
-    best_of_wanted offer wanted result (leads_wanted offer menu wanted champion result takable searched) (wanted_at_end offer menu wanted champion result fits searched)
+    best_of_wanted offer wanted result (leads_wanted offer menu wanted champion result takable searched)
+    (wanted_at_end offer menu wanted champion result fits searched)

@@ -38,7 +38,8 @@ pub record AreAdded (offer : Offer) (k : ℕ) (cs ps ds : List ℕ) : Type 0 whe
 rest_of : (whole front more cap : ℕ) → whole ≡ front + more → whole ≤ cap → more ≤ cap - front
 rest_of whole front more cap split fits = omega arith
 
-pub added_places : (offer : Offer) (k : ℕ) (chosen bundle : List ℕ) → IsMenu offer.menu → IsNode offer k chosen → IsTakable offer bundle → Completes offer k chosen bundle → (ds : List ℕ) × AreAdded offer k (places_of offer.menu chosen) (places_of offer.menu bundle) ds
+pub added_places : (offer : Offer) (k : ℕ) (chosen bundle : List ℕ) → IsMenu offer.menu → IsNode offer k chosen → IsTakable offer bundle
+    → Completes offer k chosen bundle → (ds : List ℕ) × AreAdded offer k (places_of offer.menu chosen) (places_of offer.menu bundle) ds
 added_places offer k chosen bundle menu node may completes =
     let cs = places_of offer.menu chosen in
     let ps = places_of offer.menu bundle in
@@ -66,7 +67,8 @@ added_places offer k chosen bundle menu node may completes =
     )
 
 -- what is reached by added places
-reached : (offer : Offer) (multipliers : Multipliers) (k most : ℕ) (cs ps ds : List ℕ) → AreAdded offer k cs ps ds → total (value offer multipliers) ds ≤ most → (pos 1000000 *ℤ utility (by_place offer.menu) ps) ≤ℤ reach_of offer multipliers k cs most
+reached : (offer : Offer) (multipliers : Multipliers) (k most : ℕ) (cs ps ds : List ℕ) → AreAdded offer k cs ps ds → total (value offer multipliers) ds ≤ most
+    → (pos 1000000 *ℤ utility (by_place offer.menu) ps) ≤ℤ reach_of offer multipliers k cs most
 reached offer multipliers k most cs ps ds added covered =
     let w = by_place offer.menu in
     let u : ℤ = utility w ps in
@@ -83,8 +85,11 @@ reached offer multipliers k most cs ps ds added covered =
     let goal : (pos 1000000 *ℤ u) ≤ℤ ((pos 1000000 *ℤ (v +ℤ pos h)) +ℤ pos (m + most)) = omega (arith, ints) in goal
 
 -- and by a bundle, where a number covers so many places as it may add
-reached_by : (offer : Offer) (multipliers : Multipliers) (k : ℕ) (chosen bundle : List ℕ) (count most : ℕ) → IsMenu offer.menu → IsNode offer k chosen → IsTakable offer bundle → Completes offer k chosen bundle → length bundle ≤ length chosen + count
-    → ((ds : List ℕ) → AreAdded offer k (places_of offer.menu chosen) (places_of offer.menu bundle) ds → length ds ≤ count → total (value offer multipliers) ds ≤ most)
+reached_by : (offer : Offer) (multipliers : Multipliers) (k : ℕ) (chosen bundle : List ℕ) (count most : ℕ) → IsMenu offer.menu → IsNode offer k chosen
+    → IsTakable offer bundle → Completes offer k chosen bundle → length bundle ≤ length chosen + count
+    →
+    ((ds : List ℕ) → AreAdded offer k (places_of offer.menu chosen) (places_of offer.menu bundle) ds → length ds ≤ count
+    → total (value offer multipliers) ds ≤ most)
     → (pos 1000000 *ℤ utility (wishes_of offer.menu) bundle) ≤ℤ reach_of offer multipliers k (places_of offer.menu chosen) most
 reached_by offer multipliers k chosen bundle count most menu node may completes few covers =
     let cs = places_of offer.menu chosen in
@@ -95,7 +100,8 @@ reached_by offer multipliers k chosen bundle count most menu node may completes 
     let front : length cs ≡ length chosen = length-map chosen (place_in offer.menu.places) in
     let split : length ps ≡ length cs + length ds = added.1.count in
     let within : length ds ≤ count = omega arith in
-    subst (λ u. (pos 1000000 *ℤ u) ≤ℤ reach_of offer multipliers k cs most) (utility_by_place offer.menu bundle) (reached offer multipliers k most cs ps ds added.1 (covers ds added.1 within))
+    subst (λ u. (pos 1000000 *ℤ u) ≤ℤ reach_of offer multipliers k cs most) (utility_by_place offer.menu bundle)
+    (reached offer multipliers k most cs ps ds added.1 (covers ds added.1 within))
 
 pub reach_is_sound : ReachIsSound
 reach_is_sound offer multipliers k chosen bundle count most menu node may completes few covers =
@@ -130,7 +136,8 @@ reach_within_is_sound offer multipliers shift k chosen bundle count most menu no
     (λ ds added within. covers ds added.free within (units_fit offer shift (budget_left offer (places_of offer.menu chosen)) ds added.affordable))
 
 -- so many places have at least so many times the credits of the lightest
-lightest_times : (offer : Offer) (lightest k : ℕ) (ds : List ℕ) → IsLightest offer lightest → AreApartFrom offer k ds → length ds * lightest ≤ total (credits_at offer.menu.places) ds
+lightest_times : (offer : Offer) (lightest k : ℕ) (ds : List ℕ) → IsLightest offer lightest → AreApartFrom offer k ds
+    → length ds * lightest ≤ total (credits_at offer.menu.places) ds
 lightest_times offer lightest k [] light free = omega arith
 lightest_times offer lightest k (d ∷ ds) light free =
     let rest = lightest_times offer lightest (d + 1) ds light (rest_from offer k d ds free) in
@@ -142,8 +149,10 @@ lightest_times offer lightest k (d ∷ ds) light free =
     rw split (let goal : n * lightest + lightest ≤ credits_at offer.menu.places d + t = omega arith in goal)
 
 -- what completes a node has no more sections than fit the course cap and the credits of the lightest
-pub fits_count : (offer : Offer) (k : ℕ) (chosen bundle : List ℕ) (lightest courses credits count : ℕ) → IsMenu offer.menu → IsNode offer k chosen → IsTakable offer bundle → Completes offer k chosen bundle → IsLightest offer lightest
-    → courses ≡ offer.menu.courses - length chosen → credits ≡ credits_left offer (places_of offer.menu chosen) → ((n : ℕ) → n ≤ courses → n * lightest ≤ credits → n ≤ count) → length bundle ≤ length chosen + count
+pub fits_count : (offer : Offer) (k : ℕ) (chosen bundle : List ℕ) (lightest courses credits count : ℕ) → IsMenu offer.menu → IsNode offer k chosen
+    → IsTakable offer bundle → Completes offer k chosen bundle → IsLightest offer lightest
+    → courses ≡ offer.menu.courses - length chosen → credits ≡ credits_left offer (places_of offer.menu chosen)
+    → ((n : ℕ) → n ≤ courses → n * lightest ≤ credits → n ≤ count) → length bundle ≤ length chosen + count
 fits_count offer k chosen bundle lightest courses credits count menu node may completes light courses_are credits_are enough =
     let cs = places_of offer.menu chosen in
     let ps = places_of offer.menu bundle in

@@ -20,7 +20,8 @@ use Rattle.demand_oracle.proofs.Wanting.{none_wanted}
 use Rattle.demand_oracle.proofs.Branches.{full_to_end, ended_here, closed_here, shut_here, open_here}
 
 -- where the next of the waiting branches is taken, none is lost
-pub taken_next : (before after : List Branch) (next : Option Branch) → MatchOption next ((before ≡ []) × (after ≡ [])) (λ branch. before ≡ branch ∷ after) → before ≡ before_waiting next after
+pub taken_next : (before after : List Branch) (next : Option Branch) → MatchOption next ((before ≡ []) × (after ≡ [])) (λ branch. before ≡ branch ∷ after)
+    → before ≡ before_waiting next after
 taken_next before after None none = none.0 ∙ sym none.1
 taken_next before after (Some branch) is = is
 
@@ -45,9 +46,11 @@ branches_fewer : (places k : ℕ) → k < places → (nodes_below (places - (k +
 branches_fewer places k low =
     let one_more : places - k ≡ suc (places - (k + 1)) = omega arith in rw one_more (omega arith)
 
-module _ (offer : Offer) (wanted : List ℕ → Bool) (branch : Branch) (under : List Branch) (champion : List ℕ) (menu : IsMenu offer.menu) (may : MayWait offer (branch ∷ under)) where
+module _ (offer : Offer) (wanted : List ℕ → Bool) (branch : Branch) (under : List Branch) (champion : List ℕ) (menu : IsMenu offer.menu)
+    (may : MayWait offer (branch ∷ under)) where
   -- the champion after the node is known
-  node_done : (next : List ℕ) → IsSearched offer wanted branch.node.place (chosen_of branch) (drop branch.node.place (menu_sections offer.menu)) champion next → HasStepped offer wanted (branch ∷ under) champion under next
+  node_done : (next : List ℕ) → IsSearched offer wanted branch.node.place (chosen_of branch) (drop branch.node.place (menu_sections offer.menu)) champion next
+      → HasStepped offer wanted (branch ∷ under) champion under next
   node_done next searched = record {
     may_wait = may.4;
     fewer = let some : 0 < nodes_below (length offer.menu.places - branch.node.place) = some_below _ in omega arith;
@@ -55,10 +58,13 @@ module _ (offer : Offer) (wanted : List ℕ → Bool) (branch : Branch) (under :
   }
 
   -- nothing more can be taken
-  pub node_whole : (next : List ℕ) → (length offer.menu.places ≤ branch.node.place) ⊎ (offer.menu.courses ≤ length (chosen_of branch)) → IsSearched offer wanted branch.node.place (chosen_of branch) [] champion next
+  pub node_whole : (next : List ℕ) → (length offer.menu.places ≤ branch.node.place) ⊎ (offer.menu.courses ≤ length (chosen_of branch))
+      → IsSearched offer wanted branch.node.place (chosen_of branch) [] champion next
       → HasStepped offer wanted (branch ∷ under) champion under next
   node_whole next (inl past) ended = node_done next (ended_here offer wanted branch.node.place (chosen_of branch) champion next past ended)
-  node_whole next (inr full) ended = node_done next (full_to_end offer wanted branch.node.place (chosen_of branch) (drop branch.node.place (menu_sections offer.menu)) champion next full ended)
+  node_whole next (inr full) ended =
+      node_done next
+      (full_to_end offer wanted branch.node.place (chosen_of branch) (drop branch.node.place (menu_sections offer.menu)) champion next full ended)
 
   module _ (low : branch.node.place < length offer.menu.places) where
     -- the node is closed
@@ -66,8 +72,10 @@ module _ (offer : Offer) (wanted : List ℕ → Bool) (branch : Branch) (under :
     node_closed close = node_done champion (closed_here offer wanted branch.node.place (chosen_of branch) low champion close)
 
     -- the node without its next section is not looked at, since nothing that completes it is wanted
-    pub node_forced : (with_it : Branch) → with_it.node.place ≡ branch.node.place + 1 → chosen_of with_it ≡ with_next_of offer.menu branch → IsBranch offer.menu offer.price with_it
-        → IsTakable offer (with_next_of offer.menu branch) → ((bundle : List ℕ) → IsTakable offer bundle → Completes offer (branch.node.place + 1) (chosen_of branch) bundle → wanted bundle ≡ false)
+    pub node_forced : (with_it : Branch) → with_it.node.place ≡ branch.node.place + 1 → chosen_of with_it ≡ with_next_of offer.menu branch
+        → IsBranch offer.menu offer.price with_it
+        → IsTakable offer (with_next_of offer.menu branch)
+        → ((bundle : List ℕ) → IsTakable offer bundle → Completes offer (branch.node.place + 1) (chosen_of branch) bundle → wanted bundle ≡ false)
         → HasStepped offer wanted (branch ∷ under) champion (with_it ∷ under) champion
     node_forced with_it next more is_branch' takable unwanted = record {
       may_wait = (
@@ -83,12 +91,14 @@ module _ (offer : Offer) (wanted : List ℕ → Bool) (branch : Branch) (under :
       same_result = λ result are. (
         are.0,
         open_here offer wanted branch.node.place (chosen_of branch) low champion are.0 are.0 takable (rw (next, more) at are.1)
-            (none_wanted offer wanted (branch.node.place + 1) (chosen_of branch) (drop (branch.node.place + 1) (menu_sections offer.menu)) are.0 (node_without offer branch.node.place (chosen_of branch) may.2) unwanted),
+            (none_wanted offer wanted (branch.node.place + 1) (chosen_of branch) (drop (branch.node.place + 1) (menu_sections offer.menu)) are.0
+            (node_without offer branch.node.place (chosen_of branch) may.2) unwanted),
         are.2,
       );
     }
 
-    module _ (without : Branch) (later : without.node.place ≡ branch.node.place + 1) (same : chosen_of without ≡ chosen_of branch) (is_branch : IsBranch offer.menu offer.price without) where
+    module _ (without : Branch) (later : without.node.place ≡ branch.node.place + 1) (same : chosen_of without ≡ chosen_of branch)
+        (is_branch : IsBranch offer.menu offer.price without) where
       without_waits : MayWait offer (without ∷ under)
       without_waits = (
         rw later (let before : length under ≤ branch.node.place = may.0 in omega arith),
@@ -103,12 +113,15 @@ module _ (offer : Offer) (wanted : List ℕ → Bool) (branch : Branch) (under :
       node_passed shut = record {
         may_wait = without_waits;
         fewer =
-            let some : 0 < nodes_below (length offer.menu.places - (branch.node.place + 1)) = some_below _ in rw later (omega (arith, branches_fewer (length offer.menu.places) branch.node.place low));
-        same_result = λ result are. (are.0, shut_here offer wanted branch.node.place (chosen_of branch) low champion are.0 shut (rw (later, same) at are.1), are.2);
+            let some : 0 < nodes_below (length offer.menu.places - (branch.node.place + 1)) = some_below _ in
+            rw later (omega (arith, branches_fewer (length offer.menu.places) branch.node.place low));
+        same_result =
+            λ result are. (are.0, shut_here offer wanted branch.node.place (chosen_of branch) low champion are.0 shut (rw (later, same) at are.1), are.2);
       }
 
       -- both branches wait, first the one with the next section
-      pub node_branched : (with_it : Branch) → with_it.node.place ≡ branch.node.place + 1 → chosen_of with_it ≡ with_next_of offer.menu branch → IsBranch offer.menu offer.price with_it
+      pub node_branched : (with_it : Branch) → with_it.node.place ≡ branch.node.place + 1 → chosen_of with_it ≡ with_next_of offer.menu branch
+          → IsBranch offer.menu offer.price with_it
           → IsTakable offer (with_next_of offer.menu branch) → HasStepped offer wanted (branch ∷ under) champion (with_it ∷ (without ∷ under)) champion
       node_branched with_it next more is_branch' takable = record {
         may_wait = (
@@ -123,7 +136,8 @@ module _ (offer : Offer) (wanted : List ℕ → Bool) (branch : Branch) (under :
             let sum = branches_fewer (length offer.menu.places) branch.node.place low in rw (later, next) (omega arith);
         same_result = λ result are. (
           are.2.0,
-          open_here offer wanted branch.node.place (chosen_of branch) low champion are.0 are.2.0 takable (rw (next, more) at are.1) (rw (later, same) at are.2.1),
+          open_here offer wanted branch.node.place (chosen_of branch) low champion are.0 are.2.0 takable (rw (next, more) at are.1)
+              (rw (later, same) at are.2.1),
           are.2.2,
         );
       }
@@ -133,5 +147,7 @@ pub root_waits : (offer : Offer) (root : Branch) → root.node.place ≡ 0 → c
 root_waits offer root place chosen is_branch = (omega arith, rw place (omega arith), rw (place, chosen) (nothing_chosen offer 0), is_branch, tt)
 
 -- and its search is the search of all places
-pub root_searched : (offer : Offer) (wanted : List ℕ → Bool) (root : Branch) (champion result : List ℕ) → root.node.place ≡ 0 → chosen_of root ≡ [] → AreSearched offer wanted (root ∷ []) champion result → IsSearched offer wanted 0 [] (menu_sections offer.menu) champion result
-root_searched offer wanted root champion result place chosen are = subst (IsSearched offer wanted 0 [] (menu_sections offer.menu) champion) (sym are.2) (rw (place, chosen) at are.1)
+pub root_searched : (offer : Offer) (wanted : List ℕ → Bool) (root : Branch) (champion result : List ℕ) → root.node.place ≡ 0 → chosen_of root ≡ []
+    → AreSearched offer wanted (root ∷ []) champion result → IsSearched offer wanted 0 [] (menu_sections offer.menu) champion result
+root_searched offer wanted root champion result place chosen are =
+    subst (IsSearched offer wanted 0 [] (menu_sections offer.menu) champion) (sym are.2) (rw (place, chosen) at are.1)

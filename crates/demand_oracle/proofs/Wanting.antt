@@ -14,18 +14,23 @@ use Rattle.demand_oracle.specs.Search.{IsSearched}
 
 module _ (offer : Offer) (wanted : List ℕ → Bool) where
   -- such a node changes no champion
-  pub none_wanted : (k : ℕ) (chosen undecided champion : List ℕ) → IsNode offer k chosen → ((bundle : List ℕ) → IsTakable offer bundle → Completes offer k chosen bundle → wanted bundle ≡ false)
+  pub none_wanted : (k : ℕ) (chosen undecided champion : List ℕ) → IsNode offer k chosen
+      → ((bundle : List ℕ) → IsTakable offer bundle → Completes offer k chosen bundle → wanted bundle ≡ false)
       → IsSearched offer wanted k chosen undecided champion champion
   none_wanted k chosen [] champion node none = inr ((λ better. true≢false (sym better.0 ∙ none chosen node.takable (λ place low on. refl))), refl)
-  none_wanted k chosen (s ∷ undecided) champion node none = inl ((λ bundle may is_wanted completes. absurd (true≢false (sym is_wanted ∙ none bundle may completes))), refl)
+  none_wanted k chosen (s ∷ undecided) champion node none =
+      inl ((λ bundle may is_wanted completes. absurd (true≢false (sym is_wanted ∙ none bundle may completes))), refl)
 
 module _ (offer : Offer) (menu : IsMenu offer.menu) (place : ℕ) (on : place < length offer.menu.places) where
   -- what does without a place lacks its section
-  pub lacks_passed : (chosen : List ℕ) → IsNode offer place chosen → (bundle : List ℕ) → IsTakable offer bundle → Completes offer (place + 1) chosen bundle → has bundle (section_at offer.menu.places place) ≡ false
+  pub lacks_passed : (chosen : List ℕ) → IsNode offer place chosen → (bundle : List ℕ) → IsTakable offer bundle → Completes offer (place + 1) chosen bundle
+      → has bundle (section_at offer.menu.places place) ≡ false
   lacks_passed chosen node bundle may completes = completes place (omega arith) on ∙ elim (cases_Bool (has chosen (section_at offer.menu.places place))) [
     | inl is ↦
         let decided : place_in offer.menu.places (section_at offer.menu.places place) < place = node.decided (section_at offer.menu.places place) is in
-        let own : place_in offer.menu.places (section_at offer.menu.places place) ≡ place = place_in-section_at offer.menu.places place menu.places.ascending on in absurd (omega arith)
+        let own : place_in offer.menu.places (section_at offer.menu.places place) ≡ place =
+        place_in-section_at offer.menu.places place menu.places.ascending on in
+        absurd (omega arith)
     | inr not_in ↦ not_in
   ]
 
@@ -33,11 +38,14 @@ module _ (offer : Offer) (menu : IsMenu offer.menu) (place : ℕ) (on : place < 
     below : (t : ℕ) → has chosen t ≡ true → t < section_at offer.menu.places place
     below t is =
         let decided : place_in offer.menu.places t < k = node.decided t is in
-        let at : section_at offer.menu.places (place_in offer.menu.places t) ≡ t = section_at-place_in offer.menu.places t (on_menu offer chosen node.takable t is) in
-        subst (λ x. x < section_at offer.menu.places place) at (section_at-rises offer.menu.places (place_in offer.menu.places t) place menu.places.ascending (omega arith) on)
+        let at : section_at offer.menu.places (place_in offer.menu.places t) ≡ t =
+        section_at-place_in offer.menu.places t (on_menu offer chosen node.takable t is) in
+        subst (λ x. x < section_at offer.menu.places place) at
+        (section_at-rises offer.menu.places (place_in offer.menu.places t) place menu.places.ascending (omega arith) on)
 
     -- a bundle that completes a node and has the section of an undecided place has all of the chosen ones with it
-    part : (bundle : List ℕ) → Completes offer k chosen bundle → has bundle (section_at offer.menu.places place) ≡ true → IsPart (chosen ++ section_at offer.menu.places place ∷ []) bundle
+    part : (bundle : List ℕ) → Completes offer k chosen bundle → has bundle (section_at offer.menu.places place) ≡ true
+        → IsPart (chosen ++ section_at offer.menu.places place ∷ []) bundle
     part bundle completes has_it t is = elim (has-last chosen (section_at offer.menu.places place) t is) [
       | inl before ↦
           let listed = on_menu offer chosen node.takable t before in
@@ -47,10 +55,15 @@ module _ (offer : Offer) (menu : IsMenu offer.menu) (place : ℕ) (on : place < 
     ]
 
     -- so where these may not be taken, what completes the node lacks the section
-    pub lacks_lost : (IsTakable offer (chosen ++ section_at offer.menu.places place ∷ []) → ⊥) → (bundle : List ℕ) → IsTakable offer bundle → Completes offer k chosen bundle → has bundle (section_at offer.menu.places place) ≡ false
+    pub lacks_lost : (IsTakable offer (chosen ++ section_at offer.menu.places place ∷ []) → ⊥) → (bundle : List ℕ) → IsTakable offer bundle
+        → Completes offer k chosen bundle → has bundle (section_at offer.menu.places place) ≡ false
     lacks_lost lost bundle may completes = elim (cases_Bool (has bundle (section_at offer.menu.places place))) [
       | inl is ↦
-          let up : IsAscending (chosen ++ section_at offer.menu.places place ∷ []) = ascending-last chosen (section_at offer.menu.places place) node.takable.feasible.set below in
-          absurd (lost (choice_part (wishes_of offer.menu) offer.price offer.budget offer.allowed (chosen ++ section_at offer.menu.places place ∷ []) bundle up (part bundle completes is) may))
+          let up : IsAscending (chosen ++ section_at offer.menu.places place ∷ []) =
+          ascending-last chosen (section_at offer.menu.places place) node.takable.feasible.set below in
+          absurd
+          (lost
+          (choice_part (wishes_of offer.menu) offer.price offer.budget offer.allowed (chosen ++ section_at offer.menu.places place ∷ []) bundle up
+          (part bundle completes is) may))
       | inr not_in ↦ not_in
     ]

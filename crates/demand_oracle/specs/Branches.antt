@@ -16,19 +16,22 @@ chosen_of branch = sections_of branch.node.chosen
 abbrev pub with_next_of : MenuData → Branch → List ℕ
 with_next_of menu branch = chosen_of branch ++ section_at menu.places branch.node.place ∷ []
 
--- sums of so many sections are small: a price is at most 1,000,001, credits are at most 100, and a rating with eight adjustments is at most 1,700
+-- sums of so many sections are small: a price is at most 1,000,001, credits are at most 100, and a
+-- rating with eight adjustments is at most 1,700
 pub record AreSmallSums (count paid credits : ℕ) (utility : ℤ) : Type 0 where
   pub paid_high : paid ≤ 1000001 * count
   pub credits_high : credits ≤ 100 * count
   pub utility_low : neg_ℤ (pos (1700 * count)) ≤ℤ utility
   pub utility_high : utility ≤ℤ pos (1700 * count)
 
--- a branch is one of this menu at these prices: its sections are rated and decided, and their places, prices, credits and utility are kept;
--- that the sums are small is kept too, though it follows, so that callers need not say it.
--- Callers take it as a word: `root`, `with_next` and `without_next` give it
+-- a branch is one of this menu at these prices: its sections are rated and decided, and their
+-- places, prices, credits and utility are kept; that the sums are small is kept too, though it
+-- follows, so that callers need not say it. Callers take it as a word: `root`, `with_next` and
+-- `without_next` give it
 pub record IsBranch (menu : MenuData) (price : ℕ → ℕ) (branch : Branch) : Type 0 where
   pub rated : AllRated (wishes_of menu) (chosen_of branch)
-  pub decided : (s : ℕ) → has (chosen_of branch) s ≡ true → place_in menu.places s < branch.node.place
+  pub decided : (s : ℕ) → has (chosen_of branch) s ≡ true
+      → place_in menu.places s < branch.node.place
   pub places : take (length (chosen_of branch)) branch.places ≡ places_of menu (chosen_of branch)
   pub paid : branch.paid ≡ total price (chosen_of branch)
   pub credits : branch.credits ≡ total (wishes_of menu).credits (chosen_of branch)

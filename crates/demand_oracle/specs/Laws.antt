@@ -11,22 +11,36 @@ use Rattle.demand_oracle.specs.declared.multipliers.Multipliers.{Multipliers}
 use Rattle.bundle_bounds.specs.Opens.{budget_left}
 use Rattle.demand_oracle.specs.Covers.{Covers, CoversWithin, reach_of}
 
--- a search through all places of a menu from any takable wanted champion finds the best of the wanted bundles
+-- a search through all places of a menu from any takable wanted champion finds the best of the
+-- wanted bundles
 abbrev pub SearchFindsTheBest : Type 0
-SearchFindsTheBest = (offer : Offer) (wanted : List ℕ → Bool) (champion result : List ℕ) → IsMenu offer.menu → IsTakable offer champion → wanted champion ≡ true
+SearchFindsTheBest =
+    (offer : Offer) (wanted : List ℕ → Bool) (champion result : List ℕ) → IsMenu offer.menu
+    → IsTakable offer champion → wanted champion ≡ true
     → IsSearched offer wanted 0 [] (menu_sections offer.menu) champion result
     → IsBestOf (wishes_of offer.menu) offer.price offer.budget offer.allowed wanted result
 
--- at any multipliers a million times the utility of each takable bundle that completes a node by at most so many sections is no more than what
--- can be reached from the node
+-- at any multipliers a million times the utility of each takable bundle that completes a node by at
+-- most so many sections is no more than what can be reached from the node
 abbrev pub ReachIsSound : Type 0
-ReachIsSound = (offer : Offer) (multipliers : Multipliers) (k : ℕ) (chosen bundle : List ℕ) (count most : ℕ) → IsMenu offer.menu → IsNode offer k chosen
-    → IsTakable offer bundle → Completes offer k chosen bundle → length bundle ≤ length chosen + count → Covers offer multipliers k count most
-    → (pos 1000000 *ℤ utility (wishes_of offer.menu) bundle) ≤ℤ reach_of offer multipliers k (places_of offer.menu chosen) most
+ReachIsSound =
+    (offer : Offer) (multipliers : Multipliers) (k : ℕ) (chosen bundle : List ℕ) (count most : ℕ)
+    → IsMenu offer.menu → IsNode offer k chosen
+    → IsTakable offer bundle → Completes offer k chosen bundle
+    → length bundle ≤ length chosen + count → Covers offer multipliers k count most
+    → (pos 1000000 *ℤ utility (wishes_of offer.menu) bundle)
+    ≤ℤ reach_of offer multipliers k (places_of offer.menu chosen) most
 
--- the same, where the number is of places that cost no more units than are left of the budget, in thousandths
+-- the same, where the number is of places that cost no more units than are left of the budget, in
+-- thousandths
 abbrev pub ReachWithinIsSound : Type 0
-ReachWithinIsSound = (offer : Offer) (multipliers : Multipliers) (shift k : ℕ) (chosen bundle : List ℕ) (count most : ℕ) → IsMenu offer.menu → IsNode offer k chosen
-    → IsTakable offer bundle → Completes offer k chosen bundle → length bundle ≤ length chosen + count
-    → CoversWithin offer multipliers shift k count (budget_left offer (places_of offer.menu chosen) / 2 ^ shift) most
-    → (pos 1000000 *ℤ utility (wishes_of offer.menu) bundle) ≤ℤ reach_of offer multipliers k (places_of offer.menu chosen) (1000 * most)
+ReachWithinIsSound =
+    (offer : Offer) (multipliers : Multipliers) (shift k : ℕ) (chosen bundle : List ℕ)
+    (count most : ℕ)
+    → IsMenu offer.menu → IsNode offer k chosen
+    → IsTakable offer bundle → Completes offer k chosen bundle
+    → length bundle ≤ length chosen + count
+    → CoversWithin offer multipliers shift k count
+    (budget_left offer (places_of offer.menu chosen) / 2 ^ shift) most
+    → (pos 1000000 *ℤ utility (wishes_of offer.menu) bundle)
+    ≤ℤ reach_of offer multipliers k (places_of offer.menu chosen) (1000 * most)

@@ -11,33 +11,50 @@ use Rattle.demand_oracle.specs.Covers.{CoversWithin}
 abbrev pub number_at : List (List ℕ) → ℕ → ℕ → ℕ
 number_at table row place = slice_index (slice_index_or table row []) place
 
--- each row from this one on has what the adjustments of earlier places with the places from the row's on can add
+-- each row from this one on has what the adjustments of earlier places with the places from the
+-- row's on can add
 abbrev pub HoldsHopes : Offer → List (List ℕ) → ℕ → Type 0
-HoldsHopes offer table from = (k place : ℕ) → from ≤ k → k ≤ length offer.menu.places → place < k → number_at table k place ≡ hopes_from offer k place
+HoldsHopes offer table from =
+    (k place : ℕ) → from ≤ k → k ≤ length offer.menu.places → place < k
+    → number_at table k place ≡ hopes_from offer k place
 
 -- the number for a place, a count and so many units in the table of the most that can be added
 abbrev pub within_at : List (List ℕ) → ℕ → ℕ → ℕ → ℕ
 within_at table place count units = number_at table (place * 9 + count) units
 
--- from this place on the table has for each count up to the course cap, and for each number of units, one that covers so many places from there on
+-- from this place on the table has for each count up to the course cap, and for each number of
+-- units, one that covers so many places from there on
 abbrev pub HoldsCovers : Offer → Multipliers → ℕ → List (List ℕ) → ℕ → Type 0
-HoldsCovers offer multipliers shift table from = (k count units : ℕ) → from ≤ k → k ≤ length offer.menu.places → count ≤ offer.menu.courses → units < 64
+HoldsCovers offer multipliers shift table from =
+    (k count units : ℕ) → from ≤ k → k ≤ length offer.menu.places → count ≤ offer.menu.courses
+    → units < 64
     → CoversWithin offer multipliers shift k count units (within_at table k count units)
 
--- for these places and so many courses no number is greater than the greatest value for each of so many places
+-- for these places and so many courses no number is greater than the greatest value for each of so
+-- many places
 abbrev pub AreSmall : ℕ → List (List ℕ) → ℕ → ℕ → Type 0
-AreSmall courses table from last = (k count units : ℕ) → from ≤ k → k ≤ last → count ≤ courses → units < 64 → within_at table k count units ≤ 65635001 * count
+AreSmall courses table from last =
+    (k count units : ℕ) → from ≤ k → k ≤ last → count ≤ courses → units < 64
+    → within_at table k count units ≤ 65635001 * count
 
--- the numbers of a place are written: with its value and its cost in units before what can be added from the next place on, or without it
+-- the numbers of a place are written: with its value and its cost in units before what can be added
+-- from the next place on, or without it
 pub record IsPlaced (courses v cost k next : ℕ) (old new : List (List ℕ)) : Type 0 where
   pub none : (units : ℕ) → within_at new k 0 units ≡ within_at old (k + 1) 0 units
-  pub dear : (count units : ℕ) → count < courses → units < 64 → units < cost → within_at new k (count + 1) units ≡ within_at old (k + 1) (count + 1) units
-  pub more : (count units : ℕ) → count < courses → units < 64 → cost ≤ units → within_at new k (count + 1) units ≡ max (within_at old (k + 1) (count + 1) units) (within_at old next count (units - cost) + v)
-  pub later : (j count units : ℕ) → k < j → count ≤ 8 → within_at new j count units ≡ within_at old j count units
+  pub dear : (count units : ℕ) → count < courses → units < 64 → units < cost
+      → within_at new k (count + 1) units ≡ within_at old (k + 1) (count + 1) units
+  pub more : (count units : ℕ) → count < courses → units < 64 → cost ≤ units
+      → within_at new k (count + 1) units
+      ≡ max (within_at old (k + 1) (count + 1) units)
+      (within_at old next count (units - cost) + v)
+  pub later : (j count units : ℕ) → k < j → count ≤ 8
+      → within_at new j count units ≡ within_at old j count units
 
 -- no allowed place has fewer credits
 abbrev pub IsLightest : Offer → ℕ → Type 0
-IsLightest offer lightest = (place : ℕ) → place < length offer.menu.places → allowed_at offer place ≡ true → lightest ≤ credits_at offer.menu.places place
+IsLightest offer lightest =
+    (place : ℕ) → place < length offer.menu.places → allowed_at offer place ≡ true
+    → lightest ≤ credits_at offer.menu.places place
 
 -- the table is that of the offer
 pub record IsReach (offer : Offer) (reach : Reach) : Type 0 where

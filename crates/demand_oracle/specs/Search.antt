@@ -1,4 +1,5 @@
--- The search for the best of the wanted bundles: depth first over the places of the menu, with the best wanted bundle so far as its champion.
+-- The search for the best of the wanted bundles: depth first over the places of the menu, with the
+-- best wanted bundle so far as its champion.
 use Rattle.std.specs.Prelude.{ℕ, ◌+◌, ◌≡◌, ◌⊎◌, Bool, true, Option, None, Some, List, [], ◌∷◌, ◌++◌}
 use Rattle.bundle_rules.specs.Sets.{has}
 use Rattle.bundle_rules.specs.Wishes.{Wishes}
@@ -17,11 +18,14 @@ wanted_by menu (Some place) bundle = has bundle (section_at menu.places place)
 abbrev pub IsBetter : Wishes → (List ℕ → Bool) → List ℕ → List ℕ → Type 0
 IsBetter wishes wanted chosen champion = (wanted chosen ≡ true) × IsPreferred wishes chosen champion
 
--- the champion after the node that has decided the places below k, where these sections are undecided: a node is closed where it may be, else it
--- is tried with the next section, where that may be taken, and then without it; at the end the better one of the chosen sections and the champion stays
+-- the champion after the node that has decided the places below k, where these sections are
+-- undecided: a node is closed where it may be, else it is tried with the next section, where that
+-- may be taken, and then without it; at the end the better one of the chosen sections and the
+-- champion stays
 abbrev pub IsSearched : Offer → (List ℕ → Bool) → ℕ → List ℕ → List ℕ → List ℕ → List ℕ → Type 0
 IsSearched offer wanted k chosen [] champion result =
-    (IsBetter (wishes_of offer.menu) wanted chosen champion × (result ≡ chosen)) ⊎ ((¬ IsBetter (wishes_of offer.menu) wanted chosen champion) × (result ≡ champion))
+    (IsBetter (wishes_of offer.menu) wanted chosen champion × (result ≡ chosen))
+    ⊎ ((¬ IsBetter (wishes_of offer.menu) wanted chosen champion) × (result ≡ champion))
 IsSearched offer wanted k chosen (s ∷ undecided) champion result =
     (MayClose offer wanted k chosen champion × (result ≡ champion))
     ⊎ (((between : List ℕ) × IsTakable offer (chosen ++ s ∷ []) × IsSearched offer wanted (k + 1) (chosen ++ s ∷ []) undecided champion between × IsSearched offer wanted (k + 1) chosen undecided between result)
@@ -30,4 +34,5 @@ IsSearched offer wanted k chosen (s ∷ undecided) champion result =
 -- a bundle that may be taken, and is as good as every wanted one that may be
 pub record LeadsWanted (offer : Offer) (wanted : List ℕ → Bool) (bundle : List ℕ) : Type 0 where
   pub takable : IsTakable offer bundle
-  pub over : (other : List ℕ) → IsTakable offer other → wanted other ≡ true → IsAsGood offer bundle other
+  pub over : (other : List ℕ) → IsTakable offer other → wanted other ≡ true
+      → IsAsGood offer bundle other

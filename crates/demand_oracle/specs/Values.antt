@@ -9,7 +9,8 @@ use Rattle.demand_oracle.specs.declared.multipliers.Multipliers.{Multipliers}
 
 -- what the adjustment of a place with another can add: nothing where the other is not allowed
 abbrev pub hope : Offer → ℕ → ℕ → ℕ
-hope offer place other = if allowed_at offer other then above_zero (adjustment_in offer.menu.pairs place other) else 0
+hope offer place other =
+    if allowed_at offer other then above_zero (adjustment_in offer.menu.pairs place other) else 0
 
 -- what the adjustments of a place with all places from k on can add
 abbrev pub hopes_from : Offer → ℕ → ℕ → ℕ
@@ -19,9 +20,13 @@ hopes_from offer k place = total (hope offer place) (places_from k (length offer
 abbrev pub most_added : Offer → ℕ → ℕ
 most_added offer place = rating_at offer.menu.places place + hopes_from offer (place + 1) place
 
--- what is left of a million times the most that a place can add, where its price and its credits are paid at these multipliers
+-- what is left of a million times the most that a place can add, where its price and its credits
+-- are paid at these multipliers
 abbrev pub value : Offer → Multipliers → ℕ → ℕ
-value offer multipliers place = 1000000 * most_added offer place - (multipliers.money * price_at offer place + multipliers.credits * credits_at offer.menu.places place)
+value offer multipliers place =
+    1000000 * most_added offer place
+    - (multipliers.money * price_at offer place + multipliers.credits
+    * credits_at offer.menu.places place)
 
 -- the price of a place in whole units, each of which is a power of two of tokens
 abbrev pub units_at : Offer → ℕ → ℕ → ℕ

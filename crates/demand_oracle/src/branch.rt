@@ -16,8 +16,8 @@ use market_units::{SectionSet, Tokens};
 
 const ROOM: usize = 8;
 
-/// A node of the search with what its sections are known by: their places, and the sums of their prices, of their
-/// credits and of their utility.
+/// A node of the search with what its sections are known by: their places, and the sums of their
+/// prices, of their credits and of their utility.
 #[derive(Clone, Copy, Debug)]
 pub struct Branch {
     pub node: Node,
@@ -69,13 +69,15 @@ impl Branch {
 
     /// The utility of the chosen sections.
     pub fn utility(&self) -> i32
-        ensures { (menu : MenuData) (price : ℕ → ℕ) → IsBranch menu price self.now → result ≡ utility (wishes_of menu) (chosen_of self.now) }
+        ensures { (menu : MenuData) (price : ℕ → ℕ) → IsBranch menu price self.now
+            → result ≡ utility (wishes_of menu) (chosen_of self.now) }
     {
         self.utility
     }
 
-    /// Whether the section of an undecided place may be taken with the chosen ones: it is allowed and clashes with none
-    /// of them, and all together are within the budget, the credit cap and the course cap.
+    /// Whether the section of an undecided place may be taken with the chosen ones: it is allowed
+    /// and clashes with none of them, and all together are within the budget, the credit cap and
+    /// the course cap.
     pub fn may_take(
         &self,
         menu: &Menu,
@@ -86,10 +88,13 @@ impl Branch {
     ) -> bool
         requires prices { HasPrices menu.now prices.now }
         requires branch { IsBranch menu.now (price_in prices.now) self.now }
-        requires node { IsNode (offer_of menu.now prices.now budget.0 allowed.now) self.now.node.place (chosen_of self.now) }
+        requires node { IsNode (offer_of menu.now prices.now budget.0 allowed.now)
+            self.now.node.place (chosen_of self.now) }
         requires undecided { self.now.node.place ≤ place }
         requires on_menu { place < length menu.now.places }
-        ensures takable { IsTrue result ↔ IsTakable (offer_of menu.now prices.now budget.0 allowed.now) (chosen_of self.now ++ section_at menu.now.places place ∷ []) }
+        ensures takable { IsTrue result
+            ↔ IsTakable (offer_of menu.now prices.now budget.0 allowed.now)
+            (chosen_of self.now ++ section_at menu.now.places place ∷ []) }
         ensures room { IsTrue result → length (chosen_of self.now) < 8 }
     {
         prove!(place < menu.len());
@@ -141,7 +146,8 @@ impl Branch {
     #[must_use]
     pub fn without_next(self) -> Branch
         requires { self.node.place < 60 }
-        ensures branch { (menu : MenuData) (price : ℕ → ℕ) → IsBranch menu price self → IsBranch menu price result }
+        ensures branch { (menu : MenuData) (price : ℕ → ℕ) → IsBranch menu price self
+            → IsBranch menu price result }
         ensures place { result.node.place ≡ self.node.place + 1 }
         ensures chosen { chosen_of result ≡ chosen_of self }
     {
@@ -156,7 +162,8 @@ impl Branch {
 
     // The places of the chosen sections.
     pub(crate) fn places(&self) -> &[u8]
-        ensures value { (menu : MenuData) (price : ℕ → ℕ) → IsBranch menu price self.now → result.now ≡ places_of menu (chosen_of self.now) }
+        ensures value { (menu : MenuData) (price : ℕ → ℕ) → IsBranch menu price self.now
+            → result.now ≡ places_of menu (chosen_of self.now) }
         ensures few { length result.now ≤ 8 }
     {
         &self.places[..self.node.chosen.sections().len()]
@@ -186,7 +193,8 @@ impl Branch {
         u32::from(menu.courses()).saturating_sub(self.node.chosen.sections().len() as u32)
     }
 
-    // Whether the champion has the first section on which it differs from all that completes the node.
+    // Whether the champion has the first section on which it differs from all that completes the
+    // node.
     pub(crate) fn is_behind(&self, champion: &Branch) -> bool
         ensures { (menu : MenuData) (prices : List Tokens) (budget : ℕ) (allowed : set.FinSet nat_cmp) → IsMenu menu
             → IsBranch menu (price_in prices) self.now → IsNode (offer_of menu prices budget allowed) self.now.node.place (chosen_of self.now)

@@ -1,5 +1,5 @@
-// A choice of places to begin a search with, made by what each place adds for what it takes. Any choice is right: a good
-// one only makes the search short.
+// A choice of places to begin a search with, made by what each place adds for what it takes. Any
+// choice is right: a good one only makes the search short.
 ghost use Rattle.std.specs.Prelude.{◌≡◌, ◌<◌, length, IfSome};
 ghost use Rattle.bundle_rules.specs.Demand.{HasPrices};
 ghost use Rattle.bundle_rules.specs.Menus.{IsMenu};
@@ -19,12 +19,14 @@ pub(crate) struct Draft {
     shut: u64,
     budget: u32,
     credits: u32,
-    // What each place adds to the chosen ones, less what it takes, in millionths of a point of utility.
+    // What each place adds to the chosen ones, less what it takes, in millionths of a point of
+    // utility.
     worth: [i64; PLACES],
 }
 
 impl Draft {
-    // As many places as the course cap allows, each the one that adds most to those before it, of those that fit.
+    // As many places as the course cap allows, each the one that adds most to those before it, of
+    // those that fit.
     pub(crate) fn of(
         menu: &Menu,
         prices: &[Tokens],

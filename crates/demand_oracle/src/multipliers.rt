@@ -1,9 +1,10 @@
 // What a token and a credit are counted for, so that little can be reached.
 //
-// At each multiplier of a resource, what its rest is worth and the greatest values together are a bound. As a function of the
-// multiplier this is convex and made of straight lines, and the best multiplier is at its lowest point. Two lines are kept, one that
-// falls there and one that rises; the multiplier at which they meet is tried, and its line takes the place of one of the two,
-// three times. Any multipliers are right: these only make the search short.
+// At each multiplier of a resource, what its rest is worth and the greatest values together are a
+// bound. As a function of the multiplier this is convex and made of straight lines, and the best
+// multiplier is at its lowest point. Two lines are kept, one that falls there and one that rises;
+// the multiplier at which they meet is tried, and its line takes the place of one of the two, three
+// times. Any multipliers are right: these only make the search short.
 ghost use Rattle.std.specs.Prelude.{◌≤◌, ◌^◌};
 ghost use Rattle.bundle_rules.specs.Demand.{HasPrices};
 
@@ -90,7 +91,8 @@ pub(crate) fn multipliers_at(
     meeting_multiplier(items, count, Scarce::Credits, paid, credits)
 }
 
-// These multipliers with one of the resource at which its rest is just taken, or 0 where all of the greatest values fit.
+// These multipliers with one of the resource at which its rest is just taken, or 0 where all of the
+// greatest values fit.
 fn meeting_multiplier(
     items: &[Item],
     count: usize,

@@ -1,4 +1,5 @@
-// The best bundle, by a depth-first search that closes nodes by what can still be reached from them.
+// The best bundle, by a depth-first search that closes nodes by what can still be reached from
+// them.
 ghost use Rattle.std.specs.Prelude.{◌≡◌, ◌<◌, ◌≤◌, ◌⊎◌, ◌↔◌, [], ◌∷◌, ℕ, List, true, Some, IfSome, IfNone, IsTrue, length};
 ghost use Rattle.std.specs.FinSet as set;
 ghost use Rattle.bundle_rules.specs.Bundles.{sections_of};
@@ -24,15 +25,16 @@ use market_units::{NoMemory, SectionNo, SectionSet, Tokens};
 use std::alloc::Global;
 use std::marker::Model;
 
-/// What a demand works in. It is reserved once, and serves any number of demands, one after another.
+/// What a demand works in. It is reserved once, and serves any number of demands, one after
+/// another.
 #[derive(Drop)]
 pub struct Workspace {
     frames: Frames,
 }
 
-// The branches that wait in a search, how many were opened, and what more each can reach. The table stands last: its end is
-// seldom written, so that what a search writes at each node shares no line of the cache with the workspace of another
-// thread that stands next to it.
+// The branches that wait in a search, how many were opened, and what more each can reach. The table
+// stands last: its end is seldom written, so that what a search writes at each node shares no line
+// of the cache with the workspace of another thread that stands next to it.
 #[derive(Drop)]
 struct Frames {
     pending: Pending,
@@ -65,15 +67,17 @@ impl Workspace {
         })
     }
 
-    /// How many nodes the last demand opened: those of which it looked up what can be reached, and in a search for bundles with
-    /// a section those too that can not have it any more. It is there to be measured: no clause speaks of it.
+    /// How many nodes the last demand opened: those of which it looked up what can be reached, and
+    /// in a search for bundles with a section those too that can not have it any more. It is there
+    /// to be measured: no clause speaks of it.
     pub fn opened(&self) -> u64 {
         self.frames.opened
     }
 }
 
-/// The best bundle: the feasible one of allowed sections, of price sum at most the budget, that is preferred to
-/// every other such bundle. It takes no memory. There is a price for each section of the menu, each at most 1,000,001.
+/// The best bundle: the feasible one of allowed sections, of price sum at most the budget, that is
+/// preferred to every other such bundle. It takes no memory. There is a price for each section of
+/// the menu, each at most 1,000,001.
 pub fn demand(
     workspace: &mut Workspace,
     menu: &Menu,
@@ -82,7 +86,8 @@ pub fn demand(
     allowed: &SectionSet,
 ) -> Bundle
     requires { HasPrices menu.now prices.now }
-    ensures { IsBest (wishes_of menu.now) (price_in prices.now) budget.0 (set.contains allowed.now) (sections_of result) }
+    ensures { IsBest (wishes_of menu.now) (price_in prices.now) budget.0 (set.contains allowed.now)
+        (sections_of result) }
 {
     search(
         &mut workspace.frames,
@@ -95,7 +100,8 @@ pub fn demand(
     )
 }
 
-/// The same, found sooner where this bundle, or what may be taken of it, is nearly the best. Any bundle is right.
+/// The same, found sooner where this bundle, or what may be taken of it, is nearly the best. Any
+/// bundle is right.
 pub fn demand_from(
     workspace: &mut Workspace,
     menu: &Menu,
@@ -105,7 +111,8 @@ pub fn demand_from(
     first: &Bundle,
 ) -> Bundle
     requires { HasPrices menu.now prices.now }
-    ensures { IsBest (wishes_of menu.now) (price_in prices.now) budget.0 (set.contains allowed.now) (sections_of result) }
+    ensures { IsBest (wishes_of menu.now) (price_in prices.now) budget.0 (set.contains allowed.now)
+        (sections_of result) }
 {
     search(
         &mut workspace.frames,
@@ -118,10 +125,10 @@ pub fn demand_from(
     )
 }
 
-/// The best bundle with a given section: the feasible one of allowed sections with this one among them, of price sum at
-/// most the budget, that is preferred to every other such bundle. `None` exactly where there is no such bundle, as where
-/// the section is not on the menu. It takes no memory. There is a price for each section of the menu, each at most
-/// 1,000,001.
+/// The best bundle with a given section: the feasible one of allowed sections with this one among
+/// them, of price sum at most the budget, that is preferred to every other such bundle. `None`
+/// exactly where there is no such bundle, as where the section is not on the menu. It takes no
+/// memory. There is a price for each section of the menu, each at most 1,000,001.
 pub fn demand_with(
     workspace: &mut Workspace,
     menu: &Menu,
@@ -131,8 +138,12 @@ pub fn demand_with(
     section: SectionNo,
 ) -> Option<Bundle>
     requires { HasPrices menu.now prices.now }
-    ensures some { IfSome result (λ bundle. IsBestWith (wishes_of menu.now) (price_in prices.now) budget.0 (set.contains allowed.now) section.0 (sections_of bundle)) }
-    ensures none { IfNone result (¬ SomeHas (wishes_of menu.now) (price_in prices.now) budget.0 (set.contains allowed.now) section.0) }
+    ensures some { IfSome result
+        (λ bundle. IsBestWith (wishes_of menu.now) (price_in prices.now) budget.0
+        (set.contains allowed.now) section.0 (sections_of bundle)) }
+    ensures none { IfNone result
+        (¬ SomeHas (wishes_of menu.now) (price_in prices.now) budget.0 (set.contains allowed.now)
+        section.0) }
 {
     workspace.frames.opened = 0;
     let place = place_alone(menu, prices, budget, allowed, section)?;
@@ -148,9 +159,10 @@ pub fn demand_with(
     Some(bundle)
 }
 
-/// The best bundle, found sooner where a bundle is known that is preferred to every other choice without a given section,
-/// as the best bundle before this section alone became cheaper is: only bundles with the section are searched for a
-/// better one. It takes no memory. There is a price for each section of the menu, each at most 1,000,001.
+/// The best bundle, found sooner where a bundle is known that is preferred to every other choice
+/// without a given section, as the best bundle before this section alone became cheaper is: only
+/// bundles with the section are searched for a better one. It takes no memory. There is a price for
+/// each section of the menu, each at most 1,000,001.
 pub fn demand_beside(
     workspace: &mut Workspace,
     menu: &Menu,
@@ -161,8 +173,10 @@ pub fn demand_beside(
     first: &Bundle,
 ) -> Bundle
     requires prices { HasPrices menu.now prices.now }
-    requires first { LeadsThoseWithout (wishes_of menu.now) (price_in prices.now) budget.0 (set.contains allowed.now) section.0 (sections_of first.now) }
-    ensures { IsBest (wishes_of menu.now) (price_in prices.now) budget.0 (set.contains allowed.now) (sections_of result) }
+    requires first { LeadsThoseWithout (wishes_of menu.now) (price_in prices.now) budget.0
+        (set.contains allowed.now) section.0 (sections_of first.now) }
+    ensures { IsBest (wishes_of menu.now) (price_in prices.now) budget.0 (set.contains allowed.now)
+        (sections_of result) }
 {
     workspace.frames.opened = 0;
     let Some(place) = place_alone(menu, prices, budget, allowed, section) else {
@@ -193,9 +207,15 @@ fn place_alone(
     section: SectionNo,
 ) -> Option<u8>
     requires { HasPrices menu.now prices.now }
-    ensures place { IfSome result (λ place. (place < length menu.now.places) × (section_at menu.now.places place ≡ section.0)) }
-    ensures alone { IfSome result (λ place. IsTakable (offer_of menu.now prices.now budget.0 allowed.now) (section_at menu.now.places place ∷ [])) }
-    ensures none { IfNone result (¬ SomeHas (wishes_of menu.now) (price_in prices.now) budget.0 (set.contains allowed.now) section.0) }
+    ensures place { IfSome result
+        (λ place. (place < length menu.now.places)
+        × (section_at menu.now.places place ≡ section.0)) }
+    ensures alone { IfSome result
+        (λ place. IsTakable (offer_of menu.now prices.now budget.0 allowed.now)
+        (section_at menu.now.places place ∷ [])) }
+    ensures none { IfNone result
+        (¬ SomeHas (wishes_of menu.now) (price_in prices.now) budget.0 (set.contains allowed.now)
+        section.0) }
 {
     let place = menu.place(section);
     if place >= menu.len() {
@@ -207,10 +227,11 @@ fn place_alone(
     Some(place)
 }
 
-// The best bundle, of those with the section of a place where one is given, which may be taken alone: the root is looked
-// at first, and while branches are left, the next one. Where a first bundle is told, the search may begin with it, and
-// where both are, it may end with it: with what is as good as all bundles with the section. Each of the demands has its
-// own copy of the machine code of this and of what it calls, so that the plain one asks nothing about a given place.
+// The best bundle, of those with the section of a place where one is given, which may be taken
+// alone: the root is looked at first, and while branches are left, the next one. Where a first
+// bundle is told, the search may begin with it, and where both are, it may end with it: with what
+// is as good as all bundles with the section. Each of the demands has its own copy of the machine
+// code of this and of what it calls, so that the plain one asks nothing about a given place.
 #[inline(always)]
 fn search(
     frames: &mut Frames,
@@ -224,8 +245,11 @@ fn search(
     requires prices { HasPrices menu.now prices.now }
     requires none { frames.old.pending ≡ [] }
     requires given { IfSome given (λ place. place < length menu.now.places) }
-    requires alone { IfSome given (λ place. IsTakable (offer_of menu.now prices.now budget.0 allowed.now) (section_at menu.now.places place ∷ [])) }
-    ensures leads { LeadsWanted (offer_of menu.now prices.now budget.0 allowed.now) (wanted_by menu.now given) (sections_of result) }
+    requires alone { IfSome given
+        (λ place. IsTakable (offer_of menu.now prices.now budget.0 allowed.now)
+        (section_at menu.now.places place ∷ [])) }
+    ensures leads { LeadsWanted (offer_of menu.now prices.now budget.0 allowed.now)
+        (wanted_by menu.now given) (sections_of result) }
     ensures wanted { IfNone first.entry (wanted_by menu.now given (sections_of result) ≡ true) }
     ensures none { frames.new.pending ≡ [] }
 {
@@ -249,8 +273,9 @@ fn search(
     champion.node.chosen
 }
 
-// The champion that a search begins with: where a place is given, its section alone, or the first bundle where one is
-// told; and where none is given a branch that begins well, of the first bundle where it is worth no less.
+// The champion that a search begins with: where a place is given, its section alone, or the first
+// bundle where one is told; and where none is given a branch that begins well, of the first bundle
+// where it is worth no less.
 #[inline(always)]
 fn first_champion(
     reach: &Reach,
@@ -263,7 +288,9 @@ fn first_champion(
 ) -> Branch
     requires prices { HasPrices menu.now prices.now }
     requires given { IfSome given (λ place. place < length menu.now.places) }
-    requires alone { IfSome given (λ place. IsTakable (offer_of menu.now prices.now budget.0 allowed.now) (section_at menu.now.places place ∷ [])) }
+    requires alone { IfSome given
+        (λ place. IsTakable (offer_of menu.now prices.now budget.0 allowed.now)
+        (section_at menu.now.places place ∷ [])) }
     ensures champion { IsChampion (offer_of menu.now prices.now budget.0 allowed.now) result }
     ensures wanted { IfNone first.entry (wanted_by menu.now given (chosen_of result) ≡ true) }
 {
@@ -276,7 +303,8 @@ fn first_champion(
     }
 }
 
-// The section of the given place alone, or what may be taken of the first bundle, where one is told.
+// The section of the given place alone, or what may be taken of the first bundle, where one is
+// told.
 #[inline(always)]
 fn begun_beside(
     menu: &Menu,
@@ -288,9 +316,11 @@ fn begun_beside(
 ) -> Branch
     requires prices { HasPrices menu.now prices.now }
     requires place { place < length menu.now.places }
-    requires alone { IsTakable (offer_of menu.now prices.now budget.0 allowed.now) (section_at menu.now.places place ∷ []) }
+    requires alone { IsTakable (offer_of menu.now prices.now budget.0 allowed.now)
+        (section_at menu.now.places place ∷ []) }
     ensures champion { IsChampion (offer_of menu.now prices.now budget.0 allowed.now) result }
-    ensures wanted { IfNone first.entry (has (chosen_of result) (section_at menu.now.places place) ≡ true) }
+    ensures wanted { IfNone first.entry
+        (has (chosen_of result) (section_at menu.now.places place) ≡ true) }
 {
     match first {
         Some(bundle) => begun_with(menu, prices, budget, allowed, bundle),
@@ -310,9 +340,11 @@ fn from_first(
 ) -> Branch
     requires prices { HasPrices menu.now prices.now }
     requires branch { IsBranch menu.now (price_in prices.now) branch }
-    requires takable { IsTakable (offer_of menu.now prices.now budget.0 allowed.now) (chosen_of branch) }
+    requires takable { IsTakable (offer_of menu.now prices.now budget.0 allowed.now)
+        (chosen_of branch) }
     ensures branch { IsBranch menu.now (price_in prices.now) result }
-    ensures takable { IsTakable (offer_of menu.now prices.now budget.0 allowed.now) (chosen_of result) }
+    ensures takable { IsTakable (offer_of menu.now prices.now budget.0 allowed.now)
+        (chosen_of result) }
 {
     let Some(bundle) = first else {
         return branch;
@@ -324,9 +356,10 @@ fn from_first(
     branch
 }
 
-// Looks at a branch, and tells the branch to look at after it, or `None` where none is left. The chosen sections are
-// compared with the champion, or the branch is closed, or it is tried with its next section, where that may be taken,
-// while it waits without it. Without the given section nothing is looked at.
+// Looks at a branch, and tells the branch to look at after it, or `None` where none is left. The
+// chosen sections are compared with the champion, or the branch is closed, or it is tried with its
+// next section, where that may be taken, while it waits without it. Without the given section
+// nothing is looked at.
 #[inline(always)]
 fn step(
     frames: &mut Frames,
@@ -341,13 +374,17 @@ fn step(
     requires prices { HasPrices menu.now prices.now }
     requires given { IfSome given (λ place. place < length menu.now.places) }
     requires reach { IsReach (offer_of menu.now prices.now budget.0 allowed.now) frames.old.reach }
-    requires branch { MayWait (offer_of menu.now prices.now budget.0 allowed.now) (branch ∷ frames.old.pending) }
-    requires champion { IsChampion (offer_of menu.now prices.now budget.0 allowed.now) champion.old }
+    requires branch { MayWait (offer_of menu.now prices.now budget.0 allowed.now)
+        (branch ∷ frames.old.pending) }
+    requires champion { IsChampion (offer_of menu.now prices.now budget.0 allowed.now)
+        champion.old }
     ensures menu { IsMenu menu.now }
     ensures reach { frames.new.reach ≡ frames.old.reach }
     ensures champion { IsChampion (offer_of menu.now prices.now budget.0 allowed.now) champion.new }
     ensures last { IfNone result (frames.new.pending ≡ []) }
-    ensures stepped { HasStepped (offer_of menu.now prices.now budget.0 allowed.now) (wanted_by menu.now given) (branch ∷ frames.old.pending) (chosen_of champion.old) (before_waiting result frames.new.pending) (chosen_of champion.new) }
+    ensures stepped { HasStepped (offer_of menu.now prices.now budget.0 allowed.now)
+        (wanted_by menu.now given) (branch ∷ frames.old.pending) (chosen_of champion.old)
+        (before_waiting result frames.new.pending) (chosen_of champion.new) }
 {
     if is_whole(menu, &branch) {
         *champion = better(menu, given, branch, *champion);
@@ -373,12 +410,14 @@ fn step(
     Some(with_it)
 }
 
-// Whether nothing more can be taken: all places are decided, or as many sections are chosen as the course cap allows.
-// Such a branch stands for its chosen sections alone.
+// Whether nothing more can be taken: all places are decided, or as many sections are chosen as the
+// course cap allows. Such a branch stands for its chosen sections alone.
 #[inline(always)]
 fn is_whole(menu: &Menu, branch: &Branch) -> bool
     ensures menu { IsMenu menu.now }
-    ensures whole { IsTrue result ↔ ((length menu.now.places ≤ branch.now.node.place) ⊎ (menu.now.courses ≤ length (chosen_of branch.now))) }
+    ensures whole { IsTrue result
+        ↔ ((length menu.now.places ≤ branch.now.node.place)
+        ⊎ (menu.now.courses ≤ length (chosen_of branch.now))) }
 {
     if branch.node.place >= menu.len() {
         return true;
@@ -399,8 +438,11 @@ fn is_lost(
     requires prices { HasPrices menu.now prices.now }
     requires given { IfSome given (λ place. place < length menu.now.places) }
     requires branch { IsBranch menu.now (price_in prices.now) branch.now }
-    requires node { IsNode (offer_of menu.now prices.now budget.0 allowed.now) branch.now.node.place (chosen_of branch.now) }
-    ensures { (champion : List ℕ) → IsMenu menu.now → IsTrue result → MayClose (offer_of menu.now prices.now budget.0 allowed.now) (wanted_by menu.now given) branch.now.node.place (chosen_of branch.now) champion }
+    requires node { IsNode (offer_of menu.now prices.now budget.0 allowed.now) branch.now.node.place
+        (chosen_of branch.now) }
+    ensures { (champion : List ℕ) → IsMenu menu.now → IsTrue result
+        → MayClose (offer_of menu.now prices.now budget.0 allowed.now) (wanted_by menu.now given)
+        branch.now.node.place (chosen_of branch.now) champion }
 {
     match given {
         Some(place) => {
@@ -436,7 +478,8 @@ fn is_wanted(menu: &Menu, given: Option<u8>, bundle: &Bundle) -> bool
     }
 }
 
-// The branch, where its sections are wanted and preferred to those of the champion, and else the champion.
+// The branch, where its sections are wanted and preferred to those of the champion, and else the
+// champion.
 #[inline(always)]
 fn better(menu: &Menu, given: Option<u8>, branch: Branch, champion: Branch) -> Branch
     requires given { IfSome given (λ place. place < length menu.now.places) }

@@ -6,12 +6,12 @@ use market_units::NoMemory;
 use std::alloc::Global;
 use std::marker::Model;
 
-// A branch has decided at least as many places as branches wait under it, and a menu has at most 60 places: under one
-// that has decided all of them at most one waits for each place.
+// A branch has decided at least as many places as branches wait under it, and a menu has at most 60
+// places: under one that has decided all of them at most one waits for each place.
 const ROOM: usize = 60;
 
-/// Branches that wait to be searched, at most 60. The last that was put is the first that is taken. Only `reserve` takes
-/// memory.
+/// Branches that wait to be searched, at most 60. The last that was put is the first that is taken.
+/// Only `reserve` takes memory.
 #[derive(Drop)]
 pub struct Pending {
     cells: Vec<Branch>,
@@ -57,7 +57,8 @@ impl Pending {
     /// Takes the branch that was put last of those that wait, and `None` exactly where none waits.
     #[inline(always)]
     pub fn take(&mut self) -> Option<Branch>
-        ensures { MatchOption result ((self.old ≡ []) × (self.new ≡ [])) (λ branch. self.old ≡ branch ∷ self.new) }
+        ensures { MatchOption result ((self.old ≡ []) × (self.new ≡ []))
+            (λ branch. self.old ≡ branch ∷ self.new) }
     {
         if self.count == 0 {
             return None;

@@ -58,8 +58,8 @@ impl Reach {
         }
     }
 
-    /// Measures what can be reached at these prices with this budget and these allowed sections. There is a price for
-    /// each section of the menu, each at most 1,000,001.
+    /// Measures what can be reached at these prices with this budget and these allowed sections.
+    /// There is a price for each section of the menu, each at most 1,000,001.
     pub fn measure(&mut self, menu: &Menu, prices: &[Tokens], budget: Tokens, allowed: &SectionSet)
         requires { HasPrices menu.now prices.now }
         ensures { IsReach (offer_of menu.now prices.now budget.0 allowed.now) self.new }
@@ -90,9 +90,10 @@ impl Reach {
         );
     }
 
-    /// Whether nothing that completes the branch's node can be better than the champion: less can be reached than its
-    /// utility, or less than one more, and the first decided section on which they differ is the champion's. So nothing
-    /// that is wanted can, whatever bundles are wanted. The table is one that was measured for the same menu and budget.
+    /// Whether nothing that completes the branch's node can be better than the champion: less can
+    /// be reached than its utility, or less than one more, and the first decided section on which
+    /// they differ is the champion's. So nothing that is wanted can, whatever bundles are wanted.
+    /// The table is one that was measured for the same menu and budget.
     #[inline(always)]
     pub fn closes(&self, menu: &Menu, budget: Tokens, branch: &Branch, champion: &Branch) -> bool
         requires branch { (price : ℕ → ℕ) × IsBranch menu.now price branch.now }
@@ -112,10 +113,10 @@ impl Reach {
         is_below(added, lacking + 1) && branch.is_behind(champion)
     }
 
-    /// A branch that begins well: its sections are chosen one after another, each the one that adds most for what it
-    /// takes, of those that fit. A search that begins with it as its champion closes most nodes at once. The table is one
-    /// that was measured for the same menu, prices, budget and allowed sections; with another the branch may be worth
-    /// little.
+    /// A branch that begins well: its sections are chosen one after another, each the one that adds
+    /// most for what it takes, of those that fit. A search that begins with it as its champion
+    /// closes most nodes at once. The table is one that was measured for the same menu, prices,
+    /// budget and allowed sections; with another the branch may be worth little.
     pub fn first_champion(
         &self,
         menu: &Menu,
@@ -125,7 +126,8 @@ impl Reach {
     ) -> Branch
         requires { HasPrices menu.now prices.now }
         ensures branch { IsBranch menu.now (price_in prices.now) result }
-        ensures takable { IsTakable (offer_of menu.now prices.now budget.0 allowed.now) (chosen_of result) }
+        ensures takable { IsTakable (offer_of menu.now prices.now budget.0 allowed.now)
+            (chosen_of result) }
     {
         let draft = Draft::of(menu, prices, budget, allowed, self.multipliers);
         let mut branch = Branch::root();
@@ -141,7 +143,8 @@ impl Reach {
     fn fitting(&self, menu: &Menu, branch: &Branch) -> usize
         requires { IsMenu menu.now }
         ensures within { result ≤ menu.now.courses }
-        ensures enough { (count : ℕ) → count ≤ menu.now.courses - length (chosen_of branch.now) → count * self.now.lightest ≤ menu.now.credits - branch.now.credits → count ≤ result }
+        ensures enough { (count : ℕ) → count ≤ menu.now.courses - length (chosen_of branch.now)
+            → count * self.now.lightest ≤ menu.now.credits - branch.now.credits → count ≤ result }
     {
         fitting(
             branch.courses_left(menu),
@@ -174,8 +177,8 @@ impl Reach {
     }
 }
 
-/// A branch that has of a bundle what may be taken, place by place. A search that begins with it as its champion is
-/// short where the bundle is nearly the best.
+/// A branch that has of a bundle what may be taken, place by place. A search that begins with it as
+/// its champion is short where the bundle is nearly the best.
 pub fn begun_with(
     menu: &Menu,
     prices: &[Tokens],
@@ -185,7 +188,8 @@ pub fn begun_with(
 ) -> Branch
     requires { HasPrices menu.now prices.now }
     ensures branch { IsBranch menu.now (price_in prices.now) result }
-    ensures takable { IsTakable (offer_of menu.now prices.now budget.0 allowed.now) (chosen_of result) }
+    ensures takable { IsTakable (offer_of menu.now prices.now budget.0 allowed.now)
+        (chosen_of result) }
 {
     let mut branch = Branch::root();
     while branch.node.place < menu.len() {
@@ -206,10 +210,12 @@ fn followed(
 ) -> Branch
     requires prices { HasPrices menu.now prices.now }
     requires branch { IsBranch menu.now (price_in prices.now) branch }
-    requires node { IsNode (offer_of menu.now prices.now budget.0 allowed.now) branch.node.place (chosen_of branch) }
+    requires node { IsNode (offer_of menu.now prices.now budget.0 allowed.now) branch.node.place
+        (chosen_of branch) }
     requires next { branch.node.place < length menu.now.places }
     ensures branch { IsBranch menu.now (price_in prices.now) result }
-    ensures node { IsNode (offer_of menu.now prices.now budget.0 allowed.now) result.node.place (chosen_of result) }
+    ensures node { IsNode (offer_of menu.now prices.now budget.0 allowed.now) result.node.place
+        (chosen_of result) }
     ensures place { result.node.place ≡ branch.node.place + 1 }
 {
     prove!(branch.node.place < menu.len());

@@ -56,7 +56,8 @@ pub(crate) fn shift_for(budget: Tokens) -> u32
 
 // The least credits of an allowed place.
 pub(crate) fn lightest(menu: &Menu, allowed: &SectionSet) -> u32
-    ensures lightest { (prices : List Tokens) (budget : ℕ) → IsLightest (offer_of menu.now prices budget allowed.now) result }
+    ensures lightest { (prices : List Tokens) (budget : ℕ)
+        → IsLightest (offer_of menu.now prices budget allowed.now) result }
     ensures high { result ≤ 100 }
 {
     let mut lightest = MAX_SECTION_CREDITS;
@@ -70,7 +71,9 @@ pub(crate) fn lightest(menu: &Menu, allowed: &SectionSet) -> u32
 fn lighter(menu: &Menu, allowed: &SectionSet, place: u8, lightest: u16) -> u16
     requires { place < length menu.now.places }
     ensures within { result ≤ lightest }
-    ensures lightest { (prices : List Tokens) (budget : ℕ) → allowed_at (offer_of menu.now prices budget allowed.now) place ≡ true → result ≤ credits_at menu.now.places place }
+    ensures lightest { (prices : List Tokens) (budget : ℕ)
+        → allowed_at (offer_of menu.now prices budget allowed.now) place ≡ true
+        → result ≤ credits_at menu.now.places place }
 {
     let rated = menu.rated(place);
     if !allowed.has(rated.section) {
@@ -81,7 +84,8 @@ fn lighter(menu: &Menu, allowed: &SectionSet, place: u8, lightest: u16) -> u16
 
 // Fills the table of what adjustments can add.
 pub(crate) fn put_hopes(menu: &Menu, allowed: &SectionSet, hopes: &mut [[u16; PLACES]; ROWS])
-    ensures { (prices : List Tokens) (budget : ℕ) → HoldsHopes (offer_of menu.now prices budget allowed.now) hopes.new 0 }
+    ensures { (prices : List Tokens) (budget : ℕ)
+        → HoldsHopes (offer_of menu.now prices budget allowed.now) hopes.new 0 }
 {
     let count = menu.len();
     hopes[usize::from(count)] = [0; PLACES];
@@ -95,8 +99,12 @@ pub(crate) fn put_hopes(menu: &Menu, allowed: &SectionSet, hopes: &mut [[u16; PL
 fn hopes_at(menu: &Menu, allowed: &SectionSet, place: u8, later: [u16; PLACES]) -> [u16; PLACES]
     requires place { place < length menu.now.places }
     requires menu { IsMenu menu.now }
-    requires later { (prices : List Tokens) (budget earlier : ℕ) → earlier < place + 1 → slice_index later earlier ≡ hopes_from (offer_of menu.now prices budget allowed.now) (place + 1) earlier }
-    ensures { (prices : List Tokens) (budget earlier : ℕ) → earlier < place → slice_index result earlier ≡ hopes_from (offer_of menu.now prices budget allowed.now) place earlier }
+    requires later { (prices : List Tokens) (budget earlier : ℕ) → earlier < place + 1
+        → slice_index later earlier
+        ≡ hopes_from (offer_of menu.now prices budget allowed.now) (place + 1) earlier }
+    ensures { (prices : List Tokens) (budget earlier : ℕ) → earlier < place
+        → slice_index result earlier
+        ≡ hopes_from (offer_of menu.now prices budget allowed.now) place earlier }
 {
     if !allowed.has(menu.rated(place).section) {
         return later;
@@ -133,8 +141,11 @@ pub(crate) fn put_most(
 )
     requires prices { HasPrices menu.now prices.now }
     requires shift { shift < 32 }
-    requires hopes { (budget : ℕ) → HoldsHopes (offer_of menu.now prices.now budget allowed.now) hopes.now 0 }
-    ensures { (budget : ℕ) → HoldsCovers (offer_of menu.now prices.now budget allowed.now) multipliers shift most.new 0 }
+    requires hopes { (budget : ℕ)
+        → HoldsHopes (offer_of menu.now prices.now budget allowed.now) hopes.now 0 }
+    ensures { (budget : ℕ)
+        → HoldsCovers (offer_of menu.now prices.now budget allowed.now) multipliers shift most.new
+        0 }
 {
     let count = menu.len();
     put_nothing(count, most);
@@ -202,7 +213,9 @@ fn put_place(
 fn value_at(menu: &Menu, prices: &[Tokens], multipliers: Multipliers, place: u8, hoped: u16) -> u64
     requires prices { HasPrices menu.now prices.now }
     requires place { place < length menu.now.places }
-    ensures value { (budget : ℕ) (allowed : set.FinSet nat_cmp) → hoped ≡ hopes_from (offer_of menu.now prices.now budget allowed) (place + 1) place → result ≡ value (offer_of menu.now prices.now budget allowed) multipliers place }
+    ensures value { (budget : ℕ) (allowed : set.FinSet nat_cmp)
+        → hoped ≡ hopes_from (offer_of menu.now prices.now budget allowed) (place + 1) place
+        → result ≡ value (offer_of menu.now prices.now budget allowed) multipliers place }
     ensures high { result ≤ 65635000000 }
 {
     let rated = menu.rated(place);
@@ -220,7 +233,8 @@ fn next_apart(menu: &Menu, place: u8, from: u8) -> u8
     requires from { from ≤ length menu.now.places }
     ensures within { result ≤ length menu.now.places }
     ensures from { from ≤ result }
-    ensures between { (other : ℕ) → from ≤ other → other < result → clash_in menu.now.clashes place other ≡ true }
+    ensures between { (other : ℕ) → from ≤ other → other < result
+        → clash_in menu.now.clashes place other ≡ true }
 {
     if from == menu.len() || !menu.clash(place, from) {
         return from;
@@ -246,7 +260,8 @@ fn put_counts(courses: u8, place: u8, next: u8, value: u32, cost: usize, most: &
     requires place { place < next }
     requires next { next ≤ 60 }
     requires value { value ≤ 65635001 }
-    requires small { (count units : ℕ) → count < courses → units < 64 → within_at most.old next count units ≤ 65635001 * count }
+    requires small { (count units : ℕ) → count < courses → units < 64
+        → within_at most.old next count units ≤ 65635001 * count }
     ensures { IsPlaced courses value cost place next most.old most.new }
 {
     let row = usize::from(place) * COUNTS;
@@ -263,8 +278,11 @@ fn put_counts(courses: u8, place: u8, next: u8, value: u32, cost: usize, most: &
 fn most_within(later: [u32; UNITS], apart: &[u32; UNITS], value: u32, cost: usize) -> [u32; UNITS]
     requires value { value ≤ 65635001 }
     requires small { (units : ℕ) → units < 64 → slice_index apart.now units ≤ 525080008 }
-    ensures dear { (units : ℕ) → units < 64 → units < cost → slice_index result units ≡ slice_index later units }
-    ensures more { (units : ℕ) → units < 64 → cost ≤ units → slice_index result units ≡ max (slice_index later units) (slice_index apart.now (units - cost) + value) }
+    ensures dear { (units : ℕ) → units < 64 → units < cost
+        → slice_index result units ≡ slice_index later units }
+    ensures more { (units : ℕ) → units < 64 → cost ≤ units
+        → slice_index result units
+        ≡ max (slice_index later units) (slice_index apart.now (units - cost) + value) }
 {
     let mut most = later;
     for units in cost..UNITS {

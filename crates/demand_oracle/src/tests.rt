@@ -1,4 +1,5 @@
-// A menu whose best bundle is plain to see, and made menus at which trying all bundles tells the answer.
+// A menu whose best bundle is plain to see, and made menus at which trying all bundles tells the
+// answer.
 ghost use Rattle.std.specs.Prelude.{◌<◌, ◌≤◌};
 ghost use Rattle.bundle_rules.specs.Demand.{HasPrices};
 
@@ -264,7 +265,8 @@ fn the_best_with_a_given_section(rt: HostRuntime) -> Result<(), Fail> {
         let none = demand_with(&mut workspace, &menu, &prices, budget, &allowed, off_menu);
         assert!(rt; none.is_none());
     }
-    // Both kinds occur: a section of the menu that fits nowhere, and one that the plain demand lacks.
+    // Both kinds occur: a section of the menu that fits nowhere, and one that the plain demand
+    // lacks.
     assert!(rt; no_bundle >= 10);
     assert!(rt; not_wanted >= 10);
     Ok(())
@@ -287,7 +289,8 @@ fn best_beside(
     demand_beside(workspace, menu, prices, budget, allowed, section, &first)
 }
 
-// The best bundle, found beside itself: where it has the section, the search begins with a bundle that has it.
+// The best bundle, found beside itself: where it has the section, the search begins with a bundle
+// that has it.
 fn best_beside_itself(
     workspace: &mut Workspace,
     menu: &Menu,

@@ -29,7 +29,8 @@ only P x here (suc k) d below = absurd (omega arith)
 pub all_one : {X : Type 0} (P : X → Type 0) (xs : List X) (x : X) → xs ≡ x ∷ [] → P x → All P xs
 all_one P xs x is here = subst (All P) (sym is) (only P x here)
 
-pub made_crowd : (menus : List MenuData) (budgets : List Tokens) → length menus ≡ 4 → length budgets ≡ 4 → All (λ menu. IsWithin 1 menu) menus → All (λ (b : Tokens). b.0 ≤ 1000000) budgets → MakeCrowd menus budgets 1
+pub made_crowd : (menus : List MenuData) (budgets : List Tokens) → length menus ≡ 4 → length budgets ≡ 4 → All (λ menu. IsWithin 1 menu) menus
+    → All (λ (b : Tokens). b.0 ≤ 1000000) budgets → MakeCrowd menus budgets 1
 made_crowd menus budgets four same within high = record {
   same = same ∙ sym four;
   few = (let n : ℕ = length menus in let h : n ≡ 4 = four in let goal : n ≤ 2000 = omega arith in goal);
@@ -41,17 +42,26 @@ made_crowd menus budgets four same within high = record {
 abbrev pub free : List Tokens
 free = record { 0 = 0 } ∷ []
 
-pub round_of : (crowd : Crowd) (round : Round) (limit : ℕ) → map (λ version. version.items) round.versions.items ≡ free ∷ [] → round.asks.items ≡ Exceeds (record { 0 = 0 }) limit ∷ [] → crowd.sections ≡ 1 → IsRound (terms_of crowd round)
+pub round_of : (crowd : Crowd) (round : Round) (limit : ℕ) → map (λ version. version.items) round.versions.items ≡ free ∷ []
+    → round.asks.items ≡ Exceeds (record { 0 = 0 }) limit ∷ [] → crowd.sections ≡ 1 → IsRound (terms_of crowd round)
 round_of crowd round limit versions asks one = record {
   some = (let n : ℕ = version_count (terms_of crowd round) in let h : n ≡ 1 = ap length versions in let goal : 1 ≤ n = omega arith in goal);
   few = (let n : ℕ = version_count (terms_of crowd round) in let h : n ≡ 1 = ap length versions in let goal : n ≤ 16 = omega arith in goal);
-  prices = all_one (ArePrices crowd.sections) (terms_of crowd round).versions free versions (record { each = sym one; high = all_one (λ (price : Tokens). price.0 ≤ 1000001) free (record { 0 = 0 }) refl (let goal : 0 ≤ 1000001 = omega arith in goal) });
+  prices =
+      all_one (ArePrices crowd.sections) (terms_of crowd round).versions free versions
+      (record {
+        each = sym one;
+        high = all_one (λ (price : Tokens). price.0 ≤ 1000001) free (record { 0 = 0 }) refl (let goal : 0 ≤ 1000001 = omega arith in goal);
+      });
   asks = ap length asks ∙ sym (ap length versions);
-  sections = all_one (IsAskOf crowd.sections) (terms_of crowd round).asks (Exceeds (record { 0 = 0 }) limit) asks (let n : ℕ = crowd.sections in let h : n ≡ 1 = one in let goal : 0 < n = omega arith in goal);
+  sections =
+      all_one (IsAskOf crowd.sections) (terms_of crowd round).asks (Exceeds (record { 0 = 0 }) limit) asks
+      (let n : ℕ = crowd.sections in let h : n ≡ 1 = one in let goal : 0 < n = omega arith in goal);
 }
 
 -- what a student takes at the one version's prices
-pub demand_there : (terms : Terms) (crowd : CrowdData) (prices : List Tokens) (v s : ℕ) → terms.crowd ≡ crowd → terms.versions ≡ prices ∷ [] → v < version_count terms → crowd_demand crowd (price_in prices) s ≡ demand_of terms v s
+pub demand_there : (terms : Terms) (crowd : CrowdData) (prices : List Tokens) (v s : ℕ) → terms.crowd ≡ crowd → terms.versions ≡ prices ∷ []
+    → v < version_count terms → crowd_demand crowd (price_in prices) s ≡ demand_of terms v s
 demand_there terms crowd prices v s same one low =
     let n : ℕ = version_count terms in
     let count : n ≡ 1 = ap length one in
@@ -69,7 +79,8 @@ students-length (menu ∷ menus) (budget ∷ budgets) same =
     let h : suc j ≡ suc k = same in
     ap suc (students-length menus budgets (let goal : j ≡ k = omega arith in goal))
 
-pub students_are : (terms : Terms) (menus : List MenuData) (budgets : List Tokens) (sections : ℕ) → terms.crowd ≡ crowd_of menus budgets sections → length budgets ≡ length menus → student_count terms ≡ length menus
+pub students_are : (terms : Terms) (menus : List MenuData) (budgets : List Tokens) (sections : ℕ) → terms.crowd ≡ crowd_of menus budgets sections
+    → length budgets ≡ length menus → student_count terms ≡ length menus
 students_are terms menus budgets sections is same = ap (λ (c : CrowdData). length c.students) is ∙ students-length menus budgets same
 
 -- there is the one version
@@ -80,7 +91,8 @@ abbrev pub BoardPlace : Type 0
 BoardPlace = Standing Terms Progress BoardCall BoardReply
 
 -- the tasks of four students at one version
-pub four_tasks : (terms : Terms) (menus : List MenuData) (budgets : List Tokens) (sections : ℕ) (prices : List Tokens) → terms.crowd ≡ crowd_of menus budgets sections → length budgets ≡ length menus → length menus ≡ 4 → terms.versions ≡ prices ∷ [] → task_count terms ≡ 4
+pub four_tasks : (terms : Terms) (menus : List MenuData) (budgets : List Tokens) (sections : ℕ) (prices : List Tokens)
+    → terms.crowd ≡ crowd_of menus budgets sections → length budgets ≡ length menus → length menus ≡ 4 → terms.versions ≡ prices ∷ [] → task_count terms ≡ 4
 four_tasks terms menus budgets sections prices is same four one =
     let n : ℕ = student_count terms in
     let h : n ≡ 4 = students_are terms menus budgets sections is same ∙ four in
@@ -101,7 +113,8 @@ pub the_one : {X : Type 0} (seats rest : List X) (seat : X) → length seats ≡
 the_one seats rest seat one is = is ∙ ap (λ l. l ++ seat ∷ []) (empty rest (nothing_before rest seat 0 (sym (ap length is) ∙ one)))
 
 -- the last two of two
-pub the_two : {X : Type 0} (seats rest front : List X) (first second : X) → length seats ≡ 2 → seats ≡ rest ++ second ∷ [] → rest ≡ front ++ first ∷ [] → seats ≡ first ∷ second ∷ []
+pub the_two : {X : Type 0} (seats rest front : List X) (first second : X) → length seats ≡ 2 → seats ≡ rest ++ second ∷ [] → rest ≡ front ++ first ∷ []
+    → seats ≡ first ∷ second ∷ []
 the_two seats rest front first second two is before =
     is ∙ ap (λ l. l ++ second ∷ []) (the_one rest front first (nothing_before rest second 1 (sym (ap length is) ∙ two)) before)
 
@@ -119,43 +132,57 @@ at_one count seat one is (suc n) d below = absurd (omega arith)
 pub each_of_one : (count : ℕ) (seat : BoardPlace) → count ≡ 1 → seat.number ≡ 0 → (n : ℕ) → n < count → Any (λ (s : BoardPlace). s.number ≡ n) (seat ∷ [])
 each_of_one count seat one is = all_at_their_numbers count (seat ∷ []) (let goal : count ≤ 1 = omega arith in goal) (at_one count seat one is)
 
-at_two : (count : ℕ) (first second : BoardPlace) → count ≡ 2 → first.number ≡ 0 → second.number ≡ 1 → (n : ℕ) (d : BoardPlace) → n < count → (slice_index_or (first ∷ second ∷ []) n d).number ≡ n
+at_two : (count : ℕ) (first second : BoardPlace) → count ≡ 2 → first.number ≡ 0 → second.number ≡ 1 → (n : ℕ) (d : BoardPlace) → n < count
+    → (slice_index_or (first ∷ second ∷ []) n d).number ≡ n
 at_two count first second two is other zero d below = is
 at_two count first second two is other (suc zero) d below = other
 at_two count first second two is other (suc (suc n)) d below = absurd (omega arith)
 
 -- each number is that of one of the two
-pub each_of_two : (count : ℕ) (first second : BoardPlace) → count ≡ 2 → first.number ≡ 0 → second.number ≡ 1 → (n : ℕ) → n < count → Any (λ (s : BoardPlace). s.number ≡ n) (first ∷ second ∷ [])
-each_of_two count first second two is other = all_at_their_numbers count (first ∷ second ∷ []) (let goal : count ≤ 2 = omega arith in goal) (at_two count first second two is other)
+pub each_of_two : (count : ℕ) (first second : BoardPlace) → count ≡ 2 → first.number ≡ 0 → second.number ≡ 1 → (n : ℕ) → n < count
+    → Any (λ (s : BoardPlace). s.number ≡ n) (first ∷ second ∷ [])
+each_of_two count first second two is other =
+    all_at_their_numbers count (first ∷ second ∷ []) (let goal : count ≤ 2 = omega arith in goal) (at_two count first second two is other)
 
 -- three are less than four
 pub below_four : (m n : ℕ) → m ≡ 3 → n ≡ 4 → m < n
 below_four m n three four = omega arith
 
 -- the one seat of a board is free
-pub free_alone : (board : Origin Terms Progress) (seats rest : List BoardPlace) (seat : BoardPlace) → length seats ≡ 1 → seats ≡ rest ++ seat ∷ [] → All (λ (s : BoardPlace). IsFree board s) seats → IsFree board seat
+pub free_alone : (board : Origin Terms Progress) (seats rest : List BoardPlace) (seat : BoardPlace) → length seats ≡ 1 → seats ≡ rest ++ seat ∷ []
+    → All (λ (s : BoardPlace). IsFree board s) seats → IsFree board seat
 free_alone board seats rest seat one is free =
     let all : All (λ (s : BoardPlace). IsFree board s) (seat ∷ []) = subst (All (λ (s : BoardPlace). IsFree board s)) (the_one seats rest seat one is) free in
     all 0 seat (let low : 0 < 1 = omega arith in low)
 
 -- the two seats of a board are free
-pub free_two : (board : Origin Terms Progress) (seats rest front : List BoardPlace) (first second : BoardPlace) → length seats ≡ 2 → seats ≡ rest ++ second ∷ [] → rest ≡ front ++ first ∷ [] → All (λ (s : BoardPlace). IsFree board s) seats → IsFree board first × IsFree board second
+pub free_two : (board : Origin Terms Progress) (seats rest front : List BoardPlace) (first second : BoardPlace) → length seats ≡ 2 → seats ≡ rest ++ second ∷ []
+    → rest ≡ front ++ first ∷ [] → All (λ (s : BoardPlace). IsFree board s) seats → IsFree board first × IsFree board second
 free_two board seats rest front first second two is before free =
-    let all : All (λ (s : BoardPlace). IsFree board s) (first ∷ second ∷ []) = subst (All (λ (s : BoardPlace). IsFree board s)) (the_two seats rest front first second two is before) free in
+    let all : All (λ (s : BoardPlace). IsFree board s) (first ∷ second ∷ []) =
+    subst (All (λ (s : BoardPlace). IsFree board s)) (the_two seats rest front first second two is before) free in
     (all 0 first (let low : 0 < 2 = omega arith in low), all 1 second (let low : 1 < 2 = omega arith in low))
 
 -- the one seat comes back with its number
-pub back_alone : (count : ℕ) (seats rest ended : List BoardPlace) (seat now : BoardPlace) → length seats ≡ 1 → seats ≡ rest ++ seat ∷ [] → ((n : ℕ) (d : BoardPlace) → n < 1 → (slice_index_or seats n d).number ≡ n) → count ≡ 1 → now.number ≡ seat.number → ended ≡ now ∷ []
+pub back_alone : (count : ℕ) (seats rest ended : List BoardPlace) (seat now : BoardPlace) → length seats ≡ 1 → seats ≡ rest ++ seat ∷ []
+    → ((n : ℕ) (d : BoardPlace) → n < 1 → (slice_index_or seats n d).number ≡ n) → count ≡ 1 → now.number ≡ seat.number → ended ≡ now ∷ []
     → (n : ℕ) → n < count → Any (λ (s : BoardPlace). s.number ≡ n) ended
 back_alone count seats rest ended seat now one is numbers counted same end =
-    let first : seat.number ≡ 0 = subst (λ (l : List BoardPlace). (slice_index_or l 0 seat).number ≡ 0) (the_one seats rest seat one is) (numbers 0 seat (let low : 0 < 1 = omega arith in low)) in
+    let first : seat.number ≡ 0 =
+    subst (λ (l : List BoardPlace). (slice_index_or l 0 seat).number ≡ 0) (the_one seats rest seat one is)
+    (numbers 0 seat (let low : 0 < 1 = omega arith in low)) in
     subst (λ (l : List BoardPlace). (n : ℕ) → n < count → Any (λ (s : BoardPlace). s.number ≡ n) l) (sym end) (each_of_one count now counted (same ∙ first))
 
 -- the two seats come back with their numbers
-pub back_two : (count : ℕ) (seats rest front ended : List BoardPlace) (first second first_now second_now : BoardPlace) → length seats ≡ 2 → seats ≡ rest ++ second ∷ [] → rest ≡ front ++ first ∷ [] → ((n : ℕ) (d : BoardPlace) → n < 2 → (slice_index_or seats n d).number ≡ n) → count ≡ 2 → first_now.number ≡ first.number → second_now.number ≡ second.number → ended ≡ first_now ∷ second_now ∷ []
+pub back_two : (count : ℕ) (seats rest front ended : List BoardPlace) (first second first_now second_now : BoardPlace) → length seats ≡ 2
+    → seats ≡ rest ++ second ∷ [] → rest ≡ front ++ first ∷ [] → ((n : ℕ) (d : BoardPlace) → n < 2 → (slice_index_or seats n d).number ≡ n) → count ≡ 2
+    → first_now.number ≡ first.number → second_now.number ≡ second.number → ended ≡ first_now ∷ second_now ∷ []
     → (n : ℕ) → n < count → Any (λ (s : BoardPlace). s.number ≡ n) ended
 back_two count seats rest front ended first second first_now second_now two is before numbers counted same other end =
     let all = the_two seats rest front first second two is before in
-    let zeroth : first.number ≡ 0 = subst (λ (l : List BoardPlace). (slice_index_or l 0 first).number ≡ 0) all (numbers 0 first (let low : 0 < 2 = omega arith in low)) in
-    let last : second.number ≡ 1 = subst (λ (l : List BoardPlace). (slice_index_or l 1 second).number ≡ 1) all (numbers 1 second (let low : 1 < 2 = omega arith in low)) in
-    subst (λ (l : List BoardPlace). (n : ℕ) → n < count → Any (λ (s : BoardPlace). s.number ≡ n) l) (sym end) (each_of_two count first_now second_now counted (same ∙ zeroth) (other ∙ last))
+    let zeroth : first.number ≡ 0 =
+    subst (λ (l : List BoardPlace). (slice_index_or l 0 first).number ≡ 0) all (numbers 0 first (let low : 0 < 2 = omega arith in low)) in
+    let last : second.number ≡ 1 =
+    subst (λ (l : List BoardPlace). (slice_index_or l 1 second).number ≡ 1) all (numbers 1 second (let low : 1 < 2 = omega arith in low)) in
+    subst (λ (l : List BoardPlace). (n : ℕ) → n < count → Any (λ (s : BoardPlace). s.number ≡ n) l) (sym end)
+    (each_of_two count first_now second_now counted (same ∙ zeroth) (other ∙ last))

@@ -57,9 +57,12 @@ fn four_students<R: Abort>(rt: &R, alloc: Global) -> Result<Crowd, Fail>
 // What a student of the crowd takes.
 fn taken(crowd: &Crowd, prices: &[Tokens], student: StudentNo) -> Bundle
     requires crowd { IsMade crowd.now }
-    requires prices { ArePricesFor (crowd_of crowd.now.menus.items crowd.now.budgets.items crowd.now.sections) prices.now }
+    requires prices { ArePricesFor
+        (crowd_of crowd.now.menus.items crowd.now.budgets.items crowd.now.sections) prices.now }
     requires student { student.0 < length crowd.now.menus.items }
-    ensures { sections_of result ≡ crowd_demand (crowd_of crowd.now.menus.items crowd.now.budgets.items crowd.now.sections) (price_in prices.now) student.0 }
+    ensures { sections_of result
+        ≡ crowd_demand (crowd_of crowd.now.menus.items crowd.now.budgets.items crowd.now.sections)
+        (price_in prices.now) student.0 }
 {
     let allowed = SectionSet::full(crowd.sections);
     let place = student.0 as usize;
@@ -68,8 +71,11 @@ fn taken(crowd: &Crowd, prices: &[Tokens], student: StudentNo) -> Bundle
 
 // One version, at which the section is free, and whether more than the limit take it.
 fn one_version(alloc: Global, limit: u32) -> Result<Round, NoMemory>
-    ensures round { IfOk result (λ round. (crowd : Crowd) → crowd.sections ≡ 1 → IsRound (terms_of crowd round)) }
-    ensures versions { IfOk result (λ round. map (λ version. version.items) round.versions.items ≡ (record { 0 = 0 } ∷ []) ∷ []) }
+    ensures round { IfOk result
+        (λ round. (crowd : Crowd) → crowd.sections ≡ 1 → IsRound (terms_of crowd round)) }
+    ensures versions { IfOk result
+        (λ round. map (λ version. version.items) round.versions.items
+        ≡ (record { 0 = 0 } ∷ []) ∷ []) }
 {
     let prices = Vec::from_slice(alloc, &[Tokens(0)])?;
     let mut versions = Vec::new(alloc);
@@ -92,8 +98,10 @@ fn post_for<R: Wait>(
     prices: &[Tokens],
 ) -> Posted
     requires crowd { IsMade crowd.now }
-    requires prices { ArePricesFor (crowd_of crowd.now.menus.items crowd.now.budgets.items crowd.now.sections) prices.now }
-    requires base { board.now.base.crowd ≡ crowd_of crowd.now.menus.items crowd.now.budgets.items crowd.now.sections }
+    requires prices { ArePricesFor
+        (crowd_of crowd.now.menus.items crowd.now.budgets.items crowd.now.sections) prices.now }
+    requires base { board.now.base.crowd
+        ≡ crowd_of crowd.now.menus.items crowd.now.budgets.items crowd.now.sections }
     requires versions { board.now.base.versions ≡ prices.now ∷ [] }
     requires student { student.0 < length crowd.now.menus.items }
     requires seat { IsSeatOf board.now seat.old }
@@ -119,7 +127,8 @@ fn drawn_by<R: Wait>(
 ) -> Result<Vec<u16>, NoMemory>
     requires crowd { IsMade crowd.now }
     requires sections { crowd.now.sections ≡ 1 }
-    requires base { board.now.base.crowd ≡ crowd_of crowd.now.menus.items crowd.now.budgets.items crowd.now.sections }
+    requires base { board.now.base.crowd
+        ≡ crowd_of crowd.now.menus.items crowd.now.budgets.items crowd.now.sections }
     requires versions { board.now.base.versions ≡ (record { 0 = 0 } ∷ []) ∷ [] }
     requires free { IsFree board.now seat.old }
     ensures finished { IfOk result (λ _. IsFinished board.now seat.new) }
@@ -171,7 +180,8 @@ fn all_but_the_first<R: Abort + Wait>(rt: &R, board: &Board, seat: &mut BoardSea
     requires crowd { IsMade crowd.now }
     requires sections { crowd.now.sections ≡ 1 }
     requires students { length crowd.now.menus.items ≡ 4 }
-    requires base { board.now.base.crowd ≡ crowd_of crowd.now.menus.items crowd.now.budgets.items crowd.now.sections }
+    requires base { board.now.base.crowd
+        ≡ crowd_of crowd.now.menus.items crowd.now.budgets.items crowd.now.sections }
     requires versions { board.now.base.versions ≡ (record { 0 = 0 } ∷ []) ∷ [] }
     requires free { IsFree board.now seat.old }
     requires fresh { posts seat.old.own ≡ 0 }
@@ -186,8 +196,8 @@ fn all_but_the_first<R: Abort + Wait>(rt: &R, board: &Board, seat: &mut BoardSea
     }
 }
 
-// Of two workers: the second draws and posts all tasks but the first, which the first worker posts only then; after that the second
-// posts a task again.
+// Of two workers: the second draws and posts all tasks but the first, which the first worker posts
+// only then; after that the second posts a task again.
 fn late_and_again<R: Abort + Wait>(
     rt: &R,
     board: &Board,
@@ -198,7 +208,8 @@ fn late_and_again<R: Abort + Wait>(
     requires crowd { IsMade crowd.now }
     requires sections { crowd.now.sections ≡ 1 }
     requires students { length crowd.now.menus.items ≡ 4 }
-    requires base { board.now.base.crowd ≡ crowd_of crowd.now.menus.items crowd.now.budgets.items crowd.now.sections }
+    requires base { board.now.base.crowd
+        ≡ crowd_of crowd.now.menus.items crowd.now.budgets.items crowd.now.sections }
     requires versions { board.now.base.versions ≡ (record { 0 = 0 } ∷ []) ∷ [] }
     requires first_free { IsFree board.now first.old }
     requires second_free { IsFree board.now second.old }

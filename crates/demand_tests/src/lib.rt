@@ -1,5 +1,5 @@
-//! Tests of what students take: of the crates in which their bundles are sought, by one search and by workers. There is
-//! nothing else here, so that what they stand on is proved once.
+//! Tests of what students take: of the crates in which their bundles are sought, by one search and
+//! by workers. There is nothing else here, so that what they stand on is proved once.
 #![tactic(auto)]
 
 #[cfg(test)]

@@ -18,8 +18,8 @@ use std::alloc::Global;
 use std::process::Abort;
 use std::test::Fail;
 
-// A menu of these places, each with its section and course, its rating and its credits, of which the marked ones
-// clash with each other.
+// A menu of these places, each with its section and course, its rating and its credits, of which
+// the marked ones clash with each other.
 fn menu_of<R: Abort>(
     rt: &R,
     alloc: Global,
@@ -45,10 +45,16 @@ fn menu_of<R: Abort>(
 // The node with the section of the next place, where that is open.
 fn with_next(menu: &Menu, node: &Node) -> Node
     requires left { node.now.place < length menu.now.places }
-    requires open { (prices : List Tokens) × (budget : ℕ) × (allowed : set.FinSet nat_cmp) × IsNode (offer_of menu.now prices budget allowed) node.now.place (sections_of node.now.chosen) × (is_open (offer_of menu.now prices budget allowed) (places_of menu.now (sections_of node.now.chosen)) node.now.place ≡ true) }
+    requires open { (prices : List Tokens) × (budget : ℕ) × (allowed : set.FinSet nat_cmp)
+        × IsNode (offer_of menu.now prices budget allowed) node.now.place
+        (sections_of node.now.chosen)
+        × (is_open (offer_of menu.now prices budget allowed)
+        (places_of menu.now (sections_of node.now.chosen)) node.now.place
+        ≡ true) }
     ensures menu { IsMenu menu.now }
     ensures place { result.place ≡ node.now.place + 1 }
-    ensures chosen { sections_of result.chosen ≡ sections_of node.now.chosen ++ section_at menu.now.places node.now.place ∷ [] }
+    ensures chosen { sections_of result.chosen
+        ≡ sections_of node.now.chosen ++ section_at menu.now.places node.now.place ∷ [] }
 {
     prove!(node.place < menu.len());
     let rated = menu.rated(node.place);
@@ -88,7 +94,8 @@ fn taken<R: Abort>(
     node.chosen
 }
 
-// The tree of the bundle of these sections is this text: checked, built, and written into a room of its length.
+// The tree of the bundle of these sections is this text: checked, built, and written into a room of
+// its length.
 fn has_tree<R: Abort>(
     rt: &R,
     alloc: Global,
@@ -205,8 +212,8 @@ fn each_defect_at_its_place(rt: HostRuntime) -> Result<(), Fail> {
     Ok(())
 }
 
-// The forced tree of the section alone is this text, each of whose symbols is one byte: with another symbol there, or
-// cut there, it fails there.
+// The forced tree of the section alone is this text, each of whose symbols is one byte: with
+// another symbol there, or cut there, it fails there.
 fn has_forced_tree<R: Abort>(
     rt: &R,
     alloc: Global,

@@ -111,7 +111,8 @@ fn at(alloc: Global, price: u32) -> Result<Vec<Tokens>, NoMemory> {
     Ok(vec![in alloc; Tokens(price); 1]?)
 }
 
-// How many of the four take the section at 104, 102, 103 and 0, asked in one call of so many workers.
+// How many of the four take the section at 104, 102, 103 and 0, asked in one call of so many
+// workers.
 fn counts_by<R: Abort + Threads + Wait + Sync>(
     rt: &R,
     alloc: Global,
@@ -164,7 +165,8 @@ fn only<R: Abort>(rt: &R, found: &[Vec<u32>]) -> u32 {
     found[0][0]
 }
 
-// How many take the section at 102, then at 103, then for nothing, and how many bundles the workers posted for each.
+// How many take the section at 102, then at 103, then for nothing, and how many bundles the workers
+// posted for each.
 fn counts_in_turn<R: Abort + Threads + Wait + Sync>(
     rt: &R,
     alloc: Global,
@@ -187,7 +189,8 @@ fn counts_in_turn<R: Abort + Threads + Wait + Sync>(
     Ok([at_first, at_second, at_third])
 }
 
-// At the second prices three students keep what is remembered, so that the caller asks the fourth; at the third nothing is kept.
+// At the second prices three students keep what is remembered, so that the caller asks the fourth;
+// at the third nothing is kept.
 #[test]
 fn few_are_asked_without_workers(rt: HostRuntime) -> Result<(), Fail> {
     let found = counts_in_turn(&rt, rt.alloc())?;
@@ -229,7 +232,8 @@ fn bundles_of_four_students(rt: HostRuntime) -> Result<(), Fail> {
     Ok(())
 }
 
-// Whether more than the limit of the four take the section where it is free, and how many bundles one worker posted for the answer.
+// Whether more than the limit of the four take the section where it is free, and how many bundles
+// one worker posted for the answer.
 fn settle<R: Abort + Threads + Wait + Sync>(
     rt: &R,
     alloc: Global,
@@ -272,7 +276,8 @@ fn least_prices_of_four_students(rt: HostRuntime) -> Result<(), Fail> {
     Ok(())
 }
 
-// The least prices from 50 up at which at most 30, 10 and all of a hundred take the section: two workers ask ahead.
+// The least prices from 50 up at which at most 30, 10 and all of a hundred take the section: two
+// workers ask ahead.
 #[test]
 fn least_prices_of_many(rt: HostRuntime) -> Result<(), Fail> {
     let alloc = rt.alloc();

@@ -5,7 +5,8 @@ use Rattle.clearing_error.specs.Errors.{error}
 use Rattle.demand_api.specs.Crowds.{CrowdData, counts, demands}
 use Rattle.market_units.specs.declared.units.Tokens.{Tokens}
 
--- the sections that each student takes, in file order; how many students take each section; and the clearing error
+-- the sections that each student takes, in file order; how many students take each section; and the
+-- clearing error
 pub record TakenData : Type 0 where
   pub bundles : List (List ℕ)
   pub counts : List ℕ

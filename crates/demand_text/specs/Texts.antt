@@ -18,7 +18,8 @@ taken_line sections name bundle = spaced (codes "bundle" ∷ name ∷ bundle_tex
 abbrev pub count_line : List ℕ → ℕ → List ℕ
 count_line name count = spaced (codes "count" ∷ name ∷ decimal count ∷ [])
 
--- The lines of what is taken after a journal: its order; each student's bundle and each section's count, in file order; and the error.
+-- The lines of what is taken after a journal: its order; each student's bundle and each section's
+-- count, in file order; and the error.
 abbrev pub demand_text : List Section → List Student → List Entry → TakenData → List ℕ
 demand_text sections students journal taken =
     joined (

@@ -12,13 +12,15 @@ ghost use Rattle.preference_desk.specs.declared.entry.Entry.{Entry};
 
 use bundle_rules::Bundle;
 use course_catalog::Catalog;
+use market_certificate::{put_bundle_field, put_field, put_number_field};
 use market_units::{Name, NoMemory};
 use preference_desk::Entry;
-use market_certificate::{put_bundle_field, put_field, put_number_field};
 
-/// Puts the line of a journal's order behind the text: the session of each entry. The error is want of memory.
+/// Puts the line of a journal's order behind the text: the session of each entry. The error is want
+/// of memory.
 pub fn put_order(text: &mut Vec<u8>, journal: &[Entry]) -> Result<(), NoMemory>
-    ensures { OnOk result (text.new.items ≡ text.old.items ++ order_line (sessions_of journal.now) ++ 10 ∷ []) }
+    ensures { OnOk result
+        (text.new.items ≡ text.old.items ++ order_line (sessions_of journal.now) ++ 10 ∷ []) }
 {
     text.extend_from_slice(b"order")?;
     put_sessions(text, journal)?;
@@ -28,7 +30,9 @@ pub fn put_order(text: &mut Vec<u8>, journal: &[Entry]) -> Result<(), NoMemory>
 
 // Puts a space and the session of each entry behind the text.
 fn put_sessions(text: &mut Vec<u8>, journal: &[Entry]) -> Result<(), NoMemory>
-    ensures { OnOk result (text.new.items ≡ text.old.items ++ flat_map (λ n. 32 ∷ decimal n) (sessions_of journal.now)) }
+    ensures { OnOk result
+        (text.new.items
+        ≡ text.old.items ++ flat_map (λ n. 32 ∷ decimal n) (sessions_of journal.now)) }
 {
     'entries: for entry in journal {
         put_number_field(text, u64::from(entry.session))?;
@@ -44,7 +48,12 @@ pub(crate) fn put_taken(
     bundle: &Bundle,
 ) -> Result<(), NoMemory>
     requires { All (λ s. s < length catalog.now.sections) (sections_of bundle.now) }
-    ensures { OnOk result (text.new.items ≡ text.old.items ++ taken_line (section_names catalog.now.sections) (name_bytes student.now) (sections_of bundle.now) ++ 10 ∷ []) }
+    ensures { OnOk result
+        (text.new.items
+        ≡ text.old.items
+        ++ taken_line (section_names catalog.now.sections) (name_bytes student.now)
+        (sections_of bundle.now)
+        ++ 10 ∷ []) }
 {
     text.extend_from_slice(b"bundle")?;
     put_field(text, student.bytes())?;
@@ -55,7 +64,8 @@ pub(crate) fn put_taken(
 
 // Puts the line of a section's count behind the text.
 pub(crate) fn put_count(text: &mut Vec<u8>, section: &Name, count: u32) -> Result<(), NoMemory>
-    ensures { OnOk result (text.new.items ≡ text.old.items ++ count_line (name_bytes section.now) count ++ 10 ∷ []) }
+    ensures { OnOk result
+        (text.new.items ≡ text.old.items ++ count_line (name_bytes section.now) count ++ 10 ∷ []) }
 {
     text.extend_from_slice(b"count")?;
     put_field(text, section.bytes())?;

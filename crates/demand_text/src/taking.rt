@@ -14,8 +14,8 @@ use std::marker::Model;
 use std::sync::Wait;
 use std::thread::Threads;
 
-/// What a crowd takes at given prices: each student's bundle, how many students take each section, and the clearing
-/// error.
+/// What a crowd takes at given prices: each student's bundle, how many students take each section,
+/// and the clearing error.
 #[derive(Drop)]
 pub struct Taken {
     held: Held,
@@ -35,8 +35,9 @@ impl Taken {
     ghost use Rattle.std.specs.Prelude.{map};
     ghost use Rattle.bundle_rules.specs.Bundles.{sections_of};
 
-    /// What a crowd takes where its sections have these seats and these prices. A price above the top is asked as the
-    /// top, which changes nothing (`demand_api::laws`). `NoMemory` is the only error.
+    /// What a crowd takes where its sections have these seats and these prices. A price above the
+    /// top is asked as the top, which changes nothing (`demand_api::laws`). `NoMemory` is the only
+    /// error.
     pub fn at<R: Threads + Wait + Sync, D: Demands>(
         rt: &R,
         alloc: Global,
@@ -47,8 +48,11 @@ impl Taken {
         requires seats { length seats.now ≡ (D.crowd demands.old).sections }
         requires prices { length prices.now ≡ (D.crowd demands.old).sections }
         ensures crowd { D.crowd demands.new ≡ D.crowd demands.old }
-        ensures value { IfOk result (λ taken. taken ≡ taken_at (D.crowd demands.old) seats.now prices.now) }
-        ensures by { IfOk result (λ taken. IsTakenBy (length (D.crowd demands.old).students) (D.crowd demands.old).sections taken) }
+        ensures value { IfOk result
+            (λ taken. taken ≡ taken_at (D.crowd demands.old) seats.now prices.now) }
+        ensures by { IfOk result
+            (λ taken. IsTakenBy (length (D.crowd demands.old).students)
+            (D.crowd demands.old).sections taken) }
     {
         let asked = capped(alloc, prices, demands.top())?;
         let held = Held::take(rt, alloc, demands, &asked)?;
@@ -85,7 +89,8 @@ impl Taken {
 
 // The prices, each cut to the top.
 fn capped(alloc: Global, prices: &[Tokens], top: Tokens) -> Result<Vec<Tokens>, NoMemory>
-    ensures { IfOk result (λ asked. asked.items ≡ map (λ price. record { 0 = min price.0 top.0 }) prices.now) }
+    ensures { IfOk result
+        (λ asked. asked.items ≡ map (λ price. record { 0 = min price.0 top.0 }) prices.now) }
 {
     let asked = prices
         .iter()
@@ -98,7 +103,8 @@ fn capped(alloc: Global, prices: &[Tokens], top: Tokens) -> Result<Vec<Tokens>, 
 fn counts_of(alloc: Global, held: &Held, sections: usize) -> Result<Vec<u32>, NoMemory>
     requires sections { sections ≡ length held.now.prices }
     requires few { sections ≤ 400 }
-    ensures each { IfOk result (λ found. found.items ≡ map (λ s. holders s held.now.bundles) (places_from 0 sections)) }
+    ensures each { IfOk result
+        (λ found. found.items ≡ map (λ s. holders s held.now.bundles) (places_from 0 sections)) }
     ensures few { IfOk result (λ found. All (λ count. count ≤ 2000) found.items) }
 {
     let mut counts = Vec::with_capacity(alloc, sections)?;

@@ -18,8 +18,8 @@ use preference_desk::Entry;
 use std::alloc::Global;
 use student_roll::Roll;
 
-/// The text of what is taken after a journal by the students of a roll, who choose among the sections of a catalogue.
-/// `NoMemory` is the only error.
+/// The text of what is taken after a journal by the students of a roll, who choose among the
+/// sections of a catalogue. `NoMemory` is the only error.
 pub fn demand_text(
     alloc: Global,
     catalog: &Catalog,
@@ -28,7 +28,9 @@ pub fn demand_text(
     taken: &Taken,
 ) -> Result<Vec<u8>, NoMemory>
     requires { IsTakenBy (length roll.now.students) (length catalog.now.sections) taken.now }
-    ensures { IfOk result (λ text. text.items ≡ demand_text catalog.now.sections roll.now.students journal.now taken.now) }
+    ensures { IfOk result
+        (λ text. text.items
+        ≡ demand_text catalog.now.sections roll.now.students journal.now taken.now) }
 {
     let mut text = Vec::new(alloc);
     put_order(&mut text, journal)?;
@@ -46,8 +48,14 @@ fn put_bundles(
     bundles: &[Bundle],
 ) -> Result<(), NoMemory>
     requires each { length bundles.now ≡ length roll.now.students }
-    requires within { All (λ bundle. All (λ s. s < length catalog.now.sections) bundle) (map sections_of bundles.now) }
-    ensures { OnOk result (text.new.items ≡ text.old.items ++ joined (each_line (taken_line (section_names catalog.now.sections)) (names_of roll.now.students) (map sections_of bundles.now))) }
+    requires within { All (λ bundle. All (λ s. s < length catalog.now.sections) bundle)
+        (map sections_of bundles.now) }
+    ensures { OnOk result
+        (text.new.items
+        ≡ text.old.items
+        ++ joined
+        (each_line (taken_line (section_names catalog.now.sections))
+        (names_of roll.now.students) (map sections_of bundles.now))) }
 {
     'students: for student in 0..roll.len() {
         let name = roll.name(StudentNo(student));
@@ -59,7 +67,10 @@ fn put_bundles(
 // Puts the line of each section's count behind the text.
 fn put_counts(text: &mut Vec<u8>, catalog: &Catalog, counts: &[u32]) -> Result<(), NoMemory>
     requires { length counts.now ≡ length catalog.now.sections }
-    ensures { OnOk result (text.new.items ≡ text.old.items ++ joined (each_line count_line (section_names catalog.now.sections) counts.now)) }
+    ensures { OnOk result
+        (text.new.items
+        ≡ text.old.items
+        ++ joined (each_line count_line (section_names catalog.now.sections) counts.now)) }
 {
     'sections: for section in 0..catalog.len() {
         let name = catalog.name(SectionNo(section));

@@ -19,15 +19,20 @@ sum_from f first (suc n) = f first + sum_from f (suc first) n
 
 sum_from-le : (f g : ℕ → ℕ) (first n : ℕ) → ((i : ℕ) → f i ≤ g i) → sum_from f first n ≤ sum_from g first n
 sum_from-le f g first zero each = omega arith
-sum_from-le f g first (suc n) each = let here : f first ≤ g first = each first in let rest : sum_from f (suc first) n ≤ sum_from g (suc first) n = sum_from-le f g (suc first) n each in omega arith
+sum_from-le f g first (suc n) each =
+    let here : f first ≤ g first = each first in
+    let rest : sum_from f (suc first) n ≤ sum_from g (suc first) n = sum_from-le f g (suc first) n each in omega arith
 
 sum_from-same : (f g : ℕ → ℕ) (first n : ℕ) → ((i : ℕ) → f i ≡ g i) → sum_from f first n ≡ sum_from g first n
 sum_from-same f g first zero each = refl
-sum_from-same f g first (suc n) each = let here : f first ≡ g first = each first in let rest : sum_from f (suc first) n ≡ sum_from g (suc first) n = sum_from-same f g (suc first) n each in omega arith
+sum_from-same f g first (suc n) each =
+    let here : f first ≡ g first = each first in
+    let rest : sum_from f (suc first) n ≡ sum_from g (suc first) n = sum_from-same f g (suc first) n each in omega arith
 
 sum_from-add : (f g : ℕ → ℕ) (first n : ℕ) → sum_from (λ i. f i + g i) first n ≡ sum_from f first n + sum_from g first n
 sum_from-add f g first zero = omega arith
-sum_from-add f g first (suc n) = let rest : sum_from (λ i. f i + g i) (suc first) n ≡ sum_from f (suc first) n + sum_from g (suc first) n = sum_from-add f g (suc first) n in omega arith
+sum_from-add f g first (suc n) =
+    let rest : sum_from (λ i. f i + g i) (suc first) n ≡ sum_from f (suc first) n + sum_from g (suc first) n = sum_from-add f g (suc first) n in omega arith
 
 sum_from-none : (first n : ℕ) → sum_from (λ i. 0) first n ≡ 0
 sum_from-none first zero = refl
@@ -64,7 +69,8 @@ once_at m first (suc n) low high = elim (cases_Bool (m == first)) [
 total_by_place : (g : List ℕ → ℕ) (bundles : List (List ℕ)) → total g bundles ≡ sum_from (λ i. g (slice_index_or bundles i [])) 0 (length bundles)
 total_by_place g [] = refl
 total_by_place g (b ∷ bs) =
-    let shifted : sum_from (λ i. g (slice_index_or (b ∷ bs) i [])) (suc 0) (length bs) ≡ sum_from (λ i. g (slice_index_or bs i [])) 0 (length bs) = sum_from-shift (λ i. g (slice_index_or (b ∷ bs) i [])) 0 (length bs) in
+    let shifted : sum_from (λ i. g (slice_index_or (b ∷ bs) i [])) (suc 0) (length bs) ≡ sum_from (λ i. g (slice_index_or bs i [])) 0 (length bs) =
+    sum_from-shift (λ i. g (slice_index_or (b ∷ bs) i [])) 0 (length bs) in
     ap (λ more. g b + more) (total_by_place g bs ∙ sym shifted)
 
 -- one holder more
@@ -105,7 +111,8 @@ module _ (crowd : CrowdData) (price : ℕ → ℕ) (s p : ℕ) (hs : List (ℕ �
   -- if each holder takes the section, and each is listed once, at least as many students take it
   pub count_at_least : ((i : ℕ) → listed i hs ≤ 1) → All (λ (h : ℕ × ℕ). takes crowd price s p h.1 ≡ true) hs → length hs ≤ count crowd (with_price price s p) s
   count_at_least once all =
-      let few : sum_from (λ i. listed i hs) 0 (length crowd.students) ≤ sum_from ind 0 (length crowd.students) = sum_from-le (λ i. listed i hs) ind 0 (length crowd.students) each in
+      let few : sum_from (λ i. listed i hs) 0 (length crowd.students) ≤ sum_from ind 0 (length crowd.students) =
+      sum_from-le (λ i. listed i hs) ind 0 (length crowd.students) each in
       let long : length hs ≡ sum_from (λ i. listed i hs) 0 (length crowd.students) = length_listed (length crowd.students) hs within in
       let told : count crowd (with_price price s p) s ≡ sum_from ind 0 (length crowd.students) = counted in
       omega arith
@@ -119,7 +126,8 @@ module _ (crowd : CrowdData) (price : ℕ → ℕ) (s p : ℕ) (hs : List (ℕ �
   -- if who takes the section is listed, at most as many students take it
   pub count_at_most : ((i : ℕ) → takes crowd price s p i ≡ true → 1 ≤ listed i hs) → count crowd (with_price price s p) s ≤ length hs
   count_at_most others =
-      let few : sum_from ind 0 (length crowd.students) ≤ sum_from (λ i. listed i hs) 0 (length crowd.students) = sum_from-le ind (λ i. listed i hs) 0 (length crowd.students) each in
+      let few : sum_from ind 0 (length crowd.students) ≤ sum_from (λ i. listed i hs) 0 (length crowd.students) =
+      sum_from-le ind (λ i. listed i hs) 0 (length crowd.students) each in
       let long : length hs ≡ sum_from (λ i. listed i hs) 0 (length crowd.students) = length_listed (length crowd.students) hs within in
       let told : count crowd (with_price price s p) s ≡ sum_from ind 0 (length crowd.students) = counted in
       omega arith

@@ -47,7 +47,8 @@ pub takes_falls : (crowd : CrowdData) (price : ℕ → ℕ) (s p q i : ℕ) → 
 unfolding demands
 takes_falls crowd price s p q i low is = among crowd.students i is
   where
-    among : (students : List Student) (k : ℕ) → has (slice_index_or (map (demand crowd.sections (with_price price s q)) students) k []) s ≡ true → has (slice_index_or (map (demand crowd.sections (with_price price s p)) students) k []) s ≡ true
+    among : (students : List Student) (k : ℕ) → has (slice_index_or (map (demand crowd.sections (with_price price s q)) students) k []) s ≡ true
+        → has (slice_index_or (map (demand crowd.sections (with_price price s p)) students) k []) s ≡ true
     among [] k told = absurd (false≢true told)
     among (x ∷ xs) zero told = elim (cases_Bool (has (demand crowd.sections (with_price price s p) x) s)) [
       | inl still ↦ still
@@ -69,7 +70,8 @@ takes_now crowd price s p i now = ap (λ bundle. has bundle s) (demand_same crow
     ]
 
 -- a set costs more by what the section costs more, at most
-pub total_raised : (s more : ℕ) (before after : ℕ → ℕ) → IsRaised s before after → after s ≡ before s + more → (ss : List ℕ) → IsAscending ss → total after ss ≤ total before ss + more
+pub total_raised : (s more : ℕ) (before after : ℕ → ℕ) → IsRaised s before after → after s ≡ before s + more → (ss : List ℕ) → IsAscending ss
+    → total after ss ≤ total before ss + more
 total_raised s more before after is up [] ascending = omega arith
 total_raised s more before after is up (t ∷ ts) ascending = elim (cases_order t s) [
   | inl here ↦
@@ -87,29 +89,44 @@ total_raised s more before after is up (t ∷ ts) ascending = elim (cases_order 
 ]
 
 -- a holder takes the section as long as its price is not higher by more than what is left of the budget
-pub holder_keeps : (menus : List MenuData) (budgets : List Tokens) (sections : ℕ) (price : ℕ → ℕ) (s more i : ℕ) (menu : MenuData) (budget : Tokens) (bundle : List ℕ) → length budgets ≡ length menus → i < length menus
-    → menu ≡ slice_index_or menus i menu → budget ≡ slice_index_or budgets i budget → bundle ≡ demand_of (crowd_of menus budgets sections) price i → has bundle s ≡ true → IsAscending bundle → total price bundle + more ≤ budget.0
+pub holder_keeps : (menus : List MenuData) (budgets : List Tokens) (sections : ℕ) (price : ℕ → ℕ) (s more i : ℕ) (menu : MenuData) (budget : Tokens)
+    (bundle : List ℕ)
+    → length budgets ≡ length menus → i < length menus
+    → menu ≡ slice_index_or menus i menu → budget ≡ slice_index_or budgets i budget → bundle ≡ demand_of (crowd_of menus budgets sections) price i
+    → has bundle s ≡ true → IsAscending bundle → total price bundle + more ≤ budget.0
     → takes (crowd_of menus budgets sections) price s (price s + more) i ≡ true
 holder_keeps menus budgets sections price s more i menu budget bundle same low is has_it told holds ascending paid =
     let after : ℕ → ℕ = with_price price s (price s + more) in
-    let raised : IsRaised s price after = record { others = λ t apart. with_there price s (price s + more) t apart; raised = (let e : after s ≡ price s + more = with_here price s (price s + more) in omega arith) } in
+    let raised : IsRaised s price after =
+    record {
+      others = λ t apart. with_there price s (price s + more) t apart;
+      raised = (let e : after s ≡ price s + more = with_here price s (price s + more) in omega arith);
+    } in
     let cost : total after bundle ≤ total price bundle + more = total_raised s more price after raised (with_here price s (price s + more)) bundle ascending in
     let kept : bundle ≡ demand_of (crowd_of menus budgets sections) after i =
-    kept_demand menus budgets sections price after i menu budget bundle same low is has_it (λ k d within. none_falls s price after raised (slice_index_or menu.places k d).section.0) (let goal : total after bundle ≤ budget.0 = omega arith in goal) told in
+    kept_demand menus budgets sections price after i menu budget bundle same low is has_it
+    (λ k d within. none_falls s price after raised (slice_index_or menu.places k d).section.0)
+    (let goal : total after bundle ≤ budget.0 = omega arith in goal) told in
     ap (λ b. has b s) (sym kept) ∙ holds
 
 -- what a student takes is affordable
-pub taken_affordable : (menus : List MenuData) (budgets : List Tokens) (sections : ℕ) (price : ℕ → ℕ) (i : ℕ) (menu : MenuData) (budget : Tokens) (bundle : List ℕ) → length budgets ≡ length menus → i < length menus
-    → menu ≡ slice_index_or menus i menu → budget ≡ slice_index_or budgets i budget → bundle ≡ demand_of (crowd_of menus budgets sections) price i → total price bundle ≤ budget.0
+pub taken_affordable : (menus : List MenuData) (budgets : List Tokens) (sections : ℕ) (price : ℕ → ℕ) (i : ℕ) (menu : MenuData) (budget : Tokens)
+    (bundle : List ℕ)
+    → length budgets ≡ length menus → i < length menus
+    → menu ≡ slice_index_or menus i menu → budget ≡ slice_index_or budgets i budget → bundle ≡ demand_of (crowd_of menus budgets sections) price i
+    → total price bundle ≤ budget.0
 taken_affordable menus budgets sections price i menu budget bundle same low is has_it told =
-    let was : bundle ≡ demand sections price (record { menu = menu; budget = budget.0 }) = told ∙ demand_at menus budgets sections price i menu budget same low ∙ same_student in
+    let was : bundle ≡ demand sections price (record { menu = menu; budget = budget.0 }) =
+    told ∙ demand_at menus budgets sections price i menu budget same low ∙ same_student in
     subst (λ (b : List ℕ). total price b ≤ budget.0) (sym was) (best-is menu price budget.0 (λ t. nat_lt t sections)).choice.affordable
   where
-    same_student : demand sections price (record { menu = slice_index_or menus i menu; budget = (slice_index_or budgets i budget).0 }) ≡ demand sections price (record { menu = menu; budget = budget.0 })
+    same_student : demand sections price (record { menu = slice_index_or menus i menu; budget = (slice_index_or budgets i budget).0 })
+        ≡ demand sections price (record { menu = menu; budget = budget.0 })
     same_student = rw (← is, ← has_it) refl
 
 -- a budget is below the top
-pub budget_below_top : (menus : List MenuData) (budgets : List Tokens) (sections i : ℕ) (budget : Tokens) → length budgets ≡ length menus → i < length menus → budget ≡ slice_index_or budgets i budget → budget.0 < top (crowd_of menus budgets sections)
+pub budget_below_top : (menus : List MenuData) (budgets : List Tokens) (sections i : ℕ) (budget : Tokens) → length budgets ≡ length menus → i < length menus
+    → budget ≡ slice_index_or budgets i budget → budget.0 < top (crowd_of menus budgets sections)
 budget_below_top menus budgets sections i budget same low is =
     let most : (slice_index_or budgets i budget).0 ≤ greatest budgets = among budgets i (omega arith) in
     let e : budget.0 ≡ (slice_index_or budgets i budget).0 = ap (λ (b : Tokens). b.0) is in
@@ -135,22 +152,28 @@ pub record HolderTold (crowd : CrowdData) (prices : List Tokens) (s i place cost
   pub top_most : top crowd ≤ 1000001
   pub still : takes crowd (price_in prices) s (price_in prices s + (budget - cost)) i ≡ true
 
-pub holder_told : (menus : List MenuData) (budgets : List Tokens) (sections : ℕ) (prices : List Tokens) (s i place cost : ℕ) (budget : Tokens) (bundle : List ℕ) → MakeCrowd menus budgets sections → ArePricesFor (crowd_of menus budgets sections) prices → s < sections → i < length menus
-    → budget ≡ slice_index_or budgets i budget → bundle ≡ demand_of (crowd_of menus budgets sections) (price_in prices) i → has bundle s ≡ true → IsAscending bundle → cost ≡ total (price_in prices) bundle → place ≡ s
+pub holder_told : (menus : List MenuData) (budgets : List Tokens) (sections : ℕ) (prices : List Tokens) (s i place cost : ℕ) (budget : Tokens) (bundle : List ℕ)
+    → MakeCrowd menus budgets sections → ArePricesFor (crowd_of menus budgets sections) prices → s < sections → i < length menus
+    → budget ≡ slice_index_or budgets i budget → bundle ≡ demand_of (crowd_of menus budgets sections) (price_in prices) i → has bundle s ≡ true
+    → IsAscending bundle → cost ≡ total (price_in prices) bundle → place ≡ s
     → HolderTold (crowd_of menus budgets sections) prices s i place cost budget.0
 holder_told menus budgets sections prices s i place cost budget bundle make are within low has_it told holds ascending sum at =
     let some = some_menu menus i low in
-    let paid : total (price_in prices) bundle ≤ budget.0 = taken_affordable menus budgets sections (price_in prices) i some.0 budget bundle make.same low some.1 has_it told in
+    let paid : total (price_in prices) bundle ≤ budget.0 =
+    taken_affordable menus budgets sections (price_in prices) i some.0 budget bundle make.same low some.1 has_it told in
     let part : price_in prices s ≤ total (price_in prices) bundle = member_le (price_in prices) bundle s holds in
     let high : budget.0 < top (crowd_of menus budgets sections) = budget_below_top menus budgets sections i budget make.same low has_it in
     let length_is : length prices ≡ sections = are.same in
-    let read : price_in prices s ≡ (slice_index_or prices s (record { 0 = 0 })).0 = price_at prices s (record { 0 = 0 }) (let goal : s < length prices = omega arith in goal) in
+    let read : price_in prices s ≡ (slice_index_or prices s (record { 0 = 0 })).0 =
+    price_at prices s (record { 0 = 0 }) (let goal : s < length prices = omega arith in goal) in
     record {
       paid = (let goal : cost ≤ budget.0 = omega arith in goal);
       price = ap (λ (n : ℕ). (slice_index_or prices n (record { 0 = 0 })).0) at ∙ sym read;
       most = (let goal : price_in prices s + (budget.0 - cost) + 1 ≤ top (crowd_of menus budgets sections) = omega arith in goal);
       top_most = top_high menus budgets sections make;
-      still = holder_keeps menus budgets sections (price_in prices) s (budget.0 - cost) i some.0 budget bundle make.same low some.1 has_it told holds ascending (let goal : total (price_in prices) bundle + (budget.0 - cost) ≤ budget.0 = omega arith in goal);
+      still =
+          holder_keeps menus budgets sections (price_in prices) s (budget.0 - cost) i some.0 budget bundle make.same low some.1 has_it told holds ascending
+          (let goal : total (price_in prices) bundle + (budget.0 - cost) ≤ budget.0 = omega arith in goal);
     }
 
 -- how far below the greatest price the holders leave, all together
@@ -167,7 +190,8 @@ none_past crowd price s i past = among crowd.students i past
     among (x ∷ xs) zero long = absurd (omega arith)
     among (x ∷ xs) (suc k) long = among xs k (omega arith)
 
-module _ (crowd : CrowdData) (price : ℕ → ℕ) (s level : ℕ) (hs rest : List (ℕ × ℕ)) (first : ℕ × ℕ) (left : AreLeft crowd price s level hs) (popped : IsPermutation hs (first ∷ rest)) (greatest_first : All (λ (h : ℕ × ℕ). h.0 ≤ first.0) rest) where
+module _ (crowd : CrowdData) (price : ℕ → ℕ) (s level : ℕ) (hs rest : List (ℕ × ℕ)) (first : ℕ × ℕ) (left : AreLeft crowd price s level hs)
+    (popped : IsPermutation hs (first ∷ rest)) (greatest_first : All (λ (h : ℕ × ℕ). h.0 ≤ first.0) rest) where
   abbrev P-students : ℕ × ℕ → Type 0
   P-students h = h.1 < length crowd.students
 
@@ -186,7 +210,9 @@ module _ (crowd : CrowdData) (price : ℕ → ℕ) (s level : ℕ) (hs rest : Li
 
   -- at each price below the one at which the first leaves, as many students take the section as there are holders
   pub many_below : (p : ℕ) → p < leaves first → length hs ≤ count crowd (with_price price s p) s
-  many_below p below = count_at_least crowd price s p hs left.students left.once (All-permutation (λ (h : ℕ × ℕ). takes crowd price s p h.1 ≡ true) (first ∷ rest) hs (IsPermutation-sym hs (first ∷ rest) popped) all)
+  many_below p below =
+      count_at_least crowd price s p hs left.students left.once
+      (All-permutation (λ (h : ℕ × ℕ). takes crowd price s p h.1 ≡ true) (first ∷ rest) hs (IsPermutation-sym hs (first ∷ rest) popped) all)
     where
       still : (h : ℕ × ℕ) → Keeps crowd price s level h → leaves first ≤ leaves h → takes crowd price s p h.1 ≡ true
       still h keeps later =
@@ -195,7 +221,8 @@ module _ (crowd : CrowdData) (price : ℕ → ℕ) (s level : ℕ) (hs rest : Li
 
       all : All (λ (h : ℕ × ℕ). takes crowd price s p h.1 ≡ true) (first ∷ rest)
       all = All-cons (λ (h : ℕ × ℕ). takes crowd price s p h.1 ≡ true) first rest (still first first_keeps (omega arith))
-          (λ k d low. still (slice_index_or rest k d) (All-tail (Keeps crowd price s level) first rest all_first k d low) (let h : (slice_index_or rest k d).0 ≤ first.0 = greatest_first k d low in omega arith))
+          (λ k d low. still (slice_index_or rest k d) (All-tail (Keeps crowd price s level) first rest all_first k d low)
+          (let h : (slice_index_or rest k d).0 ≤ first.0 = greatest_first k d low in omega arith))
 
   -- the rest do not leave below that price
   rest_keeps : All (Keeps crowd price s (leaves first)) rest
@@ -215,7 +242,9 @@ module _ (crowd : CrowdData) (price : ℕ → ℕ) (s level : ℕ) (hs rest : Li
   pub has_left : takes crowd price s (leaves first) first.1 ≡ false → AreLeft crowd price s (leaves first) rest
   has_left lacks = record {
     students = rest_students;
-    once = λ i. (let split : listed i rest + one_at first.1 i ≡ listed i hs = listed_split i in let one : listed i hs ≤ 1 = left.once i in let goal : listed i rest ≤ 1 = omega arith in goal);
+    once =
+        λ i. (let split : listed i rest + one_at first.1 i ≡ listed i hs = listed_split i in let one : listed i hs ≤ 1 = left.once i in let goal : listed i rest
+        ≤ 1 = omega arith in goal);
     keep = rest_keeps;
     others = λ i is.
         let some : 1 ≤ listed i hs = was_listed i is in
@@ -237,9 +266,13 @@ module _ (crowd : CrowdData) (price : ℕ → ℕ) (s level : ℕ) (hs rest : Li
     -- it stays, up to another price
     pub has_stayed : Keeps crowd price s (leaves first) again → AreLeft crowd price s (leaves first) new
     has_stayed keeps = record {
-      students = All-permutation P-students (again ∷ rest) new pushed (All-cons P-students again rest (subst (λ (n : ℕ). n < length crowd.students) (sym same) first_student) rest_students);
+      students =
+          All-permutation P-students (again ∷ rest) new pushed
+          (All-cons P-students again rest (subst (λ (n : ℕ). n < length crowd.students) (sym same) first_student) rest_students);
       once = λ i. subst (λ (n : ℕ). n ≤ 1) (sym (listed_again i)) (left.once i);
-      keep = All-permutation (Keeps crowd price s (leaves first)) (again ∷ rest) new pushed (All-cons (Keeps crowd price s (leaves first)) again rest keeps rest_keeps);
+      keep =
+          All-permutation (Keeps crowd price s (leaves first)) (again ∷ rest) new pushed
+          (All-cons (Keeps crowd price s (leaves first)) again rest keeps rest_keeps);
       others = λ i is. subst (λ (n : ℕ). 1 ≤ n) (sym (listed_again i)) (was_listed i is);
     }
 
@@ -253,11 +286,15 @@ module _ (crowd : CrowdData) (price : ℕ → ℕ) (s level : ℕ) (hs rest : Li
   less_left = let gone : room_of rest + (first.0 + 1) ≡ room_of hs = sum_by_popped (λ (h : ℕ × ℕ). h.0 + 1) first hs rest popped in omega arith
 
 -- where no more than the limit are left, and more took the section at each lower price, the price is the least
-pub least_found : (crowd : CrowdData) (price : ℕ → ℕ) (s low limit least : ℕ) (hs : List (ℕ × ℕ)) → low ≤ least → ((p : ℕ) → low ≤ p → p < least → limit < count crowd (with_price price s p) s) → AreLeft crowd price s least hs → length hs ≤ limit
+pub least_found : (crowd : CrowdData) (price : ℕ → ℕ) (s low limit least : ℕ) (hs : List (ℕ × ℕ)) → low ≤ least
+    → ((p : ℕ) → low ≤ p → p < least → limit < count crowd (with_price price s p) s) → AreLeft crowd price s least hs → length hs ≤ limit
     → IsLeastFrom low crowd price s limit least
 least_found crowd price s low limit least hs from lower left few = record {
   from = from;
-  within = (let most : count crowd (with_price price s least) s ≤ length hs = count_at_most crowd price s least hs left.students left.others in let goal : count crowd (with_price price s least) s ≤ limit = omega arith in goal);
+  within =
+      (let most : count crowd (with_price price s least) s
+      ≤ length hs = count_at_most crowd price s least hs left.students left.others in let goal : count crowd (with_price price s least) s
+      ≤ limit = omega arith in goal);
   lower = lower;
 }
 
@@ -269,10 +306,17 @@ pub record AreFirst (crowd : CrowdData) (price : ℕ → ℕ) (s n : ℕ) (hs : 
   pub others : (i : ℕ) → i < n → takes crowd price s (price s) i ≡ true → 1 ≤ listed i hs
 
 pub first_none : (crowd : CrowdData) (price : ℕ → ℕ) (s : ℕ) → AreFirst crowd price s 0 []
-first_none crowd price s = record { students = λ k d low. absurd (omega arith); once = λ i. (let goal : 0 ≤ 1 = omega arith in goal); keep = λ k d low. absurd (omega arith); others = λ i low is. absurd (omega arith) }
+first_none crowd price s =
+    record {
+      students = λ k d low. absurd (omega arith);
+      once = λ i. (let goal : 0 ≤ 1 = omega arith in goal);
+      keep = λ k d low. absurd (omega arith);
+      others = λ i low is. absurd (omega arith);
+    }
 
 -- a student who does not hold the section
-pub first_skip : (crowd : CrowdData) (price : ℕ → ℕ) (s n : ℕ) (hs : List (ℕ × ℕ)) → has (demand_of crowd price n) s ≡ false → AreFirst crowd price s n hs → AreFirst crowd price s (n + 1) hs
+pub first_skip : (crowd : CrowdData) (price : ℕ → ℕ) (s n : ℕ) (hs : List (ℕ × ℕ)) → has (demand_of crowd price n) s ≡ false → AreFirst crowd price s n hs
+    → AreFirst crowd price s (n + 1) hs
 first_skip crowd price s n hs lacks are = record {
   students = λ k d low. (let h : (slice_index_or hs k d).1 < n = are.students k d low in let goal : (slice_index_or hs k d).1 < n + 1 = omega arith in goal);
   once = are.once;
@@ -296,14 +340,22 @@ none_listed n (h ∷ hs) all =
     omega arith
 
 -- a student who holds it
-pub first_more : (crowd : CrowdData) (price : ℕ → ℕ) (s n : ℕ) (hs new : List (ℕ × ℕ)) (holder : ℕ × ℕ) → IsPermutation (holder ∷ hs) new → holder.1 ≡ n → Keeps crowd price s (price s) holder → AreFirst crowd price s n hs → AreFirst crowd price s (n + 1) new
+pub first_more : (crowd : CrowdData) (price : ℕ → ℕ) (s n : ℕ) (hs new : List (ℕ × ℕ)) (holder : ℕ × ℕ) → IsPermutation (holder ∷ hs) new → holder.1 ≡ n
+    → Keeps crowd price s (price s) holder → AreFirst crowd price s n hs → AreFirst crowd price s (n + 1) new
 first_more crowd price s n hs new holder pushed is keeps are = record {
   students = All-permutation (λ (h : ℕ × ℕ). h.1 < n + 1) (holder ∷ hs) new pushed (All-cons (λ (h : ℕ × ℕ). h.1 < n + 1) holder hs (let goal : holder.1 < n + 1 = omega arith in goal)
       (λ k d low. (let h : (slice_index_or hs k d).1 < n = are.students k d low in let goal : (slice_index_or hs k d).1 < n + 1 = omega arith in goal)));
   once = λ i. elim (cases_order i n) [
-    | inl same ↦ (let none : listed i hs ≡ 0 = ap (λ j. listed j hs) same ∙ none_listed n hs are.students in let more = split i in let one = small i in let goal : listed i new ≤ 1 = omega arith in goal)
-    | inr (inl less) ↦ (let more = split i in let before : listed i hs ≤ 1 = are.once i in let none = other i (λ e. absurd (omega arith)) in let goal : listed i new ≤ 1 = omega arith in goal)
-    | inr (inr later) ↦ (let more = split i in let before : listed i hs ≤ 1 = are.once i in let none = other i (λ e. absurd (omega arith)) in let goal : listed i new ≤ 1 = omega arith in goal)
+    | inl same ↦
+        (let none : listed i hs
+        ≡ 0 = ap (λ j. listed j hs) same ∙ none_listed n hs are.students in let more = split i in let one = small i in let goal : listed i new
+        ≤ 1 = omega arith in goal)
+    | inr (inl less) ↦
+        (let more = split i in let before : listed i hs ≤ 1 = are.once i in let none = other i (λ e. absurd (omega arith)) in let goal : listed i new
+        ≤ 1 = omega arith in goal)
+    | inr (inr later) ↦
+        (let more = split i in let before : listed i hs ≤ 1 = are.once i in let none = other i (λ e. absurd (omega arith)) in let goal : listed i new
+        ≤ 1 = omega arith in goal)
   ];
   keep = All-permutation (Keeps crowd price s (price s)) (holder ∷ hs) new pushed (All-cons (Keeps crowd price s (price s)) holder hs keeps are.keep);
   others = λ i low taken. elim (cases_order i n) [
@@ -326,30 +378,40 @@ first_more crowd price s n hs new holder pushed is keeps are = record {
     own i same = let match : (holder.1 == i) ≡ true = grind (arith, nat_tests) in rw match refl
 
 -- all students were looked at
-pub first_all : (crowd : CrowdData) (price : ℕ → ℕ) (s n : ℕ) (hs : List (ℕ × ℕ)) → n ≡ length crowd.students → AreFirst crowd price s n hs → AreLeft crowd price s (price s) hs
+pub first_all : (crowd : CrowdData) (price : ℕ → ℕ) (s n : ℕ) (hs : List (ℕ × ℕ)) → n ≡ length crowd.students → AreFirst crowd price s n hs
+    → AreLeft crowd price s (price s) hs
 first_all crowd price s n hs all are = record {
   students = subst (λ (m : ℕ). All (λ (h : ℕ × ℕ). h.1 < m) hs) all are.students;
   once = are.once;
   keep = are.keep;
   others = λ i is. elim (cases_lt i n) [
     | inl low ↦ are.others i low is
-    | inr past ↦ absurd (false≢true (sym (none_past crowd price s i (let goal : length crowd.students ≤ i = omega arith in goal)) ∙ sym (takes_now crowd price s (price s) i refl) ∙ is))
+    | inr past ↦
+        absurd
+        (false≢true
+        (sym (none_past crowd price s i (let goal : length crowd.students ≤ i = omega arith in goal)) ∙ sym (takes_now crowd price s (price s) i refl)
+        ∙ is))
   ];
 }
 
 -- prices of which the section's is raised to one that is at most the top
-pub raised_prices : (crowd : CrowdData) (prices : List Tokens) (s q : ℕ) → ArePricesFor crowd prices → q ≤ top crowd → ArePricesFor crowd (slice_set prices s (record { 0 = q }))
+pub raised_prices : (crowd : CrowdData) (prices : List Tokens) (s q : ℕ) → ArePricesFor crowd prices → q ≤ top crowd
+    → ArePricesFor crowd (slice_set prices s (record { 0 = q }))
 raised_prices crowd prices s q are capped = record {
   same = length-set prices s (record { 0 = q }) ∙ are.same;
   high = All-set (λ (price : Tokens). price.0 ≤ top crowd) prices s (record { 0 = q }) capped are.high;
 }
 
 -- what is taken there is what is taken with the price in place of the section's
-pub taken_there : (crowd : CrowdData) (prices : List Tokens) (s q i : ℕ) → ArePricesFor crowd prices → s < crowd.sections → demand_of crowd (price_in (slice_set prices s (record { 0 = q }))) i ≡ demand_of crowd (with_price (price_in prices) s q) i
-taken_there crowd prices s q i are within = demand_same crowd (price_in (slice_set prices s (record { 0 = q }))) (with_price (price_in prices) s q) i (tried crowd prices prices s q are (λ t apart. refl) within)
+pub taken_there : (crowd : CrowdData) (prices : List Tokens) (s q i : ℕ) → ArePricesFor crowd prices → s < crowd.sections
+    → demand_of crowd (price_in (slice_set prices s (record { 0 = q }))) i ≡ demand_of crowd (with_price (price_in prices) s q) i
+taken_there crowd prices s q i are within =
+    demand_same crowd (price_in (slice_set prices s (record { 0 = q }))) (with_price (price_in prices) s q) i
+    (tried crowd prices prices s q are (λ t apart. refl) within)
 
 -- a holder that was found there keeps what it holds up to its price
-pub keeps_there : (crowd : CrowdData) (prices : List Tokens) (s q i : ℕ) (holder : ℕ × ℕ) → ArePricesFor crowd prices → s < crowd.sections → holder.1 ≡ i → holder.0 ≤ 1000001 → price_in (slice_set prices s (record { 0 = q })) s < leaves holder → leaves holder ≤ top crowd
+pub keeps_there : (crowd : CrowdData) (prices : List Tokens) (s q i : ℕ) (holder : ℕ × ℕ) → ArePricesFor crowd prices → s < crowd.sections → holder.1 ≡ i
+    → holder.0 ≤ 1000001 → price_in (slice_set prices s (record { 0 = q })) s < leaves holder → leaves holder ≤ top crowd
     → takes crowd (price_in (slice_set prices s (record { 0 = q }))) s (leaves holder - 1) i ≡ true → Keeps crowd (price_in prices) s q holder
 keeps_there crowd prices s q i holder are within is room later capped still =
     let length_is : length prices ≡ crowd.sections = are.same in
@@ -359,7 +421,12 @@ keeps_there crowd prices s q i holder are within is room later capped still =
       some = omega arith;
       later = omega arith;
       capped = capped;
-      still = ap (takes crowd (price_in prices) s (leaves holder - 1)) is ∙ sym (takes_same crowd (price_in (slice_set prices s (record { 0 = q }))) (price_in prices) s (leaves holder - 1) i (λ t apart. price_kept prices s q t apart)) ∙ still;
+      still =
+          ap (takes crowd (price_in prices) s (leaves holder - 1)) is
+          ∙ sym
+          (takes_same crowd (price_in (slice_set prices s (record { 0 = q }))) (price_in prices) s (leaves holder - 1) i
+          (λ t apart. price_kept prices s q t apart))
+          ∙ still;
     }
 
 -- a price that is written twice, and one that is put back
@@ -372,30 +439,38 @@ pub put_back : (prices : List Tokens) (i : ℕ) (a d : Tokens) → slice_set (sl
 put_back prices i a d = written_twice prices i a (slice_index_or prices i d) ∙ set-get_or prices i d
 
 -- a holder that was found at the present prices, however they are read
-pub keeps_now : (crowd : CrowdData) (prices read : List Tokens) (s i : ℕ) (holder : ℕ × ℕ) → read ≡ prices → holder.1 ≡ i → holder.0 ≤ 1000001 → price_in read s < leaves holder → leaves holder ≤ top crowd → takes crowd (price_in read) s (leaves holder - 1) i ≡ true
+pub keeps_now : (crowd : CrowdData) (prices read : List Tokens) (s i : ℕ) (holder : ℕ × ℕ) → read ≡ prices → holder.1 ≡ i → holder.0 ≤ 1000001
+    → price_in read s < leaves holder → leaves holder ≤ top crowd → takes crowd (price_in read) s (leaves holder - 1) i ≡ true
     → Keeps crowd (price_in prices) s (price_in prices s) holder
 keeps_now crowd prices read s i holder same is room later capped still =
     subst (λ (ps : List Tokens). Keeps crowd (price_in ps) s (price_in ps s) holder) same
     record { room = room; some = omega arith; later = omega arith; capped = capped; still = ap (takes crowd (price_in read) s (leaves holder - 1)) is ∙ still }
 
 -- the trial, once the next price is written
-pub trial_there : (prices trial : List Tokens) (s place : ℕ) (least next : Tokens) → place ≡ s → trial ≡ slice_set prices place least → slice_set trial place next ≡ slice_set prices s next
-trial_there prices trial s place least next at is = ap (λ (l : List Tokens). slice_set l place next) is ∙ written_twice prices place least next ∙ ap (λ (k : ℕ). slice_set prices k next) at
+pub trial_there : (prices trial : List Tokens) (s place : ℕ) (least next : Tokens) → place ≡ s → trial ≡ slice_set prices place least
+    → slice_set trial place next ≡ slice_set prices s next
+trial_there prices trial s place least next at is =
+    ap (λ (l : List Tokens). slice_set l place next) is ∙ written_twice prices place least next ∙ ap (λ (k : ℕ). slice_set prices k next) at
 
 -- what was taken there tells whether the section is taken at that price
-pub asked_there : (crowd : CrowdData) (prices read : List Tokens) (s q i : ℕ) (bundle : List ℕ) → ArePricesFor crowd prices → s < crowd.sections → read ≡ slice_set prices s (record { 0 = q }) → bundle ≡ demand_of crowd (price_in read) i → takes crowd (price_in prices) s q i ≡ has bundle s
+pub asked_there : (crowd : CrowdData) (prices read : List Tokens) (s q i : ℕ) (bundle : List ℕ) → ArePricesFor crowd prices → s < crowd.sections
+    → read ≡ slice_set prices s (record { 0 = q }) → bundle ≡ demand_of crowd (price_in read) i → takes crowd (price_in prices) s q i ≡ has bundle s
 asked_there crowd prices read s q i bundle are within same told =
     ap (λ (b : List ℕ). has b s) (sym (told ∙ ap (λ (l : List Tokens). demand_of crowd (price_in l) i) same ∙ taken_there crowd prices s q i are within))
 
-pub keeps_asked : (crowd : CrowdData) (prices read : List Tokens) (s q i : ℕ) (holder : ℕ × ℕ) → read ≡ slice_set prices s (record { 0 = q }) → ArePricesFor crowd prices → s < crowd.sections → holder.1 ≡ i → holder.0 ≤ 1000001 → price_in read s < leaves holder → leaves holder ≤ top crowd
+pub keeps_asked : (crowd : CrowdData) (prices read : List Tokens) (s q i : ℕ) (holder : ℕ × ℕ) → read ≡ slice_set prices s (record { 0 = q })
+    → ArePricesFor crowd prices → s < crowd.sections → holder.1 ≡ i → holder.0 ≤ 1000001 → price_in read s < leaves holder → leaves holder ≤ top crowd
     → takes crowd (price_in read) s (leaves holder - 1) i ≡ true → Keeps crowd (price_in prices) s q holder
 keeps_asked crowd prices read s q i holder same are within is room later capped still =
-    keeps_there crowd prices s q i holder are within is room (subst (λ (l : List Tokens). price_in l s < leaves holder) same later) capped (subst (λ (l : List Tokens). takes crowd (price_in l) s (leaves holder - 1) i ≡ true) same still)
+    keeps_there crowd prices s q i holder are within is room (subst (λ (l : List Tokens). price_in l s < leaves holder) same later) capped
+    (subst (λ (l : List Tokens). takes crowd (price_in l) s (leaves holder - 1) i ≡ true) same still)
 
 -- it then leaves at a higher price than before
-pub leaves_later : (crowd : CrowdData) (prices read : List Tokens) (s : ℕ) (first again : ℕ × ℕ) → read ≡ slice_set prices s (record { 0 = leaves first }) → ArePricesFor crowd prices → s < crowd.sections → first.0 ≤ 1000001 → price_in read s < leaves again → again.0 < first.0
+pub leaves_later : (crowd : CrowdData) (prices read : List Tokens) (s : ℕ) (first again : ℕ × ℕ) → read ≡ slice_set prices s (record { 0 = leaves first })
+    → ArePricesFor crowd prices → s < crowd.sections → first.0 ≤ 1000001 → price_in read s < leaves again → again.0 < first.0
 leaves_later crowd prices read s first again same are within room later =
     let length_is : length prices ≡ crowd.sections = are.same in
     let here : price_in (slice_set prices s (record { 0 = leaves first })) s ≡ leaves first = price_written prices s (leaves first) (omega arith) in
-    let there : price_in (slice_set prices s (record { 0 = leaves first })) s < leaves again = subst (λ (l : List Tokens). price_in l s < leaves again) same later in
+    let there : price_in (slice_set prices s (record { 0 = leaves first })) s < leaves again =
+    subst (λ (l : List Tokens). price_in l s < leaves again) same later in
     omega arith

@@ -19,18 +19,21 @@ use Rattle.demand_workers.specs.Remembered.{AreWithin}
 use Rattle.demand_workers.proofs.Recalling.{rated_no_cheaper}
 
 -- the best bundle before a section alone became cheaper is preferred to all without it, where it is still affordable
-leads_where_cheaper : (wishes : Wishes) (before after : ℕ → ℕ) (budget : ℕ) (fewer allowed : ℕ → Bool) (section : ℕ) (bundle : List ℕ) → ((s : ℕ) → allowed s ≡ fewer s) → ((s : ℕ) → 0 < wishes.rating s → s ≢ section → before s ≤ after s)
+leads_where_cheaper : (wishes : Wishes) (before after : ℕ → ℕ) (budget : ℕ) (fewer allowed : ℕ → Bool) (section : ℕ) (bundle : List ℕ)
+    → ((s : ℕ) → allowed s ≡ fewer s) → ((s : ℕ) → 0 < wishes.rating s → s ≢ section → before s ≤ after s)
     → IsBest wishes before budget fewer bundle → total after bundle ≤ budget → LeadsThoseWithout wishes after budget allowed section bundle
 leads_where_cheaper wishes before after budget fewer allowed section bundle same dearer best affordable = record {
   choice = record { feasible = best.choice.feasible; affordable = affordable; within = λ s is. same s ∙ best.choice.within s is };
   preferred = λ other choice lacks apart.
-      let less : total before other ≤ total after other = total_has_le before after other (λ s is. dearer s (choice.feasible.rated s is) (λ e. true≢false (sym is ∙ ap (has other) e ∙ lacks))) in
+      let less : total before other ≤ total after other =
+      total_has_le before after other (λ s is. dearer s (choice.feasible.rated s is) (λ e. true≢false (sym is ∙ ap (has other) e ∙ lacks))) in
       let cost : total after other ≤ budget = choice.affordable in
       best.preferred other (record { feasible = choice.feasible; affordable = omega arith; within = λ s is. sym (same s) ∙ choice.within s is }) apart;
 }
 
 -- a section from the first to before the next one is the first
-pub no_other_cheaper : (first past : ℕ) (before after : List Tokens) (s : ℕ) → AreWithin first past before after → past ≡ first + 1 → s < length before → s < length after → s ≢ first → price_in before s ≤ price_in after s
+pub no_other_cheaper : (first past : ℕ) (before after : List Tokens) (s : ℕ) → AreWithin first past before after → past ≡ first + 1 → s < length before
+    → s < length after → s ≢ first → price_in before s ≤ price_in after s
 no_other_cheaper first past before after s within one low low' other = elim (cases_order s first) [
   | inl same ↦ absurd (other same)
   | inr (inl below) ↦ within.below s low low' below
@@ -38,7 +41,8 @@ no_other_cheaper first past before after s within one low low' other = elim (cas
 ]
 
 -- no rated section but that one became cheaper
-pub dearer_but : (menu : MenuData) (sections first past section : ℕ) (before after : List Tokens) → All (λ (rated : Rated). rated.section.0 < sections) menu.places → length before ≡ sections → length after ≡ sections → AreWithin first past before after
+pub dearer_but : (menu : MenuData) (sections first past section : ℕ) (before after : List Tokens)
+    → All (λ (rated : Rated). rated.section.0 < sections) menu.places → length before ≡ sections → length after ≡ sections → AreWithin first past before after
     → section ≡ first → past ≡ first + 1 → (s : ℕ) → 0 < (wishes_of menu).rating s → s ≢ section → price_in before s ≤ price_in after s
 unfolding wishes_of
 dearer_but menu sections first past section before after below same same' within its one s rated other =
@@ -46,14 +50,20 @@ dearer_but menu sections first past section before after below same same' within
     no_other_cheaper first past before after s within one (omega arith) (omega arith) (λ e. other (e ∙ sym its))
 
 -- so it is with what a student took
-pub leads_demand : (menus : List MenuData) (budgets : List Tokens) (sections : ℕ) (before after : ℕ → ℕ) (i : ℕ) (menu : MenuData) (budget : Tokens) (allowed : ℕ → Bool) (section : ℕ) (bundle : List ℕ) → length budgets ≡ length menus → i < length menus
-    → menu ≡ slice_index_or menus i menu → budget ≡ slice_index_or budgets i budget → ((s : ℕ) → allowed s ≡ nat_lt s sections) → ((s : ℕ) → 0 < (wishes_of menu).rating s → s ≢ section → before s ≤ after s) → total after bundle ≤ budget.0
+pub leads_demand : (menus : List MenuData) (budgets : List Tokens) (sections : ℕ) (before after : ℕ → ℕ) (i : ℕ) (menu : MenuData) (budget : Tokens)
+    (allowed : ℕ → Bool) (section : ℕ) (bundle : List ℕ)
+    → length budgets ≡ length menus → i < length menus
+    → menu ≡ slice_index_or menus i menu → budget ≡ slice_index_or budgets i budget → ((s : ℕ) → allowed s ≡ nat_lt s sections)
+    → ((s : ℕ) → 0 < (wishes_of menu).rating s → s ≢ section → before s ≤ after s) → total after bundle ≤ budget.0
     → bundle ≡ demand_of (crowd_of menus budgets sections) before i → LeadsThoseWithout (wishes_of menu) after budget.0 allowed section bundle
 leads_demand menus budgets sections before after i menu budget allowed section bundle same low is has_it allows dearer affordable told =
     let within : ℕ → Bool = λ t. nat_lt t sections in
-    let was : bundle ≡ demand sections before (record { menu = menu; budget = budget.0 }) = told ∙ demand_at menus budgets sections before i menu budget same low ∙ same_student in
-    let best : IsBest (wishes_of menu) before budget.0 within bundle = subst (IsBest (wishes_of menu) before budget.0 within) (sym was) (best-is menu before budget.0 within) in
+    let was : bundle ≡ demand sections before (record { menu = menu; budget = budget.0 }) =
+    told ∙ demand_at menus budgets sections before i menu budget same low ∙ same_student in
+    let best : IsBest (wishes_of menu) before budget.0 within bundle =
+    subst (IsBest (wishes_of menu) before budget.0 within) (sym was) (best-is menu before budget.0 within) in
     leads_where_cheaper (wishes_of menu) before after budget.0 within allowed section bundle allows dearer best affordable
   where
-    same_student : demand sections before (record { menu = slice_index_or menus i menu; budget = (slice_index_or budgets i budget).0 }) ≡ demand sections before (record { menu = menu; budget = budget.0 })
+    same_student : demand sections before (record { menu = slice_index_or menus i menu; budget = (slice_index_or budgets i budget).0 })
+        ≡ demand sections before (record { menu = menu; budget = budget.0 })
     same_student = rw (← is, ← has_it) refl

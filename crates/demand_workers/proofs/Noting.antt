@@ -19,27 +19,40 @@ use Rattle.demand_workers.proofs.HoldersLeave.{written_twice, taken_affordable}
 use Rattle.demand_workers.proofs.Recalling.{kept_demand}
 
 -- one note more, at a price that is no lower
-pub noted_more : (crowd : CrowdData) (prices : List Tokens) (s level next : ℕ) (notes later : List Note) (note : Note) → AreNoted crowd prices s level notes → level ≤ next → later ≡ notes ++ note ∷ []
-    → sections_of note.bundle ≡ demand_of crowd (price_in (slice_set prices s note.price)) note.student.0 → note.price.0 ≡ next → AreNoted crowd prices s next later
+pub noted_more : (crowd : CrowdData) (prices : List Tokens) (s level next : ℕ) (notes later : List Note) (note : Note) → AreNoted crowd prices s level notes
+    → level ≤ next → later ≡ notes ++ note ∷ []
+    → sections_of note.bundle ≡ demand_of crowd (price_in (slice_set prices s note.price)) note.student.0 → note.price.0 ≡ next
+    → AreNoted crowd prices s next later
 noted_more crowd prices s level next notes later note are above more taken at =
-    subst (AreNoted crowd prices s next) (sym more) (All-append (IsNoted crowd prices s next) notes (note ∷ []) (λ i d low. let n = are i d low in record { low = (let h = n.low in omega (arith, h, above)); taken = n.taken }) one)
+    subst (AreNoted crowd prices s next) (sym more)
+    (All-append (IsNoted crowd prices s next) notes (note ∷ [])
+    (λ i d low. let n = are i d low in record { low = (let h = n.low in omega (arith, h, above)); taken = n.taken }) one)
   where
     one : All (IsNoted crowd prices s next) (note ∷ [])
     one zero d low = record { low = omega (arith, at); taken = taken }
     one (suc i) d low = absurd (omega (arith, low))
 
 -- a price that is written twice is the later one, so notes are of the raised prices too
-pub noted_raised : (crowd : CrowdData) (prices : List Tokens) (s level : ℕ) (least : Tokens) (notes : List Note) → AreNoted crowd prices s level notes → AreNoted crowd (slice_set prices s least) s level notes
+pub noted_raised : (crowd : CrowdData) (prices : List Tokens) (s level : ℕ) (least : Tokens) (notes : List Note) → AreNoted crowd prices s level notes
+    → AreNoted crowd (slice_set prices s least) s level notes
 noted_raised crowd prices s level least notes are i d low =
     let n = are i d low in
-    record { low = n.low; taken = n.taken ∙ ap (λ (l : List Tokens). demand_of crowd (price_in l) (slice_index_or notes i d).student.0) (sym (written_twice prices s least (slice_index_or notes i d).price)) }
+    record {
+      low = n.low;
+      taken = n.taken
+          ∙ ap (λ (l : List Tokens). demand_of crowd (price_in l) (slice_index_or notes i d).student.0)
+          (sym (written_twice prices s least (slice_index_or notes i d).price));
+    }
 
 -- at the lower price of one section nothing costs more
-pub lower_there : (prices : List Tokens) (s : ℕ) (price : Tokens) → s < length prices → price.0 ≤ price_in prices s → (t : ℕ) → price_in (slice_set prices s price) t ≤ price_in prices t
+pub lower_there : (prices : List Tokens) (s : ℕ) (price : Tokens) → s < length prices → price.0 ≤ price_in prices s → (t : ℕ)
+    → price_in (slice_set prices s price) t ≤ price_in prices t
 lower_there prices s price low below t = elim (cases_order t s) [
   | inl same ↦ let here : price_in (slice_set prices s price) s ≡ price.0 = price_written prices s price.0 low in rw same (omega (arith, here, below))
-  | inr (inl less) ↦ let there : price_in (slice_set prices s price) t ≡ price_in prices t = price_kept prices s price.0 t (omega (arith, less)) in omega (arith, there)
-  | inr (inr more) ↦ let there : price_in (slice_set prices s price) t ≡ price_in prices t = price_kept prices s price.0 t (omega (arith, more)) in omega (arith, there)
+  | inr (inl less) ↦
+      let there : price_in (slice_set prices s price) t ≡ price_in prices t = price_kept prices s price.0 t (omega (arith, less)) in omega (arith, there)
+  | inr (inr more) ↦
+      let there : price_in (slice_set prices s price) t ≡ price_in prices t = price_kept prices s price.0 t (omega (arith, more)) in omega (arith, there)
 ]
 
 -- a menu that stands for one that is not there
@@ -59,17 +72,25 @@ item_there (x ∷ items) zero d e low = refl
 item_there (x ∷ items) (suc i) d e low = item_there items i d e (let goal : i < length items = omega arith in goal)
 
 -- a bundle without the section stays where only the section's price rises
-pub lacking_stays : (menus : List MenuData) (budgets : List Tokens) (sections : ℕ) (prices raised : List Tokens) (s i : ℕ) (least : Tokens) (bundle : List ℕ) → length budgets ≡ length menus → i < length menus → s < length prices → price_in prices s ≤ least.0
-    → raised ≡ slice_set prices s least → has bundle s ≡ false → bundle ≡ demand_of (crowd_of menus budgets sections) (price_in prices) i → bundle ≡ demand_of (crowd_of menus budgets sections) (price_in raised) i
+pub lacking_stays : (menus : List MenuData) (budgets : List Tokens) (sections : ℕ) (prices raised : List Tokens) (s i : ℕ) (least : Tokens) (bundle : List ℕ)
+    → length budgets ≡ length menus → i < length menus → s < length prices → price_in prices s ≤ least.0
+    → raised ≡ slice_set prices s least → has bundle s ≡ false → bundle ≡ demand_of (crowd_of menus budgets sections) (price_in prices) i
+    → bundle ≡ demand_of (crowd_of menus budgets sections) (price_in raised) i
 lacking_stays menus budgets sections prices raised s i least bundle same low there up written lacks told =
     let after : ℕ → ℕ = price_in (slice_set prices s least) in
     let menu : MenuData = slice_index_or menus i nobody in
     let budget : Tokens = slice_index_or budgets i (record { 0 = 0 }) in
     let menu_is : menu ≡ slice_index_or menus i menu = menu_there menus i low in
-    let budget_is : budget ≡ slice_index_or budgets i budget = item_there budgets i (record { 0 = 0 }) budget (let goal : i < length budgets = omega (arith, same, low) in goal) in
+    let budget_is : budget ≡ slice_index_or budgets i budget =
+    item_there budgets i (record { 0 = 0 }) budget (let goal : i < length budgets = omega (arith, same, low) in goal) in
     let here : price_in (slice_set prices s least) s ≡ least.0 = price_written prices s least.0 there in
-    let is : IsRaised s (price_in prices) after = record { others = λ t apart. price_kept prices s least.0 t apart; raised = (let goal : price_in prices s ≤ price_in (slice_set prices s least) s = omega (arith, here, up) in goal) } in
-    let paid : total (price_in prices) bundle ≤ budget.0 = taken_affordable menus budgets sections (price_in prices) i menu budget bundle same low menu_is budget_is told in
+    let is : IsRaised s (price_in prices) after =
+    record {
+      others = λ t apart. price_kept prices s least.0 t apart;
+      raised = (let goal : price_in prices s ≤ price_in (slice_set prices s least) s = omega (arith, here, up) in goal);
+    } in
+    let paid : total (price_in prices) bundle ≤ budget.0 =
+    taken_affordable menus budgets sections (price_in prices) i menu budget bundle same low menu_is budget_is told in
     let cost : total after bundle ≤ total (price_in prices) bundle = same_cost s (price_in prices) after bundle is lacks in
     subst (λ (l : List Tokens). bundle ≡ demand_of (crowd_of menus budgets sections) (price_in l) i) (sym written)
     (kept_demand menus budgets sections (price_in prices) after i menu budget bundle same low menu_is budget_is (λ k d within. none_falls s (price_in prices) after is (slice_index_or menu.places k d).section.0)

@@ -24,30 +24,40 @@ use Rattle.demand_workers.specs.Rounds.{prices_of, AreVersionsFor}
 use Rattle.demand_workers.proofs.Rounds.{top_high}
 
 -- a rated section is at one of the places
-pub rated_no_cheaper : (places : List Rated) (before after : ℕ → ℕ) → All (λ (rated : Rated). before rated.section.0 ≤ after rated.section.0) places → (s : ℕ) → 0 < rating_at places (place_in places s) → before s ≤ after s
+pub rated_no_cheaper : (places : List Rated) (before after : ℕ → ℕ) → All (λ (rated : Rated). before rated.section.0 ≤ after rated.section.0) places → (s : ℕ)
+    → 0 < rating_at places (place_in places s) → before s ≤ after s
 rated_no_cheaper [] before after all s some = absurd (omega arith)
 rated_no_cheaper (r ∷ more) before after all s some = elim (cases_Bool (r.section.0 == s)) [
   | inl here ↦ let e : r.section.0 ≡ s = grind (arith, nat_tests) in let P : ℕ → Type 0 = λ t. before t ≤ after t in subst P e (all 0 r (omega arith))
-  | inr there ↦ let h = rw there at some in rated_no_cheaper more before after (λ i d low. all (suc i) d (let goal : suc i < suc (length more) = omega arith in goal)) s h
+  | inr there ↦
+      let h = rw there at some in rated_no_cheaper more before after (λ i d low. all (suc i) d (let goal : suc i < suc (length more) = omega arith in goal)) s h
 ]
 
 -- a bundle that a student took is what the student takes, where it is affordable and no section of the menu became cheaper
-pub kept_demand : (menus : List MenuData) (budgets : List Tokens) (sections : ℕ) (before after : ℕ → ℕ) (i : ℕ) (menu : MenuData) (budget : Tokens) (bundle : List ℕ) → length budgets ≡ length menus → i < length menus
-    → menu ≡ slice_index_or menus i menu → budget ≡ slice_index_or budgets i budget → All (λ (rated : Rated). before rated.section.0 ≤ after rated.section.0) menu.places → total after bundle ≤ budget.0
+pub kept_demand : (menus : List MenuData) (budgets : List Tokens) (sections : ℕ) (before after : ℕ → ℕ) (i : ℕ) (menu : MenuData) (budget : Tokens)
+    (bundle : List ℕ)
+    → length budgets ≡ length menus → i < length menus
+    → menu ≡ slice_index_or menus i menu → budget ≡ slice_index_or budgets i budget
+    → All (λ (rated : Rated). before rated.section.0 ≤ after rated.section.0) menu.places → total after bundle ≤ budget.0
     → bundle ≡ demand_of (crowd_of menus budgets sections) before i → bundle ≡ demand_of (crowd_of menus budgets sections) after i
 unfolding wishes_of
 kept_demand menus budgets sections before after i menu budget bundle same low is has_it no_cheaper affordable told =
     let allowed : ℕ → Bool = λ t. nat_lt t sections in
-    let was : bundle ≡ demand sections before (record { menu = menu; budget = budget.0 }) = told ∙ demand_at menus budgets sections before i menu budget same low ∙ same_student in
-    let best : IsBest (wishes_of menu) before budget.0 allowed bundle = subst (IsBest (wishes_of menu) before budget.0 allowed) (sym was) (best-is menu before budget.0 allowed) in
+    let was : bundle ≡ demand sections before (record { menu = menu; budget = budget.0 }) =
+    told ∙ demand_at menus budgets sections before i menu budget same low ∙ same_student in
+    let best : IsBest (wishes_of menu) before budget.0 allowed bundle =
+    subst (IsBest (wishes_of menu) before budget.0 allowed) (sym was) (best-is menu before budget.0 allowed) in
     found_demand menus budgets sections after i menu budget allowed bundle same low is has_it (λ s. refl)
     (best_stays (wishes_of menu) before after budget.0 allowed bundle (rated_no_cheaper menu.places before after no_cheaper) affordable best)
   where
-    same_student : demand sections before (record { menu = slice_index_or menus i menu; budget = (slice_index_or budgets i budget).0 }) ≡ demand sections before (record { menu = menu; budget = budget.0 })
+    same_student : demand sections before (record { menu = slice_index_or menus i menu; budget = (slice_index_or budgets i budget).0 })
+        ≡ demand sections before (record { menu = menu; budget = budget.0 })
     same_student = rw (← is, ← has_it) refl
 
 -- the sections of what a student takes have prices
-pub taken_priced : (menus : List MenuData) (budgets : List Tokens) (sections : ℕ) (prices : List Tokens) (price : ℕ → ℕ) (i : ℕ) (listed : List SectionNo) (bundle : List ℕ) → MakeCrowd menus budgets sections → ArePricesFor (crowd_of menus budgets sections) prices
+pub taken_priced : (menus : List MenuData) (budgets : List Tokens) (sections : ℕ) (prices : List Tokens) (price : ℕ → ℕ) (i : ℕ) (listed : List SectionNo)
+    (bundle : List ℕ)
+    → MakeCrowd menus budgets sections → ArePricesFor (crowd_of menus budgets sections) prices
     → ordinals listed ≡ bundle → bundle ≡ demand_of (crowd_of menus budgets sections) price i → All (λ (section : SectionNo). IsPriced prices section.0) listed
 taken_priced menus budgets sections prices price i listed bundle make are spelled told k d low =
     let s : ℕ = (slice_index_or listed k d).0 in
@@ -55,30 +65,39 @@ taken_priced menus budgets sections prices price i listed bundle make are spelle
     let size : length prices ≡ sections = are.same in
     let most : top (crowd_of menus budgets sections) ≤ 1000001 = top_high menus budgets sections make in
     let none : Tokens = record { 0 = 0 } in
-    let high : (slice_index_or prices s none).0 ≤ top (crowd_of menus budgets sections) = are.high s none (let goal : s < length prices = omega arith in goal) in
+    let high : (slice_index_or prices s none).0 ≤ top (crowd_of menus budgets sections) =
+    are.high s none (let goal : s < length prices = omega arith in goal) in
     let same : price_in prices s ≡ (slice_index_or prices s none).0 = price_at prices s none (let goal : s < length prices = omega arith in goal) in
     record { listed = (let goal : s < length prices = omega arith in goal); high = (let goal : price_in prices s ≤ 1000001 = omega arith in goal) }
 
 -- the sections at a student's places are below the number of prices
-pub places_low : (menus : List MenuData) (budgets : List Tokens) (sections n i : ℕ) (menu : MenuData) → MakeCrowd menus budgets sections → n ≡ sections → i < length menus → menu ≡ slice_index_or menus i menu → All (λ (rated : Rated). rated.section.0 < n) menu.places
+pub places_low : (menus : List MenuData) (budgets : List Tokens) (sections n i : ℕ) (menu : MenuData) → MakeCrowd menus budgets sections → n ≡ sections
+    → i < length menus → menu ≡ slice_index_or menus i menu → All (λ (rated : Rated). rated.section.0 < n) menu.places
 places_low menus budgets sections n i menu make size low is =
     let within : IsWithin sections menu = subst (IsWithin sections) (sym is) (make.within i menu low) in
     let P : ℕ → Type 0 = λ m. All (λ (rated : Rated). rated.section.0 < m) menu.places in
     subst P (sym size) within
 
 -- what was read at a version, as it came back
-pub remembered_at : (crowd asked : CrowdData) (batch : List (Vec Tokens Global)) (versions : List (List Tokens)) (v : ℕ) (d : Vec Tokens Global) (prices : List Tokens) (len : ℕ) (new old : List Bundle) → v < length batch → AreVersionsFor crowd batch
-    → prices ≡ (slice_index_or batch v d).items → len ≡ length new → asked ≡ crowd → versions ≡ prices_of batch → AreTaken asked (slice_index_or versions v []) new → AreRemembered crowd prices (take len (new ++ drop (length new) old))
+pub remembered_at : (crowd asked : CrowdData) (batch : List (Vec Tokens Global)) (versions : List (List Tokens)) (v : ℕ) (d : Vec Tokens Global)
+    (prices : List Tokens) (len : ℕ) (new old : List Bundle)
+    → v < length batch → AreVersionsFor crowd batch
+    → prices ≡ (slice_index_or batch v d).items → len ≡ length new → asked ≡ crowd → versions ≡ prices_of batch
+    → AreTaken asked (slice_index_or versions v []) new → AreRemembered crowd prices (take len (new ++ drop (length new) old))
 remembered_at crowd asked batch versions v d prices len new old low are copied whole same listed taken =
-    let read : slice_index_or versions v [] ≡ prices = ap (λ l. slice_index_or l v []) listed ∙ get_or-map (λ (w : Vec Tokens Global). w.items) batch v d [] low ∙ sym copied in
-    let told : AreTaken crowd prices new = subst (λ (p : List Tokens). AreTaken crowd p new) read (subst (λ (c : CrowdData). AreTaken c (slice_index_or versions v []) new) same taken) in
+    let read : slice_index_or versions v [] ≡ prices =
+    ap (λ l. slice_index_or l v []) listed ∙ get_or-map (λ (w : Vec Tokens Global). w.items) batch v d [] low ∙ sym copied in
+    let told : AreTaken crowd prices new =
+    subst (λ (p : List Tokens). AreTaken crowd p new) read (subst (λ (c : CrowdData). AreTaken c (slice_index_or versions v []) new) same taken) in
     record {
       sized = λ some. ap length copied ∙ (are v d low).same;
       taken = subst (λ (bundles : List Bundle). AreTaken crowd prices bundles) (sym (lent_back len new old whole)) told;
     }
 
 -- the same of the one version of a round
-pub remembered_once : (crowd asked : CrowdData) (prices : List Tokens) (version : Vec Tokens Global) (versions : List (List Tokens)) (len : ℕ) (new old : List Bundle) → len ≡ length new → asked ≡ crowd → versions ≡ prices_of (version ∷ []) → version.items ≡ prices
+pub remembered_once : (crowd asked : CrowdData) (prices : List Tokens) (version : Vec Tokens Global) (versions : List (List Tokens)) (len : ℕ)
+    (new old : List Bundle)
+    → len ≡ length new → asked ≡ crowd → versions ≡ prices_of (version ∷ []) → version.items ≡ prices
     → AreTaken asked (slice_index_or versions 0 []) new → AreTaken crowd prices (take len (new ++ drop (length new) old))
 remembered_once crowd asked prices version versions len new old whole same listed copied taken =
     let read : slice_index_or versions 0 [] ≡ prices = ap (λ l. slice_index_or l 0 []) listed ∙ copied in

@@ -19,14 +19,16 @@ use Rattle.price_board.specs.Openings.{ArePrices, IsAskOf, IsRound}
 use Rattle.demand_workers.specs.Rounds.{prices_of, AreVersionsFor}
 
 -- the top is at most the greatest price
-pub top_high : (menus : List MenuData) (budgets : List Tokens) (sections : ℕ) → MakeCrowd menus budgets sections → top (crowd_of menus budgets sections) ≤ 1000001
+pub top_high : (menus : List MenuData) (budgets : List Tokens) (sections : ℕ) → MakeCrowd menus budgets sections
+    → top (crowd_of menus budgets sections) ≤ 1000001
 top_high menus budgets sections make =
     let most : greatest budgets ≤ 1000000 = greatest_high budgets make.high in
     let at_top : greatest budgets + 1 ≡ top (crowd_of menus budgets sections) = top_found menus budgets sections (greatest budgets) make.same refl in
     let goal : top (crowd_of menus budgets sections) ≤ 1000001 = omega arith in goal
 
 -- versions for a crowd, and as many asks, are a round of it
-pub versions_are_round : (menus : List MenuData) (budgets : List Tokens) (sections : ℕ) (versions copies : List (Vec Tokens Global)) (asks : List Ask) → MakeCrowd menus budgets sections → AreVersionsFor (crowd_of menus budgets sections) versions
+pub versions_are_round : (menus : List MenuData) (budgets : List Tokens) (sections : ℕ) (versions copies : List (Vec Tokens Global)) (asks : List Ask)
+    → MakeCrowd menus budgets sections → AreVersionsFor (crowd_of menus budgets sections) versions
     → 1 ≤ length versions → length versions ≤ 16 → length asks ≡ length versions → All (IsAskOf sections) asks → prices_of copies ≡ prices_of versions
     → IsRound (record { crowd = crowd_of menus budgets sections; versions = prices_of copies; asks = asks })
 versions_are_round menus budgets sections versions copies asks make are some few many among same =
@@ -38,16 +40,22 @@ versions_are_round menus budgets sections versions copies asks make are some few
       prices = subst (All (ArePrices sections)) (sym same)
           (All-map (ArePrices sections) (λ (version : Vec Tokens Global). version.items) versions (λ k d low. record {
             each = (are k d low).same;
-            high = λ i e below. (let h : (slice_index_or (slice_index_or versions k d).items i e).0 ≤ top (crowd_of menus budgets sections) = (are k d low).high i e below in let goal : (slice_index_or (slice_index_or versions k d).items i e).0 ≤ 1000001 = omega arith in goal);
+            high =
+                λ i e below. (let h : (slice_index_or (slice_index_or versions k d).items i e).0
+                ≤ top (crowd_of menus budgets sections) = (are k d low).high i e below in let goal :
+                (slice_index_or (slice_index_or versions k d).items i e).0
+                ≤ 1000001 = omega arith in goal);
           }));
       asks = many ∙ sym count;
       sections = among;
     }
 
 -- each number below the count is that of a seat, of the seats that were lent whole and came back as many
-pub every_number : (count len : ℕ) (lent new old : List (Standing Terms Progress BoardCall BoardReply)) → length lent ≡ count → len ≡ length lent → length new ≡ length lent
+pub every_number : (count len : ℕ) (lent new old : List (Standing Terms Progress BoardCall BoardReply)) → length lent ≡ count → len ≡ length lent
+    → length new ≡ length lent
     → ((n : ℕ) (d : Standing Terms Progress BoardCall BoardReply) → n < length lent → (slice_index_or new n d).number ≡ n)
     → (n : ℕ) → n < count → Any (λ (s : Standing Terms Progress BoardCall BoardReply). s.number ≡ n) (take len (new ++ drop (length new) old))
 every_number count len lent new old counted whole back numbers n low =
     subst (λ seats. Any (λ (s : Standing Terms Progress BoardCall BoardReply). s.number ≡ n) seats) (sym (lent_back len new old (whole ∙ sym back)))
-    (all_at_their_numbers count new (let goal : count ≤ length new = omega arith in goal) (λ k d below. numbers k d (let goal : k < length lent = omega arith in goal)) n low)
+    (all_at_their_numbers count new (let goal : count ≤ length new = omega arith in goal)
+    (λ k d below. numbers k d (let goal : k < length lent = omega arith in goal)) n low)

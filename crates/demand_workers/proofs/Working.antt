@@ -14,18 +14,23 @@ use Rattle.price_board.specs.Terms.{version_count, student_count, prices_of, dem
 use Rattle.demand_workers.specs.Rounds.{IsBoardOf}
 
 -- as many versions as the board has
-pub versions_there : (crowd : CrowdData) (versions : List (Vec Tokens Global)) (board : Origin Terms Progress) → IsBoardOf crowd versions board → version_count board.base ≡ length versions
+pub versions_there : (crowd : CrowdData) (versions : List (Vec Tokens Global)) (board : Origin Terms Progress) → IsBoardOf crowd versions board
+    → version_count board.base ≡ length versions
 versions_there crowd versions board is = ap length is.its_versions ∙ length-map versions (λ (version : Vec Tokens Global). version.items)
 
 -- as many students
-pub students_there : (menus : List MenuData) (budgets : List Tokens) (sections : ℕ) (versions : List (Vec Tokens Global)) (board : Origin Terms Progress) → IsBoardOf (crowd_of menus budgets sections) versions board → length budgets ≡ length menus
+pub students_there : (menus : List MenuData) (budgets : List Tokens) (sections : ℕ) (versions : List (Vec Tokens Global)) (board : Origin Terms Progress)
+    → IsBoardOf (crowd_of menus budgets sections) versions board → length budgets ≡ length menus
     → student_count board.base ≡ length menus
 students_there menus budgets sections versions board is same = ap (λ (c : CrowdData). length c.students) is.its_crowd ∙ students_length menus budgets same
 
 -- what the student takes at the version's prices is what is to be posted
-pub right_bundle : (crowd : CrowdData) (versions : List (Vec Tokens Global)) (board : Origin Terms Progress) (v s : ℕ) (version : Vec Tokens Global) (bundle : List ℕ) → IsBoardOf crowd versions board → v < length versions
+pub right_bundle : (crowd : CrowdData) (versions : List (Vec Tokens Global)) (board : Origin Terms Progress) (v s : ℕ) (version : Vec Tokens Global)
+    (bundle : List ℕ)
+    → IsBoardOf crowd versions board → v < length versions
     → version ≡ slice_index_or versions v version → bundle ≡ crowd_demand crowd (price_in version.items) s → bundle ≡ demand_of board.base v s
 right_bundle crowd versions board v s version bundle is low here told =
     let listed : slice_index_or board.base.versions v [] ≡ version.items =
-    ap (λ l. slice_index_or l v []) is.its_versions ∙ get_or-map (λ (w : Vec Tokens Global). w.items) versions v version [] low ∙ ap (λ (w : Vec Tokens Global). w.items) (sym here) in
+    ap (λ l. slice_index_or l v []) is.its_versions ∙ get_or-map (λ (w : Vec Tokens Global). w.items) versions v version [] low
+    ∙ ap (λ (w : Vec Tokens Global). w.items) (sym here) in
     told ∙ ap (λ p. crowd_demand crowd (price_in p) s) (sym listed) ∙ ap (λ c. crowd_demand c (prices_of board.base v) s) (sym is.its_crowd)

@@ -9,7 +9,8 @@ use Rattle.demand_api.specs.Prices.{with_price}
 abbrev pub takes : CrowdData → (ℕ → ℕ) → ℕ → ℕ → ℕ → Bool
 takes crowd price s p student = has (demand_of crowd (with_price price s p) student) s
 
--- A holder is listed by how far below 1,000,001 the price is from which it does not keep what it holds, and by its number: that price
+-- A holder is listed by how far below 1,000,001 the price is from which it does not keep what it
+-- holds, and by its number: that price
 abbrev pub leaves : ℕ × ℕ → ℕ
 leaves holder = 1000001 - holder.0
 
@@ -17,7 +18,8 @@ leaves holder = 1000001 - holder.0
 abbrev pub listed : ℕ → List (ℕ × ℕ) → ℕ
 listed student holders = sum_by (λ holder. if holder.1 == student then 1 else 0) holders
 
--- the holder does not leave below this price, and takes the section up to the price at which it leaves, which is at most the top
+-- the holder does not leave below this price, and takes the section up to the price at which it
+-- leaves, which is at most the top
 pub record Keeps (crowd : CrowdData) (price : ℕ → ℕ) (s level : ℕ) (holder : ℕ × ℕ) : Type 0 where
   pub room : holder.0 ≤ 1000001
   pub some : 1 ≤ leaves holder
@@ -25,8 +27,10 @@ pub record Keeps (crowd : CrowdData) (price : ℕ → ℕ) (s level : ℕ) (hold
   pub capped : leaves holder ≤ top crowd
   pub still : takes crowd price s (leaves holder - 1) holder.1 ≡ true
 
--- The holders that are left where the section has this price: each once, each keeps what it holds up to its price, and nobody else takes the section
-pub record AreLeft (crowd : CrowdData) (price : ℕ → ℕ) (s level : ℕ) (holders : List (ℕ × ℕ)) : Type 0 where
+-- The holders that are left where the section has this price: each once, each keeps what it holds
+-- up to its price, and nobody else takes the section
+pub record AreLeft (crowd : CrowdData) (price : ℕ → ℕ) (s level : ℕ)
+    (holders : List (ℕ × ℕ)) : Type 0 where
   pub students : All (λ holder. holder.1 < length crowd.students) holders
   pub once : (student : ℕ) → listed student holders ≤ 1
   pub keep : All (Keeps crowd price s level) holders

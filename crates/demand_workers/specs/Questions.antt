@@ -17,12 +17,15 @@ pub record IsQuestion (crowd : Crowd) (question : Question) : Type 0 where
 
 -- the bundle is what the student takes at the prices
 abbrev pub IsAnswered : CrowdData → Question → Type 0
-IsAnswered crowd question = sections_of question.bundle ≡ demand_of crowd (price_in question.prices.items) question.student.0
+IsAnswered crowd question =
+    sections_of question.bundle
+    ≡ demand_of crowd (price_in question.prices.items) question.student.0
 
 abbrev pub AreAnswered : CrowdData → List Question → Type 0
 AreAnswered crowd questions = All (IsAnswered crowd) questions
 
--- a student of the crowd, listed by a price from which it does not keep what it holds, which is at most the top
+-- a student of the crowd, listed by a price from which it does not keep what it holds, which is at
+-- most the top
 pub record IsListed (crowd : Crowd) (holder : ℕ × ℕ) : Type 0 where
   pub student : holder.1 < length crowd.menus.items
   pub room : holder.0 ≤ 1000001

@@ -20,9 +20,11 @@ prices_of versions = map (λ (version : Vec Tokens Global). version.items) versi
 
 -- each version has a price for each section, each at most the top
 abbrev pub AreVersionsFor : CrowdData → List (Vec Tokens Global) → Type 0
-AreVersionsFor crowd versions = All (λ (version : Vec Tokens Global). ArePricesFor crowd version.items) versions
+AreVersionsFor crowd versions =
+    All (λ (version : Vec Tokens Global). ArePricesFor crowd version.items) versions
 
 -- the board's tasks are what each student of the crowd takes at each version
-pub record IsBoardOf (crowd : CrowdData) (versions : List (Vec Tokens Global)) (board : Origin Terms Progress) : Type 0 where
+pub record IsBoardOf (crowd : CrowdData) (versions : List (Vec Tokens Global))
+    (board : Origin Terms Progress) : Type 0 where
   pub its_crowd : board.base.crowd ≡ crowd
   pub its_versions : board.base.versions ≡ prices_of versions

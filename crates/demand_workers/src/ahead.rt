@@ -19,11 +19,12 @@ use std::collections::BinaryHeap;
 use std::sync::{Mutex, Wait};
 use std::thread::Threads;
 
-// How often the workers are started for the walks of one call. What is not asked by then, the walks ask for themselves.
+// How often the workers are started for the walks of one call. What is not asked by then, the walks
+// ask for themselves.
 const PHASES: usize = 8;
 
-// What is known of a walk before it is gone: who holds the section, but for those of whom a question waits, how many these
-// are, and what was answered.
+// What is known of a walk before it is gone: who holds the section, but for those of whom a
+// question waits, how many these are, and what was answered.
 #[derive(Drop)]
 pub(crate) struct Foreseen {
     section: SectionNo,
@@ -33,9 +34,9 @@ pub(crate) struct Foreseen {
     answered: Vec<Question>,
 }
 
-// What those take who are surely asked on the walks to the least prices of these pairs of a section and a limit, or most
-// of them, asked by all workers at once, as long as that is worth their start: for each pair what is known of its walk, or
-// nothing at all. Of one worker it asks nothing.
+// What those take who are surely asked on the walks to the least prices of these pairs of a section
+// and a limit, or most of them, asked by all workers at once, as long as that is worth their start:
+// for each pair what is known of its walk, or nothing at all. Of one worker it asks nothing.
 pub(crate) fn ask_ahead<R: Threads + Wait + Sync>(
     rt: &R,
     alloc: Global,
@@ -44,7 +45,8 @@ pub(crate) fn ask_ahead<R: Threads + Wait + Sync>(
     crowd: &Crowd,
     pairs: &[(SectionNo, u32)],
 ) -> Result<Vec<Foreseen>, NoMemory>
-    requires remembered { AreRemembered (data_of crowd.now) remembered.now.prices.items remembered.now.bundles.items }
+    requires remembered { AreRemembered (data_of crowd.now) remembered.now.prices.items
+        remembered.now.bundles.items }
     requires all { length remembered.now.bundles.items ≡ length crowd.now.menus.items }
     requires crowd { IsMade crowd.now }
     requires prices { ArePricesFor (data_of crowd.now) remembered.now.prices.items }
@@ -110,7 +112,8 @@ fn walks_of(
     crowd: &Crowd,
     pairs: &[(SectionNo, u32)],
 ) -> Result<Vec<Foreseen>, NoMemory>
-    requires remembered { AreRemembered (data_of crowd.now) remembered.now.prices.items remembered.now.bundles.items }
+    requires remembered { AreRemembered (data_of crowd.now) remembered.now.prices.items
+        remembered.now.bundles.items }
     requires all { length remembered.now.bundles.items ≡ length crowd.now.menus.items }
     requires crowd { IsMade crowd.now }
     requires prices { ArePricesFor (data_of crowd.now) remembered.now.prices.items }
@@ -151,9 +154,9 @@ fn next_of_all(
     Ok(questions)
 }
 
-// Adds what is asked next on a walk: of each of the first holders to leave, as many as there are too many, what it takes at
-// the price from which it does not keep what it holds. None of them can be left out: while one of them stays, a later
-// one would have to leave in its place.
+// Adds what is asked next on a walk: of each of the first holders to leave, as many as there are
+// too many, what it takes at the price from which it does not keep what it holds. None of them can
+// be left out: while one of them stays, a later one would have to leave in its place.
 fn add_next(
     alloc: Global,
     remembered: &Remembered,

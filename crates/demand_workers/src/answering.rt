@@ -30,7 +30,8 @@ pub(crate) fn read_all(answers: &Answers, version: u8, bundles: &mut [Bundle])
     requires counts { ask_of answers.now.terms.asks version ≡ Ask.Counts }
     requires same { length bundles.old ≡ student_count answers.now.terms }
     ensures len { length bundles.new ≡ length bundles.old }
-    ensures taken { AreTaken answers.now.terms.crowd (slice_index_or answers.now.terms.versions version []) bundles.new }
+    ensures taken { AreTaken answers.now.terms.crowd
+        (slice_index_or answers.now.terms.versions version []) bundles.new }
 {
     for place in 0..bundles.len() {
         bundles[place] = bundle_of(answers, version, StudentNo(place as u16));

@@ -18,7 +18,8 @@ use std::sync::{Mutex, Wait};
 use std::thread;
 use std::thread::Threads;
 
-// A student and a version of a batch, by its place, with what the student takes at it once it was asked.
+// A student and a version of a batch, by its place, with what the student takes at it once it was
+// asked.
 #[derive(Clone, Copy)]
 pub(crate) struct Inquiry {
     pub student: StudentNo,
@@ -26,7 +27,8 @@ pub(crate) struct Inquiry {
     pub bundle: Bundle,
 }
 
-// Answers the inquiries of a batch, by so many workers as they are worth, of as many as there are workspaces. It takes no memory.
+// Answers the inquiries of a batch, by so many workers as they are worth, of as many as there are
+// workspaces. It takes no memory.
 pub(crate) fn answer_batch<R: Threads + Wait + Sync>(
     rt: &R,
     workspaces: &[Mutex<Workspace>],
@@ -35,7 +37,8 @@ pub(crate) fn answer_batch<R: Threads + Wait + Sync>(
     batch: &[Vec<Tokens>],
     inquiries: &mut [Inquiry],
 )
-    requires remembered { AreRemembered (data_of crowd.now) remembered.now.prices.items remembered.now.bundles.items }
+    requires remembered { AreRemembered (data_of crowd.now) remembered.now.prices.items
+        remembered.now.bundles.items }
     requires crowd { IsMade crowd.now }
     requires batch { AreVersionsFor (data_of crowd.now) batch.now }
     requires workers { 1 ≤ length workspaces.now }
@@ -43,8 +46,10 @@ pub(crate) fn answer_batch<R: Threads + Wait + Sync>(
     ensures len { length inquiries.new ≡ length inquiries.old }
     ensures inquiries { All (IsInquiry crowd.now batch.now) inquiries.new }
     ensures found { All (IsFound (data_of crowd.now) batch.now) inquiries.new }
-    ensures students { (k : ℕ) (d : _) → k < length inquiries.old → (slice_index_or inquiries.new k d).student ≡ (slice_index_or inquiries.old k d).student }
-    ensures versions { (k : ℕ) (d : _) → k < length inquiries.old → (slice_index_or inquiries.new k d).version ≡ (slice_index_or inquiries.old k d).version }
+    ensures students { (k : ℕ) (d : _) → k < length inquiries.old
+        → (slice_index_or inquiries.new k d).student ≡ (slice_index_or inquiries.old k d).student }
+    ensures versions { (k : ℕ) (d : _) → k < length inquiries.old
+        → (slice_index_or inquiries.new k d).version ≡ (slice_index_or inquiries.old k d).version }
 {
     let workers = (inquiries.len() / SHARE).min(workspaces.len()).max(1);
     // A worker answers so many neighbours, as `for_each_mut` parts them.
@@ -55,8 +60,16 @@ pub(crate) fn answer_batch<R: Threads + Wait + Sync>(
         inquiries,
         workers,
         &|n, inquiry|
-            requires { (0 < size) × (1 ≤ length workspaces.now) × IsInquiry crowd.now batch.now inquiry.now × AreRemembered (data_of crowd.now) remembered.now.prices.items remembered.now.bundles.items × IsMade crowd.now × AreVersionsFor (data_of crowd.now) batch.now × ((s : ℕ) → set.contains allowed s ≡ nat_lt s crowd.now.sections) }
-            ensures { IsInquiry crowd.entry.now batch.entry.now inquiry.exit.now × IsFound (data_of crowd.entry.now) batch.entry.now inquiry.exit.now × (inquiry.exit.now.student ≡ inquiry.entry.now.student) × (inquiry.exit.now.version ≡ inquiry.entry.now.version) }
+            requires { (0 < size) × (1 ≤ length workspaces.now)
+                × IsInquiry crowd.now batch.now inquiry.now
+                × AreRemembered (data_of crowd.now) remembered.now.prices.items
+                remembered.now.bundles.items
+                × IsMade crowd.now × AreVersionsFor (data_of crowd.now) batch.now
+                × ((s : ℕ) → set.contains allowed s ≡ nat_lt s crowd.now.sections) }
+            ensures { IsInquiry crowd.entry.now batch.entry.now inquiry.exit.now
+                × IsFound (data_of crowd.entry.now) batch.entry.now inquiry.exit.now
+                × (inquiry.exit.now.student ≡ inquiry.entry.now.student)
+                × (inquiry.exit.now.version ≡ inquiry.entry.now.version) }
         {
             let worker = (n / size).min(workspaces.len() - 1);
             answer(
@@ -82,7 +95,8 @@ fn answer<R: Wait>(
     allowed: &SectionSet,
     inquiry: &mut Inquiry,
 )
-    requires remembered { AreRemembered (data_of crowd.now) remembered.now.prices.items remembered.now.bundles.items }
+    requires remembered { AreRemembered (data_of crowd.now) remembered.now.prices.items
+        remembered.now.bundles.items }
     requires crowd { IsMade crowd.now }
     requires batch { AreVersionsFor (data_of crowd.now) batch.now }
     requires allowed { (s : ℕ) → set.contains allowed.now s ≡ nat_lt s crowd.now.sections }
@@ -116,9 +130,14 @@ pub(crate) fn bundles_at(
     requires version { version < length _batch.now }
     requires inquiries { All (IsInquiry _crowd.now _batch.now) inquiries.now }
     requires found { All (IsFound (data_of _crowd.now) _batch.now) inquiries.now }
-    requires others { (d : _) → AreOthersKept (data_of _crowd.now) remembered.now.bundles.items (slice_index_or _batch.now version d).items version inquiries.now }
+    requires others { (d : _)
+        → AreOthersKept (data_of _crowd.now) remembered.now.bundles.items
+        (slice_index_or _batch.now version d).items version inquiries.now }
     ensures len { IfOk result (λ bundles. length bundles.items ≡ length _crowd.now.menus.items) }
-    ensures taken { IfOk result (λ bundles. (d : _) → AreTaken (data_of _crowd.now) (slice_index_or _batch.now version d).items bundles.items) }
+    ensures taken { IfOk result
+        (λ bundles. (d : _)
+        → AreTaken (data_of _crowd.now) (slice_index_or _batch.now version d).items
+        bundles.items) }
 {
     let mut bundles = remembered.bundles.as_slice().to_vec(alloc)?;
     for place in 0..inquiries.len() {

@@ -17,9 +17,9 @@ use demand_api::Crowd;
 use demand_oracle::{Workspace, demand_beside};
 use market_units::{SectionSet, StudentNo, Tokens};
 
-// What a student takes at these prices, of all sections, asked. Where one section alone is cheaper than remembered, and what
-// is remembered of the student is still affordable, it is preferred to all that lacks the section, so only bundles with it
-// are searched.
+// What a student takes at these prices, of all sections, asked. Where one section alone is cheaper
+// than remembered, and what is remembered of the student is still affordable, it is preferred to
+// all that lacks the section, so only bundles with it are searched.
 pub(crate) fn asked_beside(
     workspace: &mut Workspace,
     remembered: &Remembered,
@@ -28,7 +28,8 @@ pub(crate) fn asked_beside(
     allowed: &SectionSet,
     student: StudentNo,
 ) -> Bundle
-    requires remembered { AreRemembered (data_of crowd.now) remembered.now.prices.items remembered.now.bundles.items }
+    requires remembered { AreRemembered (data_of crowd.now) remembered.now.prices.items
+        remembered.now.bundles.items }
     requires crowd { IsMade crowd.now }
     requires prices { ArePricesFor (data_of crowd.now) prices.now }
     requires allowed { (s : ℕ) → set.contains allowed.now s ≡ nat_lt s crowd.now.sections }

@@ -24,7 +24,8 @@ impl Cheaper {
         }
     }
 
-    // From the first section that became cheaper to the last. Where none did, there is none between the two.
+    // From the first section that became cheaper to the last. Where none did, there is none between
+    // the two.
     pub(crate) fn between(before: &[Tokens], after: &[Tokens]) -> Cheaper
         ensures { AreWithin result.first result.past before.now after.now }
     {
@@ -43,7 +44,8 @@ impl Cheaper {
 
     // The section that alone may have become cheaper, where it is one.
     pub(crate) fn alone(self) -> Option<SectionNo>
-        ensures { IfSome result (λ section. (section.0 ≡ self.first) × (self.past ≡ self.first + 1)) }
+        ensures { IfSome result
+            (λ section. (section.0 ≡ self.first) × (self.past ≡ self.first + 1)) }
     {
         if self.past <= self.first || self.past - self.first > 1 {
             return None;

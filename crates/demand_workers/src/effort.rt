@@ -9,17 +9,20 @@ use crate::remembered::Remembered;
 use demand_api::Crowd;
 use market_units::{StudentNo, Tokens};
 
-// A call for which at most one student in so many has to be asked is answered by the caller's own thread: the draws and posts of the others
-// on a shared board, and the starts of threads, take about as long.
+// A call for which at most one student in so many has to be asked is answered by the caller's own
+// thread: the draws and posts of the others on a shared board, and the starts of threads, take
+// about as long.
 const FEW: usize = 16;
 
-// At a version of a batch at which at most one student in so many has to be asked, they are asked with those of the other versions, by all
-// workers at once. A board draws and posts a task for each other student too, and so is worth it only where most are asked.
+// At a version of a batch at which at most one student in so many has to be asked, they are asked
+// with those of the other versions, by all workers at once. A board draws and posts a task for each
+// other student too, and so is worth it only where most are asked.
 const FEW_OF_BATCH: usize = 2;
 
 // Whether few of the students have to be asked.
 pub(crate) fn few_at(remembered: &Remembered, crowd: &Crowd, prices: &[Tokens]) -> bool
-    requires remembered { AreRemembered (data_of crowd.now) remembered.now.prices.items remembered.now.bundles.items }
+    requires remembered { AreRemembered (data_of crowd.now) remembered.now.prices.items
+        remembered.now.bundles.items }
     requires crowd { IsMade crowd.now }
     requires prices { ArePricesFor (data_of crowd.now) prices.now }
 {
@@ -33,7 +36,8 @@ pub(crate) fn few_listed(
     prices: &[Tokens],
     students: &[StudentNo],
 ) -> bool
-    requires remembered { AreRemembered (data_of crowd.now) remembered.now.prices.items remembered.now.bundles.items }
+    requires remembered { AreRemembered (data_of crowd.now) remembered.now.prices.items
+        remembered.now.bundles.items }
     requires crowd { IsMade crowd.now }
     requires prices { ArePricesFor (data_of crowd.now) prices.now }
     requires students { All (λ student. student.0 < length crowd.now.menus.items) students.now }
@@ -46,7 +50,8 @@ pub(crate) fn few_listed(
     are_few(asked, crowd.menus.len())
 }
 
-// Whether so many are few of so many students. One alone needs no worker beside the caller, unless nobody else is there.
+// Whether so many are few of so many students. One alone needs no worker beside the caller, unless
+// nobody else is there.
 pub(crate) fn are_few(asked: usize, students: usize) -> bool {
     asked <= students / FEW || (asked == 1 && students > 1)
 }
@@ -58,7 +63,8 @@ pub(crate) fn are_few_of_batch(asked: usize, students: usize) -> bool {
 
 // How many students have to be asked.
 fn asked_at(remembered: &Remembered, crowd: &Crowd, prices: &[Tokens]) -> usize
-    requires remembered { AreRemembered (data_of crowd.now) remembered.now.prices.items remembered.now.bundles.items }
+    requires remembered { AreRemembered (data_of crowd.now) remembered.now.prices.items
+        remembered.now.bundles.items }
     requires crowd { IsMade crowd.now }
     requires prices { ArePricesFor (data_of crowd.now) prices.now }
     ensures { result ≤ 2000 }

@@ -34,19 +34,21 @@ pub(crate) struct Note {
     pub bundle: Bundle,
 }
 
-// A walk to the least price of a section: that price, and what those took on the way there who were asked.
+// A walk to the least price of a section: that price, and what those took on the way there who were
+// asked.
 #[derive(Drop)]
 pub(crate) struct Walk {
     pub least: Tokens,
     pub notes: Vec<Note>,
 }
 
-// A holder of a section: how far below the greatest price it does not keep what it holds any more, and its number. So the greatest is the
-// first to leave.
+// A holder of a section: how far below the greatest price it does not keep what it holds any more,
+// and its number. So the greatest is the first to leave.
 pub(crate) type Holder = (u32, u16);
 
-// For each pair of a section and a limit the least price of the section from its remembered one up at which at most so many students take it,
-// the other prices as remembered. What each student takes at the remembered prices is remembered, and of some walks something is known.
+// For each pair of a section and a limit the least price of the section from its remembered one up
+// at which at most so many students take it, the other prices as remembered. What each student
+// takes at the remembered prices is remembered, and of some walks something is known.
 pub(crate) fn least_for_each(
     alloc: Global,
     workspace: &mut Workspace,
@@ -55,13 +57,16 @@ pub(crate) fn least_for_each(
     walks: &[Foreseen],
     pairs: &[(SectionNo, u32)],
 ) -> Result<Vec<Tokens>, NoMemory>
-    requires remembered { AreRemembered (data_of crowd.now) remembered.now.prices.items remembered.now.bundles.items }
+    requires remembered { AreRemembered (data_of crowd.now) remembered.now.prices.items
+        remembered.now.bundles.items }
     requires all { length remembered.now.bundles.items ≡ length crowd.now.menus.items }
     requires crowd { IsMade crowd.now }
     requires prices { ArePricesFor (data_of crowd.now) remembered.now.prices.items }
     requires walks { All (IsForeseen crowd.now) walks.now }
     requires sections { All (λ pair. pair.0.0 < crowd.now.sections) pairs.now }
-    ensures { IfOk result (λ found. AreLeastPrices (data_of crowd.now) (price_in remembered.now.prices.items) pairs.now found.items) }
+    ensures { IfOk result
+        (λ found. AreLeastPrices (data_of crowd.now) (price_in remembered.now.prices.items)
+        pairs.now found.items) }
 {
     let mut found = Vec::new(alloc);
     let mut trial = remembered.prices.as_slice().to_vec(alloc)?;
@@ -76,8 +81,9 @@ pub(crate) fn least_for_each(
     Ok(found)
 }
 
-// The least price of the section for one limit. The trial has the remembered prices, also afterwards. As long as there are too many holders,
-// the first of them to leave is asked at the price from which it does not keep what it holds: it holds the section from then on up to another
+// The least price of the section for one limit. The trial has the remembered prices, also
+// afterwards. As long as there are too many holders, the first of them to leave is asked at the
+// price from which it does not keep what it holds: it holds the section from then on up to another
 // price, or leaves.
 pub(crate) fn least_price(
     alloc: Global,
@@ -89,7 +95,8 @@ pub(crate) fn least_price(
     section: SectionNo,
     limit: u32,
 ) -> Result<Walk, NoMemory>
-    requires remembered { AreRemembered (data_of crowd.now) remembered.now.prices.items remembered.now.bundles.items }
+    requires remembered { AreRemembered (data_of crowd.now) remembered.now.prices.items
+        remembered.now.bundles.items }
     requires all { length remembered.now.bundles.items ≡ length crowd.now.menus.items }
     requires crowd { IsMade crowd.now }
     requires prices { ArePricesFor (data_of crowd.now) remembered.now.prices.items }
@@ -97,10 +104,15 @@ pub(crate) fn least_price(
     requires section { section.0 < crowd.now.sections }
     requires trial { trial.old ≡ remembered.now.prices.items }
     ensures trial { IfOk result (λ walk. trial.new ≡ remembered.now.prices.items) }
-    ensures least { IfOk result (λ walk. IsLeastFrom (price_in remembered.now.prices.items section.0) (data_of crowd.now) (price_in remembered.now.prices.items) section.0 limit walk.least.0) }
-    ensures low { IfOk result (λ walk. price_in remembered.now.prices.items section.0 ≤ walk.least.0) }
+    ensures least { IfOk result
+        (λ walk. IsLeastFrom (price_in remembered.now.prices.items section.0) (data_of crowd.now)
+        (price_in remembered.now.prices.items) section.0 limit walk.least.0) }
+    ensures low { IfOk result
+        (λ walk. price_in remembered.now.prices.items section.0 ≤ walk.least.0) }
     ensures high { IfOk result (λ walk. walk.least.0 ≤ top (data_of crowd.now)) }
-    ensures noted { IfOk result (λ walk. AreNoted (data_of crowd.now) remembered.now.prices.items section.0 walk.least.0 walk.notes.items) }
+    ensures noted { IfOk result
+        (λ walk. AreNoted (data_of crowd.now) remembered.now.prices.items section.0 walk.least.0
+        walk.notes.items) }
 {
     let allowed = SectionSet::full(crowd.sections);
     let place = usize::from(section.0);
@@ -140,13 +152,18 @@ pub(crate) fn holders_of(
     crowd: &Crowd,
     section: SectionNo,
 ) -> Result<BinaryHeap<Holder>, NoMemory>
-    requires remembered { AreRemembered (data_of crowd.now) remembered.now.prices.items remembered.now.bundles.items }
+    requires remembered { AreRemembered (data_of crowd.now) remembered.now.prices.items
+        remembered.now.bundles.items }
     requires all { length remembered.now.bundles.items ≡ length crowd.now.menus.items }
     requires crowd { IsMade crowd.now }
     requires prices { ArePricesFor (data_of crowd.now) remembered.now.prices.items }
     requires section { section.0 < crowd.now.sections }
-    ensures heap { IfOk result (λ holders. IsHeap (λ a b. ordering_then (nat_cmp a.0 b.0) (nat_cmp a.1 b.1)) (heap_items holders)) }
-    ensures left { IfOk result (λ holders. AreLeft (data_of crowd.now) (price_in remembered.now.prices.items) section.0 (price_in remembered.now.prices.items section.0) (heap_items holders)) }
+    ensures heap { IfOk result
+        (λ holders. IsHeap (λ a b. ordering_then (nat_cmp a.0 b.0) (nat_cmp a.1 b.1))
+        (heap_items holders)) }
+    ensures left { IfOk result
+        (λ holders. AreLeft (data_of crowd.now) (price_in remembered.now.prices.items) section.0
+        (price_in remembered.now.prices.items section.0) (heap_items holders)) }
 {
     let mut holders = BinaryHeap::new(alloc);
     for place in 0..crowd.menus.len() {
@@ -161,7 +178,8 @@ pub(crate) fn holders_of(
     Ok(holders)
 }
 
-// The holder with its bundle at these prices: it keeps the bundle as long as the section costs no more than what is left of the budget besides.
+// The holder with its bundle at these prices: it keeps the bundle as long as the section costs no
+// more than what is left of the budget besides.
 pub(crate) fn holder_of(
     crowd: &Crowd,
     prices: &[Tokens],
@@ -173,13 +191,16 @@ pub(crate) fn holder_of(
     requires prices { ArePricesFor (data_of crowd.now) prices.now }
     requires section { section.0 < crowd.now.sections }
     requires student { student.0 < length crowd.now.menus.items }
-    requires taken { sections_of bundle.now ≡ demand_of (data_of crowd.now) (price_in prices.now) student.0 }
+    requires taken { sections_of bundle.now
+        ≡ demand_of (data_of crowd.now) (price_in prices.now) student.0 }
     requires holds { has (sections_of bundle.now) section.0 ≡ true }
     ensures student { result.1 ≡ student.0 }
     ensures room { result.0 ≤ 1000001 }
     ensures later { price_in prices.now section.0 < leaves result }
     ensures capped { leaves result ≤ top (data_of crowd.now) }
-    ensures still { takes (data_of crowd.now) (price_in prices.now) section.0 (leaves result - 1) student.0 ≡ true }
+    ensures still { takes (data_of crowd.now) (price_in prices.now) section.0 (leaves result - 1)
+        student.0
+        ≡ true }
 {
     let cost = price_of(prices, bundle.sections());
     let left = crowd.budgets[usize::from(student.0)].0 - cost;

@@ -57,7 +57,8 @@ impl<'g> PooledDemands<AnyGate<'g>> {
         gate: &'g (dyn Gate + Sync),
     ) -> PooledDemands<AnyGate<'g>>
         requires { IsMade (arc_value crowd) }
-        ensures crowd { ⟦<PooledDemands<AnyGate<'g>> as Demands>⟧.crowd result ≡ data_of (arc_value crowd) }
+        ensures crowd { ⟦<PooledDemands<AnyGate<'g>> as Demands>⟧.crowd result
+            ≡ data_of (arc_value crowd) }
         ensures asked { ⟦<PooledDemands<AnyGate<'g>> as Demands>⟧.asked result ≡ 0 }
     {
         let remembered = Remembered::nothing(bench.alloc);
@@ -78,8 +79,10 @@ impl<'g> PooledDemands<AnyGate<'g>> {
         prices: &[Tokens],
     ) -> Result<Vec<Bundle>, NoMemory>
         requires prices { ArePricesFor (data_of (arc_value self.now.crowd)) prices.now }
-        ensures len { IfOk result (λ bundles. length bundles.items ≡ length (arc_value self.now.crowd).menus.items) }
-        ensures taken { IfOk result (λ bundles. AreTaken (data_of (arc_value self.now.crowd)) prices.now bundles.items) }
+        ensures len { IfOk result
+            (λ bundles. length bundles.items ≡ length (arc_value self.now.crowd).menus.items) }
+        ensures taken { IfOk result
+            (λ bundles. AreTaken (data_of (arc_value self.now.crowd)) prices.now bundles.items) }
     {
         if few_at(&self.remembered, &self.crowd, prices) {
             let mut bundles = vec![in alloc; Bundle::empty(); self.crowd.menus.len()]?;
@@ -104,8 +107,10 @@ impl<'g> PooledDemands<AnyGate<'g>> {
         prices: &[Tokens],
     ) -> Result<Vec<Bundle>, NoMemory>
         requires prices { ArePricesFor (data_of (arc_value self.now.crowd)) prices.now }
-        ensures len { IfOk result (λ bundles. length bundles.items ≡ length (arc_value self.now.crowd).menus.items) }
-        ensures taken { IfOk result (λ bundles. AreTaken (data_of (arc_value self.now.crowd)) prices.now bundles.items) }
+        ensures len { IfOk result
+            (λ bundles. length bundles.items ≡ length (arc_value self.now.crowd).menus.items) }
+        ensures taken { IfOk result
+            (λ bundles. AreTaken (data_of (arc_value self.now.crowd)) prices.now bundles.items) }
     {
         let mut bundles = vec![in alloc; Bundle::empty(); self.crowd.menus.len()]?;
         let version = prices.to_vec(alloc)?;
@@ -133,8 +138,12 @@ impl<'g> PooledDemands<AnyGate<'g>> {
     ) -> Result<Remembered, NoMemory>
         requires prices { ArePricesFor (data_of (arc_value self.now.crowd)) prices.now }
         ensures prices { IfOk result (λ memory. memory.prices.items ≡ prices.now) }
-        ensures all { IfOk result (λ memory. length memory.bundles.items ≡ length (arc_value self.now.crowd).menus.items) }
-        ensures right { IfOk result (λ memory. AreRemembered (data_of (arc_value self.now.crowd)) memory.prices.items memory.bundles.items) }
+        ensures all { IfOk result
+            (λ memory. length memory.bundles.items
+            ≡ length (arc_value self.now.crowd).menus.items) }
+        ensures right { IfOk result
+            (λ memory. AreRemembered (data_of (arc_value self.now.crowd)) memory.prices.items
+            memory.bundles.items) }
     {
         let copy = prices.to_vec(alloc)?;
         let bundles = self.all_bundles(rt, alloc, prices)?;
@@ -155,7 +164,9 @@ impl<'g> PooledDemands<AnyGate<'g>> {
         ensures crowd { self.new.crowd ≡ self.old.crowd }
         ensures asked { self.new.asked ≡ self.old.asked }
         ensures prices { IfOk result (λ done. self.new.remembered.prices.items ≡ prices.now) }
-        ensures all { IfOk result (λ done. length self.new.remembered.bundles.items ≡ length (arc_value self.old.crowd).menus.items) }
+        ensures all { IfOk result
+            (λ done. length self.new.remembered.bundles.items
+            ≡ length (arc_value self.old.crowd).menus.items) }
     {
         if self.remembered.is_of(self.crowd.menus.len(), prices) {
             return Ok(());
@@ -174,7 +185,8 @@ impl<'g> PooledDemands<AnyGate<'g>> {
         students: &[StudentNo],
     ) -> Result<(), NoMemory>
         requires prices { ArePricesFor (data_of (arc_value self.old.crowd)) prices.now }
-        requires students { All (λ student. student.0 < length (arc_value self.old.crowd).menus.items) students.now }
+        requires students { All
+            (λ student. student.0 < length (arc_value self.old.crowd).menus.items) students.now }
         requires few { length students.now ≤ 2000 }
         ensures crowd { self.new.crowd ≡ self.old.crowd }
         ensures asked { self.new.asked ≡ self.old.asked }
@@ -200,12 +212,16 @@ impl<'g> PooledDemands<AnyGate<'g>> {
         section: SectionNo,
         limit: u32,
     ) -> Result<Vec<Tokens>, NoMemory>
-        requires all { length self.old.remembered.bundles.items ≡ length (arc_value self.old.crowd).menus.items }
-        requires prices { ArePricesFor (data_of (arc_value self.old.crowd)) self.old.remembered.prices.items }
+        requires all { length self.old.remembered.bundles.items
+            ≡ length (arc_value self.old.crowd).menus.items }
+        requires prices { ArePricesFor (data_of (arc_value self.old.crowd))
+            self.old.remembered.prices.items }
         requires section { section.0 < (arc_value self.old.crowd).sections }
         ensures crowd { self.new.crowd ≡ self.old.crowd }
         ensures asked { self.new.asked ≡ self.old.asked }
-        ensures least { IfOk result (λ found. AreLeastPrices (data_of (arc_value self.old.crowd)) (price_in self.old.remembered.prices.items) ((section, limit) ∷ []) found.items) }
+        ensures least { IfOk result
+            (λ found. AreLeastPrices (data_of (arc_value self.old.crowd))
+            (price_in self.old.remembered.prices.items) ((section, limit) ∷ []) found.items) }
     {
         let mut trial = self.remembered.prices.as_slice().to_vec(alloc)?;
         let walks = ask_ahead(
@@ -255,7 +271,9 @@ impl<'g> PooledDemands<AnyGate<'g>> {
         requires prices { ArePricesFor (data_of (arc_value self.old.crowd)) prices.now }
         ensures crowd { self.new.crowd ≡ self.old.crowd }
         ensures asked { self.new.asked ≡ self.old.asked }
-        ensures all { IfOk result (λ done. length self.new.remembered.bundles.items ≡ length (arc_value self.old.crowd).menus.items) }
+        ensures all { IfOk result
+            (λ done. length self.new.remembered.bundles.items
+            ≡ length (arc_value self.old.crowd).menus.items) }
     {
         if self.remembered.bundles.len() == self.crowd.menus.len() {
             return Ok(());
@@ -272,12 +290,19 @@ impl<'g> PooledDemands<AnyGate<'g>> {
         batch: &[Vec<Tokens>],
         version: usize,
     ) -> Result<Vec<u32>, NoMemory>
-        requires all { length self.now.remembered.bundles.items ≡ length (arc_value self.now.crowd).menus.items }
+        requires all { length self.now.remembered.bundles.items
+            ≡ length (arc_value self.now.crowd).menus.items }
         requires batch { AreVersionsFor (data_of (arc_value self.now.crowd)) batch.now }
         requires version { version < length batch.now }
-        requires survey { IsSurvey (arc_value self.now.crowd) self.now.remembered.bundles.items batch.now survey.now.few.items survey.now.inquiries.items }
-        requires found { All (IsFound (data_of (arc_value self.now.crowd)) batch.now) survey.now.inquiries.items }
-        ensures { IfOk result (λ found. (d : _) → found.items ≡ counts (data_of (arc_value self.now.crowd)) (price_in (slice_index_or batch.now version d).items)) }
+        requires survey { IsSurvey (arc_value self.now.crowd) self.now.remembered.bundles.items
+            batch.now survey.now.few.items survey.now.inquiries.items }
+        requires found { All (IsFound (data_of (arc_value self.now.crowd)) batch.now)
+            survey.now.inquiries.items }
+        ensures { IfOk result
+            (λ found. (d : _)
+            → found.items
+            ≡ counts (data_of (arc_value self.now.crowd))
+            (price_in (slice_index_or batch.now version d).items)) }
     {
         let mut found = vec![in alloc; 0; usize::from(self.crowd.sections)]?;
         let bundles = self.surveyed(rt, alloc, survey, batch, version)?;
@@ -294,13 +319,20 @@ impl<'g> PooledDemands<AnyGate<'g>> {
         batch: &[Vec<Tokens>],
         version: usize,
     ) -> Result<Vec<Bundle>, NoMemory>
-        requires all { length self.now.remembered.bundles.items ≡ length (arc_value self.now.crowd).menus.items }
+        requires all { length self.now.remembered.bundles.items
+            ≡ length (arc_value self.now.crowd).menus.items }
         requires batch { AreVersionsFor (data_of (arc_value self.now.crowd)) batch.now }
         requires version { version < length batch.now }
-        requires survey { IsSurvey (arc_value self.now.crowd) self.now.remembered.bundles.items batch.now survey.now.few.items survey.now.inquiries.items }
-        requires found { All (IsFound (data_of (arc_value self.now.crowd)) batch.now) survey.now.inquiries.items }
-        ensures len { IfOk result (λ bundles. length bundles.items ≡ length (arc_value self.now.crowd).menus.items) }
-        ensures taken { IfOk result (λ bundles. (d : _) → AreTaken (data_of (arc_value self.now.crowd)) (slice_index_or batch.now version d).items bundles.items) }
+        requires survey { IsSurvey (arc_value self.now.crowd) self.now.remembered.bundles.items
+            batch.now survey.now.few.items survey.now.inquiries.items }
+        requires found { All (IsFound (data_of (arc_value self.now.crowd)) batch.now)
+            survey.now.inquiries.items }
+        ensures len { IfOk result
+            (λ bundles. length bundles.items ≡ length (arc_value self.now.crowd).menus.items) }
+        ensures taken { IfOk result
+            (λ bundles. (d : _)
+            → AreTaken (data_of (arc_value self.now.crowd))
+            (slice_index_or batch.now version d).items bundles.items) }
     {
         if !survey.few[version] {
             return self.board_bundles(rt, alloc, &batch[version]);

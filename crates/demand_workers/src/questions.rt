@@ -19,8 +19,8 @@ use std::sync::{Mutex, Wait};
 use std::thread;
 use std::thread::Threads;
 
-// For so many questions each one more worker is started: a start and its end take about as long as several answers, and much
-// longer where the processors are busy.
+// For so many questions each one more worker is started: a start and its end take about as long as
+// several answers, and much longer where the processors are busy.
 pub(crate) const SHARE: usize = 16;
 
 // Fewer questions are not worth a start.
@@ -42,7 +42,9 @@ pub(crate) fn answer_of(
     student: StudentNo,
 ) -> Option<Bundle>
     requires { AreAnswered (data_of _crowd.now) answered.now }
-    ensures { IfSome result (λ bundle. sections_of bundle ≡ demand_of (data_of _crowd.now) (price_in prices.now) student.0) }
+    ensures { IfSome result
+        (λ bundle. sections_of bundle
+        ≡ demand_of (data_of _crowd.now) (price_in prices.now) student.0) }
 {
     for place in 0..answered.len() {
         let question = &answered[place];
@@ -79,7 +81,8 @@ pub(crate) fn answered_or_asked(
     }
 }
 
-// Answers the questions, by so many workers as they are worth, of as many as there are workspaces. It takes no memory.
+// Answers the questions, by so many workers as they are worth, of as many as there are workspaces.
+// It takes no memory.
 pub(crate) fn answer_all<R: Threads + Wait + Sync>(
     rt: &R,
     workspaces: &[Mutex<Workspace>],
@@ -102,8 +105,10 @@ pub(crate) fn answer_all<R: Threads + Wait + Sync>(
         questions,
         workers,
         &|n, question|
-            requires { (0 < size) × (1 ≤ length workspaces.now) × IsQuestion crowd.now question.now × IsMade crowd.now }
-            ensures { IsQuestion crowd.entry.now question.exit.now × IsAnswered (data_of crowd.entry.now) question.exit.now }
+            requires { (0 < size) × (1 ≤ length workspaces.now) × IsQuestion crowd.now question.now
+                × IsMade crowd.now }
+            ensures { IsQuestion crowd.entry.now question.exit.now
+                × IsAnswered (data_of crowd.entry.now) question.exit.now }
         {
             let worker = (n / size).min(workspaces.len() - 1);
             answer(rt, &workspaces[worker], remembered, crowd, question)

@@ -19,8 +19,9 @@ use demand_oracle::Workspace;
 use market_units::{NoMemory, SectionNo, SectionSet, StudentNo, Tokens};
 use std::alloc::Global;
 
-// What each student takes at the remembered prices with the section at the least price of a walk. Who does not hold the
-// section keeps what it takes. Who was asked on the way there keeps what it took then, as long as that is affordable.
+// What each student takes at the remembered prices with the section at the least price of a walk.
+// Who does not hold the section keeps what it takes. Who was asked on the way there keeps what it
+// took then, as long as that is affordable.
 pub(crate) fn raised_memory(
     alloc: Global,
     workspace: &mut Workspace,
@@ -29,15 +30,18 @@ pub(crate) fn raised_memory(
     section: SectionNo,
     walk: &Walk,
 ) -> Result<Remembered, NoMemory>
-    requires remembered { AreRemembered (data_of crowd.now) remembered.now.prices.items remembered.now.bundles.items }
+    requires remembered { AreRemembered (data_of crowd.now) remembered.now.prices.items
+        remembered.now.bundles.items }
     requires all { length remembered.now.bundles.items ≡ length crowd.now.menus.items }
     requires crowd { IsMade crowd.now }
     requires prices { ArePricesFor (data_of crowd.now) remembered.now.prices.items }
     requires section { section.0 < crowd.now.sections }
     requires low { price_in remembered.now.prices.items section.0 ≤ walk.now.least.0 }
     requires high { walk.now.least.0 ≤ top (data_of crowd.now) }
-    requires noted { AreNoted (data_of crowd.now) remembered.now.prices.items section.0 walk.now.least.0 walk.now.notes.items }
-    ensures right { IfOk result (λ memory. AreRemembered (data_of crowd.now) memory.prices.items memory.bundles.items) }
+    requires noted { AreNoted (data_of crowd.now) remembered.now.prices.items section.0
+        walk.now.least.0 walk.now.notes.items }
+    ensures right { IfOk result
+        (λ memory. AreRemembered (data_of crowd.now) memory.prices.items memory.bundles.items) }
 {
     let allowed = SectionSet::full(crowd.sections);
     let mut prices = remembered.prices.as_slice().to_vec(alloc)?;
@@ -69,8 +73,11 @@ fn noted(
     requires student { student.0 < length crowd.now.menus.items }
     requires section { _section.0 < crowd.now.sections }
     requires least { price_in prices.now _section.0 ≡ walk.now.least.0 }
-    requires noted { AreNoted (data_of crowd.now) prices.now _section.0 walk.now.least.0 walk.now.notes.items }
-    ensures { IfSome result (λ bundle. sections_of bundle ≡ demand_of (data_of crowd.now) (price_in prices.now) student.0) }
+    requires noted { AreNoted (data_of crowd.now) prices.now _section.0 walk.now.least.0
+        walk.now.notes.items }
+    ensures { IfSome result
+        (λ bundle. sections_of bundle
+        ≡ demand_of (data_of crowd.now) (price_in prices.now) student.0) }
 {
     for place in 0..walk.notes.len() {
         let note = walk.notes[place];

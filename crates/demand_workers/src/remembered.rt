@@ -26,7 +26,8 @@ pub(crate) struct Remembered {
 impl Remembered {
     // Nothing. It takes no memory.
     pub(crate) fn nothing(alloc: Global) -> Remembered
-        ensures { (crowd : CrowdData) → AreRemembered crowd result.prices.items result.bundles.items }
+        ensures { (crowd : CrowdData)
+            → AreRemembered crowd result.prices.items result.bundles.items }
     {
         Remembered {
             prices: Vec::new(alloc),
@@ -52,11 +53,14 @@ impl Remembered {
         prices: &[Tokens],
         student: StudentNo,
     ) -> Option<Bundle>
-        requires remembered { AreRemembered (data_of crowd.now) self.now.prices.items self.now.bundles.items }
+        requires remembered { AreRemembered (data_of crowd.now) self.now.prices.items
+            self.now.bundles.items }
         requires crowd { IsMade crowd.now }
         requires prices { ArePricesFor (data_of crowd.now) prices.now }
         requires student { student.0 < length crowd.now.menus.items }
-        ensures { IfSome result (λ bundle. sections_of bundle ≡ demand_of (data_of crowd.now) (price_in prices.now) student.0) }
+        ensures { IfSome result
+            (λ bundle. sections_of bundle
+            ≡ demand_of (data_of crowd.now) (price_in prices.now) student.0) }
     {
         let place = usize::from(student.0);
         if place >= self.bundles.len() {
@@ -69,8 +73,8 @@ impl Remembered {
         Some(self.bundles[place])
     }
 
-    // Whether the student at a place takes what is remembered of it at these prices too: the bundle is still affordable, and no section
-    // of the menu became cheaper.
+    // Whether the student at a place takes what is remembered of it at these prices too: the bundle
+    // is still affordable, and no section of the menu became cheaper.
     pub(crate) fn stays(
         &self,
         crowd: &Crowd,
@@ -78,13 +82,15 @@ impl Remembered {
         cheaper: Cheaper,
         place: usize,
     ) -> bool
-        requires remembered { AreRemembered (data_of crowd.now) self.now.prices.items self.now.bundles.items }
+        requires remembered { AreRemembered (data_of crowd.now) self.now.prices.items
+            self.now.bundles.items }
         requires crowd { IsMade crowd.now }
         requires prices { ArePricesFor (data_of crowd.now) prices.now }
         requires cheaper { AreWithin cheaper.first cheaper.past self.now.prices.items prices.now }
         requires student { place < length crowd.now.menus.items }
         requires there { place < length self.now.bundles.items }
-        ensures { IsTrue result → IsKept (data_of crowd.now) prices.now self.now.bundles.items place }
+        ensures { IsTrue result
+            → IsKept (data_of crowd.now) prices.now self.now.bundles.items place }
     {
         let bundle = self.bundles[place];
         if price_of(prices, bundle.sections()) > crowd.budgets[place].0 {

@@ -19,8 +19,8 @@ use std::sync::{Arc, Mutex, Wait};
 use std::thread;
 use std::thread::Threads;
 
-// What all workers find for these versions and what is asked of each. All memory is taken before the first worker starts, and the only
-// error is that it was not given.
+// What all workers find for these versions and what is asked of each. All memory is taken before
+// the first worker starts, and the only error is that it was not given.
 pub(crate) fn ask_workers<R: Threads + Wait + Sync>(
     rt: &R,
     alloc: Global,
@@ -31,7 +31,8 @@ pub(crate) fn ask_workers<R: Threads + Wait + Sync>(
     remembered: &Remembered,
     gate: &(dyn Gate + Sync),
 ) -> Result<Answers, NoMemory>
-    requires remembered { AreRemembered (data_of (arc_value crowd.now)) remembered.now.prices.items remembered.now.bundles.items }
+    requires remembered { AreRemembered (data_of (arc_value crowd.now)) remembered.now.prices.items
+        remembered.now.bundles.items }
     requires crowd { IsMade (arc_value crowd.now) }
     requires versions { AreVersionsFor (data_of (arc_value crowd.now)) versions.now }
     requires some { 1 ≤ length versions.now }
@@ -54,7 +55,8 @@ pub(crate) fn ask_workers<R: Threads + Wait + Sync>(
     ))
 }
 
-// From the start of the first worker to the answers: it is given no allocator and has no error, so no memory is taken meanwhile.
+// From the start of the first worker to the answers: it is given no allocator and has no error, so
+// no memory is taken meanwhile.
 fn work_and_close<R: Threads + Wait + Sync>(
     rt: &R,
     board: Board,
@@ -65,13 +67,16 @@ fn work_and_close<R: Threads + Wait + Sync>(
     versions: &[Vec<Tokens>],
     gate: &(dyn Gate + Sync),
 ) -> Answers
-    requires remembered { AreRemembered (data_of crowd.now) remembered.now.prices.items remembered.now.bundles.items }
+    requires remembered { AreRemembered (data_of crowd.now) remembered.now.prices.items
+        remembered.now.bundles.items }
     requires crowd { IsMade crowd.now }
     requires versions { AreVersionsFor (data_of crowd.now) versions.now }
     requires board { IsBoardOf (data_of crowd.now) versions.now board }
-    requires count { (vec_len seats ≡ length workspaces.now) × (1 ≤ length workspaces.now) × (length workspaces.now ≤ 16) }
+    requires count { (vec_len seats ≡ length workspaces.now) × (1 ≤ length workspaces.now)
+        × (length workspaces.now ≤ 16) }
     requires allotments { length board.allotments ≡ vec_len seats }
-    requires numbers { (n : ℕ) (d : _) → n < vec_len seats → (slice_index_or seats.items n d).number ≡ n }
+    requires numbers { (n : ℕ) (d : _) → n < vec_len seats
+        → (slice_index_or seats.items n d).number ≡ n }
     requires free { All (λ seat. IsFree board seat) seats.items }
     ensures terms { result.terms ≡ board.base }
 {
@@ -100,7 +105,8 @@ fn copies_of(alloc: Global, versions: &[Vec<Tokens>]) -> Result<Vec<Vec<Tokens>>
     Ok(copies)
 }
 
-// Each worker works at its seat with a workspace of its own, in a thread of its own where one can be started.
+// Each worker works at its seat with a workspace of its own, in a thread of its own where one can
+// be started.
 fn work_all<R: Threads + Wait + Sync>(
     rt: &R,
     board: &Board,
@@ -111,15 +117,19 @@ fn work_all<R: Threads + Wait + Sync>(
     versions: &[Vec<Tokens>],
     gate: &(dyn Gate + Sync),
 )
-    requires remembered { AreRemembered (data_of crowd.now) remembered.now.prices.items remembered.now.bundles.items }
+    requires remembered { AreRemembered (data_of crowd.now) remembered.now.prices.items
+        remembered.now.bundles.items }
     requires crowd { IsMade crowd.now }
     requires versions { AreVersionsFor (data_of crowd.now) versions.now }
     requires board { IsBoardOf (data_of crowd.now) versions.now board.now }
-    requires count { (length seats.old ≡ length workspaces.now) × (1 ≤ length workspaces.now) × (length workspaces.now ≤ 16) }
-    requires numbers { (n : ℕ) (d : _) → n < length seats.old → (slice_index_or seats.old n d).number ≡ n }
+    requires count { (length seats.old ≡ length workspaces.now) × (1 ≤ length workspaces.now)
+        × (length workspaces.now ≤ 16) }
+    requires numbers { (n : ℕ) (d : _) → n < length seats.old
+        → (slice_index_or seats.old n d).number ≡ n }
     requires free { All (λ seat. IsFree board.now seat) seats.old }
     ensures count { length seats.new ≡ length seats.old }
-    ensures numbers { (n : ℕ) (d : _) → n < length seats.old → (slice_index_or seats.new n d).number ≡ n }
+    ensures numbers { (n : ℕ) (d : _) → n < length seats.old
+        → (slice_index_or seats.new n d).number ≡ n }
     ensures finished { All (λ seat. IsFinished board.now seat) seats.new }
 {
     let threads = seats.len();
@@ -128,8 +138,14 @@ fn work_all<R: Threads + Wait + Sync>(
         seats,
         threads,
         &|n, seat|
-            requires { (n < length workspaces.now) × (seat.now.number < 16) × IsFree board.now seat.now × AreRemembered (data_of crowd.now) remembered.now.prices.items remembered.now.bundles.items × IsMade crowd.now × AreVersionsFor (data_of crowd.now) versions.now × IsBoardOf (data_of crowd.now) versions.now board.now }
-            ensures { IsFinished board.entry.now seat.exit.now × (seat.exit.now.number ≡ seat.entry.now.number) }
+            requires { (n < length workspaces.now) × (seat.now.number < 16)
+                × IsFree board.now seat.now
+                × AreRemembered (data_of crowd.now) remembered.now.prices.items
+                remembered.now.bundles.items
+                × IsMade crowd.now × AreVersionsFor (data_of crowd.now) versions.now
+                × IsBoardOf (data_of crowd.now) versions.now board.now }
+            ensures { IsFinished board.entry.now seat.exit.now
+                × (seat.exit.now.number ≡ seat.entry.now.number) }
         {
             work(
                 rt,

@@ -24,7 +24,8 @@ pub(crate) fn taken(
     allowed: &SectionSet,
     student: StudentNo,
 ) -> Bundle
-    requires remembered { AreRemembered (data_of crowd.now) remembered.now.prices.items remembered.now.bundles.items }
+    requires remembered { AreRemembered (data_of crowd.now) remembered.now.prices.items
+        remembered.now.bundles.items }
     requires crowd { IsMade crowd.now }
     requires prices { ArePricesFor (data_of crowd.now) prices.now }
     requires allowed { (s : ℕ) → set.contains allowed.now s ≡ nat_lt s crowd.now.sections }
@@ -37,7 +38,8 @@ pub(crate) fn taken(
     }
 }
 
-// The same, asked. The search begins with what is remembered of the student, which is often still nearly the best.
+// The same, asked. The search begins with what is remembered of the student, which is often still
+// nearly the best.
 pub(crate) fn asked_again(
     workspace: &mut Workspace,
     remembered: &Remembered,
@@ -99,12 +101,15 @@ pub(crate) fn take_listed(
     students: &[StudentNo],
     bundles: &mut [Bundle],
 )
-    requires remembered { AreRemembered (data_of crowd.now) remembered.now.prices.items remembered.now.bundles.items }
+    requires remembered { AreRemembered (data_of crowd.now) remembered.now.prices.items
+        remembered.now.bundles.items }
     requires crowd { IsMade crowd.now }
     requires prices { ArePricesFor (data_of crowd.now) prices.now }
     requires students { All (λ student. student.0 < length crowd.now.menus.items) students.now }
     requires same { length bundles.old ≡ length students.now }
-    ensures { map sections_of bundles.new ≡ map (λ student. demand_of (data_of crowd.now) (price_in prices.now) student.0) students.now }
+    ensures { map sections_of bundles.new
+        ≡ map (λ student. demand_of (data_of crowd.now) (price_in prices.now) student.0)
+        students.now }
 {
     let allowed = SectionSet::full(crowd.sections);
     for place in 0..students.len() {
@@ -121,7 +126,8 @@ pub(crate) fn take_all(
     prices: &[Tokens],
     bundles: &mut [Bundle],
 )
-    requires remembered { AreRemembered (data_of crowd.now) remembered.now.prices.items remembered.now.bundles.items }
+    requires remembered { AreRemembered (data_of crowd.now) remembered.now.prices.items
+        remembered.now.bundles.items }
     requires crowd { IsMade crowd.now }
     requires prices { ArePricesFor (data_of crowd.now) prices.now }
     requires same { length bundles.old ≡ length crowd.now.menus.items }
@@ -156,7 +162,8 @@ pub(crate) fn count_takers(
     prices: &[Tokens],
     section: SectionNo,
 ) -> u32
-    requires remembered { AreRemembered (data_of crowd.now) remembered.now.prices.items remembered.now.bundles.items }
+    requires remembered { AreRemembered (data_of crowd.now) remembered.now.prices.items
+        remembered.now.bundles.items }
     requires crowd { IsMade crowd.now }
     requires prices { ArePricesFor (data_of crowd.now) prices.now }
     ensures { result ≡ count (data_of crowd.now) (price_in prices.now) section.0 }

@@ -24,8 +24,8 @@ pub(crate) struct Survey {
     pub inquiries: Vec<Inquiry>,
 }
 
-// What those take who have to be asked at the versions of a batch, asked by all workers at once, but for versions at which
-// they are not few. What each student takes at some prices is remembered.
+// What those take who have to be asked at the versions of a batch, asked by all workers at once,
+// but for versions at which they are not few. What each student takes at some prices is remembered.
 pub(crate) fn ask_few<R: Threads + Wait + Sync>(
     rt: &R,
     alloc: Global,
@@ -34,13 +34,17 @@ pub(crate) fn ask_few<R: Threads + Wait + Sync>(
     crowd: &Crowd,
     batch: &[Vec<Tokens>],
 ) -> Result<Survey, NoMemory>
-    requires remembered { AreRemembered (data_of crowd.now) remembered.now.prices.items remembered.now.bundles.items }
+    requires remembered { AreRemembered (data_of crowd.now) remembered.now.prices.items
+        remembered.now.bundles.items }
     requires all { length remembered.now.bundles.items ≡ length crowd.now.menus.items }
     requires crowd { IsMade crowd.now }
     requires batch { AreVersionsFor (data_of crowd.now) batch.now }
     requires workers { 1 ≤ length workspaces.now }
-    ensures survey { IfOk result (λ survey. IsSurvey crowd.now remembered.now.bundles.items batch.now survey.few.items survey.inquiries.items) }
-    ensures found { IfOk result (λ survey. All (IsFound (data_of crowd.now) batch.now) survey.inquiries.items) }
+    ensures survey { IfOk result
+        (λ survey. IsSurvey crowd.now remembered.now.bundles.items batch.now survey.few.items
+        survey.inquiries.items) }
+    ensures found { IfOk result
+        (λ survey. All (IsFound (data_of crowd.now) batch.now) survey.inquiries.items) }
 {
     let mut survey = few_of_all(alloc, remembered, crowd, batch)?;
     answer_batch(
@@ -61,11 +65,14 @@ fn few_of_all(
     crowd: &Crowd,
     batch: &[Vec<Tokens>],
 ) -> Result<Survey, NoMemory>
-    requires remembered { AreRemembered (data_of crowd.now) remembered.now.prices.items remembered.now.bundles.items }
+    requires remembered { AreRemembered (data_of crowd.now) remembered.now.prices.items
+        remembered.now.bundles.items }
     requires all { length remembered.now.bundles.items ≡ length crowd.now.menus.items }
     requires crowd { IsMade crowd.now }
     requires batch { AreVersionsFor (data_of crowd.now) batch.now }
-    ensures survey { IfOk result (λ survey. IsSurvey crowd.now remembered.now.bundles.items batch.now survey.few.items survey.inquiries.items) }
+    ensures survey { IfOk result
+        (λ survey. IsSurvey crowd.now remembered.now.bundles.items batch.now survey.few.items
+        survey.inquiries.items) }
 {
     let mut few = Vec::with_capacity(alloc, batch.len())?;
     let mut inquiries = Vec::new(alloc);
@@ -80,7 +87,8 @@ fn few_of_all(
     Ok(Survey { few, inquiries })
 }
 
-// An inquiry for each student whom what is remembered does not settle at a version, or none of it where they are not few.
+// An inquiry for each student whom what is remembered does not settle at a version, or none of it
+// where they are not few.
 fn few_of_one(
     alloc: Global,
     remembered: &Remembered,
@@ -88,13 +96,19 @@ fn few_of_one(
     batch: &[Vec<Tokens>],
     version: usize,
 ) -> Result<Option<Vec<Inquiry>>, NoMemory>
-    requires remembered { AreRemembered (data_of crowd.now) remembered.now.prices.items remembered.now.bundles.items }
+    requires remembered { AreRemembered (data_of crowd.now) remembered.now.prices.items
+        remembered.now.bundles.items }
     requires all { length remembered.now.bundles.items ≡ length crowd.now.menus.items }
     requires crowd { IsMade crowd.now }
     requires batch { AreVersionsFor (data_of crowd.now) batch.now }
     requires version { version < length batch.now }
-    ensures inquiries { IfOk result (λ found. IfSome found (λ inquiries. All (IsInquiry crowd.now batch.now) inquiries.items)) }
-    ensures others { IfOk result (λ found. IfSome found (λ inquiries. (d : _) → AreOthersKept (data_of crowd.now) remembered.now.bundles.items (slice_index_or batch.now version d).items version inquiries.items)) }
+    ensures inquiries { IfOk result
+        (λ found. IfSome found (λ inquiries. All (IsInquiry crowd.now batch.now) inquiries.items)) }
+    ensures others { IfOk result
+        (λ found. IfSome found
+        (λ inquiries. (d : _)
+        → AreOthersKept (data_of crowd.now) remembered.now.bundles.items
+        (slice_index_or batch.now version d).items version inquiries.items)) }
 {
     let prices: &[Tokens] = &batch[version];
     let cheaper = Cheaper::between(&remembered.prices, prices);

@@ -14,8 +14,8 @@ use market_units::{SectionSet, Tokens};
 use price_board::{Board, BoardSeat, Draw};
 use std::sync::{Mutex, Wait};
 
-// Draws one task after another, and posts what its student takes, until no task is left. The worker passes the gate before its first
-// draw and after each of its posts.
+// Draws one task after another, and posts what its student takes, until no task is left. The worker
+// passes the gate before its first draw and after each of its posts.
 pub(crate) fn work<R: Wait>(
     rt: &R,
     board: &Board,
@@ -26,7 +26,8 @@ pub(crate) fn work<R: Wait>(
     versions: &[Vec<Tokens>],
     gate: &(dyn Gate + Sync),
 )
-    requires remembered { AreRemembered (data_of crowd.now) remembered.now.prices.items remembered.now.bundles.items }
+    requires remembered { AreRemembered (data_of crowd.now) remembered.now.prices.items
+        remembered.now.bundles.items }
     requires crowd { IsMade crowd.now }
     requires versions { AreVersionsFor (data_of crowd.now) versions.now }
     requires board { IsBoardOf (data_of crowd.now) versions.now board.now }

@@ -25,7 +25,9 @@ bundles_ascend bundles = All-map IsAscending sections_of bundles (λ k d low. se
 -- a front of a bundle is a bundle
 bundle_front : (xs ys : List ℕ) → IsBundle (xs ++ ys) → IsBundle xs
 bundle_front xs ys is = record {
-  few = (let n : ℕ = length xs in let both : length (xs ++ ys) ≡ n + length ys = length-append xs ys in let most : length (xs ++ ys) ≤ 8 = is.few in let goal : n ≤ 8 = omega arith in goal);
+  few =
+      (let n : ℕ = length xs in let both : length (xs ++ ys) ≡ n + length ys = length-append xs ys in let most : length (xs ++ ys) ≤ 8 = is.few in let goal : n
+      ≤ 8 = omega arith in goal);
   ascending = IsAscending-front xs ys is.ascending;
 }
 
@@ -42,12 +44,22 @@ widened s xs is few lacks =
     let low = ordinals (take (place_in s xs) xs) in
     let high = ordinals (drop (place_in s xs) xs) in
     let whole : (low ++ s ∷ []) ++ high ≡ with_section s (ordinals xs) =
-    append_assoc low (s ∷ []) high ∙ ap (λ l. l ++ s ∷ high) (lower_part s xs is.ascending) ∙ ap (λ l. filter (λ t. nat_lt t s) (ordinals xs) ++ s ∷ l) (higher_part s xs is.ascending lacks) in
-    let bundle : IsBundle ((low ++ s ∷ []) ++ high) = subst IsBundle (sym whole) (record { few = (let most = length-with s (ordinals xs) in let n : ℕ = length (ordinals xs) in let m : ℕ = length (with_section s (ordinals xs)) in let h : m ≤ n + 1 = most in let goal : m ≤ 8 = omega arith in goal); ascending = with_ascends s (ordinals xs) is.ascending }) in
+    append_assoc low (s ∷ []) high ∙ ap (λ l. l ++ s ∷ high) (lower_part s xs is.ascending)
+    ∙ ap (λ l. filter (λ t. nat_lt t s) (ordinals xs) ++ s ∷ l) (higher_part s xs is.ascending lacks) in
+    let bundle : IsBundle ((low ++ s ∷ []) ++ high) =
+    subst IsBundle (sym whole)
+    (record {
+      few =
+          (let most = length-with s (ordinals xs) in let n : ℕ = length (ordinals xs) in let m : ℕ = length (with_section s (ordinals xs)) in let h : m
+          ≤ n + 1 = most in let goal : m ≤ 8 = omega arith in goal);
+      ascending = with_ascends s (ordinals xs) is.ascending;
+    }) in
     let front : IsBundle (low ++ s ∷ []) = bundle_front (low ++ s ∷ []) high bundle in
     record {
       lower = bundle_front low (s ∷ []) front;
-      room = (let n : ℕ = length low in let both : length (low ++ s ∷ []) ≡ n + 1 = length-append low (s ∷ []) in let most : length (low ++ s ∷ []) ≤ 8 = front.few in let goal : n < 8 = omega arith in goal);
+      room =
+          (let n : ℕ = length low in let both : length (low ++ s ∷ []) ≡ n + 1 = length-append low (s ∷ []) in let most : length (low ++ s ∷ [])
+          ≤ 8 = front.few in let goal : n < 8 = omega arith in goal);
       above = front.ascending;
       whole = whole;
       bundle = bundle;
@@ -62,7 +74,15 @@ pub record IsNarrowed (s : ℕ) (xs : List SectionNo) : Type 0 where
 pub narrowed : (s : ℕ) (xs : List SectionNo) → IsBundle (ordinals xs) → has (ordinals xs) s ≡ true → IsNarrowed s xs
 narrowed s xs is there =
     let whole = other_parts s xs is.ascending there in
-    let bundle = subst IsBundle (sym whole) (record { few = (let most = length-without s (ordinals xs) in let n : ℕ = length (ordinals xs) in let m : ℕ = length (without_section s (ordinals xs)) in let h : m ≤ n = most in let few : n ≤ 8 = is.few in let goal : m ≤ 8 = omega arith in goal); ascending = without_ascends s (ordinals xs) is.ascending }) in
+    let bundle =
+    subst IsBundle (sym whole)
+    (record {
+      few =
+          (let most = length-without s (ordinals xs) in let n : ℕ = length (ordinals xs) in let m : ℕ = length (without_section s (ordinals xs)) in let
+          h : m
+          ≤ n = most in let few : n ≤ 8 = is.few in let goal : m ≤ 8 = omega arith in goal);
+      ascending = without_ascends s (ordinals xs) is.ascending;
+    }) in
     record {
       lower = bundle_front (ordinals (take (place_in s xs) xs)) (ordinals (drop (place_in s xs + 1) xs)) bundle;
       whole = whole;
@@ -97,7 +117,8 @@ no_place s xs e =
     omega (arith, past, most)
 
 -- one section more of those that are put behind a bundle
-pub one_more : (front : List ℕ) (xs : List SectionNo) (i : ℕ) (d : SectionNo) → i < length xs → (front ++ ordinals (take i xs)) ++ (get_or xs i d).0 ∷ [] ≡ front ++ ordinals (take (i + 1) xs)
+pub one_more : (front : List ℕ) (xs : List SectionNo) (i : ℕ) (d : SectionNo) → i < length xs
+    → (front ++ ordinals (take i xs)) ++ (get_or xs i d).0 ∷ [] ≡ front ++ ordinals (take (i + 1) xs)
 one_more front xs i d low =
     append_assoc front (ordinals (take i xs)) ((get_or xs i d).0 ∷ []) ∙ ap (λ l. front ++ l) (sym (map_more (λ (section : SectionNo). section.0) xs i d low))
 
@@ -111,13 +132,15 @@ next_in_bundle front xs i d low whole =
     let here : IsBundle (front ++ ordinals (take (i + 1) xs)) = bundle_front (front ++ ordinals (take (i + 1) xs)) (ordinals (drop (i + 1) xs)) parts in
     let next : IsBundle ((front ++ ordinals (take i xs)) ++ (get_or xs i d).0 ∷ []) = subst IsBundle (sym (one_more front xs i d low)) here in
     let n : ℕ = length (front ++ ordinals (take i xs)) in
-    let both : length ((front ++ ordinals (take i xs)) ++ (get_or xs i d).0 ∷ []) ≡ n + 1 = length-append (front ++ ordinals (take i xs)) ((get_or xs i d).0 ∷ []) in
+    let both : length ((front ++ ordinals (take i xs)) ++ (get_or xs i d).0 ∷ []) ≡ n + 1 =
+    length-append (front ++ ordinals (take i xs)) ((get_or xs i d).0 ∷ []) in
     let most : length ((front ++ ordinals (take i xs)) ++ (get_or xs i d).0 ∷ []) ≤ 8 = next.few in
     ((let goal : n < 8 = omega arith in goal), next.ascending)
 
 -- the same of a bundle of which these are the sections
 pub widened_at : (s : ℕ) (xs : List SectionNo) (set : List ℕ) → ordinals xs ≡ set → IsBundle set → length set < 8 → has set s ≡ false → IsWidened s xs
-widened_at s xs set listed is few lacks = widened s xs (subst IsBundle (sym listed) is) (subst (λ l. length l < 8) (sym listed) few) (subst (λ l. has l s ≡ false) (sym listed) lacks)
+widened_at s xs set listed is few lacks =
+    widened s xs (subst IsBundle (sym listed) is) (subst (λ l. length l < 8) (sym listed) few) (subst (λ l. has l s ≡ false) (sym listed) lacks)
 
 pub narrowed_at : (s : ℕ) (xs : List SectionNo) (set : List ℕ) → ordinals xs ≡ set → IsBundle set → has set s ≡ true → IsNarrowed s xs
 narrowed_at s xs set listed is there = narrowed s xs (subst IsBundle (sym listed) is) (subst (λ l. has l s ≡ true) (sym listed) there)
@@ -129,15 +152,20 @@ same_three whole low low' high high' s is e f = ap (λ l. l ++ high) is ∙ ap (
 pub same_two : (low low' high high' : List ℕ) → low ≡ low' → high ≡ high' → low ++ high ≡ low' ++ high'
 same_two low low' high high' e f = ap (λ l. l ++ high) e ∙ ap (λ l. low' ++ l) f
 
-pub narrowed_place : (s : ℕ) (xs : List SectionNo) (set : List ℕ) → ordinals xs ≡ set → IsBundle set → has set s ≡ true → (place_in s xs + 1 ≤ length xs) × (length xs ≤ 8)
+pub narrowed_place : (s : ℕ) (xs : List SectionNo) (set : List ℕ) → ordinals xs ≡ set → IsBundle set → has set s ≡ true
+    → (place_in s xs + 1 ≤ length xs) × (length xs ≤ 8)
 narrowed_place s xs set listed is there =
     let up : IsBundle (ordinals xs) = subst IsBundle (sym listed) is in
     let within = place_within s xs up.ascending (subst (λ l. has l s ≡ true) (sym listed) there) in
     let size : length (ordinals xs) ≡ length xs = length-map xs (λ (section : SectionNo). section.0) in
-    let few : length (ordinals xs) ≤ 8 = up.few in
-    ((let p : ℕ = place_in s xs in let n : ℕ = length xs in let h : p < n = within in let goal : p + 1 ≤ n = omega arith in goal), (let n : ℕ = length xs in let goal : n ≤ 8 = omega arith in goal))
+    let few : length (ordinals xs) ≤ 8 = up.few in (
+      (let p : ℕ = place_in s xs in let n : ℕ = length xs in let h : p < n = within in let goal : p + 1 ≤ n = omega arith in goal),
+      (let n : ℕ = length xs in let goal : n ≤ 8 = omega arith in goal),
+    )
 
 -- the sections of the bundle at a place
-pub sections_at : (bundles : List Bundle) (i at : ℕ) (bundle : Bundle) → at ≡ i → i < length (map sections_of bundles) → bundle ≡ get_or bundles at bundle → sections_of bundle ≡ get_or (map sections_of bundles) i []
+pub sections_at : (bundles : List Bundle) (i at : ℕ) (bundle : Bundle) → at ≡ i → i < length (map sections_of bundles) → bundle ≡ get_or bundles at bundle
+    → sections_of bundle ≡ get_or (map sections_of bundles) i []
 sections_at bundles i at bundle same low is =
-    ap sections_of (is ∙ ap (λ n. get_or bundles n bundle) same) ∙ sym (get_or-map sections_of bundles i bundle [] (subst (λ n. i < n) (length-map bundles sections_of) low))
+    ap sections_of (is ∙ ap (λ n. get_or bundles n bundle) same)
+    ∙ sym (get_or-map sections_of bundles i bundle [] (subst (λ n. i < n) (length-map bundles sections_of) low))

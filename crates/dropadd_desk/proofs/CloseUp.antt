@@ -13,8 +13,11 @@ closed_up cells start end len order within inside =
     let moved : List ℕ = take n (drop end cells) in
     let front_size : length front ≡ start = length-take-le start cells (omega arith) in
     let behind : length (drop end cells) ≡ size - end = length-drop end cells in
-    let moved_size : length moved ≡ n = length-take-le n (drop end cells) (let m : ℕ = length (drop end cells) in let h : m ≡ size - end = behind in let goal : n ≤ m = omega arith in goal) in
-    let both : length (front ++ moved) ≡ len - (end - start) = (let a : ℕ = length front in let b : ℕ = length moved in let sum : length (front ++ moved) ≡ a + b = length-append front moved in let ha : a ≡ start = front_size in let hb : b ≡ n = moved_size in let goal : length (front ++ moved) ≡ len - (end - start) = omega arith in goal) in
+    let moved_size : length moved ≡ n =
+    length-take-le n (drop end cells) (let m : ℕ = length (drop end cells) in let h : m ≡ size - end = behind in let goal : n ≤ m = omega arith in goal) in
+    let both : length (front ++ moved) ≡ len - (end - start) =
+    (let a : ℕ = length front in let b : ℕ = length moved in let sum : length (front ++ moved) ≡ a + b = length-append front moved in let ha : a
+    ≡ start = front_size in let hb : b ≡ n = moved_size in let goal : length (front ++ moved) ≡ len - (end - start) = omega arith in goal) in
     take_at (front ++ moved) (drop (start + n) cells) (len - (end - start)) both
     ∙ ap (λ l. l ++ moved) (sym (take-take start len cells (omega arith)))
     ∙ ap (λ l. take start (take len cells) ++ l) (sym (ap (λ m. drop end (take m cells)) (let e : len ≡ end + n = omega arith in e) ∙ drop-take end n cells))

@@ -43,7 +43,8 @@ all_within n list within = λ k d low. within (get_or list k d) (at list k d low
     at (x ∷ xs) (suc k) d low = has-there x xs (get_or xs k d) (at xs k d (omega arith))
 
 -- the first place where a test passes, and none
-pub position_found : (p : ℕ → Bool) (list : List ℕ) (i : ℕ) → i < length list → ((k : ℕ) → k < i → p (get_or list k 0) ≡ false) → p (get_or list i 0) ≡ true → Some i ≡ position p list
+pub position_found : (p : ℕ → Bool) (list : List ℕ) (i : ℕ) → i < length list → ((k : ℕ) → k < i → p (get_or list k 0) ≡ false) → p (get_or list i 0) ≡ true
+    → Some i ≡ position p list
 position_found p list i low fails passes =
     let at : position_or_len p list ≡ i = position_or_len_is p list i 0 (omega arith) fails (λ _. passes) in
     let inside : nat_lt (position_or_len p list) (length list) ≡ true = ap (λ n. nat_lt n (length list)) at ∙ lt-ltb i (length list) low in
@@ -51,7 +52,8 @@ position_found p list i low fails passes =
 
 pub position_none : (p : ℕ → Bool) (list : List ℕ) (i : ℕ) → length list ≤ i → ((k : ℕ) → k < i → p (get_or list k 0) ≡ false) → None ≡ position p list
 position_none p list i past fails =
-    let at : position_or_len p list ≡ length list = position_or_len_is p list (length list) 0 (omega arith) (λ k low. fails k (omega arith)) (λ low. absurd (omega arith)) in
+    let at : position_or_len p list ≡ length list =
+    position_or_len_is p list (length list) 0 (omega arith) (λ k low. fails k (omega arith)) (λ low. absurd (omega arith)) in
     let outside : nat_lt (position_or_len p list) (length list) ≡ false = le-ltb (position_or_len p list) (length list) (omega arith) in
     rw outside refl
 
@@ -97,7 +99,8 @@ without_lacks i (x ∷ xs) lacks = elim (cases_Bool (x == i)) [
   | inr other ↦ let rest : has xs i ≡ false = rw other at lacks in rw other (ap (λ l. x ∷ l) (without_lacks i xs rest))
 ]
 
-cut_once : (i : ℕ) (list : List ℕ) → times i list ≤ 1 → remove_range list (position_or_len (λ other. other == i) list) (position_or_len (λ other. other == i) list + 1) ≡ without_section i list
+cut_once : (i : ℕ) (list : List ℕ) → times i list ≤ 1
+    → remove_range list (position_or_len (λ other. other == i) list) (position_or_len (λ other. other == i) list + 1) ≡ without_section i list
 cut_once i [] once = refl
 cut_once i (x ∷ xs) once = elim (cases_Bool (x == i)) [
   | inl here ↦
@@ -112,7 +115,8 @@ cut_once i (x ∷ xs) once = elim (cases_Bool (x == i)) [
       rw (other, one, two) (ap (λ l. x ∷ l) (cut_once i xs (omega arith)))
 ]
 
-pub cut_out : (students i p : ℕ) (list : List ℕ) → IsQueue students list → position (λ other. other == i) list ≡ Some p → remove_range list p (p + 1) ≡ without_section i list
+pub cut_out : (students i p : ℕ) (list : List ℕ) → IsQueue students list → position (λ other. other == i) list ≡ Some p
+    → remove_range list p (p + 1) ≡ without_section i list
 cut_out students i p list is e =
     let at = (place_is (λ other. other == i) list p e).at in
     subst (λ n. remove_range list n (n + 1) ≡ without_section i list) at (cut_once i list (is.once i))
@@ -135,7 +139,10 @@ stands_not i list e = nowhere list (no_place_is (λ other. other == i) list e)
 
 -- the refusals, in their order
 abbrev pub refused : Bool → Bool → Option ℕ → Bool → Bool → Option HallReply
-refused holds waits clash credits courses = first_of (where_so holds reply.Holding ∷ where_so waits reply.Waiting ∷ option_map (λ (t : ℕ). reply.Clash (record { 0 = t })) clash ∷ where_so credits reply.Credits ∷ where_so courses reply.Courses ∷ [])
+refused holds waits clash credits courses =
+    first_of
+    (where_so holds reply.Holding ∷ where_so waits reply.Waiting ∷ option_map (λ (t : ℕ). reply.Clash (record { 0 = t })) clash
+    ∷ where_so credits reply.Credits ∷ where_so courses reply.Courses ∷ [])
 
 pub refused_holding : (a b : Bool) (o : Option ℕ) (d e : Bool) → a ≡ true → Some reply.Holding ≡ refused a b o d e
 refused_holding a b o d e p = rw p refl
@@ -143,13 +150,15 @@ refused_holding a b o d e p = rw p refl
 pub refused_waiting : (a b : Bool) (o : Option ℕ) (d e : Bool) → a ≡ false → b ≡ true → Some reply.Waiting ≡ refused a b o d e
 refused_waiting a b o d e p q = rw (p, q) refl
 
-pub refused_clash : (a b : Bool) (o : Option ℕ) (d e : Bool) (with' : SectionNo) → a ≡ false → b ≡ false → o ≡ Some with'.0 → Some (reply.Clash with') ≡ refused a b o d e
+pub refused_clash : (a b : Bool) (o : Option ℕ) (d e : Bool) (with' : SectionNo) → a ≡ false → b ≡ false → o ≡ Some with'.0
+    → Some (reply.Clash with') ≡ refused a b o d e
 refused_clash a b o d e with' p q r = rw (p, q, r) refl
 
 pub refused_credits : (a b : Bool) (o : Option ℕ) (d e : Bool) → a ≡ false → b ≡ false → o ≡ None → d ≡ true → Some reply.Credits ≡ refused a b o d e
 refused_credits a b o d e p q r t = rw (p, q, r, t) refl
 
-pub refused_courses : (a b : Bool) (o : Option ℕ) (d e : Bool) → a ≡ false → b ≡ false → o ≡ None → d ≡ false → e ≡ true → Some reply.Courses ≡ refused a b o d e
+pub refused_courses : (a b : Bool) (o : Option ℕ) (d e : Bool) → a ≡ false → b ≡ false → o ≡ None → d ≡ false → e ≡ true
+    → Some reply.Courses ≡ refused a b o d e
 refused_courses a b o d e p q r t u = rw (p, q, r, t, u) refl
 
 pub refused_none : (a b : Bool) (o : Option ℕ) (d e : Bool) → a ≡ false → b ≡ false → o ≡ None → d ≡ false → e ≡ false → None ≡ refused a b o d e
@@ -161,11 +170,13 @@ module _ (market : Market) (state : HallState) where
   unfolding add
   refused_is i s answer e = rw e refl
 
-  pub added_is : (i s : ℕ) → refusal market state i s ≡ None → has_free_seat market state s ≡ true → (reply.Added, with_held state i (with_section s (held_by state i))) ≡ add market state i s
+  pub added_is : (i s : ℕ) → refusal market state i s ≡ None → has_free_seat market state s ≡ true
+      → (reply.Added, with_held state i (with_section s (held_by state i))) ≡ add market state i s
   unfolding add
   added_is i s e free = rw (e, free) refl
 
-  pub queued_is : (i s : ℕ) → refusal market state i s ≡ None → has_free_seat market state s ≡ false → (reply.Queued (length (waiting_for state s)), with_waiting state s (waiting_for state s ++ i ∷ [])) ≡ add market state i s
+  pub queued_is : (i s : ℕ) → refusal market state i s ≡ None → has_free_seat market state s ≡ false
+      → (reply.Queued (length (waiting_for state s)), with_waiting state s (waiting_for state s ++ i ∷ [])) ≡ add market state i s
   unfolding add
   queued_is i s e taken = rw (e, taken) refl
 
@@ -173,7 +184,8 @@ module _ (market : Market) (state : HallState) where
   unfolding drop_section
   not_holding_is i s e = rw e refl
 
-  pub dropped_is : (i s : ℕ) → has (held_by state i) s ≡ true → pass_on market (with_held state i (without_section s (held_by state i))) s ≡ drop_section market state i s
+  pub dropped_is : (i s : ℕ) → has (held_by state i) s ≡ true
+      → pass_on market (with_held state i (without_section s (held_by state i))) s ≡ drop_section market state i s
   unfolding drop_section
   dropped_is i s e = rw e refl
 
@@ -190,7 +202,8 @@ module _ (market : Market) (state : HallState) where
   fit_for s i = fits market i s (held_by state i)
 
   -- nobody is next
-  pub none_next_is : (s n : ℕ) → n ≡ length (waiting_for state s) → position (fit_for s) (waiting_for state s) ≡ None → (reply.Dropped n None, with_waiting state s []) ≡ pass_on market state s
+  pub none_next_is : (s n : ℕ) → n ≡ length (waiting_for state s) → position (fit_for s) (waiting_for state s) ≡ None
+      → (reply.Dropped n None, with_waiting state s []) ≡ pass_on market state s
   unfolding pass_on
   none_next_is s n size e =
       let list = waiting_for state s in
@@ -213,39 +226,48 @@ module _ (market : Market) (state : HallState) where
       let list = waiting_for state s in
       let is = place_is (fit_for s) list p e in
       let found : find (fit_for s) list ≡ Some next.0 = is.found ∙ ap Some (sym at) in
-      let front : length (before_first (fit_for s) list) ≡ p = ap (λ n. length (take n list)) is.at ∙ length-take-le p list (let low = is.inside in omega arith) in
+      let front : length (before_first (fit_for s) list) ≡ p =
+      ap (λ n. length (take n list)) is.at ∙ length-take-le p list (let low = is.inside in omega arith) in
       let behind : after_first (fit_for s) list ≡ drop (p + 1) list = ap (λ n. drop (n + 1) list) is.at in
       rw (found, front, behind) refl
 
-  pub add_named_is : (student section : Name) (i s : ℕ) → student_named market student ≡ Some i → section_named market section ≡ Some s → add market state i s ≡ step_of market state (Add student section)
+  pub add_named_is : (student section : Name) (i s : ℕ) → student_named market student ≡ Some i → section_named market section ≡ Some s
+      → add market state i s ≡ step_of market state (Add student section)
   unfolding step_of
   add_named_is student section i s e f = rw (e, f) refl
 
-  pub drop_named_is : (student section : Name) (i s : ℕ) → student_named market student ≡ Some i → section_named market section ≡ Some s → drop_section market state i s ≡ step_of market state (Drop student section)
+  pub drop_named_is : (student section : Name) (i s : ℕ) → student_named market student ≡ Some i → section_named market section ≡ Some s
+      → drop_section market state i s ≡ step_of market state (Drop student section)
   unfolding step_of
   drop_named_is student section i s e f = rw (e, f) refl
 
-  pub leave_named_is : (student section : Name) (i s : ℕ) → student_named market student ≡ Some i → section_named market section ≡ Some s → leave state i s ≡ step_of market state (Leave student section)
+  pub leave_named_is : (student section : Name) (i s : ℕ) → student_named market student ≡ Some i → section_named market section ≡ Some s
+      → leave state i s ≡ step_of market state (Leave student section)
   unfolding step_of
   leave_named_is student section i s e f = rw (e, f) refl
 
-  unknown_is : (student section : Name) (made : ℕ → ℕ → HallReply × HallState) (answer : HallReply) → IsUnknown (student_named market student) (section_named market section) answer → (answer, state) ≡ by_names market state student section made
+  unknown_is : (student section : Name) (made : ℕ → ℕ → HallReply × HallState) (answer : HallReply)
+      → IsUnknown (student_named market student) (section_named market section) answer → (answer, state) ≡ by_names market state student section made
   unknown_is student section made answer is = cases (student_named market student) (section_named market section) is
     where
-      cases : (o p : Option ℕ) → IsUnknown o p answer → (answer, state) ≡ known o (reply.NoStudent, state) (λ i. known p (reply.NoSection, state) (λ s. made i s))
+      cases : (o p : Option ℕ) → IsUnknown o p answer
+          → (answer, state) ≡ known o (reply.NoStudent, state) (λ i. known p (reply.NoSection, state) (λ s. made i s))
       cases None p e = ap (λ r. (r, state)) e
       cases (Some i) None e = ap (λ r. (r, state)) e
       cases (Some i) (Some s) e = absurd e
 
-  pub add_unknown_is : (student section : Name) (answer : HallReply) → IsUnknown (student_named market student) (section_named market section) answer → (answer, state) ≡ step_of market state (Add student section)
+  pub add_unknown_is : (student section : Name) (answer : HallReply) → IsUnknown (student_named market student) (section_named market section) answer
+      → (answer, state) ≡ step_of market state (Add student section)
   unfolding step_of
   add_unknown_is student section answer is = unknown_is student section (add market state) answer is
 
-  pub drop_unknown_is : (student section : Name) (answer : HallReply) → IsUnknown (student_named market student) (section_named market section) answer → (answer, state) ≡ step_of market state (Drop student section)
+  pub drop_unknown_is : (student section : Name) (answer : HallReply) → IsUnknown (student_named market student) (section_named market section) answer
+      → (answer, state) ≡ step_of market state (Drop student section)
   unfolding step_of
   drop_unknown_is student section answer is = unknown_is student section (drop_section market state) answer is
 
-  pub leave_unknown_is : (student section : Name) (answer : HallReply) → IsUnknown (student_named market student) (section_named market section) answer → (answer, state) ≡ step_of market state (Leave student section)
+  pub leave_unknown_is : (student section : Name) (answer : HallReply) → IsUnknown (student_named market student) (section_named market section) answer
+      → (answer, state) ≡ step_of market state (Leave student section)
   unfolding step_of
   leave_unknown_is student section answer is = unknown_is student section (leave state) answer is
 
@@ -254,5 +276,6 @@ module _ (market : Market) (state : HallState) where
   unreadable_is = refl
 
 -- the same reply with the same state
-pub same_outcome : (n n' : ℕ) (answer : ℕ → HallReply) (state state' : HallState) → n ≡ n' → state ≡ state' → ◌≡◌ {A = HallReply × HallState} (answer n, state) (answer n', state')
+pub same_outcome : (n n' : ℕ) (answer : ℕ → HallReply) (state state' : HallState) → n ≡ n' → state ≡ state'
+    → ◌≡◌ {A = HallReply × HallState} (answer n, state) (answer n', state')
 same_outcome n n' answer state state' e f = λ i. (answer (e i), f i)

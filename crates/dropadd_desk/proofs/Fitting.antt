@@ -92,7 +92,8 @@ module _ (market : Market) where
   allowed_with : (i s : ℕ) (set : List ℕ) → IsAllowed market i set → fits market i s set ≡ true → IsAllowed market i (with_section s set)
   allowed_with i s set is fit =
       let parts = all_false (is_some (lowest_clash market s set)) (passes_credits market i s set) (passes_courses market i set) fit in
-      let clear : (t : ℕ) → has set t ≡ true → sections_clash market.catalog.sections s t ≡ false = none_found (λ t. sections_clash market.catalog.sections s t) set parts.0 in
+      let clear : (t : ℕ) → has set t ≡ true → sections_clash market.catalog.sections s t ≡ false =
+      none_found (λ t. sections_clash market.catalog.sections s t) set parts.0 in
       let credits = ltb-false (enrolled market i).credits (credits_of market set + (offered market s).credits) parts.1 in
       let courses = ltb-false (enrolled market i).courses (length set + 1) parts.2 in
       let f : ℕ → ℕ = λ t. (offered market t).credits in
@@ -104,16 +105,20 @@ module _ (market : Market) where
       in_set : (t : ℕ) → has (with_section s set) t ≡ true → (s == t) ≡ false → has set t ≡ true
       in_set t there other = let both : (s == t || has set t) ≡ true = sym (has-with s set t) ∙ there in rw other at both
 
-      apart_with : ((t : ℕ) → has set t ≡ true → sections_clash market.catalog.sections s t ≡ false) → (t u : ℕ) → has (with_section s set) t ≡ true → has (with_section s set) u ≡ true → sections_clash market.catalog.sections t u ≡ false
+      apart_with : ((t : ℕ) → has set t ≡ true → sections_clash market.catalog.sections s t ≡ false) → (t u : ℕ) → has (with_section s set) t ≡ true
+          → has (with_section s set) u ≡ true → sections_clash market.catalog.sections t u ≡ false
       apart_with clear t u first second = elim (cases_Bool (s == t)) [
         | inl one ↦
             let same : s ≡ t = eqb-true s t one in
             subst (λ n. sections_clash market.catalog.sections n u ≡ false) same (elim (cases_Bool (s == u)) [
-              | inl two ↦ subst (λ n. sections_clash market.catalog.sections s n ≡ false) (eqb-true s u two) (clashes_mutual market.catalog.sections s s).not_itself
+              | inl two ↦
+                  subst (λ n. sections_clash market.catalog.sections s n ≡ false) (eqb-true s u two) (clashes_mutual market.catalog.sections s s).not_itself
               | inr other ↦ clear u (in_set u second other)
             ])
         | inr one ↦ elim (cases_Bool (s == u)) [
-          | inl two ↦ subst (λ n. sections_clash market.catalog.sections t n ≡ false) (eqb-true s u two) ((clashes_mutual market.catalog.sections t s).other_way ∙ clear t (in_set t first one))
+          | inl two ↦
+              subst (λ n. sections_clash market.catalog.sections t n ≡ false) (eqb-true s u two)
+              ((clashes_mutual market.catalog.sections t s).other_way ∙ clear t (in_set t first one))
           | inr other ↦ is.apart t u (in_set t first one) (in_set u second other)
         ]
       ]
@@ -139,9 +144,12 @@ module _ (market : Market) where
   abbrev LeavesAllowed : HallReply × HallState → Type 0
   LeavesAllowed outcome = AreAllowed outcome.1
 
-  allowed_held : (state : HallState) (i : ℕ) (set : List ℕ) → IsHall market state → AreAllowed state → i < student_count market → IsAllowed market i set → AreAllowed (with_held state i set)
+  allowed_held : (state : HallState) (i : ℕ) (set : List ℕ) → IsHall market state → AreAllowed state → i < student_count market → IsAllowed market i set
+      → AreAllowed (with_held state i set)
   allowed_held state i set is all low new = λ j inside. elim (cases_eq j i) [
-    | inl same ↦ subst (λ n. IsAllowed market n (held_by (with_held state i set) n)) (sym same) (subst (IsAllowed market i) (sym (held_here state i set (subst (λ n. i < n) (sym is.each_student) low))) new)
+    | inl same ↦
+        subst (λ n. IsAllowed market n (held_by (with_held state i set) n)) (sym same)
+        (subst (IsAllowed market i) (sym (held_here state i set (subst (λ n. i < n) (sym is.each_student) low))) new)
     | inr apart ↦ subst (IsAllowed market j) (sym (held_there state i j set apart)) (all j inside)
   ]
 
@@ -173,7 +181,9 @@ module _ (market : Market) where
   add_allowed state i s is all low = by_refusal (refusal market state i s) refl
     where
       by_seat : (b : Bool) → fits market i s (held_by state i) ≡ true
-          → LeavesAllowed (if b then (reply.Added, with_held state i (with_section s (held_by state i))) else (reply.Queued (length (waiting_for state s)), with_waiting state s (waiting_for state s ++ i ∷ [])))
+          → LeavesAllowed
+          (if b then (reply.Added, with_held state i (with_section s (held_by state i)))
+          else (reply.Queued (length (waiting_for state s)), with_waiting state s (waiting_for state s ++ i ∷ [])))
       by_seat true fit = allowed_held state i (with_section s (held_by state i)) is all low (allowed_with i s (held_by state i) (all i low) fit)
       by_seat false fit = all
 
@@ -186,7 +196,8 @@ module _ (market : Market) where
   unfolding leave
   leave_allowed state i s all = by_place (has (waiting_for state s) i)
     where
-      by_place : (b : Bool) → LeavesAllowed (if b then (reply.Left, with_waiting state s (without_section i (waiting_for state s))) else (reply.NotWaiting, state))
+      by_place : (b : Bool)
+          → LeavesAllowed (if b then (reply.Left, with_waiting state s (without_section i (waiting_for state s))) else (reply.NotWaiting, state))
       by_place true = all
       by_place false = all
 
@@ -208,10 +219,12 @@ module _ (market : Market) where
       by_next (Some w) e =
           let at : slice_get list place ≡ Some w = sym (find_at fit list) ∙ e in
           let student : w < student_count market = (is.queues s).within w (has_at list place w at) in
-          allowed_held (with_waiting state s (drop (place + 1) list)) w (with_section s (held_by state w)) (behind_keeps market state is s (place + 1) below) all student
+          allowed_held (with_waiting state s (drop (place + 1) list)) w (with_section s (held_by state w)) (behind_keeps market state is s (place + 1) below)
+          all student
           (allowed_with w s (held_by state w) (all w student) (found_passes fit list w e))
 
-  drop_allowed : (state : HallState) (i s : ℕ) → IsHall market state → AreAllowed state → i < student_count market → s < section_count market → AreAllowed (drop_section market state i s).1
+  drop_allowed : (state : HallState) (i s : ℕ) → IsHall market state → AreAllowed state → i < student_count market → s < section_count market
+      → AreAllowed (drop_section market state i s).1
   unfolding drop_section
   drop_allowed state i s is all low below = by_place (has (held_by state i) s)
     where
@@ -220,29 +233,37 @@ module _ (market : Market) where
 
       by_place : (b : Bool) → LeavesAllowed (if b then pass_on market gone s else (reply.NotHolding, state))
       by_place false = all
-      by_place true = pass_allowed gone s (without_keeps market state is i s low) (allowed_held state i (without_section s (held_by state i)) is all low (allowed_without i s (held_by state i) (all i low))) below
+      by_place true =
+          pass_allowed gone s (without_keeps market state is i s low)
+          (allowed_held state i (without_section s (held_by state i)) is all low (allowed_without i s (held_by state i) (all i low))) below
 
   named_allowed : (state : HallState) (student section : Name) (made : ℕ → ℕ → HallReply × HallState) → AreAllowed state
       → ((i s : ℕ) → i < student_count market → s < section_count market → AreAllowed (made i s).1) → AreAllowed (by_names market state student section made).1
   named_allowed state student section made all each = elim (names_or_quiet market state student section made) [
     | inl q ↦ subst AreAllowed (sym (ap (λ (o : HallReply × HallState). o.1) q.1)) all
-    | inr n ↦ subst AreAllowed (sym (ap (λ (o : HallReply × HallState). o.1) n.made_is)) (each n.i n.s (student_within market student n.i n.student_is) (section_within market section n.s n.section_is))
+    | inr n ↦
+        subst AreAllowed (sym (ap (λ (o : HallReply × HallState). o.1) n.made_is))
+        (each n.i n.s (student_within market student n.i n.student_is) (section_within market section n.s n.section_is))
   ]
 
   step_allowed : (state : HallState) (command : HallCommand) → IsHall market state → AreAllowed state → AreAllowed (step_of market state command).1
   unfolding step_of
   step_allowed state Unreadable is all = all
-  step_allowed state (Add student section) is all = named_allowed state student section (add market state) all (λ i s low below. add_allowed state i s is all low)
-  step_allowed state (Drop student section) is all = named_allowed state student section (drop_section market state) all (λ i s low below. drop_allowed state i s is all low below)
+  step_allowed state (Add student section) is all =
+      named_allowed state student section (add market state) all (λ i s low below. add_allowed state i s is all low)
+  step_allowed state (Drop student section) is all =
+      named_allowed state student section (drop_section market state) all (λ i s low below. drop_allowed state i s is all low below)
   step_allowed state (Leave student section) is all = named_allowed state student section (leave state) all (λ i s low below. leave_allowed state i s all)
 
   pub all_halls : (state : HallState) (history : List HallStep) → IsHall market state → IsHall market (state_after_steps state_after market state history)
   all_halls state [] is = is
   all_halls state (step ∷ more) is = all_halls (state_after market state step.seat step.request) more (hall_after market state step.request is)
 
-  all_allowed : (state : HallState) (history : List HallStep) → IsHall market state → AreAllowed state → AreAllowed (state_after_steps state_after market state history)
+  all_allowed : (state : HallState) (history : List HallStep) → IsHall market state → AreAllowed state
+      → AreAllowed (state_after_steps state_after market state history)
   all_allowed state [] is all = all
-  all_allowed state (step ∷ more) is all = all_allowed (state_after market state step.seat step.request) more (hall_after market state step.request is) (step_allowed state step.request is all)
+  all_allowed state (step ∷ more) is all =
+      all_allowed (state_after market state step.seat step.request) more (hall_after market state step.request is) (step_allowed state step.request is all)
 
 pub held_is_allowed : AllowedLaw
 held_is_allowed market opening history is lawful legal = all_allowed market opening history is lawful.students

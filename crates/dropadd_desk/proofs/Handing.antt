@@ -36,7 +36,8 @@ same_dropped : (n m : ℕ) (one other : Option StudentNo) → reply.Dropped n on
 same_dropped n m one other e = (cc e, cc e)
 
 -- The student, who holds the section, gives it up.
-module _ (market : Market) (state : HallState) (is : IsHall market state) (i s : ℕ) (low : i < student_count market) (below : s < section_count market) (holds : has (held_by state i) s ≡ true) where
+module _ (market : Market) (state : HallState) (is : IsHall market state) (i s : ℕ) (low : i < student_count market) (below : s < section_count market)
+    (holds : has (held_by state i) s ≡ true) where
   abbrev gone : HallState
   gone = with_held state i (without_section s (held_by state i))
 
@@ -73,7 +74,8 @@ module _ (market : Market) (state : HallState) (is : IsHall market state) (i s :
   lapse_before k j before at =
       sym (fit_is j (has_at list k j at)) ∙ sym (ap fit (get_or_from_slice_get list k j j at)) ∙ fails_before_first fit list k j before
 
-  by_next : (o : Option ℕ) → find fit list ≡ o → GoesToFirstFit market state (given behind o s) s (length (before_first fit list)) (option_map (λ (j : ℕ). record { 0 = j }) o)
+  by_next : (o : Option ℕ) → find fit list ≡ o
+      → GoesToFirstFit market state (given behind o s) s (length (before_first fit list)) (option_map (λ (j : ℕ). record { 0 = j }) o)
   unfolding place list behind
   by_next None e =
       let past : length list ≤ place = none_past list place (sym (find_at fit list) ∙ e) in
@@ -106,12 +108,16 @@ module _ (market : Market) (state : HallState) (is : IsHall market state) (i s :
         given = λ j inside lacks. (
           λ there. elim (cases_eq j w) [
             | inl same ↦ here ∙ ap Some (sym same)
-            | inr apart ↦ absurd (false≢true (sym (lacks_still j lacks) ∙ sym (ap (λ held. has held s) (held_there behind w j (with_section s (held_by behind w)) apart)) ∙ there))
+            | inr apart ↦
+                absurd
+                (false≢true
+                (sym (lacks_still j lacks) ∙ sym (ap (λ held. has held s) (held_there behind w j (with_section s (held_by behind w)) apart)) ∙ there))
           ],
           λ told.
               let both : ◌≡◌ {A = Option ℕ} (Some w) (Some j) = sym here ∙ told in
               let same : w ≡ j = cc both in
-              let mine : has (held_by (given behind (Some w) s) w) s ≡ true = ap (λ held. has held s) new ∙ has-with s (held_by behind w) s ∙ (let self : (s == s) ≡ true = eq-eqb s s refl in rw self refl) in
+              let mine : has (held_by (given behind (Some w) s) w) s ≡ true =
+              ap (λ held. has held s) new ∙ has-with s (held_by behind w) s ∙ (let self : (s == s) ≡ true = eq-eqb s s refl in rw self refl) in
               subst (λ n. has (held_by (given behind (Some w) s) n) s ≡ true) same mine,
         );
       }
@@ -124,9 +130,12 @@ module _ (market : Market) (state : HallState) (is : IsHall market state) (i s :
           number_or (Some one) = one.0
 
       told_student : (w : ℕ) → has list w ≡ true → w < length gone.held
-      told_student w there = let n = length-set state.held i (without_section s (held_by state i)) in let m = is.each_student in let student = (is.queues s).within w there in omega arith
+      told_student w there =
+          let n = length-set state.held i (without_section s (held_by state i)) in
+          let m = is.each_student in let student = (is.queues s).within w there in omega arith
 
-  pub passed_first : (lapsed : ℕ) (next : Option StudentNo) → (pass_on market gone s).0 ≡ reply.Dropped lapsed next → GoesToFirstFit market state (pass_on market gone s).1 s lapsed next
+  pub passed_first : (lapsed : ℕ) (next : Option StudentNo) → (pass_on market gone s).0 ≡ reply.Dropped lapsed next
+      → GoesToFirstFit market state (pass_on market gone s).1 s lapsed next
   unfolding pass_on list fit place behind
   passed_first lapsed next told =
       let both = same_dropped (length (before_first fit list)) lapsed (option_map (λ (j : ℕ). record { 0 = j }) (find fit list)) next told in
@@ -144,13 +153,16 @@ LeavesState state outcome = is_refusal outcome.0 ≡ true → outcome.1 ≡ stat
 
 module _ (market : Market) where
   -- giving up a section
-  drop_first : (state : HallState) (i s lapsed : ℕ) (next : Option StudentNo) → IsHall market state → i < student_count market → s < section_count market → (drop_section market state i s).0 ≡ reply.Dropped lapsed next
+  drop_first : (state : HallState) (i s lapsed : ℕ) (next : Option StudentNo) → IsHall market state → i < student_count market → s < section_count market
+      → (drop_section market state i s).0 ≡ reply.Dropped lapsed next
       → GoesToFirstFit market state (drop_section market state i s).1 s lapsed next
   unfolding drop_section
   drop_first state i s lapsed next is low below = by_place (has (held_by state i) s) refl
     where
-      by_place : (b : Bool) → has (held_by state i) s ≡ b → (if b then pass_on market (with_held state i (without_section s (held_by state i))) s else (reply.NotHolding, state)).0 ≡ reply.Dropped lapsed next
-          → GoesToFirstFit market state (if b then pass_on market (with_held state i (without_section s (held_by state i))) s else (reply.NotHolding, state)).1 s lapsed next
+      by_place : (b : Bool) → has (held_by state i) s ≡ b
+          → (if b then pass_on market (with_held state i (without_section s (held_by state i))) s else (reply.NotHolding, state)).0 ≡ reply.Dropped lapsed next
+          → GoesToFirstFit market state (if b then pass_on market (with_held state i (without_section s (held_by state i))) s else (reply.NotHolding, state)).1
+          s lapsed next
       by_place true holds told = passed_first market state is i s low below holds lapsed next told
       by_place false e told = absurd (cc told)
 
@@ -159,7 +171,10 @@ module _ (market : Market) where
   unfolding add
   add_not_dropped state i s lapsed next = by_refusal (refusal market state i s) refl
     where
-      by_seat : (b : Bool) → IsOther lapsed next (if b then (reply.Added, with_held state i (with_section s (held_by state i))) else (reply.Queued (length (waiting_for state s)), with_waiting state s (waiting_for state s ++ i ∷ [])))
+      by_seat : (b : Bool)
+          → IsOther lapsed next
+          (if b then (reply.Added, with_held state i (with_section s (held_by state i)))
+          else (reply.Queued (length (waiting_for state s)), with_waiting state s (waiting_for state s ++ i ∷ [])))
       by_seat true e = cc e
       by_seat false e = cc e
 
@@ -172,18 +187,21 @@ module _ (market : Market) where
   unfolding leave
   leave_not_dropped state i s lapsed next = by_place (has (waiting_for state s) i)
     where
-      by_place : (b : Bool) → IsOther lapsed next (if b then (reply.Left, with_waiting state s (without_section i (waiting_for state s))) else (reply.NotWaiting, state))
+      by_place : (b : Bool)
+          → IsOther lapsed next (if b then (reply.Left, with_waiting state s (without_section i (waiting_for state s))) else (reply.NotWaiting, state))
       by_place true e = cc e
       by_place false e = cc e
 
   -- a request by two names that is answered so is about a known student and a known section
-  named_dropped : (state : HallState) (student section : Name) (made : ℕ → ℕ → HallReply × HallState) (lapsed : ℕ) (next : Option StudentNo) → (by_names market state student section made).0 ≡ reply.Dropped lapsed next → Names market state student section made
+  named_dropped : (state : HallState) (student section : Name) (made : ℕ → ℕ → HallReply × HallState) (lapsed : ℕ) (next : Option StudentNo)
+      → (by_names market state student section made).0 ≡ reply.Dropped lapsed next → Names market state student section made
   named_dropped state student section made lapsed next told = elim (names_or_quiet market state student section made) [
     | inl q ↦ absurd (false≢true (sym (ap is_refusal (sym (ap (λ (o : HallReply × HallState). o.0) q.1) ∙ told)) ∙ q.2))
     | inr n ↦ n
   ]
 
-  step_first : (state : HallState) (command : HallCommand) (s lapsed : ℕ) (next : Option StudentNo) → IsHall market state → names_section market s command ≡ true → (step_of market state command).0 ≡ reply.Dropped lapsed next
+  step_first : (state : HallState) (command : HallCommand) (s lapsed : ℕ) (next : Option StudentNo) → IsHall market state
+      → names_section market s command ≡ true → (step_of market state command).0 ≡ reply.Dropped lapsed next
       → GoesToFirstFit market state (step_of market state command).1 s lapsed next
   unfolding step_of
   step_first state Unreadable s lapsed next is names told = absurd (cc told)
@@ -199,7 +217,8 @@ module _ (market : Market) where
       let same : n.s ≡ s = eqb-true n.s s (sym named ∙ names) in
       let drops : (drop_section market state n.i n.s).0 ≡ reply.Dropped lapsed next = sym (ap (λ (o : HallReply × HallState). o.0) n.made_is) ∙ told in
       subst (λ (o : HallReply × HallState). GoesToFirstFit market state o.1 s lapsed next) (sym n.made_is)
-      (subst (λ t. GoesToFirstFit market state (drop_section market state n.i n.s).1 t lapsed next) same (drop_first state n.i n.s lapsed next is (student_within market student n.i n.student_is) (section_within market section n.s n.section_is) drops))
+      (subst (λ t. GoesToFirstFit market state (drop_section market state n.i n.s).1 t lapsed next) same
+      (drop_first state n.i n.s lapsed next is (student_within market student n.i n.student_is) (section_within market section n.s n.section_is) drops))
 
 -- the state after one step more
 one_more : (market : Market) (opening : HallState) (before : List HallStep) (step : HallStep)
@@ -219,7 +238,10 @@ module _ (market : Market) (state : HallState) where
   unfolding add
   add_nothing i s = by_refusal (refusal market state i s)
     where
-      by_seat : (b : Bool) → LeavesState state (if b then (reply.Added, with_held state i (with_section s (held_by state i))) else (reply.Queued (length (waiting_for state s)), with_waiting state s (waiting_for state s ++ i ∷ [])))
+      by_seat : (b : Bool)
+          → LeavesState state
+          (if b then (reply.Added, with_held state i (with_section s (held_by state i)))
+          else (reply.Queued (length (waiting_for state s)), with_waiting state s (waiting_for state s ++ i ∷ [])))
       by_seat true = λ refused. absurd (false≢true refused)
       by_seat false = λ refused. absurd (false≢true refused)
 
@@ -232,7 +254,8 @@ module _ (market : Market) (state : HallState) where
   unfolding drop_section pass_on
   drop_nothing i s = by_place (has (held_by state i) s)
     where
-      by_place : (b : Bool) → LeavesState state (if b then pass_on market (with_held state i (without_section s (held_by state i))) s else (reply.NotHolding, state))
+      by_place : (b : Bool)
+          → LeavesState state (if b then pass_on market (with_held state i (without_section s (held_by state i))) s else (reply.NotHolding, state))
       by_place true = λ refused. absurd (false≢true refused)
       by_place false = λ refused. refl
 
@@ -240,11 +263,13 @@ module _ (market : Market) (state : HallState) where
   unfolding leave
   leave_nothing i s = by_place (has (waiting_for state s) i)
     where
-      by_place : (b : Bool) → LeavesState state (if b then (reply.Left, with_waiting state s (without_section i (waiting_for state s))) else (reply.NotWaiting, state))
+      by_place : (b : Bool)
+          → LeavesState state (if b then (reply.Left, with_waiting state s (without_section i (waiting_for state s))) else (reply.NotWaiting, state))
       by_place true = λ refused. absurd (false≢true refused)
       by_place false = λ refused. refl
 
-  named_nothing : (student section : Name) (made : ℕ → ℕ → HallReply × HallState) → is_refusal (by_names market state student section made).0 ≡ true → ((i s : ℕ) → is_refusal (made i s).0 ≡ true → (made i s).1 ≡ state)
+  named_nothing : (student section : Name) (made : ℕ → ℕ → HallReply × HallState) → is_refusal (by_names market state student section made).0 ≡ true
+      → ((i s : ℕ) → is_refusal (made i s).0 ≡ true → (made i s).1 ≡ state)
       → (by_names market state student section made).1 ≡ state
   named_nothing student section made refused each = elim (names_or_quiet market state student section made) [
     | inl q ↦ ap (λ (o : HallReply × HallState). o.1) q.1

@@ -37,7 +37,8 @@ found_in p (x ∷ xs) t e = elim (cases_Bool (p x)) [
 ]
 
 module _ (market : Market) where
-  first_named : (o : Option HallReply) (more : List (Option HallReply)) → InRangeOrNone market o → InRangeOrNone market (first_of more) → InRangeOrNone market (first_of (o ∷ more))
+  first_named : (o : Option HallReply) (more : List (Option HallReply)) → InRangeOrNone market o → InRangeOrNone market (first_of more)
+      → InRangeOrNone market (first_of (o ∷ more))
   first_named None more here rest = rest
   first_named (Some answer) more here rest = here
 
@@ -45,23 +46,28 @@ module _ (market : Market) where
   so_named true answer is = is
   so_named false answer is = tt
 
-  clash_named : (o : Option ℕ) → ((t : ℕ) → o ≡ Some t → t < section_count market) → InRangeOrNone market (option_map (λ (t : ℕ). reply.Clash (record { 0 = t })) o)
+  clash_named : (o : Option ℕ) → ((t : ℕ) → o ≡ Some t → t < section_count market)
+      → InRangeOrNone market (option_map (λ (t : ℕ). reply.Clash (record { 0 = t })) o)
   clash_named None low = tt
   clash_named (Some t) low = low t refl
 
-  answered_named : (o : Option HallReply) (state : HallState) (other : HallReply × HallState) → InRangeOrNone market o → NamesInRange market other.0 → NamesInRange market (answered o state other).0
+  answered_named : (o : Option HallReply) (state : HallState) (other : HallReply × HallState) → InRangeOrNone market o → NamesInRange market other.0
+      → NamesInRange market (answered o state other).0
   answered_named None state other here rest = rest
   answered_named (Some answer) state other here rest = here
 
-  either_named : (b : Bool) (one other : HallReply × HallState) → NamesInRange market one.0 → NamesInRange market other.0 → NamesInRange market (if b then one else other).0
+  either_named : (b : Bool) (one other : HallReply × HallState) → NamesInRange market one.0 → NamesInRange market other.0
+      → NamesInRange market (if b then one else other).0
   either_named true one other here there = here
   either_named false one other here there = there
 
-  next_named : (lapsed : ℕ) (o : Option ℕ) → ((w : ℕ) → o ≡ Some w → w < student_count market) → NamesInRange market (reply.Dropped lapsed (option_map (λ (i : ℕ). record { 0 = i }) o))
+  next_named : (lapsed : ℕ) (o : Option ℕ) → ((w : ℕ) → o ≡ Some w → w < student_count market)
+      → NamesInRange market (reply.Dropped lapsed (option_map (λ (i : ℕ). record { 0 = i }) o))
   next_named lapsed None low = tt
   next_named lapsed (Some w) low = low w refl
 
-  passed_named : (state : HallState) (s : ℕ) → ((i : ℕ) → has (waiting_for state s) i ≡ true → i < student_count market) → NamesInRange market (pass_on market state s).0
+  passed_named : (state : HallState) (s : ℕ) → ((i : ℕ) → has (waiting_for state s) i ≡ true → i < student_count market)
+      → NamesInRange market (pass_on market state s).0
   unfolding pass_on
   passed_named state s within =
       let fit : ℕ → Bool = λ i. fits market i s (held_by state i) in
@@ -86,7 +92,9 @@ module _ (market : Market) where
 
     drop_named : (i s : ℕ) → NamesInRange market (drop_section market state i s).0
     unfolding drop_section
-    drop_named i s = either_named (has (held_by state i) s) _ _ (passed_named (with_held state i (without_section s (held_by state i))) s (λ w there. (is.queues s).within w there)) tt
+    drop_named i s =
+        either_named (has (held_by state i) s) _ _
+        (passed_named (with_held state i (without_section s (held_by state i))) s (λ w there. (is.queues s).within w there)) tt
 
     step_named : (command : HallCommand) → NamesInRange market (step_of market state command).0
     unfolding step_of
@@ -107,5 +115,6 @@ module _ (market : Market) where
 pub replies_in_range : RepliesInRangeLaw
 replies_in_range market opening [] is legal = All-nil (λ (step : HallStep). NamesInRange market step.reply)
 replies_in_range market opening (step ∷ more) is legal =
-    All-cons (λ (step : HallStep). NamesInRange market step.reply) step more (subst (NamesInRange market) (sym legal.1) (step_named market opening is step.request))
+    All-cons (λ (step : HallStep). NamesInRange market step.reply) step more
+    (subst (NamesInRange market) (sym legal.1) (step_named market opening is step.request))
     (replies_in_range market (state_after market opening step.seat step.request) more (hall_after market opening step.request is) legal.2)

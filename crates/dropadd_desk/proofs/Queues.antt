@@ -64,7 +64,8 @@ queue_without students i list is = record {
 -- who stands at a place stands nowhere behind it
 pub none_behind : (students i n : ℕ) (list : List ℕ) → IsQueue students list → slice_get list n ≡ Some i → has (drop (n + 1) list) i ≡ false
 none_behind students i n list is at =
-    lacks_times i (drop (n + 1) list) (let all = times-split i (n + 1) list in let most = is.once i in let some = counted list n at in omega (arith, all, most, some))
+    lacks_times i (drop (n + 1) list)
+    (let all = times-split i (n + 1) list in let most = is.once i in let some = counted list n at in omega (arith, all, most, some))
   where
     counted : (xs : List ℕ) (m : ℕ) → slice_get xs m ≡ Some i → 1 ≤ times i (take (m + 1) xs)
     counted [] m e = absurd (cc e)

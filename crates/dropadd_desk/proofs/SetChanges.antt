@@ -44,12 +44,17 @@ next_place n = omega arith
 pub lower_part : (s : ℕ) (xs : List SectionNo) → IsAscending (ordinals xs) → ordinals (take (place_in s xs) xs) ≡ filter (λ t. nat_lt t s) (ordinals xs)
 lower_part s [] up = refl
 lower_part s (x ∷ xs) up = elim (cases_lt x.0 s) [
-  | inl low ↦ let test : nat_lt x.0 s ≡ true = lt-ltb x.0 s low in let at_place : nat_le s x.0 ≡ false = lt-leb s x.0 low in rw (test, at_place, next_place (place_in s xs)) (ap (λ l. x.0 ∷ l) (lower_part s xs up.1))
-  | inr high ↦ let test : nat_lt x.0 s ≡ false = le-ltb x.0 s high in let at_place : nat_le s x.0 ≡ true = le-leb s x.0 high in rw (test, at_place) (sym (none_lower s x.0 (ordinals xs) high up.0))
+  | inl low ↦
+      let test : nat_lt x.0 s ≡ true = lt-ltb x.0 s low in
+      let at_place : nat_le s x.0 ≡ false = lt-leb s x.0 low in rw (test, at_place, next_place (place_in s xs)) (ap (λ l. x.0 ∷ l) (lower_part s xs up.1))
+  | inr high ↦
+      let test : nat_lt x.0 s ≡ false = le-ltb x.0 s high in
+      let at_place : nat_le s x.0 ≡ true = le-leb s x.0 high in rw (test, at_place) (sym (none_lower s x.0 (ordinals xs) high up.0))
 ]
 
 -- and the higher ones behind, where the section is not there
-pub higher_part : (s : ℕ) (xs : List SectionNo) → IsAscending (ordinals xs) → has (ordinals xs) s ≡ false → ordinals (drop (place_in s xs) xs) ≡ filter (λ t. nat_lt s t) (ordinals xs)
+pub higher_part : (s : ℕ) (xs : List SectionNo) → IsAscending (ordinals xs) → has (ordinals xs) s ≡ false
+    → ordinals (drop (place_in s xs) xs) ≡ filter (λ t. nat_lt s t) (ordinals xs)
 higher_part s [] up lacks = refl
 higher_part s (x ∷ xs) up lacks =
     let parts = or_parts (x.0 == s) (has (ordinals xs) s) lacks in
@@ -61,7 +66,9 @@ higher_part s (x ∷ xs) up lacks =
       | inr high ↦
           let test : nat_lt x.0 s ≡ false = le-ltb x.0 s high in let at_place : nat_le s x.0 ≡ true = le-leb s x.0 high in
           let apart : x.0 ≢ s = λ e. false≢true (sym parts.0 ∙ eq-eqb x.0 s e) in
-          let higher : nat_lt s x.0 ≡ true = lt-ltb s x.0 (elim (cases_order s x.0) [ inl same ↦ absurd (apart (sym same)) | inr (inl below) ↦ below | inr (inr above) ↦ absurd (omega arith) ]) in
+          let higher : nat_lt s x.0 ≡ true =
+          lt-ltb s x.0
+          (elim (cases_order s x.0) [ inl same ↦ absurd (apart (sym same)) | inr (inl below) ↦ below | inr (inr above) ↦ absurd (omega arith) ]) in
           rw (at_place, higher) (ap (λ l. x.0 ∷ l) (sym (all_higher s x.0 (ordinals xs) high up.0)))
     ]
 
@@ -145,7 +152,11 @@ with_ascends s xs up = joined xs up
     joined (y ∷ ys) up' = elim (cases_Bool (nat_lt y s)) [
       | inl is ↦
           let low : y < s = ltb-true y s is in
-          rw is (above_joined y (filter (λ t. nat_lt t s) ys) (s ∷ filter (λ t. nat_lt s t) xs) (above_lower y s ys up'.0) (low, above_all y s (filter (λ t. nat_lt s t) xs) low (above_higher s xs)), joined ys up'.1)
+          rw is (
+            above_joined y (filter (λ t. nat_lt t s) ys) (s ∷ filter (λ t. nat_lt s t) xs) (above_lower y s ys up'.0)
+                (low, above_all y s (filter (λ t. nat_lt s t) xs) low (above_higher s xs)),
+            joined ys up'.1,
+          )
       | inr no_more ↦ rw no_more (joined ys up'.1)
     ]
 
@@ -230,7 +241,9 @@ has-without s (x ∷ xs) t = elim (cases_Bool (x == s)) [
 
 -- how many sections they have
 pub length-with : (s : ℕ) (xs : List ℕ) → length (with_section s xs) ≤ length xs + 1
-length-with s xs = let joined : length (with_section s xs) ≡ length (filter (λ t. nat_lt t s) xs) + (length (filter (λ t. nat_lt s t) xs) + 1) = joined_length (filter (λ t. nat_lt t s) xs) (filter (λ t. nat_lt s t) xs) in
+length-with s xs =
+    let joined : length (with_section s xs) ≡ length (filter (λ t. nat_lt t s) xs) + (length (filter (λ t. nat_lt s t) xs) + 1) =
+    joined_length (filter (λ t. nat_lt t s) xs) (filter (λ t. nat_lt s t) xs) in
     let most = both_parts xs in omega arith
   where
     joined_length : (front back : List ℕ) → length (front ++ s ∷ back) ≡ length front + (length back + 1)

@@ -25,10 +25,12 @@ held_changed held new waiting at i set set' is here same =
     λ k. record { held = whole k; waiting = waiting }
 
 -- one list is another
-pub waiting_changed : (held : List (List ℕ)) (old new : Lists) (at s : ℕ) (list list' : List ℕ) → new ≡ record { width = old.width; lists = slice_set old.lists at list } → at ≡ s → list ≡ list'
+pub waiting_changed : (held : List (List ℕ)) (old new : Lists) (at s : ℕ) (list list' : List ℕ)
+    → new ≡ record { width = old.width; lists = slice_set old.lists at list } → at ≡ s → list ≡ list'
     → ◌≡◌ {A = HallState} (record { held = held; waiting = new.lists }) (with_waiting (record { held = held; waiting = old.lists }) s list')
 waiting_changed held old new at s list list' is here same =
-    let whole : new.lists ≡ slice_set old.lists s list' = ap (λ (l : Lists). l.lists) is ∙ ap (λ n. slice_set old.lists n list) here ∙ ap (slice_set old.lists s) same in
+    let whole : new.lists ≡ slice_set old.lists s list' =
+    ap (λ (l : Lists). l.lists) is ∙ ap (λ n. slice_set old.lists n list) here ∙ ap (slice_set old.lists s) same in
     λ k. record { held = held; waiting = whole k }
 
 -- nobody waits in a list that was just made
@@ -38,13 +40,16 @@ nobody_waits (suc n) zero = refl
 nobody_waits (suc n) (suc s) = nobody_waits n s
 
 -- the opening is a state
-pub opening_hall : (market : Market) (held : List (List ℕ)) → length held ≡ student_count market → AreBelow (section_count market) held → All IsAscending held → IsHall market (opening market held)
+pub opening_hall : (market : Market) (held : List (List ℕ)) → length held ≡ student_count market → AreBelow (section_count market) held → All IsAscending held
+    → IsHall market (opening market held)
 opening_hall market held count within up = record {
   each_student = count;
   within = within;
   ascending = up;
   each_section = length-replicate (section_count market) [];
-  queues = λ s. subst (IsQueue (student_count market)) (sym (nobody_waits (section_count market) s)) (record { once = λ i. omega arith; within = λ i there. absurd (false≢true there) });
+  queues =
+      λ s. subst (IsQueue (student_count market)) (sym (nobody_waits (section_count market) s))
+      (record { once = λ i. omega arith; within = λ i there. absurd (false≢true there) });
   apart = λ i s there. absurd (false≢true (sym (ap (λ l. has l i) (nobody_waits (section_count market) s)) ∙ there));
 }
 
@@ -59,7 +64,9 @@ free_on market floor waiting s is low =
 pub fits_few : (market : Market) (i s : ℕ) (set : List ℕ) → IsMarket market → i < student_count market → fits market i s set ≡ true → length set < 8
 fits_few market i s set is low fit =
     let few : (enrolled market i).courses ≤ 8 = (is.roll.each i no_student low).is_student.courses in
-    let room : length set + 1 ≤ (enrolled market i).courses = ltb-false (enrolled market i).courses (length set + 1) (last_of (is_some (lowest_clash market s set)) (passes_credits market i s set) (passes_courses market i set) fit) in
+    let room : length set + 1 ≤ (enrolled market i).courses =
+    ltb-false (enrolled market i).courses (length set + 1)
+    (last_of (is_some (lowest_clash market s set)) (passes_credits market i s set) (passes_courses market i set) fit) in
     omega (arith, few, room)
   where
     last_of : (a b c : Bool) → (not a && not b && not c) ≡ true → c ≡ false
@@ -69,8 +76,11 @@ fits_few market i s set is low fit =
     last_of false false false e = refl
 
 -- the same, of what was made for the opening
-pub opening_of : (made market : Market) (held bundles : List (List ℕ)) (lists : Lists) → made ≡ market → held ≡ bundles → length bundles ≡ student_count market → AreBelow (section_count market) bundles → All IsAscending bundles → lists.lists ≡ replicate (section_count market) []
+pub opening_of : (made market : Market) (held bundles : List (List ℕ)) (lists : Lists) → made ≡ market → held ≡ bundles → length bundles ≡ student_count market
+    → AreBelow (section_count market) bundles → All IsAscending bundles → lists.lists ≡ replicate (section_count market) []
     → IsHall made (record { held = held; waiting = lists.lists })
 opening_of made market held bundles lists is same count within up none =
-    let state : ◌≡◌ {A = HallState} (record { held = held; waiting = lists.lists }) (opening market bundles) = λ i. record { held = same i; waiting = none i } in
-    subst (λ m. IsHall m (record { held = held; waiting = lists.lists })) (sym is) (subst (IsHall market) (sym state) (opening_hall market bundles count within up))
+    let state : ◌≡◌ {A = HallState} (record { held = held; waiting = lists.lists }) (opening market bundles) =
+    λ i. record { held = same i; waiting = none i } in
+    subst (λ m. IsHall m (record { held = held; waiting = lists.lists })) (sym is)
+    (subst (IsHall market) (sym state) (opening_hall market bundles count within up))

@@ -51,9 +51,11 @@ pub record IsStepped (market : Market) (state : HallState) (i s : ℕ) (outcome 
   pub held : (j : ℕ) → has (held_by outcome.1 j) s ≡ held_after_reply j (i == j) outcome.0 (has (held_by state j) s)
   pub held_elsewhere : (t : ℕ) → t ≢ s → (j : ℕ) → has (held_by outcome.1 j) t ≡ has (held_by state j) t
   pub seats : holders s state.held ≤ (offered market s).seats → holders s outcome.1.held ≤ (offered market s).seats
-  pub full : ((j : ℕ) → has (waiting_for state s) j ≡ true → has_free_seat market state s ≡ false) → (j : ℕ) → has (waiting_for outcome.1 s) j ≡ true → has_free_seat market outcome.1 s ≡ false
+  pub full : ((j : ℕ) → has (waiting_for state s) j ≡ true → has_free_seat market state s ≡ false) → (j : ℕ) → has (waiting_for outcome.1 s) j ≡ true
+      → has_free_seat market outcome.1 s ≡ false
   pub balance : holders s outcome.1.held + one_if (is_dropped outcome.0) ≡ holders s state.held + one_if (is_added outcome.0) + one_if (is_passed_on outcome.0)
-  pub line : (number : ℕ) (line : Line) → students_in line.waiting ≡ waiting_for state s → students_in (noted number i outcome.0 line).waiting ≡ waiting_for outcome.1 s
+  pub line : (number : ℕ) (line : Line) → students_in line.waiting ≡ waiting_for state s
+      → students_in (noted number i outcome.0 line).waiting ≡ waiting_for outcome.1 s
   pub next : (lapsed : ℕ) (next : StudentNo) → outcome.0 ≡ reply.Dropped lapsed (Some next) → slice_get (waiting_for state s) lapsed ≡ Some next.0
 
 -- a reply that changes nothing
@@ -107,7 +109,8 @@ so_none true answer e = cc
 so_none false answer e = refl
 
 -- where nothing stands against it, the student neither holds the section nor waits for it
-pub refusal_none : (market : Market) (state : HallState) (i s : ℕ) → refusal market state i s ≡ None → (has (held_by state i) s ≡ false) × (has (waiting_for state s) i ≡ false)
+pub refusal_none : (market : Market) (state : HallState) (i s : ℕ) → refusal market state i s ≡ None
+    → (has (held_by state i) s ≡ false) × (has (waiting_for state s) i ≡ false)
 refusal_none market state i s e =
     let one = first_none _ _ e in
     let two = first_none _ _ one.1 in
@@ -127,7 +130,11 @@ module _ (market : Market) (state : HallState) (is : IsHall market state) where
     held_elsewhere = λ t apart j. refl;
     seats = λ few. few;
     full = λ all. all;
-    balance = (let d : one_if (is_dropped answer) ≡ 0 = ap one_if q.dropped in let a : one_if (is_added answer) ≡ 0 = ap one_if q.added in let p : one_if (is_passed_on answer) ≡ 0 = ap one_if q.passed in let n : ℕ = holders s state.held in let goal : n + one_if (is_dropped answer) ≡ n + one_if (is_added answer) + one_if (is_passed_on answer) = omega arith in goal);
+    balance =
+        (let d : one_if (is_dropped answer) ≡ 0 = ap one_if q.dropped in let a : one_if (is_added answer)
+        ≡ 0 = ap one_if q.added in let p : one_if (is_passed_on answer)
+        ≡ 0 = ap one_if q.passed in let n : ℕ = holders s state.held in let goal : n + one_if (is_dropped answer)
+        ≡ n + one_if (is_added answer) + one_if (is_passed_on answer) = omega arith in goal);
     line = λ number line told. ap (λ (l : Line). students_in l.waiting) (q.line number i line) ∙ told;
     next = λ lapsed next e. absurd (q.next lapsed next e);
   }
@@ -136,7 +143,8 @@ module _ (market : Market) (state : HallState) (is : IsHall market state) where
   nothing n = omega arith
 
   -- the student has the section
-  added_step : (i s : ℕ) → i < student_count market → s < section_count market → has (held_by state i) s ≡ false → has (waiting_for state s) i ≡ false → has_free_seat market state s ≡ true
+  added_step : (i s : ℕ) → i < student_count market → s < section_count market → has (held_by state i) s ≡ false → has (waiting_for state s) i ≡ false
+      → has_free_seat market state s ≡ true
       → IsStepped market state i s (reply.Added, with_held state i (with_section s (held_by state i)))
   added_step i s low below lacks waits free =
       let inside : i < length state.held = subst (λ n. i < n) (sym is.each_student) low in
@@ -156,7 +164,8 @@ module _ (market : Market) (state : HallState) (is : IsHall market state) where
       }
 
   -- the student waits
-  queued_step : (i s : ℕ) → i < student_count market → s < section_count market → has (held_by state i) s ≡ false → has (waiting_for state s) i ≡ false → has_free_seat market state s ≡ false
+  queued_step : (i s : ℕ) → i < student_count market → s < section_count market → has (held_by state i) s ≡ false → has (waiting_for state s) i ≡ false
+      → has_free_seat market state s ≡ false
       → IsStepped market state i s (reply.Queued (length (waiting_for state s)), with_waiting state s (waiting_for state s ++ i ∷ []))
   queued_step i s low below lacks waits taken =
       let inside : s < length state.waiting = subst (λ n. s < n) (sym is.each_section) below in
@@ -169,7 +178,9 @@ module _ (market : Market) (state : HallState) (is : IsHall market state) where
         seats = λ few. few;
         full = λ all j there. taken;
         balance = nothing (holders s state.held);
-        line = λ number line told. map-append (λ (ticket : Ticket). ticket.student) line.waiting (record { number = number; student = i } ∷ []) ∙ ap (λ l. l ++ i ∷ []) told ∙ sym (waiting_here state s (waiting_for state s ++ i ∷ []) inside);
+        line =
+            λ number line told. map-append (λ (ticket : Ticket). ticket.student) line.waiting (record { number = number; student = i } ∷ [])
+            ∙ ap (λ l. l ++ i ∷ []) told ∙ sym (waiting_here state s (waiting_for state s ++ i ∷ []) inside);
         next = λ lapsed next e. cc;
       }
 
@@ -178,7 +189,9 @@ module _ (market : Market) (state : HallState) (is : IsHall market state) where
   add_step i s low below = by_refusal (refusal market state i s) refl
     where
       by_seat : (b : Bool) → has_free_seat market state s ≡ b → refusal market state i s ≡ None
-          → IsStepped market state i s (if b then (reply.Added, with_held state i (with_section s (held_by state i))) else (reply.Queued (length (waiting_for state s)), with_waiting state s (waiting_for state s ++ i ∷ [])))
+          → IsStepped market state i s
+          (if b then (reply.Added, with_held state i (with_section s (held_by state i)))
+          else (reply.Queued (length (waiting_for state s)), with_waiting state s (waiting_for state s ++ i ∷ [])))
       by_seat true free none = let so = refusal_none market state i s none in added_step i s low below so.0 so.1 free
       by_seat false taken none = let so = refusal_none market state i s none in queued_step i s low below so.0 so.1 taken
 
@@ -187,7 +200,8 @@ module _ (market : Market) (state : HallState) (is : IsHall market state) where
       by_refusal None e = by_seat (has_free_seat market state s) refl e
       by_refusal (Some answer) e = quiet_step i s answer (quiet answer (subst QuietOrNone e (refusal_quiet market state i s)))
 
-  filter-map : (i : ℕ) (tickets : List Ticket) → students_in (filter (λ (ticket : Ticket). not (ticket.student == i)) tickets) ≡ without_section i (students_in tickets)
+  filter-map : (i : ℕ) (tickets : List Ticket)
+      → students_in (filter (λ (ticket : Ticket). not (ticket.student == i)) tickets) ≡ without_section i (students_in tickets)
   filter-map i [] = refl
   filter-map i (ticket ∷ more) = elim (cases_Bool (ticket.student == i)) [
     | inl same ↦ rw same (filter-map i more)
@@ -198,7 +212,8 @@ module _ (market : Market) (state : HallState) (is : IsHall market state) where
   unfolding leave
   leave_step i s below = by_place (has (waiting_for state s) i) refl
     where
-      by_place : (b : Bool) → has (waiting_for state s) i ≡ b → IsStepped market state i s (if b then (reply.Left, with_waiting state s (without_section i (waiting_for state s))) else (reply.NotWaiting, state))
+      by_place : (b : Bool) → has (waiting_for state s) i ≡ b
+          → IsStepped market state i s (if b then (reply.Left, with_waiting state s (without_section i (waiting_for state s))) else (reply.NotWaiting, state))
       by_place false e = quiet_step i s reply.NotWaiting (quiet reply.NotWaiting refl)
       by_place true e =
           let inside : s < length state.waiting = subst (λ n. s < n) (sym is.each_section) below in
@@ -221,14 +236,16 @@ module _ (market : Market) (state : HallState) (is : IsHall market state) where
     pub hall : IsHall market outcome.1
     pub held_others : (t : ℕ) → t ≢ s → holders t outcome.1.held ≡ holders t state.held
     pub waiting_others : (t : ℕ) → t ≢ s → waiting_for outcome.1 t ≡ waiting_for state t
-    pub held : (j : ℕ) (is_named before : Bool) → (not is_named && before) ≡ has (held_by state j) s → has (held_by outcome.1 j) s ≡ held_after_reply j is_named outcome.0 before
+    pub held : (j : ℕ) (is_named before : Bool) → (not is_named && before) ≡ has (held_by state j) s
+        → has (held_by outcome.1 j) s ≡ held_after_reply j is_named outcome.0 before
     pub held_elsewhere : (t : ℕ) → t ≢ s → (j : ℕ) → has (held_by outcome.1 j) t ≡ has (held_by state j) t
     pub dropped : is_dropped outcome.0 ≡ true
     pub added : is_added outcome.0 ≡ false
     pub count : holders s outcome.1.held ≡ holders s state.held + one_if (is_passed_on outcome.0)
     pub nobody : is_passed_on outcome.0 ≡ false → waiting_for outcome.1 s ≡ []
     pub fewer : (j : ℕ) → has (waiting_for outcome.1 s) j ≡ true → has (waiting_for state s) j ≡ true
-    pub line : (number i : ℕ) (line : Line) → students_in line.waiting ≡ waiting_for state s → students_in (noted number i outcome.0 line).waiting ≡ waiting_for outcome.1 s
+    pub line : (number i : ℕ) (line : Line) → students_in line.waiting ≡ waiting_for state s
+        → students_in (noted number i outcome.0 line).waiting ≡ waiting_for outcome.1 s
     pub next : (lapsed : ℕ) (next : StudentNo) → outcome.0 ≡ reply.Dropped lapsed (Some next) → slice_get (waiting_for state s) lapsed ≡ Some next.0
 
   pub passed : (s : ℕ) → s < section_count market → IsPassed s (pass_on market state s)
@@ -253,7 +270,11 @@ module _ (market : Market) (state : HallState) (is : IsHall market state) where
       here : waiting_for (with_waiting state s rest) s ≡ rest
       here = waiting_here state s rest (subst (λ n. s < n) (sym is.each_section) below)
 
-      by_next : (o : Option ℕ) → find fit list ≡ o → IsPassed s (reply.Dropped (length (before_first fit list)) (option_map (λ (i : ℕ). record { 0 = i }) o), given (with_waiting state s (after_first fit list)) o s)
+      by_next : (o : Option ℕ) → find fit list ≡ o
+          → IsPassed s (
+            reply.Dropped (length (before_first fit list)) (option_map (λ (i : ℕ). record { 0 = i }) o),
+            given (with_waiting state s (after_first fit list)) o s,
+          )
       by_next None e =
           let past : length list ≤ place = none_past list place (sym (find_at fit list) ∙ e) in
           let none : rest ≡ [] = drop_all (place + 1) list (omega arith) in
@@ -269,8 +290,13 @@ module _ (market : Market) (state : HallState) (is : IsHall market state) where
             nobody = λ f. here ∙ none;
             fewer = λ j there. has_behind (place + 1) j list (sym (ap (λ l. has l j) here) ∙ there);
             line = λ number i line told.
-                sym (drop-map (λ (ticket : Ticket). ticket.student) (length (before_first fit list) + 0) line.waiting) ∙ ap (drop (length (before_first fit list) + 0)) told
-                ∙ drop_all (length (before_first fit list) + 0) list (let n : length (before_first fit list) ≡ length list = ap length (take_all place list past) in let k : ℕ = length (before_first fit list) in let goal : length list ≤ k + 0 = omega arith in goal) ∙ sym (here ∙ none);
+                sym (drop-map (λ (ticket : Ticket). ticket.student) (length (before_first fit list) + 0) line.waiting)
+                ∙ ap (drop (length (before_first fit list) + 0)) told
+                ∙ drop_all (length (before_first fit list) + 0) list
+                (let n : length (before_first fit list)
+                ≡ length list = ap length (take_all place list past) in let k : ℕ = length (before_first fit list) in let goal : length list
+                ≤ k + 0 = omega arith in goal)
+                ∙ sym (here ∙ none);
             next = λ lapsed next f. cc;
           }
       by_next (Some w) e =
@@ -283,7 +309,9 @@ module _ (market : Market) (state : HallState) (is : IsHall market state) where
           let inside : w < length state.held = subst (λ n. w < n) (sym is.each_student) student in
           let behind = with_waiting state s rest in
           record {
-            hall = with_keeps market behind hall_behind w s student below (ap (λ l. has l w) here ∙ none_behind (student_count market) w place list (is.queues s) at);
+            hall =
+                with_keeps market behind hall_behind w s student below
+                (ap (λ l. has l w) here ∙ none_behind (student_count market) w place list (is.queues s) at);
             held_others = λ t apart. holders_same market state w t (with_section s (held_by state w)) inside (with_other market s t (held_by state w) apart);
             waiting_others = λ t apart. waiting_there state s t rest apart;
             held = λ j is_named before e. held_with behind w s inside j ∙ ap (λ b. w == j || b) (sym e);
@@ -294,11 +322,13 @@ module _ (market : Market) (state : HallState) (is : IsHall market state) where
             nobody = λ f. absurd (true≢false f);
             fewer = λ j there. has_behind (place + 1) j list (sym (ap (λ l. has l j) here) ∙ there);
             line = λ number i line told.
-                sym (drop-map (λ (ticket : Ticket). ticket.student) (length (before_first fit list) + 1) line.waiting) ∙ ap (drop (length (before_first fit list) + 1)) told ∙ ap (λ n. drop (n + 1) list) taken ∙ sym here;
+                sym (drop-map (λ (ticket : Ticket). ticket.student) (length (before_first fit list) + 1) line.waiting)
+                ∙ ap (drop (length (before_first fit list) + 1)) told ∙ ap (λ n. drop (n + 1) list) taken ∙ sym here;
             next = λ lapsed next f. same_next (length (before_first fit list)) lapsed w next f taken at;
           }
         where
-          same_next : (n lapsed w : ℕ) (next : StudentNo) → reply.Dropped n (Some (record { 0 = w })) ≡ reply.Dropped lapsed (Some next) → n ≡ place → slice_get list place ≡ Some w → slice_get list lapsed ≡ Some next.0
+          same_next : (n lapsed w : ℕ) (next : StudentNo) → reply.Dropped n (Some (record { 0 = w })) ≡ reply.Dropped lapsed (Some next) → n ≡ place
+              → slice_get list place ≡ Some w → slice_get list lapsed ≡ Some next.0
           same_next n lapsed w next f is' at =
               let a : n ≡ lapsed = cc f in
               let both : ◌≡◌ {A = Option StudentNo} (Some (record { 0 = w })) (Some next) = cc f in
@@ -310,7 +340,8 @@ module _ (market : Market) (state : HallState) (is : IsHall market state) where
               student_or (Some next) = next.0
 
 -- The student gives the section up.
-pub drop_step : (market : Market) (state : HallState) (i s : ℕ) → IsHall market state → i < student_count market → s < section_count market → IsStepped market state i s (drop_section market state i s)
+pub drop_step : (market : Market) (state : HallState) (i s : ℕ) → IsHall market state → i < student_count market → s < section_count market
+    → IsStepped market state i s (drop_section market state i s)
 unfolding drop_section
 drop_step market state i s is low below = by_place (has (held_by state i) s) refl
   where
@@ -336,10 +367,14 @@ drop_step market state i s is low below = by_place (has (held_by state i) s) ref
         let count : holders s outcome.1.held ≡ holders s gone.held + one_if (is_passed_on outcome.0) = p.count in
         record {
           hall = p.hall;
-          held_others = λ t apart. p.held_others t apart ∙ holders_same market state i t (without_section s (held_by state i)) inside (without_other market s t (held_by state i) apart);
+          held_others =
+              λ t apart. p.held_others t apart
+              ∙ holders_same market state i t (without_section s (held_by state i)) inside (without_other market s t (held_by state i) apart);
           waiting_others = λ t apart. p.waiting_others t apart;
           held = λ j. p.held j (i == j) (has (held_by state j) s) (sym (held_without state i s inside j));
-          held_elsewhere = λ t apart j. p.held_elsewhere t apart j ∙ held_same state i t (without_section s (held_by state i)) inside (without_other market s t (held_by state i) apart) j;
+          held_elsewhere =
+              λ t apart j. p.held_elsewhere t apart j
+              ∙ held_same state i t (without_section s (held_by state i)) inside (without_other market s t (held_by state i) apart) j;
           seats = λ few. let most = at_most_one (is_passed_on outcome.0) in omega (arith, one, count, most, few);
           full = λ all j there. elim (cases_Bool (is_passed_on outcome.0)) [
             | inl is_so ↦
@@ -347,7 +382,9 @@ drop_step market state i s is low below = by_place (has (held_by state i) s) ref
                 ap (λ n. nat_lt n (slice_index (seats_in market) s)) same ∙ all j (p.fewer j there)
             | inr none ↦ absurd (false≢true (sym (ap (λ l. has l j) (p.nobody none)) ∙ there))
           ];
-          balance = (let d : one_if (is_dropped outcome.0) ≡ 1 = ap one_if p.dropped in let a : one_if (is_added outcome.0) ≡ 0 = ap one_if p.added in omega (arith, one, count, d, a));
+          balance =
+              (let d : one_if (is_dropped outcome.0) ≡ 1 = ap one_if p.dropped in let a : one_if (is_added outcome.0)
+              ≡ 0 = ap one_if p.added in omega (arith, one, count, d, a));
           line = λ number line told. p.line number i line told;
           next = p.next;
         }

@@ -30,24 +30,28 @@ pub waiting_there : (state : HallState) (s t : ℕ) (list : List ℕ) → t ≢ 
 waiting_there state s t list apart = get_or-set_other state.waiting s t list [] apart
 
 -- what each student holds where one holds a section more, or one fewer
-pub held_with : (state : HallState) (i s : ℕ) → i < length state.held → (j : ℕ) → has (held_by (with_held state i (with_section s (held_by state i))) j) s ≡ (i == j || has (held_by state j) s)
+pub held_with : (state : HallState) (i s : ℕ) → i < length state.held → (j : ℕ)
+    → has (held_by (with_held state i (with_section s (held_by state i))) j) s ≡ (i == j || has (held_by state j) s)
 held_with state i s low j = elim (cases_eq j i) [
   | inl same ↦
       let here : (i == j) ≡ true = eq-eqb i j (sym same) in
       let self : (s == s) ≡ true = eq-eqb s s refl in
-      ap (λ n. has (held_by (with_held state i (with_section s (held_by state i))) n) s) same ∙ ap (λ l. has l s) (held_here state i (with_section s (held_by state i)) low)
+      ap (λ n. has (held_by (with_held state i (with_section s (held_by state i))) n) s) same
+      ∙ ap (λ l. has l s) (held_here state i (with_section s (held_by state i)) low)
       ∙ has-with s (held_by state i) s ∙ rw (self, here) refl
   | inr apart ↦
       let other : (i == j) ≡ false = ne_eqb i j (λ e. apart (sym e)) in
       ap (λ l. has l s) (held_there state i j (with_section s (held_by state i)) apart) ∙ rw other refl
 ]
 
-pub held_without : (state : HallState) (i s : ℕ) → i < length state.held → (j : ℕ) → has (held_by (with_held state i (without_section s (held_by state i))) j) s ≡ (not (i == j) && has (held_by state j) s)
+pub held_without : (state : HallState) (i s : ℕ) → i < length state.held → (j : ℕ)
+    → has (held_by (with_held state i (without_section s (held_by state i))) j) s ≡ (not (i == j) && has (held_by state j) s)
 held_without state i s low j = elim (cases_eq j i) [
   | inl same ↦
       let here : (i == j) ≡ true = eq-eqb i j (sym same) in
       let self : (s == s) ≡ true = eq-eqb s s refl in
-      ap (λ n. has (held_by (with_held state i (without_section s (held_by state i))) n) s) same ∙ ap (λ l. has l s) (held_here state i (without_section s (held_by state i)) low)
+      ap (λ n. has (held_by (with_held state i (without_section s (held_by state i))) n) s) same
+      ∙ ap (λ l. has l s) (held_here state i (without_section s (held_by state i)) low)
       ∙ has-without s (held_by state i) s ∙ rw (self, here) refl
   | inr apart ↦
       let other : (i == j) ≡ false = ne_eqb i j (λ e. apart (sym e)) in
@@ -55,9 +59,12 @@ held_without state i s low j = elim (cases_eq j i) [
 ]
 
 -- of a section for which what is written says what was there, nothing changes
-pub held_same : (state : HallState) (i t : ℕ) (set : List ℕ) → i < length state.held → has set t ≡ has (held_by state i) t → (j : ℕ) → has (held_by (with_held state i set) j) t ≡ has (held_by state j) t
+pub held_same : (state : HallState) (i t : ℕ) (set : List ℕ) → i < length state.held → has set t ≡ has (held_by state i) t → (j : ℕ)
+    → has (held_by (with_held state i set) j) t ≡ has (held_by state j) t
 held_same state i t set low same j = elim (cases_eq j i) [
-  | inl one ↦ ap (λ n. has (held_by (with_held state i set) n) t) one ∙ ap (λ l. has l t) (held_here state i set low) ∙ same ∙ ap (λ n. has (held_by state n) t) (sym one)
+  | inl one ↦
+      ap (λ n. has (held_by (with_held state i set) n) t) one ∙ ap (λ l. has l t) (held_here state i set low) ∙ same
+      ∙ ap (λ n. has (held_by state n) t) (sym one)
   | inr apart ↦ ap (λ l. has l t) (held_there state i j set apart)
 ]
 
@@ -72,7 +79,8 @@ each_set P xs i x all is = λ k d low. elim (cases_eq k i) [
 
 module _ (market : Market) where
   -- a student holds another set, of which he waits for no section
-  pub hold_keeps : (state : HallState) (i : ℕ) (set : List ℕ) → IsHall market state → i < student_count market → ((s : ℕ) → has set s ≡ true → s < section_count market) → IsAscending set
+  pub hold_keeps : (state : HallState) (i : ℕ) (set : List ℕ) → IsHall market state → i < student_count market
+      → ((s : ℕ) → has set s ≡ true → s < section_count market) → IsAscending set
       → ((s : ℕ) → has (waiting_for state s) i ≡ true → has set s ≡ false) → IsHall market (with_held state i set)
   hold_keeps state i set is low within up apart = record {
     each_student = length-set state.held i set ∙ is.each_student;
@@ -81,7 +89,9 @@ module _ (market : Market) where
     each_section = is.each_section;
     queues = is.queues;
     apart = λ j s there. elim (cases_eq j i) [
-      | inl same ↦ ap (λ n. has (held_by (with_held state i set) n) s) same ∙ ap (λ l. has l s) (held_here state i set (subst (λ n. i < n) (sym is.each_student) low)) ∙ apart s (ap (λ n. has (waiting_for state s) n) (sym same) ∙ there)
+      | inl same ↦
+          ap (λ n. has (held_by (with_held state i set) n) s) same ∙ ap (λ l. has l s) (held_here state i set (subst (λ n. i < n) (sym is.each_student) low))
+          ∙ apart s (ap (λ n. has (waiting_for state s) n) (sym same) ∙ there)
       | inr other ↦ ap (λ l. has l s) (held_there state i j set other) ∙ is.apart j s there
     ];
   }
@@ -101,7 +111,9 @@ module _ (market : Market) where
           | inr other ↦ subst (IsQueue (student_count market)) (sym (waiting_there state s t list other)) (is.queues t)
         ];
         apart = λ i t there. elim (cases_eq t s) [
-          | inl same ↦ ap (has (held_by state i)) same ∙ apart i (sym (ap (λ l. has l i) (ap (waiting_for (with_waiting state s list)) same ∙ waiting_here state s list inside)) ∙ there)
+          | inl same ↦
+              ap (has (held_by state i)) same
+              ∙ apart i (sym (ap (λ l. has l i) (ap (waiting_for (with_waiting state s list)) same ∙ waiting_here state s list inside)) ∙ there)
           | inr other ↦ is.apart i t (sym (ap (λ l. has l i) (waiting_there state s t list other)) ∙ there)
         ];
       }
@@ -110,7 +122,9 @@ module _ (market : Market) where
   pub within_at : (state : HallState) (i s : ℕ) → IsHall market state → has (held_by state i) s ≡ true → s < section_count market
   within_at state i s is there = elim (cases_Bool (nat_lt i (length state.held))) [
     | inl low ↦ is.within i [] (ltb-true i (length state.held) low) s there
-    | inr past ↦ let nothing : held_by state i ≡ [] = get_or_past state.held i [] (ltb-false i (length state.held) past) in absurd (false≢true (sym (ap (λ l. has l s) nothing) ∙ there))
+    | inr past ↦
+        let nothing : held_by state i ≡ [] = get_or_past state.held i [] (ltb-false i (length state.held) past) in
+        absurd (false≢true (sym (ap (λ l. has l s) nothing) ∙ there))
   ]
 
   -- and it ascends
@@ -125,15 +139,19 @@ module _ (market : Market) where
       → holders s (slice_set state.held i set) + (if has (held_by state i) s then 1 else 0) ≡ holders s state.held + (if has set s then 1 else 0)
   holders_after state i s set low = holders_set s state.held i (held_by state i) set (slice_get-get_or state.held i [] low)
 
-  pub holders_same : (state : HallState) (i s : ℕ) (set : List ℕ) → i < length state.held → has set s ≡ has (held_by state i) s → holders s (slice_set state.held i set) ≡ holders s state.held
-  holders_same state i s set low same = same_sum (has (held_by state i) s) (holders s (slice_set state.held i set)) (holders s state.held) (holders_after state i s set low ∙ ap {B = ℕ} (λ b. holders s state.held + (if b then 1 else 0)) same)
+  pub holders_same : (state : HallState) (i s : ℕ) (set : List ℕ) → i < length state.held → has set s ≡ has (held_by state i) s
+      → holders s (slice_set state.held i set) ≡ holders s state.held
+  holders_same state i s set low same =
+      same_sum (has (held_by state i) s) (holders s (slice_set state.held i set)) (holders s state.held)
+      (holders_after state i s set low ∙ ap {B = ℕ} (λ b. holders s state.held + (if b then 1 else 0)) same)
     where
       same_sum : (b : Bool) (m n : ℕ) → m + (if b then 1 else 0) ≡ n + (if b then 1 else 0) → m ≡ n
       same_sum true m n e = omega arith
       same_sum false m n e = omega arith
 
   -- one more where the section is new, and one fewer where it is gone
-  pub one_holder_more : (state : HallState) (i s : ℕ) → i < length state.held → has (held_by state i) s ≡ false → holders s (slice_set state.held i (with_section s (held_by state i))) ≡ holders s state.held + 1
+  pub one_holder_more : (state : HallState) (i s : ℕ) → i < length state.held → has (held_by state i) s ≡ false
+      → holders s (slice_set state.held i (with_section s (held_by state i))) ≡ holders s state.held + 1
   one_holder_more state i s low lacks =
       let all = holders_after state i s (with_section s (held_by state i)) low in
       let here : (s == s) ≡ true = eq-eqb s s refl in
@@ -141,7 +159,8 @@ module _ (market : Market) where
       let all' : holders s (slice_set state.held i (with_section s (held_by state i))) + 0 ≡ holders s state.held + 1 = rw (lacks, new) at all in
       omega arith
 
-  pub one_holder_fewer : (state : HallState) (i s : ℕ) → i < length state.held → has (held_by state i) s ≡ true → holders s (slice_set state.held i (without_section s (held_by state i))) + 1 ≡ holders s state.held
+  pub one_holder_fewer : (state : HallState) (i s : ℕ) → i < length state.held → has (held_by state i) s ≡ true
+      → holders s (slice_set state.held i (without_section s (held_by state i))) + 1 ≡ holders s state.held
   one_holder_fewer state i s low there =
       let all = holders_after state i s (without_section s (held_by state i)) low in
       let here : (s == s) ≡ true = eq-eqb s s refl in
@@ -161,11 +180,15 @@ module _ (market : Market) (state : HallState) (is : IsHall market state) where
   pub with_within : (i s : ℕ) → s < section_count market → (t : ℕ) → has (with_section s (held_by state i)) t ≡ true → t < section_count market
   with_within i s below t there = elim (cases_Bool (s == t)) [
     | inl same ↦ subst (λ n. n < section_count market) (eqb-true s t same) below
-    | inr other ↦ within_at market state i t is (let both : (s == t || has (held_by state i) t) ≡ true = sym (has-with s (held_by state i) t) ∙ there in rw other at both)
+    | inr other ↦
+        within_at market state i t is (let both : (s == t || has (held_by state i) t) ≡ true = sym (has-with s (held_by state i) t) ∙ there in rw other at both)
   ]
 
-  pub with_keeps : (i s : ℕ) → i < student_count market → s < section_count market → has (waiting_for state s) i ≡ false → IsHall market (with_held state i (with_section s (held_by state i)))
-  with_keeps i s low below waits = hold_keeps market state i (with_section s (held_by state i)) is low (with_within i s below) (with_ascends s (held_by state i) (ascends_at market state i is))
+  pub with_keeps : (i s : ℕ) → i < student_count market → s < section_count market → has (waiting_for state s) i ≡ false
+      → IsHall market (with_held state i (with_section s (held_by state i)))
+  with_keeps i s low below waits =
+      hold_keeps market state i (with_section s (held_by state i)) is low (with_within i s below)
+      (with_ascends s (held_by state i) (ascends_at market state i is))
       (λ t there. elim (cases_Bool (s == t)) [
         | inl same ↦ absurd (false≢true (sym waits ∙ ap (λ n. has (waiting_for state n) i) (eqb-true s t same) ∙ there))
         | inr other ↦ has-with s (held_by state i) t ∙ rw other (is.apart i t there)
@@ -176,20 +199,29 @@ module _ (market : Market) (state : HallState) (is : IsHall market state) where
   without_within i s t there = within_at market state i t is (without_has s t (held_by state i) there)
 
   pub without_keeps : (i s : ℕ) → i < student_count market → IsHall market (with_held state i (without_section s (held_by state i)))
-  without_keeps i s low = hold_keeps market state i (without_section s (held_by state i)) is low (without_within i s) (without_ascends s (held_by state i) (ascends_at market state i is)) (λ t there. lacks_still t (is.apart i t there))
+  without_keeps i s low =
+      hold_keeps market state i (without_section s (held_by state i)) is low (without_within i s)
+      (without_ascends s (held_by state i) (ascends_at market state i is)) (λ t there. lacks_still t (is.apart i t there))
     where
       lacks_still : (t : ℕ) → has (held_by state i) t ≡ false → has (without_section s (held_by state i)) t ≡ false
       lacks_still t lacks = has-without s (held_by state i) t ∙ elim (cases_Bool (s == t)) [ inl same ↦ rw same refl | inr other ↦ rw other lacks ]
 
   -- those in front are out of the list
   pub behind_keeps : (s n : ℕ) → s < section_count market → IsHall market (with_waiting state s (drop n (waiting_for state s)))
-  behind_keeps s n below = wait_keeps market state s (drop n (waiting_for state s)) is below (queue_behind (student_count market) n (waiting_for state s) (is.queues s)) (λ j there. is.apart j s (has_behind n j (waiting_for state s) there))
+  behind_keeps s n below =
+      wait_keeps market state s (drop n (waiting_for state s)) is below (queue_behind (student_count market) n (waiting_for state s) (is.queues s))
+      (λ j there. is.apart j s (has_behind n j (waiting_for state s) there))
 
   -- the student is out of the list
   pub left_keeps : (i s : ℕ) → s < section_count market → IsHall market (with_waiting state s (without_section i (waiting_for state s)))
-  left_keeps i s below = wait_keeps market state s (without_section i (waiting_for state s)) is below (queue_without (student_count market) i (waiting_for state s) (is.queues s)) (λ j there. is.apart j s (without_has i j (waiting_for state s) there))
+  left_keeps i s below =
+      wait_keeps market state s (without_section i (waiting_for state s)) is below (queue_without (student_count market) i (waiting_for state s) (is.queues s))
+      (λ j there. is.apart j s (without_has i j (waiting_for state s) there))
 
   -- the student, who does not hold the section, is the last to wait
-  pub queued_keeps : (i s : ℕ) → i < student_count market → s < section_count market → has (held_by state i) s ≡ false → has (waiting_for state s) i ≡ false → IsHall market (with_waiting state s (waiting_for state s ++ i ∷ []))
-  queued_keeps i s low below lacks waits = wait_keeps market state s (waiting_for state s ++ i ∷ []) is below (queue_more (student_count market) i (waiting_for state s) (is.queues s) low waits)
-      (λ j there. elim (has_push (waiting_for state s) i j there) [ inl before ↦ is.apart j s before | inr same ↦ ap (λ n. has (held_by state n) s) (sym same) ∙ lacks ])
+  pub queued_keeps : (i s : ℕ) → i < student_count market → s < section_count market → has (held_by state i) s ≡ false → has (waiting_for state s) i ≡ false
+      → IsHall market (with_waiting state s (waiting_for state s ++ i ∷ []))
+  queued_keeps i s low below lacks waits =
+      wait_keeps market state s (waiting_for state s ++ i ∷ []) is below (queue_more (student_count market) i (waiting_for state s) (is.queues s) low waits)
+      (λ j there. elim (has_push (waiting_for state s) i j there)
+      [ inl before ↦ is.apart j s before | inr same ↦ ap (λ n. has (held_by state n) s) (sym same) ∙ lacks ])

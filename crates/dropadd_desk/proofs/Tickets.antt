@@ -23,7 +23,8 @@ tickets-append m xs ys = total-append (λ (ticket : Ticket). if ticket.number ==
 tickets-split : (m k : ℕ) (xs : List Ticket) → tickets_of m (take k xs) + tickets_of m (drop k xs) ≡ tickets_of m xs
 tickets-split m k xs = sym (tickets-append m (take k xs) (drop k xs)) ∙ ap (tickets_of m) (take-append-drop k xs)
 
-tickets-parted : (m : ℕ) (p : Ticket → Bool) (xs : List Ticket) → tickets_of m (filter p xs) + tickets_of m (filter (λ (ticket : Ticket). not (p ticket)) xs) ≡ tickets_of m xs
+tickets-parted : (m : ℕ) (p : Ticket → Bool) (xs : List Ticket)
+    → tickets_of m (filter p xs) + tickets_of m (filter (λ (ticket : Ticket). not (p ticket)) xs) ≡ tickets_of m xs
 tickets-parted m p [] = omega arith
 tickets-parted m p (x ∷ xs) = let rest = tickets-parted m p xs in elim (cases_Bool (p x)) [
   | inl is ↦ rw is (omega arith)
@@ -31,7 +32,8 @@ tickets-parted m p (x ∷ xs) = let rest = tickets-parted m p xs in elim (cases_
 ]
 
 -- one more where the step was replied `Queued`
-noted_count : (m number i : ℕ) (answer : HallReply) (line : Line) → occurs m (noted number i answer line) ≡ occurs m line + one_if (is_queued answer && (number == m))
+noted_count : (m number i : ℕ) (answer : HallReply) (line : Line)
+    → occurs m (noted number i answer line) ≡ occurs m line + one_if (is_queued answer && (number == m))
 noted_count m number i (reply.Queued ahead) line = let all = tickets-append m line.waiting (record { number = number; student = i } ∷ []) in omega (arith, all)
 noted_count m number i (reply.Dropped lapsed next) line =
     let served = tickets-append m line.given_or_lapsed (take (lapsed + one_next next) line.waiting) in
@@ -49,7 +51,8 @@ noted_count m number i answer line =
     omega (arith, same, none)
 
 module _ (market : Market) (s : ℕ) where
-  step_count : (m number : ℕ) (step : HallStep) (line : Line) → occurs m (line_after market s number step line) ≡ occurs m line + one_if (names_section market s step.request && is_queued step.reply && (number == m))
+  step_count : (m number : ℕ) (step : HallStep) (line : Line)
+      → occurs m (line_after market s number step line) ≡ occurs m line + one_if (names_section market s step.request && is_queued step.reply && (number == m))
   step_count m number step line = elim (cases_Bool (names_section market s step.request)) [
     | inl is ↦ rw is (noted_count m number (named_student market step.request) step.reply line)
     | inr other ↦ rw other (omega arith)
@@ -60,7 +63,8 @@ module _ (market : Market) (s : ℕ) where
   other_count m number step line other =
       let here = step_count m number step line in
       let none : one_if (names_section market s step.request && is_queued step.reply && (number == m)) ≡ 0 =
-      ap (λ b. one_if (names_section market s step.request && is_queued step.reply && b)) (ne_eqb number m other) ∙ and_nothing (names_section market s step.request && is_queued step.reply) in
+      ap (λ b. one_if (names_section market s step.request && is_queued step.reply && b)) (ne_eqb number m other)
+      ∙ and_nothing (names_section market s step.request && is_queued step.reply) in
       omega (arith, here, none)
     where
       and_nothing : (b : Bool) → one_if (b && false) ≡ 0
@@ -70,17 +74,21 @@ module _ (market : Market) (s : ℕ) where
   -- nor do steps of later numbers
   later_count : (m number : ℕ) (history : List HallStep) (line : Line) → m < number → occurs m (line_from market s number history line) ≡ occurs m line
   later_count m number [] line low = refl
-  later_count m number (step ∷ more) line low = later_count m (number + 1) more (line_after market s number step line) (omega arith) ∙ other_count m number step line (λ e. omega arith)
+  later_count m number (step ∷ more) line low =
+      later_count m (number + 1) more (line_after market s number step line) (omega arith) ∙ other_count m number step line (λ e. omega arith)
 
-  counted_from : (k number : ℕ) (history : List HallStep) (line : Line) → occurs (number + k) (line_from market s number history line) ≡ occurs (number + k) line + one_if (gives_ticket market s history k)
+  counted_from : (k number : ℕ) (history : List HallStep) (line : Line)
+      → occurs (number + k) (line_from market s number history line) ≡ occurs (number + k) line + one_if (gives_ticket market s history k)
   counted_from k number [] line = omega arith
   counted_from zero number (step ∷ more) line =
       let m : ℕ = number + 0 in
       let rest = later_count m (number + 1) more (line_after market s number step line) (omega arith) in
       let here = step_count m number step line in
       let same : (number == m) ≡ true = eq-eqb number m (omega arith) in
-      let one : one_if (names_section market s step.request && is_queued step.reply && (number == m)) ≡ one_if (names_section market s step.request && is_queued step.reply) =
-      ap (λ b. one_if (names_section market s step.request && is_queued step.reply && b)) same ∙ and_so (names_section market s step.request && is_queued step.reply) in
+      let one : one_if (names_section market s step.request && is_queued step.reply && (number == m))
+      ≡ one_if (names_section market s step.request && is_queued step.reply) =
+      ap (λ b. one_if (names_section market s step.request && is_queued step.reply && b)) same
+      ∙ and_so (names_section market s step.request && is_queued step.reply) in
       omega (arith, rest, here, one)
     where
       and_so : (b : Bool) → one_if (b && true) ≡ one_if b
@@ -89,7 +97,8 @@ module _ (market : Market) (s : ℕ) where
   counted_from (suc k) number (step ∷ more) line =
       let m : ℕ = number + suc k in
       let next : number + suc k ≡ (number + 1) + k = omega arith in
-      let rest : occurs m (line_from market s (number + 1) more (line_after market s number step line)) ≡ occurs m (line_after market s number step line) + one_if (gives_ticket market s more k) =
+      let rest : occurs m (line_from market s (number + 1) more (line_after market s number step line))
+      ≡ occurs m (line_after market s number step line) + one_if (gives_ticket market s more k) =
       rw next (counted_from k (number + 1) more (line_after market s number step line)) in
       let here = other_count m number step line (λ e. omega arith) in
       omega (arith, rest, here)
@@ -98,7 +107,8 @@ module _ (market : Market) (s : ℕ) where
   each_once history k =
       let zero_more : 0 + k ≡ k = omega arith in
       let all = counted_from k 0 history no_line in
-      let at : occurs k (line_of market s history) ≡ occurs k no_line + one_if (gives_ticket market s history k) = subst (λ n. occurs n (line_of market s history) ≡ occurs n no_line + one_if (gives_ticket market s history k)) zero_more all in
+      let at : occurs k (line_of market s history) ≡ occurs k no_line + one_if (gives_ticket market s history k) =
+      subst (λ n. occurs n (line_of market s history) ≡ occurs n no_line + one_if (gives_ticket market s history k)) zero_more all in
       omega (arith, at)
 
 -- the numbers of tickets
@@ -126,7 +136,8 @@ below_push : (n : ℕ) (xs : List ℕ) → AllBelow n xs → AllBelow (n + 1) (x
 below_push n [] low = ((omega arith), tt)
 below_push n (x ∷ xs) low = ((let h : x < n = low.0 in omega arith), below_push n xs low.1)
 
-above_filter : (x : ℕ) (p : Ticket → Bool) (front back : List Ticket) → AllAbove x (numbers_of (front ++ back)) → AllAbove x (numbers_of (front ++ filter p back))
+above_filter : (x : ℕ) (p : Ticket → Bool) (front back : List Ticket) → AllAbove x (numbers_of (front ++ back))
+    → AllAbove x (numbers_of (front ++ filter p back))
 above_filter x p [] [] above = tt
 above_filter x p [] (y ∷ ys) above = elim (cases_Bool (p y)) [
   | inl is ↦ rw is (above.0, above_filter x p [] ys above.1)
@@ -142,7 +153,8 @@ ascending_filter p [] (y ∷ ys) up = elim (cases_Bool (p y)) [
 ]
 ascending_filter p (x ∷ xs) back up = (above_filter x.number p xs back up.0, ascending_filter p xs back up.1)
 
-below_filter : (n : ℕ) (p : Ticket → Bool) (front back : List Ticket) → AllBelow n (numbers_of (front ++ back)) → AllBelow n (numbers_of (front ++ filter p back))
+below_filter : (n : ℕ) (p : Ticket → Bool) (front back : List Ticket) → AllBelow n (numbers_of (front ++ back))
+    → AllBelow n (numbers_of (front ++ filter p back))
 below_filter n p [] [] low = tt
 below_filter n p [] (y ∷ ys) low = elim (cases_Bool (p y)) [
   | inl is ↦ rw is (low.0, below_filter n p [] ys low.1)
@@ -151,22 +163,30 @@ below_filter n p [] (y ∷ ys) low = elim (cases_Bool (p y)) [
 below_filter n p (x ∷ xs) back low = (low.0, below_filter n p xs back low.1)
 
 -- the list with other items behind, in the same order
-same_order : (number : ℕ) (xs ys : List Ticket) → xs ≡ ys → IsAscending (numbers_of ys) → AllBelow number (numbers_of ys) → IsAscending (numbers_of xs) × AllBelow (number + 1) (numbers_of xs)
-same_order number xs ys same up low = (subst (λ l. IsAscending (numbers_of l)) (sym same) up, subst (λ l. AllBelow (number + 1) (numbers_of l)) (sym same) (below_more number (numbers_of ys) low))
+same_order : (number : ℕ) (xs ys : List Ticket) → xs ≡ ys → IsAscending (numbers_of ys) → AllBelow number (numbers_of ys)
+    → IsAscending (numbers_of xs) × AllBelow (number + 1) (numbers_of xs)
+same_order number xs ys same up low = (
+  subst (λ l. IsAscending (numbers_of l)) (sym same) up,
+  subst (λ l. AllBelow (number + 1) (numbers_of l)) (sym same) (below_more number (numbers_of ys) low),
+)
 
 noted_order : (number i : ℕ) (answer : HallReply) (line : Line) → AreInOrder number line → AreInOrder (number + 1) (noted number i answer line)
 noted_order number i (reply.Queued ahead) line order =
     let ticket : Ticket = record { number = number; student = i } in
     let joined : numbers_of (line.given_or_lapsed ++ (line.waiting ++ ticket ∷ [])) ≡ numbers_of (line.given_or_lapsed ++ line.waiting) ++ number ∷ [] =
-    ap numbers_of (sym (append_assoc line.given_or_lapsed line.waiting (ticket ∷ []))) ∙ map-append (λ (t : Ticket). t.number) (line.given_or_lapsed ++ line.waiting) (ticket ∷ []) in
+    ap numbers_of (sym (append_assoc line.given_or_lapsed line.waiting (ticket ∷ [])))
+    ∙ map-append (λ (t : Ticket). t.number) (line.given_or_lapsed ++ line.waiting) (ticket ∷ []) in
     record {
       ascending = subst IsAscending (sym joined) (ascending_push number (numbers_of (line.given_or_lapsed ++ line.waiting)) order.ascending order.below);
       below = subst (AllBelow (number + 1)) (sym joined) (below_push number (numbers_of (line.given_or_lapsed ++ line.waiting)) order.below);
     }
 noted_order number i (reply.Dropped lapsed next) line order =
     let n : ℕ = lapsed + one_next next in
-    let same = append_assoc line.given_or_lapsed (take n line.waiting) (drop n line.waiting) ∙ ap (λ l. line.given_or_lapsed ++ l) (take-append-drop n line.waiting) in
-    let both = same_order number ((line.given_or_lapsed ++ take n line.waiting) ++ drop n line.waiting) (line.given_or_lapsed ++ line.waiting) same order.ascending order.below in
+    let same =
+    append_assoc line.given_or_lapsed (take n line.waiting) (drop n line.waiting) ∙ ap (λ l. line.given_or_lapsed ++ l) (take-append-drop n line.waiting) in
+    let both =
+    same_order number ((line.given_or_lapsed ++ take n line.waiting) ++ drop n line.waiting) (line.given_or_lapsed ++ line.waiting) same order.ascending
+    order.below in
     record { ascending = both.0; below = both.1 }
 noted_order number i reply.Left line order = record {
   ascending = ascending_filter (λ (ticket : Ticket). not (ticket.student == i)) line.given_or_lapsed line.waiting order.ascending;
@@ -178,7 +198,8 @@ noted_order number i answer line order =
     subst (AreInOrder (number + 1)) (sym (q.line number i line)) (record { ascending = order.ascending; below = below_more number _ order.below })
 
 module _ (market : Market) (s : ℕ) where
-  order_from : (number : ℕ) (history : List HallStep) (line : Line) → AreInOrder number line → IsAscending (numbers_of ((line_from market s number history line).given_or_lapsed ++ (line_from market s number history line).waiting))
+  order_from : (number : ℕ) (history : List HallStep) (line : Line) → AreInOrder number line
+      → IsAscending (numbers_of ((line_from market s number history line).given_or_lapsed ++ (line_from market s number history line).waiting))
   order_from number [] line order = order.ascending
   order_from number (step ∷ more) line order = order_from (number + 1) more (line_after market s number step line) next
     where

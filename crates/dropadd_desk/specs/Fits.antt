@@ -15,12 +15,16 @@ lowest_clash market s set = find (λ t. sections_clash market.catalog.sections s
 
 -- with the section the credits pass the student's cap
 abbrev pub passes_credits : Market → ℕ → ℕ → List ℕ → Bool
-passes_credits market i s set = nat_lt (enrolled market i).credits (credits_of market set + (offered market s).credits)
+passes_credits market i s set =
+    nat_lt (enrolled market i).credits (credits_of market set + (offered market s).credits)
 
 -- with one section more there are more than the student's cap
 abbrev pub passes_courses : Market → ℕ → List ℕ → Bool
 passes_courses market i set = nat_lt (enrolled market i).courses (length set + 1)
 
--- The section fits a student who holds these: it clashes with none of them, and with it neither cap is passed.
+-- The section fits a student who holds these: it clashes with none of them, and with it neither cap
+-- is passed.
 abbrev pub fits : Market → ℕ → ℕ → List ℕ → Bool
-fits market i s set = not (is_some (lowest_clash market s set)) && not (passes_credits market i s set) && not (passes_courses market i set)
+fits market i s set =
+    not (is_some (lowest_clash market s set)) && not (passes_credits market i s set)
+    && not (passes_courses market i set)

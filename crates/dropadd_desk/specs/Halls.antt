@@ -16,7 +16,8 @@ pub record IsQueue (students : ℕ) (list : List ℕ) : Type 0 where
   pub once : (i : ℕ) → times i list ≤ 1
   pub within : (i : ℕ) → has list i ≡ true → i < students
 
--- a set of the market's sections for each student, in ascending order, and a list of its students for each section, none of whom holds it
+-- a set of the market's sections for each student, in ascending order, and a list of its students
+-- for each section, none of whom holds it
 pub record IsHall (market : Market) (state : HallState) : Type 0 where
   pub each_student : length state.held ≡ student_count market
   pub within : AreBelow (section_count market) state.held

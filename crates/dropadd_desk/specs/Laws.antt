@@ -26,65 +26,106 @@ pub record IsFair (market : Market) (state : HallState) (s : ℕ) : Type 0 where
   pub apart : (i : ℕ) → has (waiting_for state s) i ≡ true → has (held_by state i) s ≡ false
 
 -- what a history from an opening state tells of a section
-pub record IsConserved (market : Market) (opening : HallState) (history : List HallStep) (s : ℕ) : Type 0 where
+pub record IsConserved (market : Market) (opening : HallState) (history : List HallStep)
+    (s : ℕ) : Type 0 where
   -- it leaves a state of a desk: what each student holds ascends, and nobody stands in a list twice
   pub hall : IsHall market (state_after_steps state_after market opening history)
   pub fair : IsFair market (state_after_steps state_after market opening history) s
-  -- each student holds it exactly as the replies about this student say, from what the student held at the opening on
-  pub who : (i : ℕ) → has (held_by (state_after_steps state_after market opening history) i) s ≡ held_by_replies market s i history (has (held_by opening i) s)
-  -- holders are those at the opening, more those added and those to whom a seat was passed on, less those who gave it up
-  pub balance : holders s (state_after_steps state_after market opening history).held + replies market s is_dropped history
-      ≡ holders s opening.held + replies market s is_added history + replies market s is_passed_on history
+  -- each student holds it exactly as the replies about this student say, from what the student held
+  -- at the opening on
+  pub who : (i : ℕ)
+      → has (held_by (state_after_steps state_after market opening history) i) s
+      ≡ held_by_replies market s i history (has (held_by opening i) s)
+  -- holders are those at the opening, more those added and those to whom a seat was passed on, less
+  -- those who gave it up
+  pub balance : holders s (state_after_steps state_after market opening history).held
+      + replies market s is_dropped history
+      ≡ holders s opening.held + replies market s is_added history
+      + replies market s is_passed_on history
   -- those who wait are those of the line that is read off the replies
-  pub waiting : map (λ (ticket : Ticket). ticket.student) (line_of market s history).waiting ≡ waiting_for (state_after_steps state_after market opening history) s
-  -- each `Queued` gave one ticket, which waits, was given the section or lapsed, or left, once and in one of these ways; and there are no other tickets
+  pub waiting : map (λ (ticket : Ticket). ticket.student) (line_of market s history).waiting
+      ≡ waiting_for (state_after_steps state_after market opening history) s
+  -- each `Queued` gave one ticket, which waits, was given the section or lapsed, or left, once and
+  -- in one of these ways; and there are no other tickets
   pub once : (number : ℕ)
-      → tickets_of number (line_of market s history).given_or_lapsed + tickets_of number (line_of market s history).left + tickets_of number (line_of market s history).waiting
+      → tickets_of number (line_of market s history).given_or_lapsed
+      + tickets_of number (line_of market s history).left
+      + tickets_of number (line_of market s history).waiting
       ≡ (if gives_ticket market s history number then 1 else 0)
-  -- tickets are given the section or lapse in the order of their numbers, and before those that wait
-  pub in_order : IsAscending (map (λ (ticket : Ticket). ticket.number) ((line_of market s history).given_or_lapsed ++ (line_of market s history).waiting))
+  -- tickets are given the section or lapse in the order of their numbers, and before those that
+  -- wait
+  pub in_order : IsAscending
+      (map (λ (ticket : Ticket). ticket.number)
+      ((line_of market s history).given_or_lapsed ++ (line_of market s history).waiting))
   -- the next student, where a reply names one, is the first of the line behind those who lapse
-  pub next : (before after : List HallStep) (step : HallStep) (lapsed : ℕ) (next : StudentNo) → history ≡ before ++ step ∷ after
+  pub next : (before after : List HallStep) (step : HallStep) (lapsed : ℕ) (next : StudentNo)
+      → history ≡ before ++ step ∷ after
       → names_section market s step.request ≡ true → step.reply ≡ reply.Dropped lapsed (Some next)
-      → slice_get (map (λ (ticket : Ticket). ticket.student) (line_of market s before).waiting) lapsed ≡ Some next.0
+      → slice_get (map (λ (ticket : Ticket). ticket.student) (line_of market s before).waiting)
+      lapsed
+      ≡ Some next.0
 
--- Whatever is requested from an opening where nobody waits, no section is over its seats, and each student's sections keep timetable and
--- caps, it is so of each section, and student by student. A beginning of a history is a history, so this holds at each time.
+-- Whatever is requested from an opening where nobody waits, no section is over its seats, and each
+-- student's sections keep timetable and caps, it is so of each section, and student by student. A
+-- beginning of a history is a history, so this holds at each time.
 abbrev pub ConservationLaw : Type 0
-ConservationLaw = (market : Market) (opening : HallState) (history : List HallStep) → IsHall market opening → IsLawful market opening
-    → IsLegal is_sound state_after reply_to market opening history → (s : ℕ) → s < section_count market → IsConserved market opening history s
+ConservationLaw =
+    (market : Market) (opening : HallState) (history : List HallStep) → IsHall market opening
+    → IsLawful market opening
+    → IsLegal is_sound state_after reply_to market opening history → (s : ℕ)
+    → s < section_count market → IsConserved market opening history s
 
--- What each student holds is allowed at every time, where it is so at the opening: no two of the sections clash, and the caps are kept.
+-- What each student holds is allowed at every time, where it is so at the opening: no two of the
+-- sections clash, and the caps are kept.
 abbrev pub AllowedLaw : Type 0
-AllowedLaw = (market : Market) (opening : HallState) (history : List HallStep) → IsHall market opening → IsLawful market opening
-    → IsLegal is_sound state_after reply_to market opening history → (i : ℕ) → i < student_count market → IsAllowed market i (held_by (state_after_steps state_after market opening history) i)
+AllowedLaw =
+    (market : Market) (opening : HallState) (history : List HallStep) → IsHall market opening
+    → IsLawful market opening
+    → IsLegal is_sound state_after reply_to market opening history → (i : ℕ)
+    → i < student_count market
+    → IsAllowed market i (held_by (state_after_steps state_after market opening history) i)
 
--- What a given up seat comes to, from one state to the next, where so many lapse and this student is told as the next.
-pub record GoesToFirstFit (market : Market) (before after : HallState) (s lapsed : ℕ) (next : Option StudentNo) : Type 0 where
-  -- those who lapse are the first so many who wait, and the section fits none of them beside what he holds
-  pub lapse : (place i : ℕ) → place < lapsed → slice_get (waiting_for before s) place ≡ Some i → fits market i s (held_by before i) ≡ false
+-- What a given up seat comes to, from one state to the next, where so many lapse and this student
+-- is told as the next.
+pub record GoesToFirstFit (market : Market) (before after : HallState) (s lapsed : ℕ)
+    (next : Option StudentNo) : Type 0 where
+  -- those who lapse are the first so many who wait, and the section fits none of them beside what
+  -- he holds
+  pub lapse : (place i : ℕ) → place < lapsed → slice_get (waiting_for before s) place ≡ Some i
+      → fits market i s (held_by before i) ≡ false
   -- the next is who waits behind them, and there is none where nobody does
-  pub behind : slice_get (waiting_for before s) lapsed ≡ option_map (λ (one : StudentNo). one.0) next
+  pub behind : slice_get (waiting_for before s) lapsed
+      ≡ option_map (λ (one : StudentNo). one.0) next
   -- where there is no next, all who wait lapse, and no more are told
   pub all : next ≡ None → lapsed ≡ length (waiting_for before s)
   -- the section fits the next beside what he holds
   pub fit : (one : StudentNo) → next ≡ Some one → fits market one.0 s (held_by before one.0) ≡ true
   -- of those who did not hold the section the next holds it now, and nobody else
-  pub given : (i : ℕ) → i < student_count market → has (held_by before i) s ≡ false → (has (held_by after i) s ≡ true) ↔ (slice_get (waiting_for before s) lapsed ≡ Some i)
+  pub given : (i : ℕ) → i < student_count market → has (held_by before i) s ≡ false
+      → (has (held_by after i) s ≡ true) ↔ (slice_get (waiting_for before s) lapsed ≡ Some i)
 
 -- A seat that is given up goes to the first of those who wait whom the section fits.
 abbrev pub FirstFitLaw : Type 0
-FirstFitLaw = (market : Market) (opening : HallState) (before : List HallStep) (step : HallStep) (s lapsed : ℕ) (next : Option StudentNo) → IsHall market opening
-    → IsLegal is_sound state_after reply_to market opening (before ++ step ∷ []) → names_section market s step.request ≡ true → step.reply ≡ reply.Dropped lapsed next
-    → GoesToFirstFit market (state_after_steps state_after market opening before) (state_after_steps state_after market opening (before ++ step ∷ [])) s lapsed next
+FirstFitLaw =
+    (market : Market) (opening : HallState) (before : List HallStep) (step : HallStep)
+    (s lapsed : ℕ) (next : Option StudentNo)
+    → IsHall market opening
+    → IsLegal is_sound state_after reply_to market opening (before ++ step ∷ [])
+    → names_section market s step.request ≡ true → step.reply ≡ reply.Dropped lapsed next
+    → GoesToFirstFit market (state_after_steps state_after market opening before)
+    (state_after_steps state_after market opening (before ++ step ∷ [])) s lapsed next
 
 -- A request that is refused changes nothing.
 abbrev pub RefusalLaw : Type 0
 RefusalLaw = (market : Market) (opening : HallState) (before : List HallStep) (step : HallStep)
-    → IsLegal is_sound state_after reply_to market opening (before ++ step ∷ []) → is_refusal step.reply ≡ true
-    → state_after_steps state_after market opening (before ++ step ∷ []) ≡ state_after_steps state_after market opening before
+    → IsLegal is_sound state_after reply_to market opening (before ++ step ∷ [])
+    → is_refusal step.reply ≡ true
+    → state_after_steps state_after market opening (before ++ step ∷ [])
+    ≡ state_after_steps state_after market opening before
 
 -- Whatever is requested, replies name sections of the catalogue and students of the roll.
 abbrev pub RepliesInRangeLaw : Type 0
-RepliesInRangeLaw = (market : Market) (opening : HallState) (history : List HallStep) → IsHall market opening → IsLegal is_sound state_after reply_to market opening history
+RepliesInRangeLaw =
+    (market : Market) (opening : HallState) (history : List HallStep) → IsHall market opening
+    → IsLegal is_sound state_after reply_to market opening history
     → All (λ (step : HallStep). NamesInRange market step.reply) history

@@ -1,4 +1,5 @@
--- The waiting list of one section, read off a history of requests and replies. Steps are numbered from 0.
+-- The waiting list of one section, read off a history of requests and replies. Steps are numbered
+-- from 0.
 use Rattle.std.specs.Prelude.{ℕ, zero, suc, ◌+◌, ◌==◌, Bool, true, false, not, ◌&&◌, if◌then◌else◌, Option, None, Some, List, [], ◌∷◌, ◌++◌, take, drop}
 use Rattle.std.specs.List.{filter}
 use Rattle.market_units.specs.Totals.{total}
@@ -17,9 +18,12 @@ HallStep = StepOf HallCommand HallReply
 
 -- whether the request names the section
 abbrev pub names_section : Market → ℕ → HallCommand → Bool
-names_section market s (Add student section) = known (section_named market section) false (λ t. t == s)
-names_section market s (Drop student section) = known (section_named market section) false (λ t. t == s)
-names_section market s (Leave student section) = known (section_named market section) false (λ t. t == s)
+names_section market s (Add student section) =
+    known (section_named market section) false (λ t. t == s)
+names_section market s (Drop student section) =
+    known (section_named market section) false (λ t. t == s)
+names_section market s (Leave student section) =
+    known (section_named market section) false (λ t. t == s)
 names_section market s Unreadable = false
 
 -- the student that a request names; 0 where it names none
@@ -34,7 +38,8 @@ pub record Ticket : Type 0 where
   pub number : ℕ
   pub student : ℕ
 
--- who waits, the one who waits longest first; whom a seat that was given up went to or passed by, in the order in which this was; and who left
+-- who waits, the one who waits longest first; whom a seat that was given up went to or passed by,
+-- in the order in which this was; and who left
 pub record Line : Type 0 where
   pub waiting : List Ticket
   pub given_or_lapsed : List Ticket
@@ -50,7 +55,12 @@ one_next (Some next) = 1
 
 -- the line after the step of this number, of this student, was replied to
 abbrev pub noted : ℕ → ℕ → HallReply → Line → Line
-noted number i (reply.Queued ahead) line = record { waiting = line.waiting ++ record { number = number; student = i } ∷ []; given_or_lapsed = line.given_or_lapsed; left = line.left }
+noted number i (reply.Queued ahead) line =
+    record {
+      waiting = line.waiting ++ record { number = number; student = i } ∷ [];
+      given_or_lapsed = line.given_or_lapsed;
+      left = line.left;
+    }
 noted number i (reply.Dropped lapsed next) line = record {
   waiting = drop (lapsed + one_next next) line.waiting;
   given_or_lapsed = line.given_or_lapsed ++ take (lapsed + one_next next) line.waiting;
@@ -65,12 +75,15 @@ noted number i _ line = line
 
 -- the line after a step: those that name another section leave it as it was
 abbrev pub line_after : Market → ℕ → ℕ → HallStep → Line → Line
-line_after market s number step line = if names_section market s step.request then noted number (named_student market step.request) step.reply line else line
+line_after market s number step line =
+    if names_section market s step.request
+    then noted number (named_student market step.request) step.reply line else line
 
 -- the line after these steps, of which the first has this number
 abbrev pub line_from : Market → ℕ → ℕ → List HallStep → Line → Line
 line_from market s number [] line = line
-line_from market s number (step ∷ more) line = line_from market s (number + 1) more (line_after market s number step line)
+line_from market s number (step ∷ more) line =
+    line_from market s (number + 1) more (line_after market s number step line)
 
 -- the line of a section after a history
 abbrev pub line_of : Market → ℕ → List HallStep → Line
@@ -78,7 +91,8 @@ line_of market s history = line_from market s 0 history no_line
 
 -- how often the ticket of a step's number is among these
 abbrev pub tickets_of : ℕ → List Ticket → ℕ
-tickets_of number tickets = total (λ (ticket : Ticket). if ticket.number == number then 1 else 0) tickets
+tickets_of number tickets =
+    total (λ (ticket : Ticket). if ticket.number == number then 1 else 0) tickets
 
 -- kinds of replies
 abbrev pub is_queued : HallReply → Bool
@@ -97,7 +111,8 @@ abbrev pub is_passed_on : HallReply → Bool
 is_passed_on (reply.Dropped lapsed (Some next)) = true
 is_passed_on _ = false
 
--- a request is refused by each reply but that a seat was given, a place in the list was given, a seat was given up or a place was given up
+-- a request is refused by each reply but that a seat was given, a place in the list was given, a
+-- seat was given up or a place was given up
 abbrev pub is_refusal : HallReply → Bool
 is_refusal reply.Added = false
 is_refusal (reply.Queued ahead) = false
@@ -108,9 +123,13 @@ is_refusal _ = true
 -- whether the step of this number gave a ticket for the section
 abbrev pub gives_ticket : Market → ℕ → List HallStep → ℕ → Bool
 gives_ticket market s [] number = false
-gives_ticket market s (step ∷ more) zero = names_section market s step.request && is_queued step.reply
+gives_ticket market s (step ∷ more) zero =
+    names_section market s step.request && is_queued step.reply
 gives_ticket market s (step ∷ more) (suc number) = gives_ticket market s more number
 
 -- how many requests that name the section had a reply of this kind
 abbrev pub replies : Market → ℕ → (HallReply → Bool) → List HallStep → ℕ
-replies market s kind history = total (λ (step : HallStep). if names_section market s step.request && kind step.reply then 1 else 0) history
+replies market s kind history =
+    total
+    (λ (step : HallStep). if names_section market s step.request && kind step.reply then 1 else 0)
+    history

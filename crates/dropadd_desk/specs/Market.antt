@@ -28,7 +28,8 @@ enrolled market i = slice_index_or market.roll.students i no_student
 
 -- the ordinal of the section of a name, where there is one
 abbrev pub section_named : Market → Name → Option ℕ
-section_named market name = position (bytes_eq (name_bytes name)) (map (λ section. section.name) market.catalog.sections)
+section_named market name =
+    position (bytes_eq (name_bytes name)) (map (λ section. section.name) market.catalog.sections)
 
 -- the ordinal of the student of a name, where there is one
 abbrev pub student_named : Market → Name → Option ℕ

@@ -10,7 +10,8 @@ use Rattle.dropadd_desk.specs.Step.{held_by, waiting_for}
 
 -- a set of sections of which no two clash, within the student's caps
 pub record IsAllowed (market : Market) (i : ℕ) (set : List ℕ) : Type 0 where
-  pub apart : (s t : ℕ) → has set s ≡ true → has set t ≡ true → sections_clash market.catalog.sections s t ≡ false
+  pub apart : (s t : ℕ) → has set s ≡ true → has set t ≡ true
+      → sections_clash market.catalog.sections s t ≡ false
   pub credits : credits_of market set ≤ (enrolled market i).credits
   pub courses : length set ≤ (enrolled market i).courses
 

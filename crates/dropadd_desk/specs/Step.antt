@@ -70,14 +70,17 @@ abbrev pub given : HallState → Option ℕ → ℕ → HallState
 given state None s = state
 given state (Some i) s = with_held state i (with_section s (held_by state i))
 
--- A seat of the section was given up. The list is taken from its front: those whom the section does not fit are out of it, and the
--- first whom it fits has the section.
+-- A seat of the section was given up. The list is taken from its front: those whom the section does
+-- not fit are out of it, and the first whom it fits has the section.
 unfoldable pub pass_on : Market → HallState → ℕ → HallReply × HallState
 pass_on market state s =
     let list = waiting_for state s in
     let fit : ℕ → Bool = λ i. fits market i s (held_by state i) in
-    let next = find fit list in
-    (reply.Dropped (length (before_first fit list)) (option_map (λ (i : ℕ). record { 0 = i }) next), given (with_waiting state s (after_first fit list)) next s)
+    let next = find fit list in (
+      reply.Dropped (length (before_first fit list))
+          (option_map (λ (i : ℕ). record { 0 = i }) next),
+      given (with_waiting state s (after_first fit list)) next s,
+    )
 
 -- The student gives the section up, and the seat is passed on.
 unfoldable pub drop : Market → HallState → ℕ → ℕ → HallReply × HallState
@@ -98,10 +101,13 @@ abbrev pub known : {A : Type 0} → Option ℕ → A → (ℕ → A) → A
 known None other made = other
 known (Some n) other made = made n
 
--- what is made of the student and the section of these names; a name that is not known is replied to, the student's first
-abbrev pub by_names : Market → HallState → Name → Name → (ℕ → ℕ → HallReply × HallState) → HallReply × HallState
+-- what is made of the student and the section of these names; a name that is not known is replied
+-- to, the student's first
+abbrev pub by_names : Market → HallState → Name → Name → (ℕ → ℕ → HallReply × HallState)
+    → HallReply × HallState
 by_names market state student section made =
-    known (student_named market student) (reply.NoStudent, state) (λ i. known (section_named market section) (reply.NoSection, state) (λ s. made i s))
+    known (student_named market student) (reply.NoStudent, state)
+    (λ i. known (section_named market section) (reply.NoSection, state) (λ s. made i s))
 
 -- the reply to a name that is not known
 abbrev pub IsUnknown : Option ℕ → Option ℕ → HallReply → Type 0

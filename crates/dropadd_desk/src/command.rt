@@ -1,6 +1,7 @@
 use market_units::Name;
 
-/// One request of a student. It names the student and the section by their names, whether there are such or not.
+/// One request of a student. It names the student and the section by their names, whether there are
+/// such or not.
 #[derive(Clone, Copy, Debug, PartialEq, Eq)]
 pub enum HallCommand {
     /// The student wants the section.

@@ -30,7 +30,9 @@ pub(crate) fn student_names(alloc: Global, roll: &Roll) -> Result<IndexSet<Name>
 
 // The names of the sections, in file order.
 pub(crate) fn section_names(alloc: Global, catalog: &Catalog) -> Result<IndexSet<Name>, NoMemory>
-    ensures names { IfOk result (λ names. map name_bytes names.keys ≡ map (λ (section : Section). section.name) catalog.now.sections) }
+    ensures names { IfOk result
+        (λ names. map name_bytes names.keys
+        ≡ map (λ (section : Section). section.name) catalog.now.sections) }
     ensures catalog { IfOk result (λ names. IsCatalog catalog.now) }
 {
     let sections = catalog.len();
@@ -59,7 +61,9 @@ pub(crate) fn caps_of(alloc: Global, roll: &Roll) -> Result<Vec<Caps>, NoMemory>
 
 // The credits of the sections, in file order.
 pub(crate) fn credits_of(alloc: Global, catalog: &Catalog) -> Result<Vec<u16>, NoMemory>
-    ensures { IfOk result (λ credits. credits.items ≡ map (λ (section : Section). section.credits) catalog.now.sections) }
+    ensures { IfOk result
+        (λ credits. credits.items
+        ≡ map (λ (section : Section). section.credits) catalog.now.sections) }
 {
     let sections = catalog.len();
     let mut credits = Vec::with_capacity(alloc, usize::from(sections))?;
@@ -84,7 +88,10 @@ pub(crate) fn clashes_of(alloc: Global, catalog: &Catalog) -> Result<Vec<Section
 // The sections with which the section clashes.
 fn clashes_with(catalog: &Catalog, section: SectionNo) -> SectionSet
     requires { section.0 < length catalog.now.sections }
-    ensures { (t : ℕ) → set.contains result t ≡ (nat_lt t (length catalog.now.sections) && sections_clash catalog.now.sections section.0 t) }
+    ensures { (t : ℕ)
+        → set.contains result t
+        ≡ (nat_lt t (length catalog.now.sections)
+        && sections_clash catalog.now.sections section.0 t) }
 {
     let mut clashes = SectionSet::empty();
     for other in 0..catalog.len() {

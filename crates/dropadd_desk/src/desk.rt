@@ -53,9 +53,14 @@ impl HallDesk {
         lines: u32,
     ) -> Result<HallDesk, NoMemory>
         requires each { length final_bundles.now ≡ length roll.now.students }
-        requires within { AreBelow (length catalog.now.sections) (map sections_of final_bundles.now) }
-        ensures market { IfOk result (λ desk. market_of desk ≡ record { catalog = catalog.now; roll = roll.now }) }
-        ensures state { IfOk result (λ desk. state_of desk ≡ opening (record { catalog = catalog.now; roll = roll.now }) (map sections_of final_bundles.now)) }
+        requires within { AreBelow (length catalog.now.sections)
+            (map sections_of final_bundles.now) }
+        ensures market { IfOk result
+            (λ desk. market_of desk ≡ record { catalog = catalog.now; roll = roll.now }) }
+        ensures state { IfOk result
+            (λ desk. state_of desk
+            ≡ opening (record { catalog = catalog.now; roll = roll.now })
+            (map sections_of final_bundles.now)) }
         ensures room { IfOk result (λ desk. room_of desk ≡ lines) }
     {
         let rules = MarketRules::copy(alloc, catalog, roll)?;
@@ -82,7 +87,8 @@ impl HallDesk {
     pub fn bundle(&self, student: StudentNo) -> Bundle
         requires { student.0 < student_count (market_of self.now) }
         ensures value { sections_of result ≡ held_by (state_of self.now) student.0 }
-        ensures within { (s : ℕ) → has (sections_of result) s ≡ true → s < section_count (market_of self.now) }
+        ensures within { (s : ℕ) → has (sections_of result) s ≡ true
+            → s < section_count (market_of self.now) }
     {
         self.floor.held[usize::from(student.0)]
     }
@@ -108,7 +114,8 @@ impl HallDesk {
     pub fn take(&mut self, request: HallCommand) -> HallReply
         requires { 1 ≤ room_of self.old }
         ensures market { market_of self.new ≡ market_of self.old }
-        ensures taken { (result, state_of self.new) ≡ step (market_of self.old) (state_of self.old) request }
+        ensures taken { (result, state_of self.new)
+            ≡ step (market_of self.old) (state_of self.old) request }
         ensures room { room_of self.new + 1 ≡ room_of self.old }
     {
         self.left -= 1;
@@ -132,11 +139,17 @@ impl HallDesk {
     // The student and the section of these names, or the reply to a name that is not known, the
     // student's first.
     fn find(&self, student: &Name, section: &Name) -> Result<(StudentNo, SectionNo), HallReply>
-        ensures student { IfOk result (λ found. student_named (market_of self.now) student.now ≡ Some found.0.0) }
-        ensures section { IfOk result (λ found. section_named (market_of self.now) section.now ≡ Some found.1.0) }
-        ensures student_within { IfOk result (λ found. found.0.0 < student_count (market_of self.now)) }
-        ensures section_within { IfOk result (λ found. found.1.0 < section_count (market_of self.now)) }
-        ensures unknown { IfErr result (IsUnknown (student_named (market_of self.now) student.now) (section_named (market_of self.now) section.now)) }
+        ensures student { IfOk result
+            (λ found. student_named (market_of self.now) student.now ≡ Some found.0.0) }
+        ensures section { IfOk result
+            (λ found. section_named (market_of self.now) section.now ≡ Some found.1.0) }
+        ensures student_within { IfOk result
+            (λ found. found.0.0 < student_count (market_of self.now)) }
+        ensures section_within { IfOk result
+            (λ found. found.1.0 < section_count (market_of self.now)) }
+        ensures unknown { IfErr result
+            (IsUnknown (student_named (market_of self.now) student.now)
+            (section_named (market_of self.now) section.now)) }
     {
         let Some(student) = self.rules.student(student) else {
             return Err(HallReply::NoStudent);
@@ -152,7 +165,8 @@ impl HallDesk {
         requires student { student.0 < student_count (market_of self.old) }
         requires section { section.0 < section_count (market_of self.old) }
         ensures market { market_of self.new ≡ market_of self.old }
-        ensures added { (result, state_of self.new) ≡ add (market_of self.old) (state_of self.old) student.0 section.0 }
+        ensures added { (result, state_of self.new)
+            ≡ add (market_of self.old) (state_of self.old) student.0 section.0 }
         ensures room { room_of self.new ≡ room_of self.old }
     {
         if let Some(answer) = self.refusal(student, section) {
@@ -172,7 +186,8 @@ impl HallDesk {
     fn refusal(&self, student: StudentNo, section: SectionNo) -> Option<HallReply>
         requires student { student.0 < student_count (market_of self.now) }
         requires section { section.0 < section_count (market_of self.now) }
-        ensures refusal { result ≡ refusal (market_of self.now) (state_of self.now) student.0 section.0 }
+        ensures refusal { result
+            ≡ refusal (market_of self.now) (state_of self.now) student.0 section.0 }
         ensures room { result ≡ None → length (held_by (state_of self.now) student.0) < 8 }
     {
         let held = self.bundle(student);
@@ -216,7 +231,8 @@ impl HallDesk {
         requires student { student.0 < student_count (market_of self.old) }
         requires section { section.0 < section_count (market_of self.old) }
         ensures market { market_of self.new ≡ market_of self.old }
-        ensures dropped { (result, state_of self.new) ≡ drop (market_of self.old) (state_of self.old) student.0 section.0 }
+        ensures dropped { (result, state_of self.new)
+            ≡ drop (market_of self.old) (state_of self.old) student.0 section.0 }
         ensures room { room_of self.new ≡ room_of self.old }
     {
         let place = usize::from(student.0);
@@ -234,7 +250,8 @@ impl HallDesk {
     fn pass_on(&mut self, section: SectionNo) -> HallReply
         requires { section.0 < section_count (market_of self.old) }
         ensures market { market_of self.new ≡ market_of self.old }
-        ensures passed { (result, state_of self.new) ≡ pass_on (market_of self.old) (state_of self.old) section.0 }
+        ensures passed { (result, state_of self.new)
+            ≡ pass_on (market_of self.old) (state_of self.old) section.0 }
         ensures room { room_of self.new ≡ room_of self.old }
     {
         let list = usize::from(section.0);
@@ -258,7 +275,9 @@ impl HallDesk {
     // The place in the section's list of the first whom it fits.
     fn first_fitting(&self, section: SectionNo) -> Option<usize>
         requires { section.0 < section_count (market_of self.now) }
-        ensures { result ≡ position (λ i. fits (market_of self.now) i section.0 (held_by (state_of self.now) i)) (waiting_for (state_of self.now) section.0) }
+        ensures { result
+            ≡ position (λ i. fits (market_of self.now) i section.0 (held_by (state_of self.now) i))
+            (waiting_for (state_of self.now) section.0) }
     {
         let waiting = self.waiting(section);
         for (place, student) in waiting.iter().enumerate() {
@@ -273,7 +292,9 @@ impl HallDesk {
     fn fits(&self, student: StudentNo, section: SectionNo) -> bool
         requires student { student.0 < student_count (market_of self.now) }
         requires section { section.0 < section_count (market_of self.now) }
-        ensures fits { result ≡ fits (market_of self.now) student.0 section.0 (held_by (state_of self.now) student.0) }
+        ensures fits { result
+            ≡ fits (market_of self.now) student.0 section.0
+            (held_by (state_of self.now) student.0) }
         ensures room { result ≡ true → length (held_by (state_of self.now) student.0) < 8 }
     {
         self.rules.fits(student, section, &self.bundle(student))

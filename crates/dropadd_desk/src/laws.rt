@@ -1,25 +1,29 @@
 //! What holds of a shared desk: each call here does nothing, and its contract is a law.
 ghost use Rattle.dropadd_desk.specs.Laws.{AllowedLaw, ConservationLaw, FirstFitLaw, RefusalLaw, RepliesInRangeLaw};
 
-/// After any requests from an opening where nobody waits, no section is over its seats, and each student's sections keep timetable and
-/// caps, it is so of each section. It has no more holders than seats, no free seat where somebody waits for it, and nobody waits for it
-/// who holds it. Student by student: each holds it exactly where the replies say so, from what the student held at the opening on. The
-/// student holds it from the reply that adds this student, or passes a seat on to this student, until the reply that this student gave it
-/// up. So the holders are as many as at the opening, and one more for each who was added and each to whom a seat was passed on, less
-/// one for each who gave it up. Each who was queued waits still, or has once been given the section, lapsed or left; and of two who did
-/// not leave, the one who was queued first was given the section or lapsed first.
+/// After any requests from an opening where nobody waits, no section is over its seats, and each
+/// student's sections keep timetable and caps, it is so of each section. It has no more holders
+/// than seats, no free seat where somebody waits for it, and nobody waits for it who holds it.
+/// Student by student: each holds it exactly where the replies say so, from what the student held
+/// at the opening on. The student holds it from the reply that adds this student, or passes a seat
+/// on to this student, until the reply that this student gave it up. So the holders are as many as
+/// at the opening, and one more for each who was added and each to whom a seat was passed on, less
+/// one for each who gave it up. Each who was queued waits still, or has once been given the
+/// section, lapsed or left; and of two who did not leave, the one who was queued first was given
+/// the section or lapsed first.
 pub fn conservation()
     ensures { ConservationLaw }
 {}
 
-/// What each student holds is allowed at every time, where it is so at the opening: no two of the sections clash, and the student's caps
-/// are kept.
+/// What each student holds is allowed at every time, where it is so at the opening: no two of the
+/// sections clash, and the student's caps are kept.
 pub fn held_is_allowed()
     ensures { AllowedLaw }
 {}
 
-/// A seat that is given up goes to the first of those who wait whom the section fits beside what he then holds. Those before him lapse, and
-/// the reply tells how many; where there is no such one all lapse, and nobody has the seat.
+/// A seat that is given up goes to the first of those who wait whom the section fits beside what he
+/// then holds. Those before him lapse, and the reply tells how many; where there is no such one all
+/// lapse, and nobody has the seat.
 pub fn first_whom_it_fits()
     ensures { FirstFitLaw }
 {}

@@ -1,4 +1,5 @@
-//! The drop-add desk: what students' requests make of the seats that they hold after publication, and of the waiting lists.
+//! The drop-add desk: what students' requests make of the seats that they hold after publication,
+//! and of the waiting lists.
 #![tactic(auto)]
 
 mod bundles;

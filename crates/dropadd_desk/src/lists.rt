@@ -36,7 +36,8 @@ impl Model for WaitingLists {
 impl WaitingLists {
     /// So many empty lists, each with room for `width` items.
     pub fn reserve(alloc: Global, lists: u16, width: u16) -> Result<WaitingLists, NoMemory>
-        ensures { IfOk result (λ made. made ≡ record { width = width; lists = replicate lists [] }) }
+        ensures { IfOk result
+            (λ made. made ≡ record { width = width; lists = replicate lists [] }) }
     {
         let mut region = Region::reserve(alloc, u32::from(lists), u32::from(width), 0)?;
         let mut fronts = Vec::with_capacity(alloc, usize::from(lists))?;
@@ -60,7 +61,12 @@ impl WaitingLists {
     pub fn push(&mut self, list: usize, item: u16)
         requires list { list < length self.old.lists }
         requires room { length (slice_index_or self.old.lists list []) < self.old.width }
-        ensures { self.new ≡ record { width = self.old.width; lists = slice_set self.old.lists list (slice_index_or self.old.lists list [] ++ item ∷ []) } }
+        ensures { self.new
+            ≡ record {
+              width = self.old.width;
+              lists = slice_set self.old.lists list
+                  (slice_index_or self.old.lists list [] ++ item ∷ []);
+            } }
     {
         let front = self.fronts[list];
         put(
@@ -79,7 +85,12 @@ impl WaitingLists {
         requires list { list < length self.old.lists }
         requires order { start ≤ end }
         requires within { end ≤ length (slice_index_or self.old.lists list []) }
-        ensures { self.new ≡ record { width = self.old.width; lists = slice_set self.old.lists list (remove_range (slice_index_or self.old.lists list []) start end) } }
+        ensures { self.new
+            ≡ record {
+              width = self.old.width;
+              lists = slice_set self.old.lists list
+                  (remove_range (slice_index_or self.old.lists list []) start end);
+            } }
     {
         let front = self.fronts[list];
         let row = self.region.row_mut(RowId(front.row));
@@ -111,7 +122,8 @@ fn close_up(cells: &mut [u16], start: usize, end: usize, len: usize)
     requires within { end ≤ len }
     requires inside { len ≤ length cells.old }
     ensures length { length cells.new ≡ length cells.old }
-    ensures front { take (len - (end - start)) cells.new ≡ remove_range (take len cells.old) start end }
+    ensures front { take (len - (end - start)) cells.new
+        ≡ remove_range (take len cells.old) start end }
 {
     cells.copy_within(end..len, start);
 }

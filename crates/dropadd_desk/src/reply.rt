@@ -29,8 +29,9 @@ pub enum HallReply {
     },
     /// The student does not hold the section that is given up.
     NotHolding,
-    /// The student gave the seat up. So many of those who waited longest were taken out, since the section does not fit them; the
-    /// first whom it fits holds it now, and there is none where all were taken out.
+    /// The student gave the seat up. So many of those who waited longest were taken out, since the
+    /// section does not fit them; the first whom it fits holds it now, and there is none where all
+    /// were taken out.
     Dropped {
         lapsed: u16,
         next: Option<StudentNo>,

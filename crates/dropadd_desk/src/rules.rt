@@ -28,7 +28,8 @@ pub(crate) struct Caps {
     pub courses: u8,
 }
 
-/// What a desk keeps of a catalogue and a roll. No step changes it. Contracts see it as the catalogue and the roll.
+/// What a desk keeps of a catalogue and a roll. No step changes it. Contracts see it as the
+/// catalogue and the roll.
 #[derive(Drop)]
 pub struct MarketRules {
     students: IndexSet<Name>,
@@ -80,7 +81,8 @@ impl MarketRules {
 
     /// The student of this name, or `None` exactly where no student has it.
     pub fn student(&self, name: &Name) -> Option<StudentNo>
-        ensures ordinal { option_map (λ student. student.0) result ≡ student_named self.now name.now }
+        ensures ordinal { option_map (λ student. student.0) result
+            ≡ student_named self.now name.now }
         ensures within { IfSome result (λ student. student.0 < student_count self.now) }
     {
         let place = self.students.get_index_of(name)?;
@@ -89,7 +91,8 @@ impl MarketRules {
 
     /// The section of this name, or `None` exactly where no section has it.
     pub fn section(&self, name: &Name) -> Option<SectionNo>
-        ensures ordinal { option_map (λ section. section.0) result ≡ section_named self.now name.now }
+        ensures ordinal { option_map (λ section. section.0) result
+            ≡ section_named self.now name.now }
         ensures within { IfSome result (λ section. section.0 < section_count self.now) }
     {
         let place = self.sections.get_index_of(name)?;
@@ -107,8 +110,10 @@ impl MarketRules {
     // The lowest section of the bundle with which the section clashes.
     pub(crate) fn lowest_clash(&self, section: SectionNo, held: &Bundle) -> Option<SectionNo>
         requires section { section.0 < section_count self.now }
-        requires within { (s : ℕ) → has (sections_of held.now) s ≡ true → s < section_count self.now }
-        ensures { option_map (λ with. with.0) result ≡ lowest_clash self.now section.0 (sections_of held.now) }
+        requires within { (s : ℕ) → has (sections_of held.now) s ≡ true
+            → s < section_count self.now }
+        ensures { option_map (λ with. with.0) result
+            ≡ lowest_clash self.now section.0 (sections_of held.now) }
     {
         let clashes = self.clashes[usize::from(section.0)];
         first_in(&clashes, held.sections())
@@ -123,7 +128,8 @@ impl MarketRules {
     ) -> bool
         requires student { student.0 < student_count self.now }
         requires section { section.0 < section_count self.now }
-        requires within { (s : ℕ) → has (sections_of held.now) s ≡ true → s < section_count self.now }
+        requires within { (s : ℕ) → has (sections_of held.now) s ≡ true
+            → s < section_count self.now }
         ensures { result ≡ passes_credits self.now student.0 section.0 (sections_of held.now) }
     {
         let credits = self.sum_credits(held.sections()) + self.credits[usize::from(section.0)];
@@ -143,7 +149,8 @@ impl MarketRules {
     pub(crate) fn fits(&self, student: StudentNo, section: SectionNo, held: &Bundle) -> bool
         requires student { student.0 < student_count self.now }
         requires section { section.0 < section_count self.now }
-        requires within { (s : ℕ) → has (sections_of held.now) s ≡ true → s < section_count self.now }
+        requires within { (s : ℕ) → has (sections_of held.now) s ≡ true
+            → s < section_count self.now }
         ensures fits { result ≡ fits self.now student.0 section.0 (sections_of held.now) }
         ensures room { result ≡ true → length (sections_of held.now) < 8 }
     {
@@ -174,7 +181,8 @@ impl MarketRules {
 // The first of the sections that is in the set.
 fn first_in(wanted: &SectionSet, sections: &[SectionNo]) -> Option<SectionNo>
     requires { All (λ section. section.0 < 400) sections.now }
-    ensures { option_map (λ section. section.0) result ≡ find (λ s. set.contains wanted.now s) (ordinals sections.now) }
+    ensures { option_map (λ section. section.0) result
+        ≡ find (λ s. set.contains wanted.now s) (ordinals sections.now) }
 {
     for section in sections {
         if wanted.has(*section) {

@@ -9,8 +9,8 @@ use crate::rules::MarketRules;
 use chronicle::Object;
 use std::marker::Model;
 
-/// What the steps of a desk change: the set of sections that each student holds, ascending, and the students who wait for each section,
-/// the one who waits longest first. Contracts alone see it.
+/// What the steps of a desk change: the set of sections that each student holds, ascending, and the
+/// students who wait for each section, the one who waits longest first. Contracts alone see it.
 pub struct HallState {
     pub ghost held: { List (List ℕ) },
     pub ghost waiting: { List (List ℕ) },

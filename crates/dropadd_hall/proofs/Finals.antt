@@ -36,7 +36,8 @@ each_final market p is = is.allocation.count ∙ length_map (λ (student : Stude
 pub finals_below : (market : Market) (p : Publication) → IsPublication (tables_in market) p → AreBelow (section_count market) p.allocation
 finals_below market p is = λ n d low s there.
     let all : length (tables_in market).sections ≡ section_count market = length_map (λ (section : Section). section.name) market.catalog.sections in
-    let within : s < length (tables_in market).sections = so_of_has (λ section. section < length (tables_in market).sections) (slice_index_or p.allocation n d) (is.allocation.each n d low).of_catalog s there in
+    let within : s < length (tables_in market).sections =
+    so_of_has (λ section. section < length (tables_in market).sections) (slice_index_or p.allocation n d) (is.allocation.each n d low).of_catalog s there in
     omega (arith, all, within)
 
 -- and each ascending
@@ -51,17 +52,23 @@ pub told_conserved : ToldHallIsConserved
 told_conserved market streams text told hall before after split s low =
     let p : Publication = hall.publication in
     let is = hall.opens.is_text.is_publication in
-    let legal : IsLegal is_sound state_after reply_to market (opened market p) (before ++ after) = subst (IsLegal is_sound state_after reply_to market (opened market p)) split hall.told_of.legal in
-    conserved market (opened market p) before (opening_hall market p.allocation (each_final market p is) (finals_below market p is) (finals_ascend market p is)) (opens_lawfully market p hall.opens.faultless)
+    let legal : IsLegal is_sound state_after reply_to market (opened market p) (before ++ after) =
+    subst (IsLegal is_sound state_after reply_to market (opened market p)) split hall.told_of.legal in
+    conserved market (opened market p) before (opening_hall market p.allocation (each_final market p is) (finals_below market p is) (finals_ascend market p is))
+    (opens_lawfully market p hall.opens.faultless)
     (legal_front is_sound state_after reply_to market (opened market p) before after legal) s low
 
 -- the history of a printed hall is legal, up to any step
-front_legal : (market : Market) (streams : List (List HallCommand)) (text told : List ℕ) (hall : IsToldHall market streams text told) (front after : List HallStep) → hall.history ≡ front ++ after
+front_legal : (market : Market) (streams : List (List HallCommand)) (text told : List ℕ) (hall : IsToldHall market streams text told)
+    (front after : List HallStep)
+    → hall.history ≡ front ++ after
     → IsLegal is_sound state_after reply_to market (opened market hall.publication) front
 front_legal market streams text told hall front after split =
-    legal_front is_sound state_after reply_to market (opened market hall.publication) front after (subst (IsLegal is_sound state_after reply_to market (opened market hall.publication)) split hall.told_of.legal)
+    legal_front is_sound state_after reply_to market (opened market hall.publication) front after
+    (subst (IsLegal is_sound state_after reply_to market (opened market hall.publication)) split hall.told_of.legal)
 
-told_opening : (market : Market) (streams : List (List HallCommand)) (text told : List ℕ) (hall : IsToldHall market streams text told) → IsHall market (opened market hall.publication)
+told_opening : (market : Market) (streams : List (List HallCommand)) (text told : List ℕ) (hall : IsToldHall market streams text told)
+    → IsHall market (opened market hall.publication)
 told_opening market streams text told hall =
     let p : Publication = hall.publication in
     let is = hall.opens.is_text.is_publication in
@@ -69,7 +76,8 @@ told_opening market streams text told hall =
 
 pub told_allowed : ToldHallIsAllowed
 told_allowed market streams text told hall before after split =
-    held_is_allowed market (opened market hall.publication) before (told_opening market streams text told hall) (opens_lawfully market hall.publication hall.opens.faultless)
+    held_is_allowed market (opened market hall.publication) before (told_opening market streams text told hall)
+    (opens_lawfully market hall.publication hall.opens.faultless)
     (front_legal market streams text told hall before after split)
 
 -- one step with those before it is a beginning
@@ -88,10 +96,14 @@ told_refusals market streams text told hall before after step split refused =
 
 -- the tables of a market as they can be read
 tables_in_limits : (market : Market) → IsCatalog market.catalog → IsRoll market.roll → AreTables (tables_in market)
-tables_in_limits market catalog roll = tables_are _ _ _ market.roll market.catalog (let one = catalog.known_version in let two = roll.known_version in omega arith) refl refl roll catalog
+tables_in_limits market catalog roll =
+    tables_are _ _ _ market.roll market.catalog (let one = catalog.known_version in let two = roll.known_version in omega arith) refl refl roll catalog
 
 -- with whatever publication a hall opens, the text is that of one alone
-pub opens_alone : (market : Market) (text : List ℕ) (p : Publication) → IsCatalog market.catalog → IsRoll market.roll → IsTextOf market p text → CanOpen market text → IsFaultless market (opened market p)
+pub opens_alone : (market : Market) (text : List ℕ) (p : Publication) → IsCatalog market.catalog → IsRoll market.roll → IsTextOf market p text
+    → CanOpen market text → IsFaultless market (opened market p)
 opens_alone market text p catalog roll is can =
-    let same : can.0 ≡ p = one_publication (tables_in market) (tables_in_limits market catalog roll) can.0 p can.1.is_text.is_publication is.is_publication (sym can.1.is_text.written ∙ is.written) in
+    let same : can.0 ≡ p =
+    one_publication (tables_in market) (tables_in_limits market catalog roll) can.0 p can.1.is_text.is_publication is.is_publication
+    (sym can.1.is_text.written ∙ is.written) in
     subst (λ (q : Publication). IsFaultless market (opened market q)) same can.1.faultless

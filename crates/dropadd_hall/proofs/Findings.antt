@@ -29,15 +29,18 @@ fault_told market state (fault.Infeasible student) is = is
 fault_told market state (fault.Overfull section held seats) is = is
 
 -- so is one of a desk of this market, in this state
-pub told_at : (one market : Market) (now state : HallState) (found : OpeningFault) → one ≡ market → now ≡ state → IsFirstFault one now found → TellsFault market state (finding_of found)
-told_at one market now state found of same is = fault_told market state found (subst (λ (x : HallState). IsFirstFault market x found) same (subst (λ (m : Market). IsFirstFault m now found) of is))
+pub told_at : (one market : Market) (now state : HallState) (found : OpeningFault) → one ≡ market → now ≡ state → IsFirstFault one now found
+    → TellsFault market state (finding_of found)
+told_at one market now state found of same is =
+    fault_told market state found (subst (λ (x : HallState). IsFirstFault market x found) same (subst (λ (m : Market). IsFirstFault m now found) of is))
 
 -- and so is that there is none
 pub faultless_at : (one market : Market) (now state : HallState) → one ≡ market → now ≡ state → IsFaultless one now → IsFaultless market state
 faultless_at one market now state of same is = subst (λ (x : HallState). IsFaultless market x) same (subst (λ (m : Market). IsFaultless m now) of is)
 
 -- a fault of the final bundles is the first finding on the text
-pub fault_first : (market : Market) (text : List ℕ) (p : Publication) (finding : Finding) → IsTextOf market p text → TellsFault market (opened market p) finding → IsOpeningFinding market text finding
+pub fault_first : (market : Market) (text : List ℕ) (p : Publication) (finding : Finding) → IsTextOf market p text → TellsFault market (opened market p) finding
+    → IsOpeningFinding market text finding
 fault_first market text p (Infeasible student) of is = (p, of, is)
 fault_first market text p (Seats section used seats) of is = (p, of, is)
 fault_first market text p (Text line kind) of is = absurd is
@@ -67,7 +70,8 @@ fault_stands market state (Allocation student) is none = is
 fault_stands market state (Used section) is none = is
 
 -- and no hall opens with the text
-pub fault_refused : (market : Market) (text : List ℕ) (p : Publication) (finding : Finding) → IsCatalog market.catalog → IsRoll market.roll → IsTextOf market p text → TellsFault market (opened market p) finding → ¬ CanOpen market text
+pub fault_refused : (market : Market) (text : List ℕ) (p : Publication) (finding : Finding) → IsCatalog market.catalog → IsRoll market.roll
+    → IsTextOf market p text → TellsFault market (opened market p) finding → ¬ CanOpen market text
 fault_refused market text p finding catalog roll of is can = fault_stands market (opened market p) finding is (opens_alone market text p catalog roll of can)
 
 -- whom it names is on the roll, or in the catalogue
@@ -85,10 +89,12 @@ fault_named market state (Allocation student) is = absurd is
 fault_named market state (Used section) is = absurd is
 
 -- the first defect of a text that is no publication's is the first finding, and no hall opens with it
-pub defect_first : (market : Market) (text : List ℕ) (refusal : TextRefusal) → OnDefect refusal (Finds (ArePublished (tables_in market)) 1 text) → OnFound (end_of refusal) (IsOpeningFinding market text)
+pub defect_first : (market : Market) (text : List ℕ) (refusal : TextRefusal) → OnDefect refusal (Finds (ArePublished (tables_in market)) 1 text)
+    → OnFound (end_of refusal) (IsOpeningFinding market text)
 defect_first market text (Defect line kind) is = is
 defect_first market text refusals.NoMemory is = tt
 
-pub defect_refused : (market : Market) (text : List ℕ) (refusal : TextRefusal) → OnDefect refusal (λ _ _. ¬ IsPublished (tables_in market) text) → OnFound (end_of refusal) (λ _. ¬ CanOpen market text)
+pub defect_refused : (market : Market) (text : List ℕ) (refusal : TextRefusal) → OnDefect refusal (λ _ _. ¬ IsPublished (tables_in market) text)
+    → OnFound (end_of refusal) (λ _. ¬ CanOpen market text)
 defect_refused market text (Defect line kind) is = λ can. is (can.0, can.1.is_text.is_publication, can.1.is_text.written)
 defect_refused market text refusals.NoMemory is = tt

@@ -41,15 +41,21 @@ waiting_written names section waiting begun word named listed new a b c d =
     d ∙ ap (λ l. l ++ 10 ∷ []) (c ∙ ap (λ l. l ++ fields) (b ∙ ap (λ l. l ++ 32 ∷ section) a) ∙ append_assoc (begun ++ codes "wait") (32 ∷ section) fields ∙ append_assoc begun (codes "wait") (32 ∷ (section ++ fields)) ∙ ap (λ l. begun ++ l) (sym (waiting_joined names section waiting)))
 
 -- one student more in a waiting list
-pub student_listed : (names : List (List ℕ)) (waiting : List ℕ) (k : ℕ) (begun text new name : List ℕ) → k < length waiting → text ≡ begun ++ flat_map (λ i. 32 ∷ name_at names i) (take k waiting) → new ≡ text ++ 32 ∷ name → name ≡ name_at names (get_or waiting k 0)
+pub student_listed : (names : List (List ℕ)) (waiting : List ℕ) (k : ℕ) (begun text new name : List ℕ) → k < length waiting
+    → text ≡ begun ++ flat_map (λ i. 32 ∷ name_at names i) (take k waiting) → new ≡ text ++ 32 ∷ name → name ≡ name_at names (get_or waiting k 0)
     → new ≡ begun ++ flat_map (λ i. 32 ∷ name_at names i) (take (k + 1) waiting)
 student_listed names waiting k begun text new name low so put named =
     let fields = flat_map (λ i. 32 ∷ name_at names i) (take k waiting) in
     put ∙ ap (λ l. l ++ 32 ∷ name) so ∙ ap (λ n. (begun ++ fields) ++ 32 ∷ n) named ∙ append_assoc begun fields (32 ∷ name_at names (get_or waiting k 0))
-    ∙ ap (λ l. begun ++ l) (ap (λ l. fields ++ l) (sym (append-nil (32 ∷ name_at names (get_or waiting k 0)))) ∙ sym (ap (flat_map (λ i. 32 ∷ name_at names i)) (take_more waiting k 0 low) ∙ flat_map-append (λ i. 32 ∷ name_at names i) (take k waiting) (get_or waiting k 0 ∷ [])))
+    ∙ ap (λ l. begun ++ l)
+    (ap (λ l. fields ++ l) (sym (append-nil (32 ∷ name_at names (get_or waiting k 0))))
+    ∙ sym
+    (ap (flat_map (λ i. 32 ∷ name_at names i)) (take_more waiting k 0 low)
+    ∙ flat_map-append (λ i. 32 ∷ name_at names i) (take k waiting) (get_or waiting k 0 ∷ [])))
 
 -- names by their places
-pub student_name_at : (students : List Student) (n : ℕ) (name : List ℕ) → n < length students → option_map (λ (student : Student). student.name) (slice_get students n) ≡ Some name → name ≡ name_at (names_of students) n
+pub student_name_at : (students : List Student) (n : ℕ) (name : List ℕ) → n < length students
+    → option_map (λ (student : Student). student.name) (slice_get students n) ≡ Some name → name ≡ name_at (names_of students) n
 student_name_at [] n name low named = absurd (omega arith)
 student_name_at (x ∷ xs) zero name low named = cc
 student_name_at (x ∷ xs) (suc n) name low named = student_name_at xs n name (omega arith) named
@@ -58,8 +64,11 @@ pub section_name_at : (sections : List Section) (s : ℕ) → s < length section
 section_name_at sections s low = sym (get_or-map (λ (section : Section). section.name) sections s no_section [] low)
 
 -- one line more of those that are made number by number
-pub line_more : (line : ℕ → List ℕ) (n : ℕ) (begun text new : List ℕ) → text ≡ begun ++ joined (map line (range_with_len 0 n)) → new ≡ (text ++ line n) ++ 10 ∷ [] → new ≡ begun ++ joined (map line (range_with_len 0 (n + 1)))
-line_more line n begun text new so put = text_more begun text new (line n) (map line (range_with_len 0 n)) (map line (range_with_len 0 (n + 1))) (map-range_with_len_more line 0 n n (omega arith)) so put
+pub line_more : (line : ℕ → List ℕ) (n : ℕ) (begun text new : List ℕ) → text ≡ begun ++ joined (map line (range_with_len 0 n))
+    → new ≡ (text ++ line n) ++ 10 ∷ [] → new ≡ begun ++ joined (map line (range_with_len 0 (n + 1)))
+line_more line n begun text new so put =
+    text_more begun text new (line n) (map line (range_with_len 0 n)) (map line (range_with_len 0 (n + 1))) (map-range_with_len_more line 0 n n (omega arith))
+    so put
 
 last : (a n j : ℕ) → a + n ≡ j → range_with_len a (suc n) ≡ range_with_len a n ++ j ∷ []
 last a zero j e = let same : a ≡ j = omega arith in ap (λ k. k ∷ []) same
@@ -68,21 +77,25 @@ last a (suc n) j e = ap (λ l. a ∷ l) (last (a + 1) n j (omega arith))
 counting_more : (n : ℕ) → range_with_len 0 (n + 1) ≡ range_with_len 0 n ++ n ∷ []
 counting_more n = let on : n + 1 ≡ suc n = omega arith in ap (range_with_len 0) on ∙ last 0 n n (omega arith)
 
-pub lines_more : (lines : ℕ → List (List ℕ)) (n : ℕ) (begun text new : List ℕ) → text ≡ begun ++ joined (flat_map lines (range_with_len 0 n)) → new ≡ text ++ joined (lines n) → new ≡ begun ++ joined (flat_map lines (range_with_len 0 (n + 1)))
+pub lines_more : (lines : ℕ → List (List ℕ)) (n : ℕ) (begun text new : List ℕ) → text ≡ begun ++ joined (flat_map lines (range_with_len 0 n))
+    → new ≡ text ++ joined (lines n) → new ≡ begun ++ joined (flat_map lines (range_with_len 0 (n + 1)))
 lines_more lines n begun text new so put =
     put ∙ ap (λ l. l ++ joined (lines n)) so ∙ append_assoc begun (joined (flat_map lines (range_with_len 0 n))) (joined (lines n))
     ∙ ap (λ l. begun ++ l) (sym (joined_append (flat_map lines (range_with_len 0 n)) (lines n)) ∙ ap joined (ap (λ l. flat_map lines (range_with_len 0 n) ++ l) (sym (append-nil (lines n)))
     ∙ sym (ap (flat_map lines) (counting_more n) ∙ flat_map-append lines (range_with_len 0 n) (n ∷ []))))
 
 -- one step's line more
-pub entry_more : (market : Market) (history : List HallStep) (k : ℕ) (step : HallStep) (begun text new : List ℕ) → k < length history → step ≡ get_or history k step → text ≡ begun ++ joined (map (entry_line market) (take k history)) → new ≡ (text ++ entry_line market step) ++ 10 ∷ []
+pub entry_more : (market : Market) (history : List HallStep) (k : ℕ) (step : HallStep) (begun text new : List ℕ) → k < length history
+    → step ≡ get_or history k step → text ≡ begun ++ joined (map (entry_line market) (take k history)) → new ≡ (text ++ entry_line market step) ++ 10 ∷ []
     → new ≡ begun ++ joined (map (entry_line market) (take (k + 1) history))
 entry_more market history k step begun text new low is so put =
     text_more begun text new (entry_line market step) (map (entry_line market) (take k history)) (map (entry_line market) (take (k + 1) history))
-    (map_more (entry_line market) history k step low ∙ ap (λ (s : HallStep). map (entry_line market) (take k history) ++ entry_line market s ∷ []) (sym is)) so put
+    (map_more (entry_line market) history k step low ∙ ap (λ (s : HallStep). map (entry_line market) (take k history) ++ entry_line market s ∷ []) (sym is)) so
+    put
 
 -- the parts of the text, one behind the other
-pub whole : (entries held waiting seats : List (List ℕ)) (t0 t1 t2 t3 t4 : List ℕ) → t0 ≡ [] → t1 ≡ t0 ++ joined entries → t2 ≡ t1 ++ joined held → t3 ≡ t2 ++ joined waiting → t4 ≡ t3 ++ joined seats → t4 ≡ joined (((entries ++ held) ++ waiting) ++ seats)
+pub whole : (entries held waiting seats : List (List ℕ)) (t0 t1 t2 t3 t4 : List ℕ) → t0 ≡ [] → t1 ≡ t0 ++ joined entries → t2 ≡ t1 ++ joined held
+    → t3 ≡ t2 ++ joined waiting → t4 ≡ t3 ++ joined seats → t4 ≡ joined (((entries ++ held) ++ waiting) ++ seats)
 whole entries held waiting seats t0 t1 t2 t3 t4 a b c d e =
     let one : t1 ≡ joined entries = b ∙ ap (λ l. l ++ joined entries) a in
     let two : t2 ≡ joined (entries ++ held) = c ∙ ap (λ l. l ++ joined held) one ∙ sym (joined_append entries held) in
@@ -90,18 +103,25 @@ whole entries held waiting seats t0 t1 t2 t3 t4 a b c d e =
     e ∙ ap (λ l. l ++ joined seats) three ∙ sym (joined_append ((entries ++ held) ++ waiting) seats)
 
 -- the line of a section's seats, and of what a student holds, from what the tables give
-pub seats_put : (market : Market) (state : HallState) (catalog : CatalogData) (n : ℕ) (name : List ℕ) (held seats : ℕ) → market.catalog ≡ catalog → n < length catalog.sections → name ≡ (section_at catalog.sections n).name → held ≡ holders n state.held → seats ≡ (section_at catalog.sections n).seats
+pub seats_put : (market : Market) (state : HallState) (catalog : CatalogData) (n : ℕ) (name : List ℕ) (held seats : ℕ) → market.catalog ≡ catalog
+    → n < length catalog.sections → name ≡ (section_at catalog.sections n).name → held ≡ holders n state.held → seats ≡ (section_at catalog.sections n).seats
     → used_line name (held, seats) ≡ seats_line market state n
 seats_put market state catalog n name held seats is low a b c =
-    let named : name ≡ section_name market n = a ∙ section_name_at catalog.sections n low ∙ ap (λ (k : CatalogData). name_at (section_names k.sections) n) (sym is) in
+    let named : name ≡ section_name market n =
+    a ∙ section_name_at catalog.sections n low ∙ ap (λ (k : CatalogData). name_at (section_names k.sections) n) (sym is) in
     let given : seats ≡ (offered market n).seats = c ∙ ap (λ (k : CatalogData). (section_at k.sections n).seats) (sym is) in
-    ap (λ w. used_line w (held, seats)) named ∙ ap (λ h. used_line (section_name market n) (h, seats)) b ∙ ap (λ s. used_line (section_name market n) (holders n state.held, s)) given
+    ap (λ w. used_line w (held, seats)) named ∙ ap (λ h. used_line (section_name market n) (h, seats)) b
+    ∙ ap (λ s. used_line (section_name market n) (holders n state.held, s)) given
 
-pub held_put : (market : Market) (state : HallState) (catalog : CatalogData) (roll : RollData) (n : ℕ) (name set : List ℕ) → market ≡ record { catalog = catalog; roll = roll } → n < length roll.students
-    → option_map (λ (student : Student). student.name) (slice_get roll.students n) ≡ Some name → set ≡ held_by state n → final_line (section_names catalog.sections) name set ≡ held_line market state n
+pub held_put : (market : Market) (state : HallState) (catalog : CatalogData) (roll : RollData) (n : ℕ) (name set : List ℕ)
+    → market ≡ record { catalog = catalog; roll = roll } → n < length roll.students
+    → option_map (λ (student : Student). student.name) (slice_get roll.students n) ≡ Some name → set ≡ held_by state n
+    → final_line (section_names catalog.sections) name set ≡ held_line market state n
 held_put market state catalog roll n name set is low a b =
     let named : name ≡ student_name market n = student_name_at roll.students n name low a ∙ ap (λ (m : Market). student_name m n) (sym is) in
-    ap (λ (m : Market). final_line (section_names m.catalog.sections) name set) (sym is) ∙ ap (λ w. final_line (section_names market.catalog.sections) w set) named ∙ ap (λ l. final_line (section_names market.catalog.sections) (student_name market n) l) b
+    ap (λ (m : Market). final_line (section_names m.catalog.sections) name set) (sym is)
+    ∙ ap (λ w. final_line (section_names market.catalog.sections) w set) named
+    ∙ ap (λ l. final_line (section_names market.catalog.sections) (student_name market n) l) b
 
 -- the lines of a list in which somebody waits
 pub list_put : (market : Market) (s : ℕ) (waiting begun new name : List ℕ) → (length waiting == 0) ≡ false → name ≡ section_name market s

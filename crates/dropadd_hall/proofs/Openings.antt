@@ -33,44 +33,62 @@ none_any p (x ∷ xs) each = rw (each x (has-here x xs)) (none_any p xs (λ t th
 abbrev pub two_clash : List Section → List ℕ → Bool
 two_clash sections set = list_any (λ s. list_any (λ t. sections_clash sections s t) set) set
 
-pub apart : (sections : List Section) (set : List ℕ) → two_clash sections set ≡ false → (s t : ℕ) → has set s ≡ true → has set t ≡ true → sections_clash sections s t ≡ false
-apart sections set none s t there there' = any_none (λ u. sections_clash sections s u) set (any_none (λ r. list_any (λ u. sections_clash sections r u) set) set none s there) t there'
+pub apart : (sections : List Section) (set : List ℕ) → two_clash sections set ≡ false → (s t : ℕ) → has set s ≡ true → has set t ≡ true
+    → sections_clash sections s t ≡ false
+apart sections set none s t there there' =
+    any_none (λ u. sections_clash sections s u) set (any_none (λ r. list_any (λ u. sections_clash sections r u) set) set none s there) t there'
 
-pub none_clash : (sections : List Section) (set : List ℕ) → ((s t : ℕ) → has set s ≡ true → has set t ≡ true → sections_clash sections s t ≡ false) → two_clash sections set ≡ false
-none_clash sections set each = none_any (λ r. list_any (λ u. sections_clash sections r u) set) set (λ s there. none_any (λ u. sections_clash sections s u) set (λ t there'. each s t there there'))
+pub none_clash : (sections : List Section) (set : List ℕ) → ((s t : ℕ) → has set s ≡ true → has set t ≡ true → sections_clash sections s t ≡ false)
+    → two_clash sections set ≡ false
+none_clash sections set each =
+    none_any (λ r. list_any (λ u. sections_clash sections r u) set) set
+    (λ s there. none_any (λ u. sections_clash sections s u) set (λ t there'. each s t there there'))
 
 -- what a student of the roll has
-pub student_has : (f : Student → ℕ) (students : List Student) (n v : ℕ) → option_map f (slice_get students n) ≡ Some v → f (slice_index_or students n no_student) ≡ v
+pub student_has : (f : Student → ℕ) (students : List Student) (n v : ℕ) → option_map f (slice_get students n) ≡ Some v
+    → f (slice_index_or students n no_student) ≡ v
 student_has f [] n v e = absurd (cc e)
 student_has f (x ∷ xs) zero v e = cc e
 student_has f (x ∷ xs) (suc n) v e = student_has f xs n v e
 
 -- the credits of one section more
 pub credits_more : (sections : List Section) (xs : List SectionNo) (i : ℕ) (d : SectionNo) → i < length xs
-    → total (λ s. (section_at sections s).credits) (ordinals (take i xs)) + (section_at sections (get_or xs i d).0).credits ≡ total (λ s. (section_at sections s).credits) (ordinals (take (i + 1) xs))
+    → total (λ s. (section_at sections s).credits) (ordinals (take i xs)) + (section_at sections (get_or xs i d).0).credits
+    ≡ total (λ s. (section_at sections s).credits) (ordinals (take (i + 1) xs))
 credits_more sections xs i d low =
     let all = total-append (λ s. (section_at sections s).credits) (ordinals (take i xs)) ((get_or xs i d).0 ∷ []) in
-    let whole : total (λ s. (section_at sections s).credits) (ordinals (take (i + 1) xs)) ≡ total (λ s. (section_at sections s).credits) (ordinals (take i xs) ++ (get_or xs i d).0 ∷ []) = ap (total (λ s. (section_at sections s).credits)) (map_more (λ (section : SectionNo). section.0) xs i d low) in
+    let whole : total (λ s. (section_at sections s).credits) (ordinals (take (i + 1) xs))
+    ≡ total (λ s. (section_at sections s).credits) (ordinals (take i xs) ++ (get_or xs i d).0 ∷ []) =
+    ap (total (λ s. (section_at sections s).credits)) (map_more (λ (section : SectionNo). section.0) xs i d low) in
     omega (arith, all, whole)
 
 -- whether a set may be held, by what the tables give
 module _ (catalog : CatalogData) (roll : RollData) (i : ℕ) (set : List ℕ) where
-  pub allowed : (courses credits : ℕ) → option_map (λ (student : Student). student.courses) (slice_get roll.students i) ≡ Some courses → option_map (λ (student : Student). student.credits) (slice_get roll.students i) ≡ Some credits
-      → length set ≤ courses → total (λ s. (section_at catalog.sections s).credits) set ≤ credits → two_clash catalog.sections set ≡ false → IsAllowed (record { catalog = catalog; roll = roll }) i set
+  pub allowed : (courses credits : ℕ) → option_map (λ (student : Student). student.courses) (slice_get roll.students i) ≡ Some courses
+      → option_map (λ (student : Student). student.credits) (slice_get roll.students i) ≡ Some credits
+      → length set ≤ courses → total (λ s. (section_at catalog.sections s).credits) set ≤ credits → two_clash catalog.sections set ≡ false
+      → IsAllowed (record { catalog = catalog; roll = roll }) i set
   allowed courses credits a b few cheap none = record {
     apart = apart catalog.sections set none;
-    credits = subst (λ n. total (λ s. (section_at catalog.sections s).credits) set ≤ n) (sym (student_has (λ (student : Student). student.credits) roll.students i credits b)) cheap;
+    credits =
+        subst (λ n. total (λ s. (section_at catalog.sections s).credits) set ≤ n)
+        (sym (student_has (λ (student : Student). student.credits) roll.students i credits b)) cheap;
     courses = subst (λ n. length set ≤ n) (sym (student_has (λ (student : Student). student.courses) roll.students i courses a)) few;
   }
 
-  pub too_many : (courses : ℕ) → option_map (λ (student : Student). student.courses) (slice_get roll.students i) ≡ Some courses → courses < length set → ¬ IsAllowed (record { catalog = catalog; roll = roll }) i set
+  pub too_many : (courses : ℕ) → option_map (λ (student : Student). student.courses) (slice_get roll.students i) ≡ Some courses → courses < length set
+      → ¬ IsAllowed (record { catalog = catalog; roll = roll }) i set
   too_many courses a many is =
-      let few : length set ≤ courses = subst (λ n. length set ≤ n) (student_has (λ (student : Student). student.courses) roll.students i courses a) is.courses in
+      let few : length set ≤ courses =
+      subst (λ n. length set ≤ n) (student_has (λ (student : Student). student.courses) roll.students i courses a) is.courses in
       absurd (omega (arith, few, many))
 
-  pub too_dear : (credits : ℕ) → option_map (λ (student : Student). student.credits) (slice_get roll.students i) ≡ Some credits → credits < total (λ s. (section_at catalog.sections s).credits) set → ¬ IsAllowed (record { catalog = catalog; roll = roll }) i set
+  pub too_dear : (credits : ℕ) → option_map (λ (student : Student). student.credits) (slice_get roll.students i) ≡ Some credits
+      → credits < total (λ s. (section_at catalog.sections s).credits) set → ¬ IsAllowed (record { catalog = catalog; roll = roll }) i set
   too_dear credits b dear is =
-      let cheap : total (λ s. (section_at catalog.sections s).credits) set ≤ credits = subst (λ n. total (λ s. (section_at catalog.sections s).credits) set ≤ n) (student_has (λ (student : Student). student.credits) roll.students i credits b) is.credits in
+      let cheap : total (λ s. (section_at catalog.sections s).credits) set ≤ credits =
+      subst (λ n. total (λ s. (section_at catalog.sections s).credits) set ≤ n)
+      (student_has (λ (student : Student). student.credits) roll.students i credits b) is.credits in
       absurd (omega (arith, cheap, dear))
 
   pub clashing : two_clash catalog.sections set ≡ true → ¬ IsAllowed (record { catalog = catalog; roll = roll }) i set

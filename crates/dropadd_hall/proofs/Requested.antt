@@ -8,7 +8,8 @@ use Rattle.dropadd_desk.specs.declared.command.HallCommand.TheVariants.{Add, Dro
 use Rattle.dropadd_hall.specs.Requests.{Spells}
 
 -- the words behind the first are no two names
-pub no_names : (word : List ℕ) (words : List (List ℕ)) → ((first second : Name) → words ≢ name_bytes first ∷ name_bytes second ∷ []) → (request : HallCommand) → Spells (word ∷ words) request → ⊥
+pub no_names : (word : List ℕ) (words : List (List ℕ)) → ((first second : Name) → words ≢ name_bytes first ∷ name_bytes second ∷ []) → (request : HallCommand)
+    → Spells (word ∷ words) request → ⊥
 no_names word words none (Add student section) spells = none student section (cc spells.written)
 no_names word words none (Drop student section) spells = none student section (cc spells.written)
 no_names word words none (Leave student section) spells = none student section (cc spells.written)
@@ -22,6 +23,7 @@ no_request word words a b c (Leave student section) spells = c (cc spells.writte
 no_request word words a b c Unreadable spells = spells.readable refl
 
 -- the second word is no name
-pub no_section : (words rest : List (List ℕ)) (student : Name) → words ≡ name_bytes student ∷ rest → ((name : Name) (more : List (List ℕ)) → rest ≢ name_bytes name ∷ more)
+pub no_section : (words rest : List (List ℕ)) (student : Name) → words ≡ name_bytes student ∷ rest
+    → ((name : Name) (more : List (List ℕ)) → rest ≢ name_bytes name ∷ more)
     → (first second : Name) → words ≢ name_bytes first ∷ name_bytes second ∷ []
 no_section words rest student e none first second both = none second [] (cc (e, both))

@@ -34,4 +34,5 @@ pub record IsFirstOverfull (market : Market) (state : HallState) (s held seats :
 
 abbrev pub IsFirstFault : Market → HallState → OpeningFault → Type 0
 IsFirstFault market state (Infeasible student) = IsFirstInfeasible market state student.0
-IsFirstFault market state (Overfull section held seats) = IsFirstOverfull market state section.0 held seats
+IsFirstFault market state (Overfull section held seats) =
+    IsFirstOverfull market state section.0 held seats

@@ -19,24 +19,42 @@ use Rattle.dropadd_hall.specs.Told.{IsToldHall}
 abbrev pub state_behind : Market → Publication → List HallStep → HallState
 state_behind market p steps = state_after_steps state_after market (opened market p) steps
 
--- after each beginning of the history of a printed hall, the law of drop and add holds of each section, student by student, from the final bundles on
+-- after each beginning of the history of a printed hall, the law of drop and add holds of each
+-- section, student by student, from the final bundles on
 abbrev pub ToldHallIsConserved : Type 0
-ToldHallIsConserved = (market : Market) (streams : List (List HallCommand)) (text told : List ℕ) (hall : IsToldHall market streams text told)
-    → (before after : List HallStep) → hall.history ≡ before ++ after → (s : ℕ) → s < section_count market → IsConserved market (opened market hall.publication) before s
+ToldHallIsConserved =
+    (market : Market) (streams : List (List HallCommand)) (text told : List ℕ)
+    (hall : IsToldHall market streams text told)
+    → (before after : List HallStep) → hall.history ≡ before ++ after → (s : ℕ)
+    → s < section_count market → IsConserved market (opened market hall.publication) before s
 
--- what each student holds is allowed after each beginning of the history: no two of the sections clash, and the caps are kept
+-- what each student holds is allowed after each beginning of the history: no two of the sections
+-- clash, and the caps are kept
 abbrev pub ToldHallIsAllowed : Type 0
-ToldHallIsAllowed = (market : Market) (streams : List (List HallCommand)) (text told : List ℕ) (hall : IsToldHall market streams text told)
-    → (before after : List HallStep) → hall.history ≡ before ++ after → (i : ℕ) → i < student_count market → IsAllowed market i (held_by (state_behind market hall.publication before) i)
+ToldHallIsAllowed =
+    (market : Market) (streams : List (List HallCommand)) (text told : List ℕ)
+    (hall : IsToldHall market streams text told)
+    → (before after : List HallStep) → hall.history ≡ before ++ after → (i : ℕ)
+    → i < student_count market
+    → IsAllowed market i (held_by (state_behind market hall.publication before) i)
 
 -- a seat that is given up goes to the first of those who wait whom the section fits
 abbrev pub ToldHallServesTheFirst : Type 0
-ToldHallServesTheFirst = (market : Market) (streams : List (List HallCommand)) (text told : List ℕ) (hall : IsToldHall market streams text told)
-    → (before after : List HallStep) (step : HallStep) (s lapsed : ℕ) (next : Option StudentNo) → hall.history ≡ before ++ step ∷ after → names_section market s step.request ≡ true → step.reply ≡ reply.Dropped lapsed next
-    → GoesToFirstFit market (state_behind market hall.publication before) (state_behind market hall.publication (before ++ step ∷ [])) s lapsed next
+ToldHallServesTheFirst =
+    (market : Market) (streams : List (List HallCommand)) (text told : List ℕ)
+    (hall : IsToldHall market streams text told)
+    → (before after : List HallStep) (step : HallStep) (s lapsed : ℕ) (next : Option StudentNo)
+    → hall.history ≡ before ++ step ∷ after → names_section market s step.request ≡ true
+    → step.reply ≡ reply.Dropped lapsed next
+    → GoesToFirstFit market (state_behind market hall.publication before)
+    (state_behind market hall.publication (before ++ step ∷ [])) s lapsed next
 
 -- a request that is refused changes nothing
 abbrev pub ToldRefusalsChangeNothing : Type 0
-ToldRefusalsChangeNothing = (market : Market) (streams : List (List HallCommand)) (text told : List ℕ) (hall : IsToldHall market streams text told)
-    → (before after : List HallStep) (step : HallStep) → hall.history ≡ before ++ step ∷ after → is_refusal step.reply ≡ true
-    → state_behind market hall.publication (before ++ step ∷ []) ≡ state_behind market hall.publication before
+ToldRefusalsChangeNothing =
+    (market : Market) (streams : List (List HallCommand)) (text told : List ℕ)
+    (hall : IsToldHall market streams text told)
+    → (before after : List HallStep) (step : HallStep) → hall.history ≡ before ++ step ∷ after
+    → is_refusal step.reply ≡ true
+    → state_behind market hall.publication (before ++ step ∷ [])
+    ≡ state_behind market hall.publication before

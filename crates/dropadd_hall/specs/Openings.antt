@@ -1,4 +1,5 @@
--- Whether a hall opens with the final bundles of a published text, and what is told where it does not.
+-- Whether a hall opens with the final bundles of a published text, and what is told where it does
+-- not.
 use Rattle.std.specs.Prelude.{ℕ, ◌≡◌, List}
 use Rattle.certificate_checker.specs.declared.findings.Finding.{Finding}
 use Rattle.certificate_checker.specs.declared.findings.Finding.TheVariants.{Infeasible, Seats, Text}
@@ -26,8 +27,9 @@ pub record IsTextOf (market : Market) (p : Publication) (text : List ℕ) : Type
 abbrev pub opened : Market → Publication → HallState
 opened market p = opening market p.allocation
 
--- The text is that of the publication, and its final bundles may be held: no two sections of a student clash, no student passes a cap, and no
--- section has more holders than the catalogue has seats for it. Ratings, prices and budgets play no part.
+-- The text is that of the publication, and its final bundles may be held: no two sections of a
+-- student clash, no student passes a cap, and no section has more holders than the catalogue has
+-- seats for it. Ratings, prices and budgets play no part.
 pub record Opens (market : Market) (text : List ℕ) (p : Publication) : Type 0 where
   pub is_text : IsTextOf market p text
   pub faultless : IsFaultless market (opened market p)
@@ -36,18 +38,22 @@ pub record Opens (market : Market) (text : List ℕ) (p : Publication) : Type 0 
 abbrev pub CanOpen : Market → List ℕ → Type 0
 CanOpen market text = (p : Publication) × Opens market text p
 
--- The finding tells the first fault of what is held: the first student of whose sections two clash or who passes a cap, and where there is
--- none, the first section with more holders than seats, with both numbers.
+-- The finding tells the first fault of what is held: the first student of whose sections two clash
+-- or who passes a cap, and where there is none, the first section with more holders than seats,
+-- with both numbers.
 abbrev pub TellsFault : Market → HallState → Finding → Type 0
 TellsFault market state (Infeasible student) = IsFirstInfeasible market state student.0
-TellsFault market state (Seats section used seats) = IsFirstOverfull market state section.0 used seats
+TellsFault market state (Seats section used seats) =
+    IsFirstOverfull market state section.0 used seats
 TellsFault market state finding = ⊥
 
--- The first finding on a text with which no hall opens: its first defect, where it is the text of no publication; else the first fault of the
--- final bundles.
+-- The first finding on a text with which no hall opens: its first defect, where it is the text of
+-- no publication; else the first fault of the final bundles.
 abbrev pub IsOpeningFinding : Market → List ℕ → Finding → Type 0
-IsOpeningFinding market text (Text line kind) = Finds (ArePublished (tables_in market)) 1 text line kind
-IsOpeningFinding market text finding = (p : Publication) × IsTextOf market p text × TellsFault market (opened market p) finding
+IsOpeningFinding market text (Text line kind) =
+    Finds (ArePublished (tables_in market)) 1 text line kind
+IsOpeningFinding market text finding =
+    (p : Publication) × IsTextOf market p text × TellsFault market (opened market p) finding
 
 -- the finding that tells a fault
 abbrev pub finding_of : OpeningFault → Finding

@@ -18,9 +18,11 @@ pub record Spells (words : List (List ℕ)) (request : HallCommand) : Type 0 whe
   pub readable : request ≢ Unreadable
   pub written : words ≡ request_words request
 
--- the request of a line with these words: the one that they spell, and where they spell none, `Unreadable`
+-- the request of a line with these words: the one that they spell, and where they spell none,
+-- `Unreadable`
 abbrev pub IsRequestOf : List (List ℕ) → HallCommand → Type 0
-IsRequestOf words request = Spells words request ⊎ ((request ≡ Unreadable) × ((other : HallCommand) → ¬ Spells words other))
+IsRequestOf words request =
+    Spells words request ⊎ ((request ≡ Unreadable) × ((other : HallCommand) → ¬ Spells words other))
 
 -- the requests of a text: those of its lines that are neither blank nor comments, in their order
 abbrev pub AreRequests : List ℕ → List HallCommand → Type 0

@@ -56,7 +56,8 @@ entry_line market step = spaced (codes "entry" ∷ decimal (step.seat + 1) ∷ s
 
 -- the line of what a student holds
 abbrev pub held_line : Market → HallState → ℕ → List ℕ
-held_line market state i = final_line (section_names market.catalog.sections) (student_name market i) (held_by state i)
+held_line market state i =
+    final_line (section_names market.catalog.sections) (student_name market i) (held_by state i)
 
 -- the line of a section for which students wait
 abbrev pub wait_line : Market → ℕ → List ℕ → List ℕ
@@ -73,10 +74,11 @@ wait_lines market state s = where_any market s (waiting_for state s)
 
 -- the line of a section's seats: those that are held, and all
 abbrev pub seats_line : Market → HallState → ℕ → List ℕ
-seats_line market state s = used_line (section_name market s) (holders s state.held, (offered market s).seats)
+seats_line market state s =
+    used_line (section_name market s) (holders s state.held, (offered market s).seats)
 
--- The steps; what each student holds after them; who waits for each section; and the seats that are held. Students and sections come in
--- file order.
+-- The steps; what each student holds after them; who waits for each section; and the seats that are
+-- held. Students and sections come in file order.
 abbrev pub hall_lines : Market → List HallStep → HallState → List (List ℕ)
 hall_lines market history state =
     map (entry_line market) history

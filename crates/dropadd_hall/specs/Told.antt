@@ -11,15 +11,18 @@ use Rattle.dropadd_hall.specs.Texts.{hall_text}
 use Rattle.market_certificate.specs.Publications.{Publication}
 use Rattle.dropadd_hall.specs.Openings.{Opens, opened}
 
--- The text tells this history, and what is held, waited for and used after it. The history is one that the desk keeps from this state on: each
--- request is replied to as the step of drop and add says, and each session makes its requests in their order, and all of them.
-pub record IsToldOf (market : Market) (state : HallState) (streams : List (List HallCommand)) (history : List HallStep) (told : List ℕ) : Type 0 where
+-- The text tells this history, and what is held, waited for and used after it. The history is one
+-- that the desk keeps from this state on: each request is replied to as the step of drop and add
+-- says, and each session makes its requests in their order, and all of them.
+pub record IsToldOf (market : Market) (state : HallState) (streams : List (List HallCommand))
+    (history : List HallStep) (told : List ℕ) : Type 0 where
   pub legal : IsLegal is_sound state_after reply_to market state history
   pub merges : MergesCalls streams history
   pub written : told ≡ hall_text market history (state_after_steps state_after market state history)
 
 -- the text tells of a hall that opens with the final bundles of the published text
-pub record IsToldHall (market : Market) (streams : List (List HallCommand)) (text told : List ℕ) : Type 0 where
+pub record IsToldHall (market : Market) (streams : List (List HallCommand))
+    (text told : List ℕ) : Type 0 where
   pub publication : Publication
   pub opens : Opens market text publication
   pub history : List HallStep

@@ -24,9 +24,10 @@ pub struct ClosedHall {
     pub journal: Journal<HallDesk>,
 }
 
-/// Opens the desk to sessions. Session n makes the requests of the n-th stream in its order, from a thread of its own where one can be
-/// started; sessions are numbered from 1. Each passes the gate before its first request and after each reply. All memory is taken before
-/// a session starts, and `NoMemory` is the only error.
+/// Opens the desk to sessions. Session n makes the requests of the n-th stream in its order, from a
+/// thread of its own where one can be started; sessions are numbered from 1. Each passes the gate
+/// before its first request and after each reply. All memory is taken before a session starts, and
+/// `NoMemory` is the only error.
 pub fn open_hall<R: Threads + Wait + Sync, G: Gate + Sync>(
     rt: &R,
     alloc: Global,
@@ -37,10 +38,16 @@ pub fn open_hall<R: Threads + Wait + Sync, G: Gate + Sync>(
     requires sessions { (1 ≤ length streams.now) × (length streams.now ≤ MAX_SESSIONS) }
     requires room { request_count streams.now ≤ room_of desk }
     ensures market { IfOk result (λ closed. market_of closed.desk ≡ market_of desk) }
-    ensures legal { IfOk result (λ closed. IsLegal is_sound state_after reply_to (market_of desk) (state_of desk) closed.journal) }
-    ensures merges { IfOk result (λ closed. MergesCalls (request_lists streams.now) closed.journal) }
-    ensures named { IfOk result (λ closed. All (λ step. NamesInRange (market_of desk) step.reply) closed.journal) }
-    ensures state { IfOk result (λ closed. state_of closed.desk ≡ state_after_steps state_after (market_of desk) (state_of desk) closed.journal) }
+    ensures legal { IfOk result
+        (λ closed. IsLegal is_sound state_after reply_to (market_of desk) (state_of desk)
+        closed.journal) }
+    ensures merges { IfOk result
+        (λ closed. MergesCalls (request_lists streams.now) closed.journal) }
+    ensures named { IfOk result
+        (λ closed. All (λ step. NamesInRange (market_of desk) step.reply) closed.journal) }
+    ensures state { IfOk result
+        (λ closed. state_of closed.desk
+        ≡ state_after_steps state_after (market_of desk) (state_of desk) closed.journal) }
 {
     let (desk, journal) = post_streams(rt, alloc, desk, streams, gate)?;
     Ok(ClosedHall { desk, journal })

@@ -21,11 +21,13 @@ use std::sync::Wait;
 use std::thread::Threads;
 use student_roll::Roll;
 
-/// The text of the hall that opens with the final bundles of a published text and takes the requests of all streams, one for
-/// each session; or the first finding, where no hall opens with the text: it is that of no publication, or two sections of a
-/// student clash, or all of the student's sections together pass a cap, or a section has more holders than the catalogue's
-/// seats. Whom a finding names is on the roll, or in the catalogue. Sessions pass the gate as those of `open_hall` do. The
-/// text has fewer than 4,294,967,295 bytes. `NoMemory` comes where memory is wanted, and has no other cause.
+/// The text of the hall that opens with the final bundles of a published text and takes the
+/// requests of all streams, one for each session; or the first finding, where no hall opens with
+/// the text: it is that of no publication, or two sections of a student clash, or all of the
+/// student's sections together pass a cap, or a section has more holders than the catalogue's
+/// seats. Whom a finding names is on the roll, or in the catalogue. Sessions pass the gate as those
+/// of `open_hall` do. The text has fewer than 4,294,967,295 bytes. `NoMemory` comes where memory is
+/// wanted, and has no other cause.
 pub fn published_hall<R: Threads + Wait + Sync, G: Gate + Sync>(
     rt: &R,
     alloc: Global,
@@ -38,9 +40,15 @@ pub fn published_hall<R: Threads + Wait + Sync, G: Gate + Sync>(
     requires text { length text.now < 2 ^ 32 - 1 }
     requires sessions { (1 ≤ length streams.now) × (length streams.now ≤ MAX_SESSIONS) }
     requires requests { request_count streams.now ≤ MAX_COMMANDS }
-    ensures told { IfOk result (λ told. IsToldHall (record { catalog = catalog.now; roll = roll.now }) (request_lists streams.now) text.now told.items) }
-    ensures first { IfErr result (λ end. OnFound end (IsOpeningFinding (record { catalog = catalog.now; roll = roll.now }) text.now)) }
-    ensures refused { IfErr result (λ end. OnFound end (λ _. ¬ CanOpen (record { catalog = catalog.now; roll = roll.now }) text.now)) }
+    ensures told { IfOk result
+        (λ told. IsToldHall (record { catalog = catalog.now; roll = roll.now })
+        (request_lists streams.now) text.now told.items) }
+    ensures first { IfErr result
+        (λ end. OnFound end
+        (IsOpeningFinding (record { catalog = catalog.now; roll = roll.now }) text.now)) }
+    ensures refused { IfErr result
+        (λ end. OnFound end
+        (λ _. ¬ CanOpen (record { catalog = catalog.now; roll = roll.now }) text.now)) }
     ensures named { IfErr result (λ end. OnFound end (IsNamedIn (tables_of catalog.now roll.now))) }
 {
     let desk = open_desk(alloc, catalog, roll, text)?;
@@ -63,7 +71,10 @@ fn told_from<R: Threads + Wait + Sync, G: Gate + Sync>(
     requires market { market_of desk ≡ record { catalog = catalog.now; roll = roll.now } }
     requires sessions { (1 ≤ length streams.now) × (length streams.now ≤ MAX_SESSIONS) }
     requires room { request_count streams.now ≤ room_of desk }
-    ensures { IfOk result (λ told. (history : List HallStep) × IsToldOf (record { catalog = catalog.now; roll = roll.now }) (state_of desk) (request_lists streams.now) history told.items) }
+    ensures { IfOk result
+        (λ told. (history : List HallStep)
+        × IsToldOf (record { catalog = catalog.now; roll = roll.now }) (state_of desk)
+        (request_lists streams.now) history told.items) }
 {
     let hall = open_hall(rt, alloc, desk, streams, gate)?;
     put_hall(alloc, catalog, roll, &hall)

@@ -1,25 +1,29 @@
-//! What holds of the halls of published texts: each call here does nothing, and its contract is a law.
+//! What holds of the halls of published texts: each call here does nothing, and its contract is a
+//! law.
 ghost use Rattle.dropadd_hall.specs.Laws.{ToldHallIsAllowed, ToldHallIsConserved, ToldHallServesTheFirst, ToldRefusalsChangeNothing};
 
-/// A printed hall is what `hall` prints for a published text. After each request of a printed hall it is so of each section.
-/// It has no more holders than seats, no free seat where somebody waits for it, and nobody waits for it who holds it. Student
-/// by student: each holds it exactly where the replies say so, from the student's final bundle on. The student holds it from
-/// the reply that adds this student, or passes a seat on to this student, until the reply that this student gave it up. So the
-/// holders are as many as in the final bundles, and one more for each who was added and each to whom a seat was passed on,
-/// less one for each who gave it up. Each who was queued waits still, or has once been given the section, lapsed or left; and
-/// of two who did not leave, the one who was queued first was given the section or lapsed first.
+/// A printed hall is what `hall` prints for a published text. After each request of a printed hall
+/// it is so of each section. It has no more holders than seats, no free seat where somebody waits
+/// for it, and nobody waits for it who holds it. Student by student: each holds it exactly where
+/// the replies say so, from the student's final bundle on. The student holds it from the reply that
+/// adds this student, or passes a seat on to this student, until the reply that this student gave
+/// it up. So the holders are as many as in the final bundles, and one more for each who was added
+/// and each to whom a seat was passed on, less one for each who gave it up. Each who was queued
+/// waits still, or has once been given the section, lapsed or left; and of two who did not leave,
+/// the one who was queued first was given the section or lapsed first.
 pub fn told_hall_is_conserved()
     ensures { ToldHallIsConserved }
 {}
 
-/// After each request of a printed hall what each student holds is allowed: no two of the sections clash, and the caps are
-/// kept.
+/// After each request of a printed hall what each student holds is allowed: no two of the sections
+/// clash, and the caps are kept.
 pub fn told_hall_is_allowed()
     ensures { ToldHallIsAllowed }
 {}
 
-/// In a printed hall a seat that is given up goes to the first of those who wait whom the section fits beside what he then
-/// holds. Those before him lapse, and the reply tells how many; where there is no such one all lapse, and nobody has the seat.
+/// In a printed hall a seat that is given up goes to the first of those who wait whom the section
+/// fits beside what he then holds. Those before him lapse, and the reply tells how many; where
+/// there is no such one all lapse, and nobody has the seat.
 pub fn told_hall_serves_the_first()
     ensures { ToldHallServesTheFirst }
 {}

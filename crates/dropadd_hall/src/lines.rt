@@ -27,7 +27,11 @@ pub(crate) fn put_entry(
     step: &Step<HallDesk>,
 ) -> Result<(), NoMemory>
     requires { NamesInRange (record { catalog = catalog.now; roll = roll.now }) step.now.reply }
-    ensures { OnOk result (text.new.items ≡ text.old.items ++ entry_line (record { catalog = catalog.now; roll = roll.now }) step.now ++ 10 ∷ []) }
+    ensures { OnOk result
+        (text.new.items
+        ≡ text.old.items
+        ++ entry_line (record { catalog = catalog.now; roll = roll.now }) step.now ++ 10
+        ∷ []) }
 {
     text.extend_from_slice(b"entry")?;
     put_number_field(text, u64::from(step.seat) + 1)?;
@@ -40,7 +44,8 @@ pub(crate) fn put_entry(
 
 // Puts a space and the request behind the text.
 fn put_request(text: &mut Vec<u8>, request: &HallCommand) -> Result<(), NoMemory>
-    ensures { OnOk result (text.new.items ≡ text.old.items ++ 32 ∷ spaced (request_words request.now)) }
+    ensures { OnOk result
+        (text.new.items ≡ text.old.items ++ 32 ∷ spaced (request_words request.now)) }
 {
     match *request {
         HallCommand::Add { student, section } => put_named(text, b"add", &student, &section),
@@ -57,7 +62,10 @@ fn put_named(
     student: &Name,
     section: &Name,
 ) -> Result<(), NoMemory>
-    ensures { OnOk result (text.new.items ≡ text.old.items ++ 32 ∷ spaced (word.now ∷ name_bytes student.now ∷ name_bytes section.now ∷ [])) }
+    ensures { OnOk result
+        (text.new.items
+        ≡ text.old.items ++ 32
+        ∷ spaced (word.now ∷ name_bytes student.now ∷ name_bytes section.now ∷ [])) }
 {
     put_field(text, word)?;
     put_field(text, student.bytes())?;
@@ -72,7 +80,10 @@ fn put_reply(
     reply: HallReply,
 ) -> Result<(), NoMemory>
     requires { NamesInRange (record { catalog = catalog.now; roll = roll.now }) reply }
-    ensures { OnOk result (text.new.items ≡ text.old.items ++ 32 ∷ spaced (reply_words (record { catalog = catalog.now; roll = roll.now }) reply)) }
+    ensures { OnOk result
+        (text.new.items
+        ≡ text.old.items ++ 32
+        ∷ spaced (reply_words (record { catalog = catalog.now; roll = roll.now }) reply)) }
 {
     match reply {
         HallReply::Unreadable => put_field(text, b"unreadable"),
@@ -105,7 +116,8 @@ fn put_reply(
 // Puts behind the text who has the section next, where there is one.
 fn put_next(text: &mut Vec<u8>, roll: &Roll, next: Option<StudentNo>) -> Result<(), NoMemory>
     requires { IfSome next (λ student. student.0 < length roll.now.students) }
-    ensures { OnOk result (text.new.items ≡ text.old.items ++ next_fields (names_of roll.now.students) next) }
+    ensures { OnOk result
+        (text.new.items ≡ text.old.items ++ next_fields (names_of roll.now.students) next) }
 {
     let Some(student) = next else {
         return Ok(());
@@ -122,7 +134,12 @@ pub(crate) fn put_held(
     bundle: &Bundle,
 ) -> Result<(), NoMemory>
     requires { All (λ s. s < length catalog.now.sections) (sections_of bundle.now) }
-    ensures { OnOk result (text.new.items ≡ text.old.items ++ final_line (section_names catalog.now.sections) (name_bytes student.now) (sections_of bundle.now) ++ 10 ∷ []) }
+    ensures { OnOk result
+        (text.new.items
+        ≡ text.old.items
+        ++ final_line (section_names catalog.now.sections) (name_bytes student.now)
+        (sections_of bundle.now)
+        ++ 10 ∷ []) }
 {
     text.extend_from_slice(b"final")?;
     put_field(text, student.bytes())?;
@@ -139,7 +156,13 @@ pub(crate) fn put_waiting(
     waiting: &[u16],
 ) -> Result<(), NoMemory>
     requires { All (λ i. i < length roll.now.students) waiting.now }
-    ensures { OnOk result (text.new.items ≡ text.old.items ++ spaced (codes "wait" ∷ name_bytes section.now ∷ map (name_at (names_of roll.now.students)) waiting.now) ++ 10 ∷ []) }
+    ensures { OnOk result
+        (text.new.items
+        ≡ text.old.items
+        ++ spaced
+        (codes "wait" ∷ name_bytes section.now
+        ∷ map (name_at (names_of roll.now.students)) waiting.now)
+        ++ 10 ∷ []) }
 {
     text.extend_from_slice(b"wait")?;
     put_field(text, section.bytes())?;
@@ -151,7 +174,10 @@ pub(crate) fn put_waiting(
 // Puts a space and the name of each of these students behind the text.
 fn put_students(text: &mut Vec<u8>, roll: &Roll, students: &[u16]) -> Result<(), NoMemory>
     requires { All (λ i. i < length roll.now.students) students.now }
-    ensures { OnOk result (text.new.items ≡ text.old.items ++ flat_map (λ i. 32 ∷ name_at (names_of roll.now.students) i) students.now) }
+    ensures { OnOk result
+        (text.new.items
+        ≡ text.old.items
+        ++ flat_map (λ i. 32 ∷ name_at (names_of roll.now.students) i) students.now) }
 {
     'students: for student in students {
         put_field(text, roll.name(StudentNo(*student)).bytes())?;
@@ -166,7 +192,9 @@ pub(crate) fn put_seats(
     held: u32,
     seats: u16,
 ) -> Result<(), NoMemory>
-    ensures { OnOk result (text.new.items ≡ text.old.items ++ used_line (name_bytes section.now) (held, seats) ++ 10 ∷ []) }
+    ensures { OnOk result
+        (text.new.items
+        ≡ text.old.items ++ used_line (name_bytes section.now) (held, seats) ++ 10 ∷ []) }
 {
     text.extend_from_slice(b"used")?;
     put_field(text, section.bytes())?;

@@ -31,8 +31,8 @@ pub enum OpeningFault {
     },
 }
 
-/// The first fault of what is held at the desk, students first, each in file order; `None` exactly where there is none. The desk is one
-/// for this catalogue and this roll.
+/// The first fault of what is held at the desk, students first, each in file order; `None` exactly
+/// where there is none. The desk is one for this catalogue and this roll.
 pub fn opening_fault(catalog: &Catalog, roll: &Roll, desk: &HallDesk) -> Option<OpeningFault>
     requires market { market_of desk.now ≡ record { catalog = catalog.now; roll = roll.now } }
     ensures fault { IfSome result (IsFirstFault (market_of desk.now) (state_of desk.now)) }
@@ -62,9 +62,14 @@ pub fn opening_fault(catalog: &Catalog, roll: &Roll, desk: &HallDesk) -> Option<
 // Whether no two sections of the bundle clash, and the student's caps are kept.
 fn may_hold(catalog: &Catalog, roll: &Roll, student: StudentNo, held: &Bundle) -> bool
     requires student { student.0 < length roll.now.students }
-    requires within { (s : ℕ) → has (sections_of held.now) s ≡ true → s < length catalog.now.sections }
-    ensures may { IsTrue result → IsAllowed (record { catalog = catalog.now; roll = roll.now }) student.0 (sections_of held.now) }
-    ensures may_not { result ≡ false → ¬ IsAllowed (record { catalog = catalog.now; roll = roll.now }) student.0 (sections_of held.now) }
+    requires within { (s : ℕ) → has (sections_of held.now) s ≡ true
+        → s < length catalog.now.sections }
+    ensures may { IsTrue result
+        → IsAllowed (record { catalog = catalog.now; roll = roll.now }) student.0
+        (sections_of held.now) }
+    ensures may_not { result ≡ false
+        → ¬ IsAllowed (record { catalog = catalog.now; roll = roll.now }) student.0
+        (sections_of held.now) }
 {
     let sections = held.sections();
     if sections.len() > usize::from(roll.courses(student)) {
@@ -80,7 +85,8 @@ fn may_hold(catalog: &Catalog, roll: &Roll, student: StudentNo, held: &Bundle) -
 fn sum_credits(catalog: &Catalog, sections: &[SectionNo]) -> u32
     requires few { length sections.now ≤ 8 }
     requires within { All (λ section. section.0 < length catalog.now.sections) sections.now }
-    ensures { result ≡ total (λ s. (section_at catalog.now.sections s).credits) (ordinals sections.now) }
+    ensures { result
+        ≡ total (λ s. (section_at catalog.now.sections s).credits) (ordinals sections.now) }
 {
     let mut sum = 0;
     'sections: for section in sections {
@@ -93,7 +99,10 @@ fn sum_credits(catalog: &Catalog, sections: &[SectionNo]) -> u32
 fn some_clash(catalog: &Catalog, sections: &[SectionNo], others: &[SectionNo]) -> bool
     requires within { All (λ section. section.0 < length catalog.now.sections) sections.now }
     requires others { All (λ other. other.0 < length catalog.now.sections) others.now }
-    ensures { result ≡ list_any (λ s. list_any (λ t. sections_clash catalog.now.sections s t) (ordinals others.now)) (ordinals sections.now) }
+    ensures { result
+        ≡ list_any
+        (λ s. list_any (λ t. sections_clash catalog.now.sections s t) (ordinals others.now))
+        (ordinals sections.now) }
 {
     match sections {
         [] => false,
@@ -107,7 +116,8 @@ fn some_clash(catalog: &Catalog, sections: &[SectionNo], others: &[SectionNo]) -
 fn clashes_with_one(catalog: &Catalog, section: SectionNo, others: &[SectionNo]) -> bool
     requires section { section.0 < length catalog.now.sections }
     requires others { All (λ other. other.0 < length catalog.now.sections) others.now }
-    ensures { result ≡ list_any (λ t. sections_clash catalog.now.sections section.0 t) (ordinals others.now) }
+    ensures { result
+        ≡ list_any (λ t. sections_clash catalog.now.sections section.0 t) (ordinals others.now) }
 {
     match others {
         [] => false,

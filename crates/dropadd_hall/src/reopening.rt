@@ -20,8 +20,8 @@ use market_units::MAX_COMMANDS;
 use std::alloc::Global;
 use student_roll::Roll;
 
-// A desk at which students hold the final bundles of the text, with room for all requests that sessions may have, or the
-// first finding.
+// A desk at which students hold the final bundles of the text, with room for all requests that
+// sessions may have, or the first finding.
 pub(crate) fn open_desk(
     alloc: Global,
     catalog: &Catalog,
@@ -29,9 +29,16 @@ pub(crate) fn open_desk(
     text: &[u8],
 ) -> Result<HallDesk, CheckEnd>
     requires { length text.now < 2 ^ 32 - 1 }
-    ensures opened { IfOk result (λ desk. (p : Publication) × IsTextOf (record { catalog = catalog.now; roll = roll.now }) p text.now × IsOpenDesk (record { catalog = catalog.now; roll = roll.now }) p.allocation desk) }
-    ensures first { IfErr result (λ end. OnFound end (IsOpeningFinding (record { catalog = catalog.now; roll = roll.now }) text.now)) }
-    ensures refused { IfErr result (λ end. OnFound end (λ _. ¬ CanOpen (record { catalog = catalog.now; roll = roll.now }) text.now)) }
+    ensures opened { IfOk result
+        (λ desk. (p : Publication)
+        × IsTextOf (record { catalog = catalog.now; roll = roll.now }) p text.now
+        × IsOpenDesk (record { catalog = catalog.now; roll = roll.now }) p.allocation desk) }
+    ensures first { IfErr result
+        (λ end. OnFound end
+        (IsOpeningFinding (record { catalog = catalog.now; roll = roll.now }) text.now)) }
+    ensures refused { IfErr result
+        (λ end. OnFound end
+        (λ _. ¬ CanOpen (record { catalog = catalog.now; roll = roll.now }) text.now)) }
     ensures named { IfErr result (λ end. OnFound end (IsNamedIn (tables_of catalog.now roll.now))) }
 {
     let _few_sections = catalog.len();
@@ -61,8 +68,14 @@ fn open_with(
 ) -> Result<HallDesk, CheckEnd>
     requires each { length bundles.now ≡ length roll.now.students }
     requires within { AreBelow (length catalog.now.sections) (map sections_of bundles.now) }
-    ensures opened { IfOk result (IsOpenDesk (record { catalog = catalog.now; roll = roll.now }) (map sections_of bundles.now)) }
-    ensures fault { IfErr result (λ end. OnFound end (TellsFault (record { catalog = catalog.now; roll = roll.now }) (opening (record { catalog = catalog.now; roll = roll.now }) (map sections_of bundles.now)))) }
+    ensures opened { IfOk result
+        (IsOpenDesk (record { catalog = catalog.now; roll = roll.now })
+        (map sections_of bundles.now)) }
+    ensures fault { IfErr result
+        (λ end. OnFound end
+        (TellsFault (record { catalog = catalog.now; roll = roll.now })
+        (opening (record { catalog = catalog.now; roll = roll.now })
+        (map sections_of bundles.now)))) }
 {
     let desk = HallDesk::prepare(alloc, catalog, roll, bundles, MAX_COMMANDS)?;
     match opening_fault(catalog, roll, &desk) {

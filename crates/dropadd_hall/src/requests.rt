@@ -13,8 +13,8 @@ use market_units::Name;
 use std::alloc::Global;
 use utility_language::{StreamEnd, first_line, first_word, read_name_word};
 
-/// The requests of the text, line by line. Blank lines and comments are none; a line that can't be read is one. `TooMany` comes where
-/// there are more than `room`.
+/// The requests of the text, line by line. Blank lines and comments are none; a line that can't be
+/// read is one. `TooMany` comes where there are more than `room`.
 pub fn read_requests(alloc: Global, bytes: &[u8], room: u32) -> Result<Vec<HallCommand>, StreamEnd>
     ensures requests { IfOk result (λ requests. AreRequests bytes.now requests.items) }
     ensures fits { OnOk result (length (command_lines bytes.now) ≤ room) }
@@ -36,7 +36,8 @@ pub fn read_requests(alloc: Global, bytes: &[u8], room: u32) -> Result<Vec<HallC
     Ok(requests)
 }
 
-/// The request of a line, without its line feed; `None` exactly where the line is blank or a comment.
+/// The request of a line, without its line feed; `None` exactly where the line is blank or a
+/// comment.
 pub fn read_request(line: &[u8]) -> Option<HallCommand>
     ensures none { IfNone result (is_command (words_of line.now) ≡ false) }
     ensures is_request { IfSome result (λ request. is_command (words_of line.now) ≡ true) }
@@ -59,7 +60,8 @@ fn request_of(word: &[u8], rest: &[u8]) -> HallCommand
 // The request that this word and the words of the rest spell.
 fn read_spelled(word: &[u8], rest: &[u8]) -> Option<HallCommand>
     ensures spelled { IfSome result (Spells (word.now ∷ words_of rest.now)) }
-    ensures none { IfNone result ((request : HallCommand) → ¬ Spells (word.now ∷ words_of rest.now) request) }
+    ensures none { IfNone result
+        ((request : HallCommand) → ¬ Spells (word.now ∷ words_of rest.now) request) }
 {
     let (student, section) = read_names(rest)?;
     match word {
@@ -72,8 +74,10 @@ fn read_spelled(word: &[u8], rest: &[u8]) -> Option<HallCommand>
 
 // The two names that are all words of the text.
 fn read_names(text: &[u8]) -> Option<(Name, Name)>
-    ensures spelled { IfSome result (λ names. words_of text.now ≡ name_bytes names.0 ∷ name_bytes names.1 ∷ []) }
-    ensures none { IfNone result ((first second : Name) → words_of text.now ≢ name_bytes first ∷ name_bytes second ∷ []) }
+    ensures spelled { IfSome result
+        (λ names. words_of text.now ≡ name_bytes names.0 ∷ name_bytes names.1 ∷ []) }
+    ensures none { IfNone result
+        ((first second : Name) → words_of text.now ≢ name_bytes first ∷ name_bytes second ∷ []) }
 {
     let (first, text) = read_name_word(text)?;
     let (second, text) = read_name_word(text)?;

@@ -16,8 +16,9 @@ use market_units::{NoMemory, SectionNo, StudentNo};
 use std::alloc::Global;
 use student_roll::Roll;
 
-/// The text of what was requested and replied in a hall, and of what is held, waited for and used after it. The desk is one for this
-/// catalogue and this roll, and the journal's replies name sections and students of theirs. `NoMemory` is the only error.
+/// The text of what was requested and replied in a hall, and of what is held, waited for and used
+/// after it. The desk is one for this catalogue and this roll, and the journal's replies name
+/// sections and students of theirs. `NoMemory` is the only error.
 pub fn put_hall(
     alloc: Global,
     catalog: &Catalog,
@@ -25,8 +26,13 @@ pub fn put_hall(
     hall: &ClosedHall,
 ) -> Result<Vec<u8>, NoMemory>
     requires market { market_of hall.now.desk ≡ record { catalog = catalog.now; roll = roll.now } }
-    requires named { All (λ step. NamesInRange (record { catalog = catalog.now; roll = roll.now }) step.reply) hall.now.journal }
-    ensures { IfOk result (λ text. text.items ≡ hall_text (record { catalog = catalog.now; roll = roll.now }) hall.now.journal (state_of hall.now.desk)) }
+    requires named { All
+        (λ step. NamesInRange (record { catalog = catalog.now; roll = roll.now }) step.reply)
+        hall.now.journal }
+    ensures { IfOk result
+        (λ text. text.items
+        ≡ hall_text (record { catalog = catalog.now; roll = roll.now }) hall.now.journal
+        (state_of hall.now.desk)) }
 {
     let mut text = Vec::new(alloc);
     put_entries(&mut text, catalog, roll, hall.journal.steps())?;
@@ -43,8 +49,15 @@ fn put_entries(
     roll: &Roll,
     steps: &[Step<HallDesk>],
 ) -> Result<(), NoMemory>
-    requires { All (λ step. NamesInRange (record { catalog = catalog.now; roll = roll.now }) step.reply) steps.now }
-    ensures { OnOk result (text.new.items ≡ text.old.items ++ joined (map (entry_line (record { catalog = catalog.now; roll = roll.now })) steps.now)) }
+    requires { All
+        (λ step. NamesInRange (record { catalog = catalog.now; roll = roll.now }) step.reply)
+        steps.now }
+    ensures { OnOk result
+        (text.new.items
+        ≡ text.old.items
+        ++ joined
+        (map (entry_line (record { catalog = catalog.now; roll = roll.now }))
+        steps.now)) }
 {
     'steps: for step in steps {
         put_entry(text, catalog, roll, step)?;
@@ -60,7 +73,12 @@ fn put_bundles(
     desk: &HallDesk,
 ) -> Result<(), NoMemory>
     requires { market_of desk.now ≡ record { catalog = catalog.now; roll = roll.now } }
-    ensures { OnOk result (text.new.items ≡ text.old.items ++ joined (map (held_line (market_of desk.now) (state_of desk.now)) (range_with_len 0 (student_count (market_of desk.now))))) }
+    ensures { OnOk result
+        (text.new.items
+        ≡ text.old.items
+        ++ joined
+        (map (held_line (market_of desk.now) (state_of desk.now))
+        (range_with_len 0 (student_count (market_of desk.now))))) }
 {
     'students: for student in 0..roll.len() {
         let student = StudentNo(student);
@@ -77,7 +95,12 @@ fn put_lists(
     desk: &HallDesk,
 ) -> Result<(), NoMemory>
     requires { market_of desk.now ≡ record { catalog = catalog.now; roll = roll.now } }
-    ensures { OnOk result (text.new.items ≡ text.old.items ++ joined (flat_map (wait_lines (market_of desk.now) (state_of desk.now)) (range_with_len 0 (section_count (market_of desk.now))))) }
+    ensures { OnOk result
+        (text.new.items
+        ≡ text.old.items
+        ++ joined
+        (flat_map (wait_lines (market_of desk.now) (state_of desk.now))
+        (range_with_len 0 (section_count (market_of desk.now))))) }
 {
     'sections: for section in 0..catalog.len() {
         put_list(text, catalog, roll, desk, SectionNo(section))?;
@@ -95,7 +118,10 @@ fn put_list(
 ) -> Result<(), NoMemory>
     requires market { market_of desk.now ≡ record { catalog = catalog.now; roll = roll.now } }
     requires section { section.0 < section_count (market_of desk.now) }
-    ensures { OnOk result (text.new.items ≡ text.old.items ++ joined (wait_lines (market_of desk.now) (state_of desk.now) section.0)) }
+    ensures { OnOk result
+        (text.new.items
+        ≡ text.old.items
+        ++ joined (wait_lines (market_of desk.now) (state_of desk.now) section.0)) }
 {
     let waiting = desk.waiting(section);
     if waiting.is_empty() {
@@ -108,7 +134,12 @@ fn put_list(
 // Puts the line of each section's seats behind the text.
 fn put_all_seats(text: &mut Vec<u8>, catalog: &Catalog, desk: &HallDesk) -> Result<(), NoMemory>
     requires { (market_of desk.now).catalog ≡ catalog.now }
-    ensures { OnOk result (text.new.items ≡ text.old.items ++ joined (map (seats_line (market_of desk.now) (state_of desk.now)) (range_with_len 0 (section_count (market_of desk.now))))) }
+    ensures { OnOk result
+        (text.new.items
+        ≡ text.old.items
+        ++ joined
+        (map (seats_line (market_of desk.now) (state_of desk.now))
+        (range_with_len 0 (section_count (market_of desk.now))))) }
 {
     'sections: for section in 0..catalog.len() {
         let section = SectionNo(section);

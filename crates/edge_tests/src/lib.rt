@@ -1,5 +1,5 @@
-//! Tests of the outside of the market: what no clause says of it. There is nothing else here, so that what they stand
-//! on is proved once.
+//! Tests of the outside of the market: what no clause says of it. There is nothing else here, so
+//! that what they stand on is proved once.
 #![tactic(auto)]
 
 #[cfg(test)]

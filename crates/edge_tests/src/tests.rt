@@ -192,8 +192,8 @@ fn a_closed_pipe_is_a_fault(rt: HostRuntime) {
     assert_eq!(rt; write_whole(&mut sink, b"fails"), Err(SinkFault));
 }
 
-// A writer that takes two bytes of each piece and whose call of one number fails. It counts its calls, and the bytes that
-// it took.
+// A writer that takes two bytes of each piece and whose call of one number fails. It counts its
+// calls, and the bytes that it took.
 #[derive(Drop)]
 struct Failing<'a> {
     failing_call: u64,
@@ -216,10 +216,12 @@ impl Write for Failing<'_> {
     }
 }
 
-// A failed write of the writer is a failure at once: it is not tried again, and nothing is written behind it.
+// A failed write of the writer is a failure at once: it is not tried again, and nothing is written
+// behind it.
 #[test]
 fn a_failed_write_is_not_tried_again(rt: HostRuntime) {
-    // The call that fails, counted from 0; the answer; how many calls are made, and how many bytes are taken.
+    // The call that fails, counted from 0; the answer; how many calls are made, and how many bytes
+    // are taken.
     let cases: [(u64, Result<(), SinkFault>, u64, u64); 4] = [
         (0, Err(SinkFault), 1, 0),
         (1, Err(SinkFault), 2, 2),

@@ -27,7 +27,9 @@ module _ (w : Wishes) (x : ℕ) (xs : List ℕ) (section : ℕ) where
   first_later other apart later = record {
     member = has-there x xs other later.member;
     clashes = later.clashes;
-    lowest = λ lower low is. elim (has-cases x xs lower is) [ inl here ↦ subst (λ s. w.clash s section ≡ false) here apart | inr there ↦ later.lowest lower low there ];
+    lowest =
+        λ lower low is. elim (has-cases x xs lower is)
+        [ inl here ↦ subst (λ s. w.clash s section ≡ false) here apart | inr there ↦ later.lowest lower low there ];
   }
 
   none_more : w.clash x section ≡ false → NoneClashes w xs section → NoneClashes w (x ∷ xs) section
@@ -38,16 +40,23 @@ module _ (w : Wishes) (sections : List SectionNo) (d : SectionNo) (section : ℕ
   split : ordinals sections ≡ (get_or sections 0 d).0 ∷ ordinals (take (length sections - 1) (drop 1 sections))
   split = ap ordinals (first_rest sections d some)
 
-  pub clash_here : IsAscending (ordinals sections) → w.clash (get_or sections 0 d).0 section ≡ true → ClashesFirst w (ordinals sections) section (get_or sections 0 d).0
+  pub clash_here : IsAscending (ordinals sections) → w.clash (get_or sections 0 d).0 section ≡ true
+      → ClashesFirst w (ordinals sections) section (get_or sections 0 d).0
   clash_here up clashes =
-      subst (λ list. ClashesFirst w list section (get_or sections 0 d).0) (sym split) (first_here w (get_or sections 0 d).0 (ordinals (take (length sections - 1) (drop 1 sections))) section (subst IsAscending split up) clashes)
+      subst (λ list. ClashesFirst w list section (get_or sections 0 d).0) (sym split)
+      (first_here w (get_or sections 0 d).0 (ordinals (take (length sections - 1) (drop 1 sections))) section (subst IsAscending split up) clashes)
 
-  pub clash_later : (other : ℕ) → w.clash (get_or sections 0 d).0 section ≡ false → ClashesFirst w (ordinals (take (length sections - 1) (drop 1 sections))) section other → ClashesFirst w (ordinals sections) section other
+  pub clash_later : (other : ℕ) → w.clash (get_or sections 0 d).0 section ≡ false
+      → ClashesFirst w (ordinals (take (length sections - 1) (drop 1 sections))) section other → ClashesFirst w (ordinals sections) section other
   clash_later other apart later =
-      subst (λ list. ClashesFirst w list section other) (sym split) (first_later w (get_or sections 0 d).0 (ordinals (take (length sections - 1) (drop 1 sections))) section other apart later)
+      subst (λ list. ClashesFirst w list section other) (sym split)
+      (first_later w (get_or sections 0 d).0 (ordinals (take (length sections - 1) (drop 1 sections))) section other apart later)
 
-  pub none_later : w.clash (get_or sections 0 d).0 section ≡ false → NoneClashes w (ordinals (take (length sections - 1) (drop 1 sections))) section → NoneClashes w (ordinals sections) section
-  none_later apart none = subst (λ list. NoneClashes w list section) (sym split) (none_more w (get_or sections 0 d).0 (ordinals (take (length sections - 1) (drop 1 sections))) section apart none)
+  pub none_later : w.clash (get_or sections 0 d).0 section ≡ false → NoneClashes w (ordinals (take (length sections - 1) (drop 1 sections))) section
+      → NoneClashes w (ordinals sections) section
+  none_later apart none =
+      subst (λ list. NoneClashes w list section) (sym split)
+      (none_more w (get_or sections 0 d).0 (ordinals (take (length sections - 1) (drop 1 sections))) section apart none)
 
   pub ascending_rest : IsAscending (ordinals sections) → IsAscending (ordinals (take (length sections - 1) (drop 1 sections)))
   ascending_rest up = (subst IsAscending split up).1

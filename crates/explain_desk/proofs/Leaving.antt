@@ -40,7 +40,8 @@ alone_choice w price budget allowed section offered rated none =
     }
 
 -- and a choice passes none
-choice_passes_none : (w : Wishes) (price : ℕ → ℕ) (budget : ℕ) (allowed : ℕ → Bool) (sections : List ℕ) → IsChoice w price budget allowed sections → (limit : Limit) → ¬ Passes w price budget sections limit
+choice_passes_none : (w : Wishes) (price : ℕ → ℕ) (budget : ℕ) (allowed : ℕ → Bool) (sections : List ℕ) → IsChoice w price budget allowed sections
+    → (limit : Limit) → ¬ Passes w price budget sections limit
 choice_passes_none w price budget allowed sections choice Price passes = let most = choice.affordable in absurd (omega (arith, most, passes))
 choice_passes_none w price budget allowed sections choice Credits passes = let most = choice.feasible.credits in absurd (omega (arith, most, passes))
 choice_passes_none w price budget allowed sections choice Courses passes = let most = choice.feasible.courses in absurd (omega (arith, most, passes))
@@ -59,30 +60,37 @@ above_zero : (n : ℕ) → n ≢ 0 → 0 < n
 above_zero n other = elim (cases_lt 0 n) [ inl above ↦ above | inr below ↦ absurd (other (omega (arith, below))) ]
 
 -- a reason that leaves a bundle leaves the section alone
-pub section_alone : (w : Wishes) (price : ℕ → ℕ) (budget : ℕ) (allowed : ℕ → Bool) (bundle : List ℕ) (section : ℕ) (reason : Reason) → allowed section ≡ true → IsReason w price budget bundle section reason → tells_best reason ≡ true
+pub section_alone : (w : Wishes) (price : ℕ → ℕ) (budget : ℕ) (allowed : ℕ → Bool) (bundle : List ℕ) (section : ℕ) (reason : Reason) → allowed section ≡ true
+    → IsReason w price budget bundle section reason → tells_best reason ≡ true
     → IsChoice w price budget allowed (section ∷ [])
 section_alone w price budget allowed bundle section reason offered is tells =
     let after : 2 < stage reason = late reason tells in
-    alone_choice w price budget allowed section offered (above_zero (w.rating section) (is.first Unrated (omega (arith, after)))) (none_passed w price budget (section ∷ []) (λ limit. is.first (Alone limit) after))
+    alone_choice w price budget allowed section offered (above_zero (w.rating section) (is.first Unrated (omega (arith, after))))
+    (none_passed w price budget (section ∷ []) (λ limit. is.first (Alone limit) after))
 
 -- where the section alone is a choice, and the bundle does not have it, the reason leaves a bundle
-leaves : (w : Wishes) (price : ℕ → ℕ) (budget : ℕ) (allowed : ℕ → Bool) (bundle : List ℕ) (section : ℕ) (reason : Reason) → has bundle section ≡ false → Applies w price budget bundle section reason → IsChoice w price budget allowed (section ∷ [])
+leaves : (w : Wishes) (price : ℕ → ℕ) (budget : ℕ) (allowed : ℕ → Bool) (bundle : List ℕ) (section : ℕ) (reason : Reason) → has bundle section ≡ false
+    → Applies w price budget bundle section reason → IsChoice w price budget allowed (section ∷ [])
     → tells_best reason ≡ true
 leaves w price budget allowed bundle section Held lacks applies choice = absurd (true≢false (sym applies ∙ lacks))
-leaves w price budget allowed bundle section Unrated lacks applies choice = let rated = choice.feasible.rated section (has-here section []) in absurd (omega (arith, applies, rated))
-leaves w price budget allowed bundle section (Alone limit) lacks applies choice = absurd (choice_passes_none w price budget allowed (section ∷ []) choice limit applies.passes)
+leaves w price budget allowed bundle section Unrated lacks applies choice =
+    let rated = choice.feasible.rated section (has-here section []) in absurd (omega (arith, applies, rated))
+leaves w price budget allowed bundle section (Alone limit) lacks applies choice =
+    absurd (choice_passes_none w price budget allowed (section ∷ []) choice limit applies.passes)
 leaves w price budget allowed bundle section (Clash other) lacks applies choice = refl
 leaves w price budget allowed bundle section (Beside limit) lacks applies choice = refl
 leaves w price budget allowed bundle section Less lacks applies choice = refl
 
 -- some bundle has the section where the reason leaves one
-pub some_has : (menu : MenuData) (price : ℕ → ℕ) (budget : ℕ) (allowed : ℕ → Bool) (bundle : List ℕ) (section : ℕ) (reason : Reason) → allowed section ≡ true → IsReason (wishes_of menu) price budget bundle section reason → tells_best reason ≡ true
+pub some_has : (menu : MenuData) (price : ℕ → ℕ) (budget : ℕ) (allowed : ℕ → Bool) (bundle : List ℕ) (section : ℕ) (reason : Reason) → allowed section ≡ true
+    → IsReason (wishes_of menu) price budget bundle section reason → tells_best reason ≡ true
     → SomeHas (wishes_of menu) price budget allowed section
 some_has menu price budget allowed bundle section reason offered is tells =
     (best_with_a_section menu price budget allowed section).alone.1 (section_alone (wishes_of menu) price budget allowed bundle section reason offered is tells)
 
 pub reasons_leave_a_bundle : ReasonsLeaveABundle
 reasons_leave_a_bundle menu price budget allowed bundle section reason offered lacks is = (
-  (λ some. leaves (wishes_of menu) price budget allowed bundle section reason lacks is.applies ((best_with_a_section menu price budget allowed section).alone.0 some)),
+  (λ some. leaves (wishes_of menu) price budget allowed bundle section reason lacks is.applies
+      ((best_with_a_section menu price budget allowed section).alone.0 some)),
   (λ tells. some_has menu price budget allowed bundle section reason offered is tells),
 )

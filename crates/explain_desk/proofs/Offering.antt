@@ -31,7 +31,8 @@ at_below (r ∷ rs) n zero each low = let is : r.section.0 < n = each 0 r (omega
 at_below (r ∷ rs) n (suc k) each low = at_below rs n k (λ i d h. each (suc i) d (let g : suc i < suc (length rs) = omega (arith, h) in g)) (omega (arith, low))
 
 -- and so is each section of a bundle of them
-pub section_below : (menu : MenuData) (n : ℕ) (bundle : List ℕ) → All (λ (rated : Rated). rated.section.0 < n) menu.places → AllRated (wishes_of menu) bundle → (s : ℕ) → has bundle s ≡ true → s < n
+pub section_below : (menu : MenuData) (n : ℕ) (bundle : List ℕ) → All (λ (rated : Rated). rated.section.0 < n) menu.places → AllRated (wishes_of menu) bundle
+    → (s : ℕ) → has bundle s ≡ true → s < n
 section_below menu n bundle each rated s is =
     let low : place_in menu.places s < length menu.places = place_of_rated menu bundle rated s is in
     subst (λ t. t < n) (section_at-place_in menu.places s low) (at_below menu.places n (place_in menu.places s) each low)
@@ -42,26 +43,39 @@ has_at [] k d low = absurd (omega (arith, low))
 has_at (s ∷ ss) zero d low = has-here s ss
 has_at (s ∷ ss) (suc k) d low = has-there s ss (get_or ss k d) (has_at ss k d (omega (arith, low)))
 
-pub all_below : (menu : MenuData) (n : ℕ) (bundle : List ℕ) → All (λ (rated : Rated). rated.section.0 < n) menu.places → AllRated (wishes_of menu) bundle → All (λ s. s < n) bundle
+pub all_below : (menu : MenuData) (n : ℕ) (bundle : List ℕ) → All (λ (rated : Rated). rated.section.0 < n) menu.places → AllRated (wishes_of menu) bundle
+    → All (λ s. s < n) bundle
 all_below menu n bundle each rated = λ k d low. section_below menu n bundle each rated (get_or bundle k d) (has_at bundle k d low)
 
 -- all sections of a bundle are offered
-pub all_offered : (menu : MenuData) (n : ℕ) (bundle : List ℕ) (all : set.FinSet nat_cmp) → ((s : ℕ) → set.contains all s ≡ nat_lt s n) → All (λ (rated : Rated). rated.section.0 < n) menu.places → AllRated (wishes_of menu) bundle
+pub all_offered : (menu : MenuData) (n : ℕ) (bundle : List ℕ) (all : set.FinSet nat_cmp) → ((s : ℕ) → set.contains all s ≡ nat_lt s n)
+    → All (λ (rated : Rated). rated.section.0 < n) menu.places → AllRated (wishes_of menu) bundle
     → (s : ℕ) → has bundle s ≡ true → set.contains all s ≡ true
 all_offered menu n bundle all same each rated s is = same s ∙ lt-ltb s n (section_below menu n bundle each rated s is)
 
 -- what is found for the set is found for the test
-pub proved_with : (menu : MenuData) (prices : List Tokens) (budget n section : ℕ) (bundle tree : List ℕ) (all : set.FinSet nat_cmp) → ((s : ℕ) → set.contains all s ≡ nat_lt s n)
-    → IsBestWith (wishes_of menu) (price_in prices) budget (set.contains all) section bundle → IsTreeText (record { menu = menu; price = price_in prices; budget = budget; allowed = set.contains all }) (Some (place_in menu.places section)) bundle tree
+pub proved_with : (menu : MenuData) (prices : List Tokens) (budget n section : ℕ) (bundle tree : List ℕ) (all : set.FinSet nat_cmp)
+    → ((s : ℕ) → set.contains all s ≡ nat_lt s n)
+    → IsBestWith (wishes_of menu) (price_in prices) budget (set.contains all) section bundle
+    → IsTreeText (record { menu = menu; price = price_in prices; budget = budget; allowed = set.contains all }) (Some (place_in menu.places section)) bundle
+    tree
     → IsProvedWith (offer_of_all menu prices budget n) section (record { bundle = bundle; tree = tree })
 proved_with menu prices budget n section bundle tree all same best text =
-    subst (λ (allowed : ℕ → Bool). IsProvedWith (record { menu = menu; price = price_in prices; budget = budget; allowed = allowed }) section (record { bundle = bundle; tree = tree })) (all_is all n same) (record { best = best; tree = text })
+    subst
+    (λ (allowed : ℕ → Bool). IsProvedWith (record { menu = menu; price = price_in prices; budget = budget; allowed = allowed }) section
+    (record { bundle = bundle; tree = tree }))
+    (all_is all n same) (record { best = best; tree = text })
 
 -- and the other way round
-pub found_with : (menu : MenuData) (prices : List Tokens) (budget n section : ℕ) (bundle tree : List ℕ) (all : set.FinSet nat_cmp) → ((s : ℕ) → set.contains all s ≡ nat_lt s n) → IsProvedWith (offer_of_all menu prices budget n) section (record { bundle = bundle; tree = tree })
-    → IsProvedWith (record { menu = menu; price = price_in prices; budget = budget; allowed = set.contains all }) section (record { bundle = bundle; tree = tree })
+pub found_with : (menu : MenuData) (prices : List Tokens) (budget n section : ℕ) (bundle tree : List ℕ) (all : set.FinSet nat_cmp)
+    → ((s : ℕ) → set.contains all s ≡ nat_lt s n) → IsProvedWith (offer_of_all menu prices budget n) section (record { bundle = bundle; tree = tree })
+    → IsProvedWith (record { menu = menu; price = price_in prices; budget = budget; allowed = set.contains all }) section
+    (record { bundle = bundle; tree = tree })
 found_with menu prices budget n section bundle tree all same is =
-    subst (λ (allowed : ℕ → Bool). IsProvedWith (record { menu = menu; price = price_in prices; budget = budget; allowed = allowed }) section (record { bundle = bundle; tree = tree })) (sym (all_is all n same)) is
+    subst
+    (λ (allowed : ℕ → Bool). IsProvedWith (record { menu = menu; price = price_in prices; budget = budget; allowed = allowed }) section
+    (record { bundle = bundle; tree = tree }))
+    (sym (all_is all n same)) is
 
 -- what holds of the bundle that is told holds of it as it is seen
 pub seen_told : (P : Proved → Type 0) (best : Option own.Proved) → IfSome best (λ proved. P (proved_of proved)) → IfSome (option_map proved_of best) P

@@ -34,11 +34,14 @@ module _ (w : Wishes) (price : ℕ → ℕ) (budget : ℕ) (sections : List ℕ)
   pub first_credits : ¬ Passes w price budget sections Price → Passes w price budget sections Credits → PassesFirst w price budget sections Credits
   first_credits no_price passes = record { passes = passes; first = before_credits (λ limit. ¬ Passes w price budget sections limit) no_price }
 
-  pub first_courses : ¬ Passes w price budget sections Price → ¬ Passes w price budget sections Credits → Passes w price budget sections Courses → PassesFirst w price budget sections Courses
-  first_courses no_price no_credits passes = record { passes = passes; first = before_courses (λ limit. ¬ Passes w price budget sections limit) no_price no_credits }
+  pub first_courses : ¬ Passes w price budget sections Price → ¬ Passes w price budget sections Credits → Passes w price budget sections Courses
+      → PassesFirst w price budget sections Courses
+  first_courses no_price no_credits passes =
+      record { passes = passes; first = before_courses (λ limit. ¬ Passes w price budget sections limit) no_price no_credits }
 
   -- all three, none of which is passed
-  pub passes_none : ¬ Passes w price budget sections Price → ¬ Passes w price budget sections Credits → ¬ Passes w price budget sections Courses → (limit : Limit) → ¬ Passes w price budget sections limit
+  pub passes_none : ¬ Passes w price budget sections Price → ¬ Passes w price budget sections Credits → ¬ Passes w price budget sections Courses
+      → (limit : Limit) → ¬ Passes w price budget sections limit
   passes_none no_price no_credits no_courses Price = no_price
   passes_none no_price no_credits no_courses Credits = no_credits
   passes_none no_price no_credits no_courses Courses = no_courses
@@ -71,11 +74,14 @@ module _ (w : Wishes) (price : ℕ → ℕ) (budget section : ℕ) (bundle : Lis
   pub within_price : (one more : ℕ) → one ≡ price section → more ≡ total price bundle → one + more ≤ budget → ¬ Passes w price budget (section ∷ bundle) Price
   within_price one more is are within passes = let over : budget < price section + total price bundle = passes in omega (arith, is, are, within, over)
 
-  pub over_credits : (one more cap : ℕ) → cap ≡ w.credit_cap → one ≡ w.credits section → more ≡ total w.credits bundle → cap < one + more → Passes w price budget (section ∷ bundle) Credits
+  pub over_credits : (one more cap : ℕ) → cap ≡ w.credit_cap → one ≡ w.credits section → more ≡ total w.credits bundle → cap < one + more
+      → Passes w price budget (section ∷ bundle) Credits
   over_credits one more cap limit is are over = omega (arith, limit, is, are, over)
 
-  pub within_credits : (one more cap : ℕ) → cap ≡ w.credit_cap → one ≡ w.credits section → more ≡ total w.credits bundle → one + more ≤ cap → ¬ Passes w price budget (section ∷ bundle) Credits
-  within_credits one more cap limit is are within passes = let over : w.credit_cap < w.credits section + total w.credits bundle = passes in omega (arith, limit, is, are, within, over)
+  pub within_credits : (one more cap : ℕ) → cap ≡ w.credit_cap → one ≡ w.credits section → more ≡ total w.credits bundle → one + more ≤ cap
+      → ¬ Passes w price budget (section ∷ bundle) Credits
+  within_credits one more cap limit is are within passes =
+      let over : w.credit_cap < w.credits section + total w.credits bundle = passes in omega (arith, limit, is, are, within, over)
 
   pub over_courses : (count cap : ℕ) → cap ≡ w.course_cap → count ≡ length bundle → cap ≤ count → Passes w price budget (section ∷ bundle) Courses
   over_courses count cap limit are over = omega (arith, limit, are, over)

@@ -16,7 +16,8 @@ use Rattle.explain_desk.specs.Views.{proved_of}
 use Rattle.explain_desk.proofs.Offering.{section_below}
 
 -- the section that a reason names is one of the bundle's
-pub names_below : (menu : MenuData) (price : ℕ → ℕ) (budget n : ℕ) (bundle : List ℕ) (section : ℕ) (reason : Reason) → All (λ (rated : Rated). rated.section.0 < n) menu.places → AllRated (wishes_of menu) bundle
+pub names_below : (menu : MenuData) (price : ℕ → ℕ) (budget n : ℕ) (bundle : List ℕ) (section : ℕ) (reason : Reason)
+    → All (λ (rated : Rated). rated.section.0 < n) menu.places → AllRated (wishes_of menu) bundle
     → IsReason (wishes_of menu) price budget bundle section reason → NamesBelow n reason
 names_below menu price budget n bundle section Held each rated is = tt
 names_below menu price budget n bundle section Unrated each rated is = tt
@@ -26,6 +27,7 @@ names_below menu price budget n bundle section (Beside limit) each rated is = tt
 names_below menu price budget n bundle section Less each rated is = tt
 
 -- the bundle that is told has rated sections alone
-pub rated_told : (offer : Offer) (section : ℕ) (best : Option own.Proved) → IfSome (option_map proved_of best) (IsProvedWith offer section) → IfSome best (λ proved. AllRated (wishes_of offer.menu) (sections_of proved.bundle))
+pub rated_told : (offer : Offer) (section : ℕ) (best : Option own.Proved) → IfSome (option_map proved_of best) (IsProvedWith offer section)
+    → IfSome best (λ proved. AllRated (wishes_of offer.menu) (sections_of proved.bundle))
 rated_told offer section (Some proved) is = is.best.choice.feasible.rated
 rated_told offer section None is = tt

@@ -32,7 +32,8 @@ use Rattle.explain_desk.specs.Told.{IsTold}
 use Rattle.explain_desk.specs.Checked.{IsChecked}
 
 -- what is known of an accepted text
-pub checked : (market : Market) (streams : List (List Command)) (text : List ℕ) (p : _) (crowd : CrowdData) → IsTextOf market p text → HoldsBy market streams p crowd → IsChecked market.catalog market.roll p crowd
+pub checked : (market : Market) (streams : List (List Command)) (text : List ℕ) (p : _) (crowd : CrowdData) → IsTextOf market p text
+    → HoldsBy market streams p crowd → IsChecked market.catalog market.roll p crowd
 checked market streams text p crowd is holds =
     let accepted : IsAccepted market streams text = record { publication = p; is_text = is; holds = record { crowd = crowd; is_crowd = holds.is_crowd; printed = holds.printed } } in record {
       is_publication = is.is_publication;
@@ -42,7 +43,8 @@ checked market streams text p crowd is holds =
     }
 
 -- what stands at the place of a student
-pub record StandsAt (menus : List MenuData) (budgets : List Tokens) (sections k : ℕ) (publication : declared.Publication) (m : MenuData) (b : Tokens) (item : declared_proved.Proved) : Type 0 where
+pub record StandsAt (menus : List MenuData) (budgets : List Tokens) (sections k : ℕ) (publication : declared.Publication) (m : MenuData) (b : Tokens)
+    (item : declared_proved.Proved) : Type 0 where
   pub whole : MakeCrowd menus budgets sections
   pub low : k < length menus
   pub printed_low : k < length publication.bundles.items
@@ -51,19 +53,25 @@ pub record StandsAt (menus : List MenuData) (budgets : List Tokens) (sections k 
   pub printed : item ≡ get_or publication.bundles.items k item
 
 -- the places of a student of the roll
-pub lows : (catalog : CatalogData) (roll : RollData) (publication : declared.Publication) (menus : List MenuData) (budgets : List Tokens) (sections place student : ℕ) → IsChecked catalog roll (publication_of publication) (crowd_of menus budgets sections)
-    → MakeCrowd menus budgets sections → student < length roll.students → place ≡ student → (place < length menus) × (place < length budgets) × (place < length publication.bundles.items)
+pub lows : (catalog : CatalogData) (roll : RollData) (publication : declared.Publication) (menus : List MenuData) (budgets : List Tokens)
+    (sections place student : ℕ)
+    → IsChecked catalog roll (publication_of publication) (crowd_of menus budgets sections)
+    → MakeCrowd menus budgets sections → student < length roll.students → place ≡ student
+    → (place < length menus) × (place < length budgets) × (place < length publication.bundles.items)
 lows catalog roll publication menus budgets sections place student is whole low same =
     let asked : length (students_of menus budgets) ≡ length roll.students = is.students in
     let count : length (students_of menus budgets) ≡ length menus = students_length menus budgets whole.same in
     let drawn : length budgets ≡ length menus = whole.same in
-    let printed : length (map proved_of publication.bundles.items) ≡ length (map (λ (student : Enrolled). student.name) roll.students) = is.is_publication.bundles.count in
+    let printed : length (map proved_of publication.bundles.items) ≡ length (map (λ (student : Enrolled). student.name) roll.students) =
+    is.is_publication.bundles.count in
     let names = length_map (λ (student : Enrolled). student.name) roll.students in
     let long = length_map proved_of publication.bundles.items in
     (omega (arith, asked, count, low, same), omega (arith, asked, count, drawn, low, same), omega (arith, printed, names, long, low, same))
 
-pub stands_at : (catalog : CatalogData) (roll : RollData) (publication : declared.Publication) (menus : List MenuData) (budgets : List Tokens) (sections place student : ℕ) (m : MenuData) (b : Tokens) (item : declared_proved.Proved)
-    → IsChecked catalog roll (publication_of publication) (crowd_of menus budgets sections) → MakeCrowd menus budgets sections → student < length roll.students → place ≡ student → m ≡ get_or menus place m → b ≡ get_or budgets place b
+pub stands_at : (catalog : CatalogData) (roll : RollData) (publication : declared.Publication) (menus : List MenuData) (budgets : List Tokens)
+    (sections place student : ℕ) (m : MenuData) (b : Tokens) (item : declared_proved.Proved)
+    → IsChecked catalog roll (publication_of publication) (crowd_of menus budgets sections) → MakeCrowd menus budgets sections → student < length roll.students
+    → place ≡ student → m ≡ get_or menus place m → b ≡ get_or budgets place b
     → item ≡ get_or publication.bundles.items place item → StandsAt menus budgets sections student publication m b item
 stands_at catalog roll publication menus budgets sections place student m b item is whole low same first second third =
     let inside = lows catalog roll publication menus budgets sections place student is whole low same in record {
@@ -75,7 +83,8 @@ stands_at catalog roll publication menus budgets sections place student m b item
       printed = subst (λ k. item ≡ get_or publication.bundles.items k item) same third;
     }
 
-module _ (menus : List MenuData) (budgets : List Tokens) (sections k : ℕ) (publication : declared.Publication) (m : MenuData) (b : Tokens) (item : declared_proved.Proved) (stands : StandsAt menus budgets sections k publication m b item) where
+module _ (menus : List MenuData) (budgets : List Tokens) (sections k : ℕ) (publication : declared.Publication) (m : MenuData) (b : Tokens)
+    (item : declared_proved.Proved) (stands : StandsAt menus budgets sections k publication m b item) where
   pub this_student : student_in (crowd_of menus budgets sections) k ≡ record { menu = m; budget = b.0 }
   this_student = student_is menus budgets sections k m b stands.whole.same stands.low stands.menu stands.budget
 
@@ -83,26 +92,43 @@ module _ (menus : List MenuData) (budgets : List Tokens) (sections k : ℕ) (pub
   this_bundle = proved_is publication k item stands.printed_low stands.printed
 
   pub this_offer : offer_in (crowd_of menus budgets sections) (publication_of publication) k ≡ offer_of_all m publication.prices.items b.0 sections
-  this_offer = λ i. record { menu = (this_student i).menu; price = slice_index (map (λ (t : Tokens). t.0) publication.prices.items); budget = (this_student i).budget; allowed = λ s. nat_lt s sections }
+  this_offer =
+      λ i. record {
+        menu = (this_student i).menu;
+        price = slice_index (map (λ (t : Tokens). t.0) publication.prices.items);
+        budget = (this_student i).budget;
+        allowed = λ s. nat_lt s sections;
+      }
 
   -- a fact of what is offered and printed is one of what stands there
-  pub stands_so : (P : Offer → Proved → Type 0) → P (offer_in (crowd_of menus budgets sections) (publication_of publication) k) (proved_in (publication_of publication) k) → P (offer_of_all m publication.prices.items b.0 sections) (proved_of item)
-  stands_so P is = subst (λ offer. P offer (proved_of item)) this_offer (subst (λ proved. P (offer_in (crowd_of menus budgets sections) (publication_of publication) k) proved) this_bundle is)
+  pub stands_so : (P : Offer → Proved → Type 0)
+      → P (offer_in (crowd_of menus budgets sections) (publication_of publication) k) (proved_in (publication_of publication) k)
+      → P (offer_of_all m publication.prices.items b.0 sections) (proved_of item)
+  stands_so P is =
+      subst (λ offer. P offer (proved_of item)) this_offer
+      (subst (λ proved. P (offer_in (crowd_of menus budgets sections) (publication_of publication) k) proved) this_bundle is)
 
   -- and the other way round
-  pub printed_so : (P : Offer → Proved → Type 0) → P (offer_of_all m publication.prices.items b.0 sections) (proved_of item) → P (offer_in (crowd_of menus budgets sections) (publication_of publication) k) (proved_in (publication_of publication) k)
-  printed_so P is = subst (λ offer. P offer (proved_in (publication_of publication) k)) (sym this_offer) (subst (λ proved. P (offer_of_all m publication.prices.items b.0 sections) proved) (sym this_bundle) is)
+  pub printed_so : (P : Offer → Proved → Type 0) → P (offer_of_all m publication.prices.items b.0 sections) (proved_of item)
+      → P (offer_in (crowd_of menus budgets sections) (publication_of publication) k) (proved_in (publication_of publication) k)
+  printed_so P is =
+      subst (λ offer. P offer (proved_in (publication_of publication) k)) (sym this_offer)
+      (subst (λ proved. P (offer_of_all m publication.prices.items b.0 sections) proved) (sym this_bundle) is)
 
   -- its sections are among those of the crowd
   pub menu_within : All (λ (rated : Rated). rated.section.0 < sections) m.places
   menu_within = subst (IsWithin sections) (sym stands.menu) (stands.whole.within k m stands.low)
 
   -- and have prices
-  pub menu_priced : (catalog : CatalogData) (roll : RollData) → IsChecked catalog roll (publication_of publication) (crowd_of menus budgets sections) → HasPrices m publication.prices.items
+  pub menu_priced : (catalog : CatalogData) (roll : RollData) → IsChecked catalog roll (publication_of publication) (crowd_of menus budgets sections)
+      → HasPrices m publication.prices.items
   menu_priced catalog roll is = λ j d inside.
-      let many : length (map (λ (t : Tokens). t.0) publication.prices.items) ≡ length (map (λ (section : Section). section.name) catalog.sections) = is.is_publication.prices.count in
-      let counted : length (map (λ (section : Section). section.name) catalog.sections) ≡ length catalog.sections = length_map (λ (section : Section). section.name) catalog.sections in
-      let listed : length (map (λ (t : Tokens). t.0) publication.prices.items) ≡ length publication.prices.items = length_map (λ (t : Tokens). t.0) publication.prices.items in
+      let many : length (map (λ (t : Tokens). t.0) publication.prices.items) ≡ length (map (λ (section : Section). section.name) catalog.sections) =
+      is.is_publication.prices.count in
+      let counted : length (map (λ (section : Section). section.name) catalog.sections) ≡ length catalog.sections =
+      length_map (λ (section : Section). section.name) catalog.sections in
+      let listed : length (map (λ (t : Tokens). t.0) publication.prices.items) ≡ length publication.prices.items =
+      length_map (λ (t : Tokens). t.0) publication.prices.items in
       let all : sections ≡ length catalog.sections = is.sections in
       let small : (get_or m.places j d).section.0 < sections = menu_within j d inside in
       record {
@@ -119,10 +145,15 @@ module _ (menus : List MenuData) (budgets : List Tokens) (sections k : ℕ) (pub
       stands_so (λ offer proved. IsBest (wishes_of offer.menu) offer.price offer.budget offer.allowed proved.bundle) (is.best k (omega (arith, count, inside)))
 
   -- what is told of what stands there is told of what is printed
-  pub told_there : (catalog : CatalogData) (roll : RollData) (section : ℕ) (explained : ExplainedData) (name text : List ℕ) → name ≡ name_at (names_of roll.students) k
-      → IsExplained (offer_of_all m publication.prices.items b.0 sections) (sections_of item.bundle) section explained → text ≡ explained_text (section_names catalog.sections) m name section (sections_of item.bundle) explained
+  pub told_there : (catalog : CatalogData) (roll : RollData) (section : ℕ) (explained : ExplainedData) (name text : List ℕ)
+      → name ≡ name_at (names_of roll.students) k
+      → IsExplained (offer_of_all m publication.prices.items b.0 sections) (sections_of item.bundle) section explained
+      → text ≡ explained_text (section_names catalog.sections) m name section (sections_of item.bundle) explained
       → IsTold catalog roll (crowd_of menus budgets sections) (publication_of publication) k section text
   told_there catalog roll section explained name text named is written =
-      let whole = printed_so (λ offer proved. IsExplained offer proved.bundle section explained × (text ≡ explained_text (section_names catalog.sections) offer.menu (name_at (names_of roll.students) k) section proved.bundle explained))
+      let whole =
+      printed_so
+      (λ offer proved. IsExplained offer proved.bundle section explained
+      × (text ≡ explained_text (section_names catalog.sections) offer.menu (name_at (names_of roll.students) k) section proved.bundle explained))
       (is, subst (λ (n : List ℕ). text ≡ explained_text (section_names catalog.sections) m n section (sections_of item.bundle) explained) named written) in
       (explained, whole.0, whole.1)

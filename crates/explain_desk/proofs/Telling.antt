@@ -24,19 +24,23 @@ use Rattle.explain_desk.specs.Laws.{ForcedTreesProveTheBest, NothingIsGained, On
 use Rattle.explain_desk.proofs.OneReasons.{one_reason}
 
 -- a champion has one text of a tree
-one_text : (offer : Offer) (required : Option ℕ) (champion one other : List ℕ) → IsTreeText offer required champion one → IsTreeText offer required champion other → one ≡ other
+one_text : (offer : Offer) (required : Option ℕ) (champion one other : List ℕ) → IsTreeText offer required champion one
+    → IsTreeText offer required champion other → one ≡ other
 one_text offer required champion one other (tree, is, written) (alike, so, spelt) =
     written ∙ ap spelled ((one_tree offer required (places_of offer.menu champion) 0 []).tree tree alike is so) ∙ sym spelt
 
 -- there is one best bundle with the section, with one tree
 one_proved : (offer : Offer) (section : ℕ) (a b : Proved) → IsProvedWith offer section a → IsProvedWith offer section b → a ≡ b
 one_proved offer section a b one other =
-    let bundle : a.bundle ≡ b.bundle = (best_with_a_section offer.menu offer.price offer.budget offer.allowed section).only a.bundle b.bundle one.best other.best in
+    let bundle : a.bundle ≡ b.bundle =
+    (best_with_a_section offer.menu offer.price offer.budget offer.allowed section).only a.bundle b.bundle one.best other.best in
     let required = Some (place_in offer.menu.places section) in
-    let tree : a.tree ≡ b.tree = one_text offer required b.bundle a.tree b.tree (subst (λ (champion : List ℕ). IsTreeText offer required champion a.tree) bundle one.tree) other.tree in
+    let tree : a.tree ≡ b.tree =
+    one_text offer required b.bundle a.tree b.tree (subst (λ (champion : List ℕ). IsTreeText offer required champion a.tree) bundle one.tree) other.tree in
     λ i. record { bundle = bundle i; tree = tree i }
 
-one_best : (offer : Offer) (section : ℕ) (a b : Option Proved) → IfSome a (IsProvedWith offer section) → IfSome b (IsProvedWith offer section) → is_some a ≡ is_some b → a ≡ b
+one_best : (offer : Offer) (section : ℕ) (a b : Option Proved) → IfSome a (IsProvedWith offer section) → IfSome b (IsProvedWith offer section)
+    → is_some a ≡ is_some b → a ≡ b
 one_best offer section (Some a) (Some b) one other both = ap (λ p. Some p) (one_proved offer section a b one other)
 one_best offer section (Some a) None one other both = absurd (true≢false both)
 one_best offer section None (Some b) one other both = absurd (true≢false (sym both))
@@ -44,7 +48,8 @@ one_best offer section None None one other both = refl
 
 pub one_explanation : OneExplanation
 one_explanation offer bundle section a b menu one other =
-    let reason : a.reason ≡ b.reason = one_reason (wishes_of offer.menu) offer.price offer.budget bundle section a.reason b.reason one.is_reason other.is_reason in
+    let reason : a.reason ≡ b.reason =
+    one_reason (wishes_of offer.menu) offer.price offer.budget bundle section a.reason b.reason one.is_reason other.is_reason in
     let best : a.best ≡ b.best = one_best offer section a.best b.best one.is_best other.is_best (one.told ∙ ap (λ r. tells_best r) reason ∙ sym other.told) in
     λ i. record { reason = reason i; best = best i }
 
@@ -56,7 +61,8 @@ forced_trees_prove_the_best offer champion section menu takable member =
     let prove = trees_prove_the_best_with offer (place_in places section) champion menu low takable (ap (has champion) back ∙ member) in (
       (λ written. subst (λ s. IsBestWith (wishes_of offer.menu) offer.price offer.budget offer.allowed s champion) back (prove.0 (written.1.0, written.1.1))),
       (λ best.
-          let tree : HasTree offer (Some (place_in places section)) champion = prove.1 (subst (λ s. IsBestWith (wishes_of offer.menu) offer.price offer.budget offer.allowed s champion) (sym back) best) in
+          let tree : HasTree offer (Some (place_in places section)) champion =
+          prove.1 (subst (λ s. IsBestWith (wishes_of offer.menu) offer.price offer.budget offer.allowed s champion) (sym back) best) in
           (spelled tree.0, (tree.0, tree.1, refl))),
     )
 
@@ -72,5 +78,7 @@ nothing_is_gained offer bundle section proved best is =
     elim (compared w bundle proved.bundle best.choice.feasible.set other.feasible.set) [
       | inl same ↦ let e : utility w bundle ≡ utility w proved.bundle = ap (utility w) same in omega (arith, ints, e)
       | inr (inl over) ↦ preferred_high w bundle proved.bundle over
-      | inr (inr under) ↦ preferred_high w bundle proved.bundle (best.preferred proved.bundle other (λ e. not_preferred_itself w bundle (subst (λ a. IsPreferred w a bundle) e under)))
+      | inr (inr under) ↦
+          preferred_high w bundle proved.bundle
+          (best.preferred proved.bundle other (λ e. not_preferred_itself w bundle (subst (λ a. IsPreferred w a bundle) e under)))
     ]

@@ -9,9 +9,13 @@ use Rattle.market_certificate.specs.Publications.{IsPublication, Publication}
 use Rattle.market_certificate.specs.Tables.{tables_of}
 use Rattle.student_roll.specs.Students.{RollData}
 
--- a publication of these tables and the crowd of their students, each of which has its best bundle in stage two
-pub record IsChecked (catalog : CatalogData) (roll : RollData) (p : Publication) (crowd : CrowdData) : Type 0 where
+-- a publication of these tables and the crowd of their students, each of which has its best bundle
+-- in stage two
+pub record IsChecked (catalog : CatalogData) (roll : RollData) (p : Publication)
+    (crowd : CrowdData) : Type 0 where
   pub is_publication : IsPublication (tables_of catalog roll) p
   pub students : length crowd.students ≡ length roll.students
   pub sections : crowd.sections ≡ length catalog.sections
-  pub best : (k : ℕ) → k < length crowd.students → IsBest (wishes_of (offer_in crowd p k).menu) (offer_in crowd p k).price (offer_in crowd p k).budget (offer_in crowd p k).allowed (proved_in p k).bundle
+  pub best : (k : ℕ) → k < length crowd.students
+      → IsBest (wishes_of (offer_in crowd p k).menu) (offer_in crowd p k).price
+      (offer_in crowd p k).budget (offer_in crowd p k).allowed (proved_in p k).bundle

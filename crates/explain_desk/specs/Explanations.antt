@@ -12,11 +12,19 @@ use Rattle.explain_desk.specs.Reasons.{IsReason, tells_best}
 
 -- all of so many sections, offered to a student with this menu and budget at these prices
 abbrev pub offer_of_all : MenuData → List Tokens → ℕ → ℕ → Offer
-offer_of_all menu prices budget sections = record { menu = menu; price = price_in prices; budget = budget; allowed = λ s. nat_lt s sections }
+offer_of_all menu prices budget sections =
+    record {
+      menu = menu;
+      price = price_in prices;
+      budget = budget;
+      allowed = λ s. nat_lt s
+          sections;
+    }
 
 -- the best bundle with the section, and the text of its forced tree
 pub record IsProvedWith (offer : Offer) (section : ℕ) (proved : Proved) : Type 0 where
-  pub best : IsBestWith (wishes_of offer.menu) offer.price offer.budget offer.allowed section proved.bundle
+  pub best : IsBestWith (wishes_of offer.menu) offer.price offer.budget offer.allowed section
+      proved.bundle
   pub tree : IsTreeText offer (Some (place_in offer.menu.places section)) proved.bundle proved.tree
 
 -- a reason, and a bundle with its tree or none
@@ -24,8 +32,11 @@ pub record ExplainedData : Type 0 where
   pub reason : Reason
   pub best : Option Proved
 
--- the reason is the first that applies; a bundle is told exactly where the reason leaves one with the section, and it is the best with it, with its forced tree
-pub record IsExplained (offer : Offer) (bundle : List ℕ) (section : ℕ) (explained : ExplainedData) : Type 0 where
-  pub is_reason : IsReason (wishes_of offer.menu) offer.price offer.budget bundle section explained.reason
+-- the reason is the first that applies; a bundle is told exactly where the reason leaves one with
+-- the section, and it is the best with it, with its forced tree
+pub record IsExplained (offer : Offer) (bundle : List ℕ) (section : ℕ)
+    (explained : ExplainedData) : Type 0 where
+  pub is_reason : IsReason (wishes_of offer.menu) offer.price offer.budget bundle section
+      explained.reason
   pub is_best : IfSome explained.best (IsProvedWith offer section)
   pub told : is_some explained.best ≡ tells_best explained.reason

@@ -16,25 +16,42 @@ use Rattle.market_certificate.specs.Publications.{Proved}
 
 -- at most one reason is the first that applies
 abbrev pub OneReason : Type 0
-OneReason = (wishes : Wishes) (price : ℕ → ℕ) (budget : ℕ) (bundle : List ℕ) (section : ℕ) (one other : Reason)
-    → IsReason wishes price budget bundle section one → IsReason wishes price budget bundle section other → one ≡ other
+OneReason =
+    (wishes : Wishes) (price : ℕ → ℕ) (budget : ℕ) (bundle : List ℕ) (section : ℕ)
+    (one other : Reason)
+    → IsReason wishes price budget bundle section one
+    → IsReason wishes price budget bundle section other → one ≡ other
 
--- some choice has a section that the bundle does not have exactly where the reason leaves one, for every section that is offered
+-- some choice has a section that the bundle does not have exactly where the reason leaves one, for
+-- every section that is offered
 abbrev pub ReasonsLeaveABundle : Type 0
-ReasonsLeaveABundle = (menu : MenuData) (price : ℕ → ℕ) (budget : ℕ) (allowed : ℕ → Bool) (bundle : List ℕ) (section : ℕ) (reason : Reason)
-    → allowed section ≡ true → has bundle section ≡ false → IsReason (wishes_of menu) price budget bundle section reason → SomeHas (wishes_of menu) price budget allowed section ↔ (tells_best reason ≡ true)
+ReasonsLeaveABundle =
+    (menu : MenuData) (price : ℕ → ℕ) (budget : ℕ) (allowed : ℕ → Bool) (bundle : List ℕ)
+    (section : ℕ) (reason : Reason)
+    → allowed section ≡ true → has bundle section ≡ false
+    → IsReason (wishes_of menu) price budget bundle section reason
+    → SomeHas (wishes_of menu) price budget allowed section ↔ (tells_best reason ≡ true)
 
--- a takable champion with the section has a forced tree exactly where it is the best bundle with the section
+-- a takable champion with the section has a forced tree exactly where it is the best bundle with
+-- the section
 abbrev pub ForcedTreesProveTheBest : Type 0
-ForcedTreesProveTheBest = (offer : Offer) (champion : List ℕ) (section : ℕ) → IsMenu offer.menu → IsTakable offer champion → has champion section ≡ true
-    → ((text : List ℕ) × IsTreeText offer (Some (place_in offer.menu.places section)) champion text) ↔ IsBestWith (wishes_of offer.menu) offer.price offer.budget offer.allowed section champion
+ForcedTreesProveTheBest =
+    (offer : Offer) (champion : List ℕ) (section : ℕ) → IsMenu offer.menu → IsTakable offer champion
+    → has champion section ≡ true
+    → ((text : List ℕ) × IsTreeText offer (Some (place_in offer.menu.places section)) champion text)
+    ↔ IsBestWith (wishes_of offer.menu) offer.price offer.budget offer.allowed section champion
 
 -- a student is told one thing of a section
 abbrev pub OneExplanation : Type 0
-OneExplanation = (offer : Offer) (bundle : List ℕ) (section : ℕ) (one other : ExplainedData) → IsMenu offer.menu
+OneExplanation =
+    (offer : Offer) (bundle : List ℕ) (section : ℕ) (one other : ExplainedData) → IsMenu offer.menu
     → IsExplained offer bundle section one → IsExplained offer bundle section other → one ≡ other
 
--- a student gains nothing of utility by the best bundle with a section: what is told as lost is at least 0
+-- a student gains nothing of utility by the best bundle with a section: what is told as lost is at
+-- least 0
 abbrev pub NothingIsGained : Type 0
-NothingIsGained = (offer : Offer) (bundle : List ℕ) (section : ℕ) (proved : Proved) → IsBest (wishes_of offer.menu) offer.price offer.budget offer.allowed bundle → IsProvedWith offer section proved
+NothingIsGained =
+    (offer : Offer) (bundle : List ℕ) (section : ℕ) (proved : Proved)
+    → IsBest (wishes_of offer.menu) offer.price offer.budget offer.allowed bundle
+    → IsProvedWith offer section proved
     → worth offer.menu proved.bundle ≤ℤ worth offer.menu bundle

@@ -5,7 +5,8 @@ use Rattle.bundle_rules.specs.Wishes.{Wishes}
 use Rattle.explain_desk.specs.declared.limits.Limit.{Limit}
 use Rattle.explain_desk.specs.declared.limits.Limit.TheVariants.{Price, Credits, Courses}
 
--- their prices sum to more than the budget, their credits to more than the credit cap, or they are more than the course cap
+-- their prices sum to more than the budget, their credits to more than the credit cap, or they are
+-- more than the course cap
 abbrev pub Passes : Wishes → (ℕ → ℕ) → ℕ → List ℕ → Limit → Type 0
 Passes wishes price budget sections Price = budget < total price sections
 Passes wishes price budget sections Credits = wishes.credit_cap < total wishes.credits sections
@@ -18,6 +19,8 @@ rank Credits = 1
 rank Courses = 2
 
 -- the first limit that they pass
-pub record PassesFirst (wishes : Wishes) (price : ℕ → ℕ) (budget : ℕ) (sections : List ℕ) (limit : Limit) : Type 0 where
+pub record PassesFirst (wishes : Wishes) (price : ℕ → ℕ) (budget : ℕ) (sections : List ℕ)
+    (limit : Limit) : Type 0 where
   pub passes : Passes wishes price budget sections limit
-  pub first : (earlier : Limit) → rank earlier < rank limit → ¬ Passes wishes price budget sections earlier
+  pub first : (earlier : Limit) → rank earlier < rank limit
+      → ¬ Passes wishes price budget sections earlier

@@ -10,16 +10,21 @@ use Rattle.explain_desk.specs.Limits.{PassesFirst}
 pub record ClashesFirst (wishes : Wishes) (bundle : List ℕ) (section other : ℕ) : Type 0 where
   pub member : has bundle other ≡ true
   pub clashes : wishes.clash other section ≡ true
-  pub lowest : (lower : ℕ) → lower < other → has bundle lower ≡ true → wishes.clash lower section ≡ false
+  pub lowest : (lower : ℕ) → lower < other → has bundle lower ≡ true
+      → wishes.clash lower section ≡ false
 
--- A reason applies to a student with this bundle and to a section: the bundle has it; the student does not rate it; by itself it passes a limit;
--- a section of the bundle clashes with it; the bundle with it passes a limit; and the last one always.
+-- A reason applies to a student with this bundle and to a section: the bundle has it; the student
+-- does not rate it; by itself it passes a limit; a section of the bundle clashes with it; the
+-- bundle with it passes a limit; and the last one always.
 abbrev pub Applies : Wishes → (ℕ → ℕ) → ℕ → List ℕ → ℕ → Reason → Type 0
 Applies wishes price budget bundle section Held = has bundle section ≡ true
 Applies wishes price budget bundle section Unrated = wishes.rating section ≡ 0
-Applies wishes price budget bundle section (Alone limit) = PassesFirst wishes price budget (section ∷ []) limit
-Applies wishes price budget bundle section (Clash other) = ClashesFirst wishes bundle section other.0
-Applies wishes price budget bundle section (Beside limit) = PassesFirst wishes price budget (section ∷ bundle) limit
+Applies wishes price budget bundle section (Alone limit) =
+    PassesFirst wishes price budget (section ∷ []) limit
+Applies wishes price budget bundle section (Clash other) =
+    ClashesFirst wishes bundle section other.0
+Applies wishes price budget bundle section (Beside limit) =
+    PassesFirst wishes price budget (section ∷ bundle) limit
 Applies wishes price budget bundle section Less = ⊤
 
 -- the order of the reasons
@@ -32,9 +37,11 @@ stage (Beside limit) = 4
 stage Less = 5
 
 -- the first reason that applies
-pub record IsReason (wishes : Wishes) (price : ℕ → ℕ) (budget : ℕ) (bundle : List ℕ) (section : ℕ) (reason : Reason) : Type 0 where
+pub record IsReason (wishes : Wishes) (price : ℕ → ℕ) (budget : ℕ) (bundle : List ℕ) (section : ℕ)
+    (reason : Reason) : Type 0 where
   pub applies : Applies wishes price budget bundle section reason
-  pub first : (earlier : Reason) → stage earlier < stage reason → ¬ Applies wishes price budget bundle section earlier
+  pub first : (earlier : Reason) → stage earlier < stage reason
+      → ¬ Applies wishes price budget bundle section earlier
 
 -- the reasons for which some bundle with the section can be had
 abbrev pub tells_best : Reason → Bool

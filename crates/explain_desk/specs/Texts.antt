@@ -35,7 +35,8 @@ NamesBelow sections reason = ⊤
 
 -- the first line: the student, the section, and why the one does not have the other
 abbrev pub reason_line : List (List ℕ) → List ℕ → ℕ → Reason → List ℕ
-reason_line sections student section reason = spaced (student ∷ name_at sections section ∷ reason_words sections reason)
+reason_line sections student section reason =
+    spaced (student ∷ name_at sections section ∷ reason_words sections reason)
 
 -- the best bundle with the section, and its utility
 abbrev pub best_line : List (List ℕ) → List ℕ → ℤ → List ℕ
@@ -56,8 +57,14 @@ worth menu bundle = utility (wishes_of menu) bundle
 -- the three lines on the best bundle with the section, where one is told
 abbrev pub best_lines : List (List ℕ) → MenuData → List ℕ → Option Proved → List (List ℕ)
 best_lines sections menu bundle None = []
-best_lines sections menu bundle (Some best) = best_line sections best.bundle (worth menu best.bundle) ∷ lost_line (worth menu bundle -ℤ worth menu best.bundle) ∷ tree_line best.tree ∷ []
+best_lines sections menu bundle (Some best) =
+    best_line sections best.bundle (worth menu best.bundle)
+    ∷ lost_line (worth menu bundle -ℤ worth menu best.bundle) ∷ tree_line best.tree ∷ []
 
--- all lines of what a student with this menu and bundle is told of the section, by the names of the sections and of the student
+-- all lines of what a student with this menu and bundle is told of the section, by the names of the
+-- sections and of the student
 abbrev pub explained_text : List (List ℕ) → MenuData → List ℕ → ℕ → List ℕ → ExplainedData → List ℕ
-explained_text sections menu student section bundle explained = joined (reason_line sections student section explained.reason ∷ best_lines sections menu bundle explained.best)
+explained_text sections menu student section bundle explained =
+    joined
+    (reason_line sections student section explained.reason
+    ∷ best_lines sections menu bundle explained.best)

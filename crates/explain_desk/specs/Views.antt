@@ -12,4 +12,5 @@ proved_of proved = record { bundle = sections_of proved.bundle; tree = proved.tr
 
 -- the same of the bundle that is told, where one is
 abbrev pub explained_of : own_explained.Explained → ExplainedData
-explained_of explained = record { reason = explained.reason; best = option_map proved_of explained.best }
+explained_of explained =
+    record { reason = explained.reason; best = option_map proved_of explained.best }

@@ -12,11 +12,12 @@ ghost use Rattle.explain_desk.specs.Explanations.{IsProvedWith, offer_of_all};
 use bundle_rules::{Bundle, Menu};
 use market_units::{SectionNo, SectionSet, Tokens};
 
-/// Whether the champion is the best bundle with the section, where all of so many sections are offered, and the text its
-/// forced tree: `Ok` exactly there, and else the offset, in bytes, at which the walk of the tree's nodes with the text
-/// first fails, told as 4,294,967,295 where it is greater. It takes no memory. There are at most 400 sections, those of
-/// the menu among them, and there is a price for each section of the menu, each at most 1,000,001; the champion is
-/// feasible, within the budget, and has the section.
+/// Whether the champion is the best bundle with the section, where all of so many sections are
+/// offered, and the text its forced tree: `Ok` exactly there, and else the offset, in bytes, at
+/// which the walk of the tree's nodes with the text first fails, told as 4,294,967,295 where it is
+/// greater. It takes no memory. There are at most 400 sections, those of the menu among them, and
+/// there is a price for each section of the menu, each at most 1,000,001; the champion is feasible,
+/// within the budget, and has the section.
 pub fn check_forced(
     menu: &Menu,
     prices: &[Tokens],
@@ -32,8 +33,12 @@ pub fn check_forced(
     requires feasible { IsFeasible (wishes_of menu.now) (sections_of champion.now) }
     requires affordable { total (price_in prices.now) (sections_of champion.now) ≤ budget.0 }
     requires section { has (sections_of champion.now) section.0 ≡ true }
-    ensures ok { IsOk result ↔ IsProvedWith (offer_of_all menu.now prices.now budget.0 sections) section.0 (record { bundle = sections_of champion.now; tree = text.now }) }
-    ensures at { IfErr result (FirstFailsAt (offer_of_all menu.now prices.now budget.0 sections) (Some (place_in menu.now.places section.0)) (sections_of champion.now) text.now) }
+    ensures ok { IsOk result
+        ↔ IsProvedWith (offer_of_all menu.now prices.now budget.0 sections) section.0
+        (record { bundle = sections_of champion.now; tree = text.now }) }
+    ensures at { IfErr result
+        (FirstFailsAt (offer_of_all menu.now prices.now budget.0 sections)
+        (Some (place_in menu.now.places section.0)) (sections_of champion.now) text.now) }
 {
     let all = SectionSet::full(sections);
     proof_tree::check_forced(menu, prices, budget, &all, section, champion, text)

@@ -14,11 +14,15 @@ pub(crate) fn first_clash(
     sections: &[SectionNo],
     section: SectionNo,
 ) -> Option<SectionNo>
-    requires on_menu { All (λ other. place_in menu.now.places other.0 < length menu.now.places) sections.now }
+    requires on_menu { All (λ other. place_in menu.now.places other.0 < length menu.now.places)
+        sections.now }
     requires ascending { IsAscending (ordinals sections.now) }
     requires section { place_in menu.now.places section.0 < length menu.now.places }
-    ensures some { IfSome result (λ other. ClashesFirst (wishes_of menu.now) (ordinals sections.now) section.0 other.0) }
-    ensures none { IfNone result ((other : ℕ) → has (ordinals sections.now) other ≡ true → (wishes_of menu.now).clash other section.0 ≡ false) }
+    ensures some { IfSome result
+        (λ other. ClashesFirst (wishes_of menu.now) (ordinals sections.now) section.0 other.0) }
+    ensures none { IfNone result
+        ((other : ℕ) → has (ordinals sections.now) other ≡ true
+        → (wishes_of menu.now).clash other section.0 ≡ false) }
 {
     match sections {
         [] => None,

@@ -15,10 +15,11 @@ use market_units::{NoMemory, SectionNo, SectionSet, Tokens};
 use proof_tree::build_forced;
 use std::alloc::Global;
 
-/// Why a student does not have a section, where all of so many sections are offered and the bundle is the student's best
-/// one; and where some bundle with the section can be had and the student does not have it, the best such bundle with its
-/// forced tree. There are at most 400 sections, those of the menu and this one among them, and there is a price for each
-/// section of the menu, each at most 1,000,001. `NoMemory` comes for want of memory alone.
+/// Why a student does not have a section, where all of so many sections are offered and the bundle
+/// is the student's best one; and where some bundle with the section can be had and the student
+/// does not have it, the best such bundle with its forced tree. There are at most 400 sections,
+/// those of the menu and this one among them, and there is a price for each section of the menu,
+/// each at most 1,000,001. `NoMemory` comes for want of memory alone.
 pub fn explain(
     alloc: Global,
     menu: &Menu,
@@ -32,8 +33,11 @@ pub fn explain(
     requires sections { sections ≤ 400 }
     requires menu { All (λ rated. rated.section.0 < sections) menu.now.places }
     requires section { section.0 < sections }
-    requires bundle { IsBest (wishes_of menu.now) (price_in prices.now) budget.0 (λ s. nat_lt s sections) (sections_of bundle.now) }
-    ensures { IfOk result (λ explained. IsExplained (offer_of_all menu.now prices.now budget.0 sections) (sections_of bundle.now) section.0 (explained_of explained)) }
+    requires bundle { IsBest (wishes_of menu.now) (price_in prices.now) budget.0
+        (λ s. nat_lt s sections) (sections_of bundle.now) }
+    ensures { IfOk result
+        (λ explained. IsExplained (offer_of_all menu.now prices.now budget.0 sections)
+        (sections_of bundle.now) section.0 (explained_of explained)) }
 {
     let reason = reason_of(menu, prices, budget, bundle, section);
     if !tells_best(reason) {
@@ -54,8 +58,14 @@ fn best_with(
 ) -> Result<Option<Proved>, NoMemory>
     requires prices { HasPrices menu.now prices.now }
     requires sections { sections ≤ 400 }
-    ensures some { IfOk result (λ best. IfSome best (λ proved. IsProvedWith (offer_of_all menu.now prices.now budget.0 sections) section.0 (proved_of proved))) }
-    ensures none { IfOk result (λ best. IfNone best (¬ SomeHas (wishes_of menu.now) (price_in prices.now) budget.0 (λ s. nat_lt s sections) section.0)) }
+    ensures some { IfOk result
+        (λ best. IfSome best
+        (λ proved. IsProvedWith (offer_of_all menu.now prices.now budget.0 sections) section.0
+        (proved_of proved))) }
+    ensures none { IfOk result
+        (λ best. IfNone best
+        (¬ SomeHas (wishes_of menu.now) (price_in prices.now) budget.0 (λ s. nat_lt s sections)
+        section.0)) }
 {
     let all = SectionSet::full(sections);
     let mut workspace = Workspace::reserve(alloc)?;

@@ -6,13 +6,14 @@ pub fn one_reason()
     ensures { OneReason }
 {}
 
-/// Some bundle with a section that the student does not hold can be had exactly where the reason leaves one: a clash, a
-/// limit beside the bundle, or less utility.
+/// Some bundle with a section that the student does not hold can be had exactly where the reason
+/// leaves one: a clash, a limit beside the bundle, or less utility.
 pub fn reasons_leave_a_bundle()
     ensures { ReasonsLeaveABundle }
 {}
 
-/// A feasible, affordable champion with the section has a forced tree exactly where it is the best bundle with the section.
+/// A feasible, affordable champion with the section has a forced tree exactly where it is the best
+/// bundle with the section.
 pub fn forced_trees_prove_the_best()
     ensures { ForcedTreesProveTheBest }
 {}

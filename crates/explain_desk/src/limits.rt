@@ -24,7 +24,8 @@ pub enum Limit {
     Courses,
 }
 
-// The first limit that the section and those of the bundle pass together: the budget, the credit cap, the course cap.
+// The first limit that the section and those of the bundle pass together: the budget, the credit
+// cap, the course cap.
 pub(crate) fn first_passed(
     menu: &Menu,
     prices: &[Tokens],
@@ -35,8 +36,13 @@ pub(crate) fn first_passed(
     requires prices { HasPrices menu.now prices.now }
     requires section { place_in menu.now.places section.0 < length menu.now.places }
     requires bundle { AllRated (wishes_of menu.now) (sections_of bundle.now) }
-    ensures some { IfSome result (PassesFirst (wishes_of menu.now) (price_in prices.now) budget.0 (section.0 ∷ sections_of bundle.now)) }
-    ensures none { IfNone result ((limit : Limit) → ¬ Passes (wishes_of menu.now) (price_in prices.now) budget.0 (section.0 ∷ sections_of bundle.now) limit) }
+    ensures some { IfSome result
+        (PassesFirst (wishes_of menu.now) (price_in prices.now) budget.0
+        (section.0 ∷ sections_of bundle.now)) }
+    ensures none { IfNone result
+        ((limit : Limit)
+        → ¬ Passes (wishes_of menu.now) (price_in prices.now) budget.0
+        (section.0 ∷ sections_of bundle.now) limit) }
 {
     let sections = bundle.sections();
     if price_of(menu, prices, section) + prices_of(menu, prices, sections) > budget.0 {
@@ -64,7 +70,8 @@ fn price_of(menu: &Menu, prices: &[Tokens], section: SectionNo) -> u32
 // What sections of the menu cost together.
 fn prices_of(menu: &Menu, prices: &[Tokens], sections: &[SectionNo]) -> u32
     requires prices { HasPrices menu.now prices.now }
-    requires on_menu { All (λ section. place_in menu.now.places section.0 < length menu.now.places) sections.now }
+    requires on_menu { All (λ section. place_in menu.now.places section.0 < length menu.now.places)
+        sections.now }
     requires few { length sections.now ≤ 8 }
     ensures value { result ≡ total (price_in prices.now) (ordinals sections.now) }
     ensures high { result ≤ 1000001 * length sections.now }
@@ -86,7 +93,8 @@ fn credits_of(menu: &Menu, section: SectionNo) -> u32
 
 // The credits of sections of the menu together.
 fn all_credits_of(menu: &Menu, sections: &[SectionNo]) -> u32
-    requires on_menu { All (λ section. place_in menu.now.places section.0 < length menu.now.places) sections.now }
+    requires on_menu { All (λ section. place_in menu.now.places section.0 < length menu.now.places)
+        sections.now }
     requires few { length sections.now ≤ 8 }
     ensures value { result ≡ total (wishes_of menu.now).credits (ordinals sections.now) }
     ensures high { result ≤ 100 * length sections.now }

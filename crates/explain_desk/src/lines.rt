@@ -22,7 +22,12 @@ pub(crate) fn put_reason(
 ) -> Result<(), NoMemory>
     requires section { section.0 < length catalog.now.sections }
     requires reason { NamesBelow (length catalog.now.sections) reason }
-    ensures { OnOk result (text.new.items ≡ text.old.items ++ reason_line (section_names catalog.now.sections) (name_bytes student) section.0 reason ++ 10 ∷ []) }
+    ensures { OnOk result
+        (text.new.items
+        ≡ text.old.items
+        ++ reason_line (section_names catalog.now.sections) (name_bytes student) section.0
+        reason
+        ++ 10 ∷ []) }
 {
     text.extend_from_slice(student.bytes())?;
     put_field(text, catalog.name(section).bytes())?;
@@ -66,7 +71,11 @@ pub(crate) fn put_best(
     worth: i64,
 ) -> Result<(), NoMemory>
     requires { All (λ s. s < length catalog.now.sections) (sections_of bundle.now) }
-    ensures { OnOk result (text.new.items ≡ text.old.items ++ best_line (section_names catalog.now.sections) (sections_of bundle.now) worth ++ 10 ∷ []) }
+    ensures { OnOk result
+        (text.new.items
+        ≡ text.old.items
+        ++ best_line (section_names catalog.now.sections) (sections_of bundle.now) worth
+        ++ 10 ∷ []) }
 {
     text.extend_from_slice(b"best")?;
     put_bundle_field(text, catalog, bundle)?;

@@ -22,10 +22,11 @@ use std::alloc::Global;
 use student_roll::Roll;
 use utility_language::Command;
 
-/// The text that tells why a student does not have a section, at the prices and beside the bundle of stage two that a text
-/// publishes which is accepted for this market and these streams, one for each session; and the first finding where it is
-/// not accepted. Whom a finding names is on the roll, or in the catalogue. The text has fewer than 4,294,967,295 bytes.
-/// `NoMemory` comes where memory is wanted, and has no other cause.
+/// The text that tells why a student does not have a section, at the prices and beside the bundle
+/// of stage two that a text publishes which is accepted for this market and these streams, one for
+/// each session; and the first finding where it is not accepted. Whom a finding names is on the
+/// roll, or in the catalogue. The text has fewer than 4,294,967,295 bytes. `NoMemory` comes where
+/// memory is wanted, and has no other cause.
 pub fn published_reason(
     alloc: Global,
     catalog: &Catalog,
@@ -41,9 +42,17 @@ pub fn published_reason(
     requires raise { settings.now.raise ≤ 50 }
     requires student { student.0 < length roll.now.students }
     requires section { section.0 < length catalog.now.sections }
-    ensures told { IfOk result (λ told. IsToldOf (market_of catalog.now roll.now settings.now) (map (λ stream. stream.items) streams.now) text.items student.0 section.0 told.items) }
-    ensures first { IfErr result (λ end. OnFound end (IsFirstFinding (market_of catalog.now roll.now settings.now) (map (λ stream. stream.items) streams.now) text.items)) }
-    ensures refused { IfErr result (λ end. OnFound end (λ _. ¬ IsAccepted (market_of catalog.now roll.now settings.now) (map (λ stream. stream.items) streams.now) text.items)) }
+    ensures told { IfOk result
+        (λ told. IsToldOf (market_of catalog.now roll.now settings.now)
+        (map (λ stream. stream.items) streams.now) text.items student.0 section.0 told.items) }
+    ensures first { IfErr result
+        (λ end. OnFound end
+        (IsFirstFinding (market_of catalog.now roll.now settings.now)
+        (map (λ stream. stream.items) streams.now) text.items)) }
+    ensures refused { IfErr result
+        (λ end. OnFound end
+        (λ _. ¬ IsAccepted (market_of catalog.now roll.now settings.now)
+        (map (λ stream. stream.items) streams.now) text.items)) }
     ensures named { IfErr result (λ end. OnFound end (IsNamedIn (tables_of catalog.now roll.now))) }
 {
     let accepted = accept(alloc, catalog, roll, settings, streams, text)?;
@@ -65,11 +74,14 @@ fn reason_in(
     student: StudentNo,
     section: SectionNo,
 ) -> Result<Vec<u8>, NoMemory>
-    requires checked { IsChecked catalog.now roll.now (publication_of publication.now) (crowd_seen crowd.now) }
+    requires checked { IsChecked catalog.now roll.now (publication_of publication.now)
+        (crowd_seen crowd.now) }
     requires whole { MakeCrowd crowd.now.menus.items crowd.now.budgets.items crowd.now.sections }
     requires student { student.0 < length roll.now.students }
     requires section { section.0 < length catalog.now.sections }
-    ensures { IfOk result (λ told. IsTold catalog.now roll.now (crowd_seen crowd.now) (publication_of publication.now) student.0 section.0 told.items) }
+    ensures { IfOk result
+        (λ told. IsTold catalog.now roll.now (crowd_seen crowd.now) (publication_of publication.now)
+        student.0 section.0 told.items) }
 {
     let place = usize::from(student.0);
     let name = roll.name(student);

@@ -39,7 +39,8 @@ pub(crate) fn reason_of(
 ) -> Reason
     requires prices { HasPrices menu.now prices.now }
     requires bundle { IsFeasible (wishes_of menu.now) (sections_of bundle.now) }
-    ensures { IsReason (wishes_of menu.now) (price_in prices.now) budget.0 (sections_of bundle.now) section.0 result }
+    ensures { IsReason (wishes_of menu.now) (price_in prices.now) budget.0 (sections_of bundle.now)
+        section.0 result }
 {
     if bundle.has(section) {
         return Reason::Held;

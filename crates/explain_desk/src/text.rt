@@ -16,9 +16,9 @@ use course_catalog::Catalog;
 use market_units::{Name, NoMemory, SectionNo};
 use std::alloc::Global;
 
-/// The text of what a student is told of a section, who has this menu and this bundle. The section, the one that the
-/// reason names and those of the menu are in the catalogue; the sections of both bundles are on the menu. `NoMemory` comes
-/// for want of memory alone.
+/// The text of what a student is told of a section, who has this menu and this bundle. The section,
+/// the one that the reason names and those of the menu are in the catalogue; the sections of both
+/// bundles are on the menu. `NoMemory` comes for want of memory alone.
 pub fn put_explained(
     alloc: Global,
     catalog: &Catalog,
@@ -32,8 +32,12 @@ pub fn put_explained(
     requires reason { NamesBelow (length catalog.now.sections) explained.now.reason }
     requires menu { All (λ rated. rated.section.0 < length catalog.now.sections) menu.now.places }
     requires bundle { AllRated (wishes_of menu.now) (sections_of bundle.now) }
-    requires best { IfSome explained.now.best (λ proved. AllRated (wishes_of menu.now) (sections_of proved.bundle)) }
-    ensures { IfOk result (λ text. text.items ≡ explained_text (section_names catalog.now.sections) menu.now (name_bytes student) section.0 (sections_of bundle.now) (explained_of explained.now)) }
+    requires best { IfSome explained.now.best
+        (λ proved. AllRated (wishes_of menu.now) (sections_of proved.bundle)) }
+    ensures { IfOk result
+        (λ text. text.items
+        ≡ explained_text (section_names catalog.now.sections) menu.now (name_bytes student)
+        section.0 (sections_of bundle.now) (explained_of explained.now)) }
 {
     let mut text = Vec::new(alloc);
     put_reason(&mut text, catalog, student, section, explained.reason)?;
@@ -52,8 +56,14 @@ fn put_best_lines(
 ) -> Result<(), NoMemory>
     requires menu { All (λ rated. rated.section.0 < length catalog.now.sections) menu.now.places }
     requires bundle { AllRated (wishes_of menu.now) (sections_of bundle.now) }
-    requires best { IfSome best.now (λ proved. AllRated (wishes_of menu.now) (sections_of proved.bundle)) }
-    ensures { OnOk result (text.new.items ≡ text.old.items ++ joined (best_lines (section_names catalog.now.sections) menu.now (sections_of bundle.now) (option_map proved_of best.now))) }
+    requires best { IfSome best.now
+        (λ proved. AllRated (wishes_of menu.now) (sections_of proved.bundle)) }
+    ensures { OnOk result
+        (text.new.items
+        ≡ text.old.items
+        ++ joined
+        (best_lines (section_names catalog.now.sections) menu.now
+        (sections_of bundle.now) (option_map proved_of best.now))) }
 {
     match best {
         Some(proved) => put_proved(alloc, text, catalog, menu, bundle, proved),
@@ -73,7 +83,12 @@ fn put_proved(
     requires menu { All (λ rated. rated.section.0 < length catalog.now.sections) menu.now.places }
     requires bundle { AllRated (wishes_of menu.now) (sections_of bundle.now) }
     requires best { AllRated (wishes_of menu.now) (sections_of proved.now.bundle) }
-    ensures { OnOk result (text.new.items ≡ text.old.items ++ joined (best_lines (section_names catalog.now.sections) menu.now (sections_of bundle.now) (Some (proved_of proved.now)))) }
+    ensures { OnOk result
+        (text.new.items
+        ≡ text.old.items
+        ++ joined
+        (best_lines (section_names catalog.now.sections) menu.now
+        (sections_of bundle.now) (Some (proved_of proved.now)))) }
 {
     let worth = i64::from(utility(menu, &proved.bundle));
     let lost = i64::from(utility(menu, bundle)) - worth;

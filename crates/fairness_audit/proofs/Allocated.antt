@@ -17,7 +17,8 @@ use Rattle.fairness_audit.specs.Rows.{RowData, SeenData, envied, own_worth, row_
 use Rattle.fairness_audit.specs.Tallies.{with_sight}
 use Rattle.fairness_audit.proofs.OneMore.{counts_few, is_envied, not_better, not_itself, range_more}
 
-student_there : (menus : List MenuData) (budgets : List Tokens) (i : ℕ) (d : Student) (m : MenuData) (b : Tokens) → length budgets ≡ length menus → i < length menus
+student_there : (menus : List MenuData) (budgets : List Tokens) (i : ℕ) (d : Student) (m : MenuData) (b : Tokens) → length budgets ≡ length menus
+    → i < length menus
     → slice_index_or (students_of menus budgets) i d ≡ record { menu = slice_index_or menus i m; budget = (slice_index_or budgets i b).0 }
 student_there [] budgets i d m b same low = absurd (omega arith)
 student_there (x ∷ xs) [] i d m b same low = absurd (omega arith)
@@ -26,7 +27,9 @@ student_there (x ∷ xs) (y ∷ ys) (suc i) d m b same low = student_there xs ys
 
 -- the next number behind a range
 pub range_next : (n : ℕ) → range_with_len 0 (n + 1) ≡ range_with_len 0 n ++ n ∷ []
-range_next n = ap (range_with_len 0) (let goal : n + 1 ≡ suc n = omega arith in goal) ∙ range_more 0 n ∙ ap (λ m. range_with_len 0 n ++ m ∷ []) (let goal : 0 + n ≡ n = omega arith in goal)
+range_next n =
+    ap (range_with_len 0) (let goal : n + 1 ≡ suc n = omega arith in goal) ∙ range_more 0 n
+    ∙ ap (λ m. range_with_len 0 n ++ m ∷ []) (let goal : 0 + n ≡ n = omega arith in goal)
 
 module _ (menus : List MenuData) (budgets : List Tokens) (sections : ℕ) (bundles : List Bundle) (same : length budgets ≡ length menus) where
   abbrev a : Allocation
@@ -39,7 +42,10 @@ module _ (menus : List MenuData) (budgets : List Tokens) (sections : ℕ) (bundl
   menu_is i menu low is = ap (λ (s : Student). s.menu) (student_there menus budgets i _ menu (record { 0 = 0 }) same low) ∙ sym is
 
   pub budget_is : (i : ℕ) (budget : Tokens) → i < length menus → budget ≡ slice_index_or budgets i budget → budget_at a i ≡ budget.0
-  budget_is i budget low is = ap (λ (s : Student). s.budget) (student_there menus budgets i _ (record { places = []; pairs = []; clashes = []; credits = 0; courses = 0 }) budget same low) ∙ ap (λ (b : Tokens). b.0) (sym is)
+  budget_is i budget low is =
+      ap (λ (s : Student). s.budget)
+      (student_there menus budgets i _ (record { places = []; pairs = []; clashes = []; credits = 0; courses = 0 }) budget same low)
+      ∙ ap (λ (b : Tokens). b.0) (sym is)
 
   pub bundle_is : (i : ℕ) (bundle : Bundle) → i < length bundles → bundle ≡ slice_index_or bundles i bundle → bundle_at a i ≡ sections_of bundle
   bundle_is i bundle low is = get_or-map sections_of bundles i bundle [] low ∙ ap sections_of (sym is)
@@ -49,16 +55,21 @@ module _ (menus : List MenuData) (budgets : List Tokens) (sections : ℕ) (bundl
     pub as_many : length bundles ≡ length menus
     as_many = sym (length-map bundles sections_of) ∙ are.each ∙ count_is
 
-    module _ (i : ℕ) (menu : MenuData) (mine : Bundle) (low : i < length menus) (is : menu ≡ slice_index_or menus i menu) (has_it : mine ≡ slice_index_or bundles i mine) where
+    module _ (i : ℕ) (menu : MenuData) (mine : Bundle) (low : i < length menus) (is : menu ≡ slice_index_or menus i menu)
+        (has_it : mine ≡ slice_index_or bundles i mine) where
       within : i < length bundles
       within = subst (λ n. i < n) (sym as_many) low
 
       pub own_feasible : IsFeasible (wishes_of menu) (sections_of mine)
-      own_feasible = subst (λ m. IsFeasible (wishes_of m) (sections_of mine)) (menu_is i menu low is) (subst (IsFeasible (wishes_of (menu_at a i))) (bundle_is i mine within has_it) (are.feasible i (subst (λ n. i < n) (sym count_is) low)))
+      own_feasible =
+          subst (λ m. IsFeasible (wishes_of m) (sections_of mine)) (menu_is i menu low is)
+          (subst (IsFeasible (wishes_of (menu_at a i))) (bundle_is i mine within has_it) (are.feasible i (subst (λ n. i < n) (sym count_is) low)))
 
       module _ (own : ℤ) (own_is : own ≡ utility (wishes_of menu) (sections_of mine)) where
         worth_is : own_worth a i ≡ own
-        worth_is = ap (λ m. utility (wishes_of m) (bundle_at a i)) (menu_is i menu low is) ∙ ap (utility (wishes_of menu)) (bundle_is i mine within has_it) ∙ sym own_is
+        worth_is =
+            ap (λ m. utility (wishes_of m) (bundle_at a i)) (menu_is i menu low is) ∙ ap (utility (wishes_of menu)) (bundle_is i mine within has_it)
+            ∙ sym own_is
 
         module _ (k : ℕ) (row : RowData) (so_far : row ≡ row_over a i (range_with_len 0 k)) (low_k : k < length bundles) where
           grown : (next : RowData) → row_over a i (range_with_len 0 k ++ k ∷ []) ≡ next → next ≡ row_over a i (range_with_len 0 (k + 1))
@@ -79,7 +90,8 @@ module _ (menus : List MenuData) (budgets : List Tokens) (sections : ℕ) (bundl
             past_content none = grown row (not_better a i (range_with_len 0 k) k (envied_by ∙ none) ∙ sym so_far)
 
             -- past one who is
-            pub past_envied : (seen : SeenData) (budget other : Tokens) → ¬ (k ≡ i) → envied menu own k (sections_of theirs) ≡ Some seen → budget ≡ slice_index_or budgets i budget → other ≡ slice_index_or budgets k other
+            pub past_envied : (seen : SeenData) (budget other : Tokens) → ¬ (k ≡ i) → envied menu own k (sections_of theirs) ≡ Some seen
+                → budget ≡ slice_index_or budgets i budget → other ≡ slice_index_or budgets k other
                 → with_sight row seen (nat_le other.0 budget.0) ≡ row_over a i (range_with_len 0 (k + 1))
             past_envied seen budget other apart some mine_is their_is =
                 let low_menu : k < length menus = subst (λ n. k < n) as_many low_k in
@@ -98,5 +110,6 @@ module _ (menus : List MenuData) (budgets : List Tokens) (sections : ℕ) (bundl
               counts_few a i (range_with_len 0 k) row so_far (let goal : l ≤ 2000 = omega arith in goal)
 
         -- the row over all
-        pub row_whole : (k : ℕ) (row : RowData) → row ≡ row_over a i (range_with_len 0 k) → k ≡ length bundles → row ≡ row_over a i (range_with_len 0 (student_count a))
+        pub row_whole : (k : ℕ) (row : RowData) → row ≡ row_over a i (range_with_len 0 k) → k ≡ length bundles
+            → row ≡ row_over a i (range_with_len 0 (student_count a))
         row_whole k row so_far ends = so_far ∙ ap (λ n. row_over a i (range_with_len 0 n)) (ends ∙ as_many ∙ sym count_is)

@@ -26,10 +26,12 @@ abbrev pub MayTake : CrowdData → ℕ → List ℕ → Type 0
 MayTake crowd k bundle = IsFeasible (wishes_of (student_in crowd k).menu) bundle
 
 -- what is so of what each holds is so after one of them gets another bundle of which it is so
-set_so : (Is : ℕ → List ℕ → Type 0) (held : List (List ℕ)) (i k : ℕ) (bundle : List ℕ) → k < length held → Is i bundle → Is k (slice_index_or held k []) → Is k (slice_index_or (slice_set held i bundle) k [])
+set_so : (Is : ℕ → List ℕ → Type 0) (held : List (List ℕ)) (i k : ℕ) (bundle : List ℕ) → k < length held → Is i bundle → Is k (slice_index_or held k [])
+    → Is k (slice_index_or (slice_set held i bundle) k [])
 set_so Is held i k bundle low next so = elim (eqb_tells k i) [
   | inl same ↦
-      let there : get_or (slice_set held i bundle) k [] ≡ bundle = ap (λ n. get_or (slice_set held i bundle) n []) same.1 ∙ get_or-set_same held i bundle [] (subst (λ n. n < length held) same.1 low) in
+      let there : get_or (slice_set held i bundle) k [] ≡ bundle =
+      ap (λ n. get_or (slice_set held i bundle) n []) same.1 ∙ get_or-set_same held i bundle [] (subst (λ n. n < length held) same.1 low) in
       subst (Is k) (sym there) (subst (λ n. Is n bundle) (sym same.1) next)
   | inr other ↦ subst (Is k) (sym (get_or-set_other held i k bundle [] other.1)) so
 ]
@@ -60,13 +62,16 @@ module _ (market : Market) (streams : List (List Command)) (text : List ℕ) (ac
   held_may zero k low = settled_may k low
   held_may (suc t) k low = elim (cases_lt t (length p.turns)) [
     | inl more ↦
-        let next : held_before p (suc t) ≡ slice_set (held_before p t) (turn_in p t).student (turn_in p t).bundle = ap (held_before p) (sym (add-one t)) ∙ held_next p t more in
+        let next : held_before p (suc t) ≡ slice_set (held_before p t) (turn_in p t).student (turn_in p t).bundle =
+        ap (held_before p) (sym (add-one t)) ∙ held_next p t more in
         let size : length (held_before p t) ≡ length (demanded p) = held_length (demanded p) (take t p.turns) in
         let many = bundles_count in
         subst (λ (held : List (List ℕ)). MayTake crowd k (slice_index_or held k [])) (sym next)
-        (set_so (MayTake crowd) (held_before p t) (turn_in p t).student k (turn_in p t).bundle (omega arith) ((printed market streams text accepted).turns t more).feasible (held_may t k low))
+        (set_so (MayTake crowd) (held_before p t) (turn_in p t).student k (turn_in p t).bundle (omega arith)
+        ((printed market streams text accepted).turns t more).feasible (held_may t k low))
     | inr done ↦
-        let all : take (suc t) p.turns ≡ take t p.turns = take_all (suc t) p.turns (let h = done in omega arith) ∙ sym (take_all t p.turns (let h = done in omega arith)) in
+        let all : take (suc t) p.turns ≡ take t p.turns =
+        take_all (suc t) p.turns (let h = done in omega arith) ∙ sym (take_all t p.turns (let h = done in omega arith)) in
         subst (λ turns. MayTake crowd k (slice_index_or (held_after (demanded p) turns) k [])) (sym all) (held_may t k low)
   ]
 
@@ -83,10 +88,13 @@ module _ (market : Market) (streams : List (List Command)) (text : List ℕ) (ac
   final_allocation = record { each = accepted.is_text.is_publication.allocation.count ∙ students market streams text accepted; feasible = final_may }
 
 -- what is known of an accepted text, by the crowd that it was checked by
-abbrev pub accepted_by : (market : Market) (streams : List (List Command)) (text : List ℕ) (published : Publication) (asked : CrowdData) → IsTextOf market published text → HoldsBy market streams published asked → IsAccepted market streams text
-accepted_by market streams text published asked is holds = record { publication = published; is_text = is; holds = record { crowd = asked; is_crowd = holds.is_crowd; printed = holds.printed } }
+abbrev pub accepted_by : (market : Market) (streams : List (List Command)) (text : List ℕ) (published : Publication) (asked : CrowdData)
+    → IsTextOf market published text → HoldsBy market streams published asked → IsAccepted market streams text
+accepted_by market streams text published asked is holds =
+    record { publication = published; is_text = is; holds = record { crowd = asked; is_crowd = holds.is_crowd; printed = holds.printed } }
 
-pub checked : (market : Market) (streams : List (List Command)) (text : List ℕ) (published : Publication) (asked : CrowdData) → IsTextOf market published text → HoldsBy market streams published asked → IsChecked market.catalog market.roll published asked
+pub checked : (market : Market) (streams : List (List Command)) (text : List ℕ) (published : Publication) (asked : CrowdData) → IsTextOf market published text
+    → HoldsBy market streams published asked → IsChecked market.catalog market.roll published asked
 checked market streams text published asked is holds =
     let accepted : IsAccepted market streams text = accepted_by market streams text published asked is holds in
     record {

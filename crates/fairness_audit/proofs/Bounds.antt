@@ -32,7 +32,8 @@ module _ (w : Wishes) (weights : List ℕ) (are : AreWeights w weights) where
       let goal : (a +ℤ b) ≤ℤ pos (m + n) = omega (arith, ints) in goal
 
 -- a bundle in which nothing can be worth more
-pub not_more : (menu : MenuData) (weights : List ℕ) → AreWeights (wishes_of menu) weights → (own : ℤ) (bundle : List ℕ) → IsAscending bundle → pos (total (slice_index weights) bundle) ≤ℤ own → is_more menu own bundle ≡ false
+pub not_more : (menu : MenuData) (weights : List ℕ) → AreWeights (wishes_of menu) weights → (own : ℤ) (bundle : List ℕ) → IsAscending bundle
+    → pos (total (slice_index weights) bundle) ≤ℤ own → is_more menu own bundle ≡ false
 not_more menu weights are own bundle up high =
     let best = best-is menu (λ s. 0) 0 (has bundle) in
     let x : ℤ = worth menu (seen menu bundle) in
@@ -55,10 +56,13 @@ gain_high (negsuc n) = omega (arith, ints)
 
 module _ (places : List Rated) (up : IsAscending (map (λ rated. rated.section.0) places)) (f : ℕ → ℤ) where
   -- adjustments with sections at so many places add no more than the gains there
-  within_gains : (count first : ℕ) (ss : List ℕ) → IsAscending ss → ((s : ℕ) → has ss s ≡ true → (place_in places s < length places) × (first ≤ place_in places s) × (place_in places s < first + count))
+  within_gains : (count first : ℕ) (ss : List ℕ) → IsAscending ss
+      → ((s : ℕ) → has ss s ≡ true → (place_in places s < length places) × (first ≤ place_in places s) × (place_in places s < first + count))
       → signed_total (λ t. f (place_in places t)) ss ≤ℤ pos (gains f first count)
   within_gains count first [] rises on = let n : ℕ = gains f first count in let goal : pos 0 ≤ℤ pos n = omega (arith, ints) in goal
-  within_gains zero first (s ∷ ss) rises on = (let here = on s (has-here s ss) in let p : ℕ = place_in places s in let low : first ≤ p = here.1 in let high : p < first + 0 = here.2 in absurd (omega arith))
+  within_gains zero first (s ∷ ss) rises on =
+      (let here = on s (has-here s ss) in let p : ℕ = place_in places s in let low : first ≤ p = here.1 in let high : p
+      < first + 0 = here.2 in absurd (omega arith))
   within_gains (suc count) first (s ∷ ss) rises on =
       let here = on s (has-here s ss) in
       let p : ℕ = place_in places s in
@@ -93,7 +97,8 @@ module _ (places : List Rated) (up : IsAscending (map (λ rated. rated.section.0
       ]
 
 -- numbers that are at least the weights of the places are weights
-pub weights_are : (menu : MenuData) (weights : List ℕ) → IsMenu menu → ((k : ℕ) → k < length menu.places → weight_at menu k ≤ slice_index weights (section_at menu.places k)) → AreWeights (wishes_of menu) weights
+pub weights_are : (menu : MenuData) (weights : List ℕ) → IsMenu menu
+    → ((k : ℕ) → k < length menu.places → weight_at menu k ≤ slice_index weights (section_at menu.places k)) → AreWeights (wishes_of menu) weights
 unfolding wishes_of
 weights_are menu weights is each s later up rated =
     let k : ℕ = place_in menu.places s in
@@ -112,10 +117,13 @@ weights_are menu weights is each s later up rated =
     let goal : (pos r +ℤ a) ≤ℤ pos m = omega (arith, ints) in goal
 
 -- the weight of one more place is written
-pub weight_written : (menu : MenuData) (weights : List ℕ) (p value : ℕ) → IsMenu menu → p < length menu.places → section_at menu.places p < length weights → ((k : ℕ) → k < p → weight_at menu k ≤ slice_index weights (section_at menu.places k)) → weight_at menu p ≤ value
+pub weight_written : (menu : MenuData) (weights : List ℕ) (p value : ℕ) → IsMenu menu → p < length menu.places → section_at menu.places p < length weights
+    → ((k : ℕ) → k < p → weight_at menu k ≤ slice_index weights (section_at menu.places k)) → weight_at menu p ≤ value
     → (k : ℕ) → k < p + 1 → weight_at menu k ≤ slice_index (slice_set weights (section_at menu.places p) value) (section_at menu.places k)
 weight_written menu weights p value is low inside each high k below = elim (cases_eq k p) [
-  | inl same ↦ subst (λ j. weight_at menu j ≤ slice_index (slice_set weights (section_at menu.places p) value) (section_at menu.places j)) (sym same) (subst (λ n. weight_at menu p ≤ n) (sym (get_or-set_same weights (section_at menu.places p) value 0 inside)) high)
+  | inl same ↦
+      subst (λ j. weight_at menu j ≤ slice_index (slice_set weights (section_at menu.places p) value) (section_at menu.places j)) (sym same)
+      (subst (λ n. weight_at menu p ≤ n) (sym (get_or-set_same weights (section_at menu.places p) value 0 inside)) high)
   | inr other ↦
       let earlier : k < p = omega arith in
       let rises : section_at menu.places k < section_at menu.places p = section_at-rises menu.places k p is.places.ascending earlier low in

@@ -39,19 +39,27 @@ filter_few p (x ∷ xs) =
 module _ (s : ℕ) (items : List SectionNo) (k : ℕ) (d : SectionNo) (low : k < length items) where
   one_more : but_for s (ordinals (take (k + 1) items)) ≡ but_for s (ordinals (take k items)) ++ but_for s ((get_or items k d).0 ∷ [])
   one_more =
-      ap (λ l. but_for s (ordinals l)) (take_more items k d low) ∙ ap (but_for s) (map-append (λ (section : SectionNo). section.0) (take k items) (get_or items k d ∷ []))
+      ap (λ l. but_for s (ordinals l)) (take_more items k d low)
+      ∙ ap (but_for s) (map-append (λ (section : SectionNo). section.0) (take k items) (get_or items k d ∷ []))
       ∙ filter-append (λ t. not (t == s)) (ordinals (take k items)) ((get_or items k d).0 ∷ [])
 
   -- one more section that stays
-  pub one_stays : ((get_or items k d).0 == s) ≡ false → but_for s (ordinals (take (k + 1) items)) ≡ but_for s (ordinals (take k items)) ++ (get_or items k d).0 ∷ []
-  one_stays other = one_more ∙ ap (λ l. but_for s (ordinals (take k items)) ++ l) (let goal : but_for s ((get_or items k d).0 ∷ []) ≡ (get_or items k d).0 ∷ [] = rw other refl in goal)
+  pub one_stays : ((get_or items k d).0 == s) ≡ false
+      → but_for s (ordinals (take (k + 1) items)) ≡ but_for s (ordinals (take k items)) ++ (get_or items k d).0 ∷ []
+  one_stays other =
+      one_more
+      ∙ ap (λ l. but_for s (ordinals (take k items)) ++ l)
+      (let goal : but_for s ((get_or items k d).0 ∷ []) ≡ (get_or items k d).0 ∷ [] = rw other refl in goal)
 
   -- and one that does not
   pub one_goes : ((get_or items k d).0 == s) ≡ true → but_for s (ordinals (take (k + 1) items)) ≡ but_for s (ordinals (take k items))
-  one_goes same = one_more ∙ ap (λ l. but_for s (ordinals (take k items)) ++ l) (let goal : but_for s ((get_or items k d).0 ∷ []) ≡ [] = rw same refl in goal) ∙ append-nil (but_for s (ordinals (take k items)))
+  one_goes same =
+      one_more ∙ ap (λ l. but_for s (ordinals (take k items)) ++ l) (let goal : but_for s ((get_or items k d).0 ∷ []) ≡ [] = rw same refl in goal)
+      ∙ append-nil (but_for s (ordinals (take k items)))
 
   -- the one that stays is above those before it
-  pub stays_above : ((get_or items k d).0 == s) ≡ false → IsAscending (ordinals items) → IsAscending (but_for s (ordinals (take k items)) ++ (get_or items k d).0 ∷ [])
+  pub stays_above : ((get_or items k d).0 == s) ≡ false → IsAscending (ordinals items)
+      → IsAscending (but_for s (ordinals (take k items)) ++ (get_or items k d).0 ∷ [])
   stays_above other up =
       subst IsAscending (one_stays other)
       (filter_up (λ t. not (t == s)) (ordinals (take (k + 1) items))

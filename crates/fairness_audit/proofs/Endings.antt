@@ -72,8 +72,11 @@ module _ (audit : Origin Terms Progress) (history : List (StepOf AuditCall Audit
     }
 
     -- the history goes on from what it has seen
-    last_is : (k : ℕ) (it : Known k) → state_after progress_after audit.base audit.opening history ≡ state_after progress_after audit.base (state_after progress_after audit.base audit.opening it.seat.seen) it.begun.0
-    last_is k it = ap (state_after progress_after audit.base audit.opening) it.begun.1 ∙ state_after-append progress_after audit.base audit.opening it.seat.seen it.begun.0
+    last_is : (k : ℕ) (it : Known k)
+        → state_after progress_after audit.base audit.opening history
+        ≡ state_after progress_after audit.base (state_after progress_after audit.base audit.opening it.seat.seen) it.begun.0
+    last_is k it =
+        ap (state_after progress_after audit.base audit.opening) it.begun.1 ∙ state_after-append progress_after audit.base audit.opening it.seat.seen it.begun.0
 
     -- it holds nobody
     none_held : (k : ℕ) → Known k → (i : ℕ) → slice_get (places_after audit history) i ≡ Some (Held k) → ⊥
@@ -81,7 +84,8 @@ module _ (audit : Origin Terms Progress) (history : List (StepOf AuditCall Audit
         let before = state_after progress_after audit.base audit.opening it.seat.seen in
         let own = none_own it.seat.number it.begun.0 (it.no_more it.begun.0 it.begun.1) in
         all_held audit.base (λ j m. m ≡ it.seat.number → ⊥) before it.begun.0
-        (each_map (λ (step : StepOf AuditCall AuditReply). step.seat ≢ it.seat.number) (λ (step : StepOf AuditCall AuditReply). (j : ℕ) → step.seat ≡ it.seat.number → ⊥) (λ step apart j. apart) it.begun.0 own)
+        (each_map (λ (step : StepOf AuditCall AuditReply). step.seat ≢ it.seat.number)
+        (λ (step : StepOf AuditCall AuditReply). (j : ℕ) → step.seat ≡ it.seat.number → ⊥) (λ step apart j. apart) it.begun.0 own)
         (λ j m held same. it.done.holds_nobody j (subst (λ n. slice_get before.places j ≡ Some (Held n)) same held))
         i k (subst (λ (p : Progress). slice_get p.places i ≡ Some (Held k)) (last_is k it) is) (sym it.numbered)
 
@@ -95,7 +99,8 @@ module _ (audit : Origin Terms Progress) (history : List (StepOf AuditCall Audit
         let n : ℕ = count_in audit in
         let drawn : b ≡ n = it.done.all_drawn in
         let grown : b ≤ l = subst (λ (p : Progress). b ≤ length p.places) (sym (last_is 0 it)) (all_grow audit.base before it.begun.0) in
-        let few : l ≤ n = all_few audit.base audit.opening history (subst (λ p. length p ≤ n) (sym it.done.is_seat.opening) (let goal : 0 ≤ n = omega arith in goal)) in
+        let few : l ≤ n =
+        all_few audit.base audit.opening history (subst (λ p. length p ≤ n) (sym it.done.is_seat.opening) (let goal : 0 ≤ n = omega arith in goal)) in
         let goal : l ≡ n = omega arith in goal
 
     -- so the row of each is posted, and right
@@ -109,19 +114,24 @@ module _ (audit : Origin Terms Progress) (history : List (StepOf AuditCall Audit
 
         of_seat : (j k : ℕ) → slice_get (places_after audit history) j ≡ Some (Held k) → Any (λ (s : Seat). s.number ≡ k) seats
         of_seat = all_held audit.base (λ j k. Any (λ (s : Seat). s.number ≡ k) seats) audit.opening history
-            (each_map (λ (step : StepOf AuditCall AuditReply). Any (λ (s : Seat). s.number ≡ step.seat) seats) (λ (step : StepOf AuditCall AuditReply). ℕ → Any (λ (s : Seat). s.number ≡ step.seat) seats) (λ step of j. of) history (each_of (λ (step : StepOf AuditCall AuditReply). Any (λ (s : Seat). s.number ≡ step.seat) seats) history steps))
+            (each_map (λ (step : StepOf AuditCall AuditReply). Any (λ (s : Seat). s.number ≡ step.seat) seats)
+            (λ (step : StepOf AuditCall AuditReply). ℕ → Any (λ (s : Seat). s.number ≡ step.seat) seats) (λ step of j. of) history
+            (each_of (λ (step : StepOf AuditCall AuditReply). Any (λ (s : Seat). s.number ≡ step.seat) seats) history steps))
             (λ j k held. (let h : None ≡ Some (Held k) = sym (ap (λ l. slice_get l j) opening) ∙ held in absurd (none_some k h)))
           where
             none_some : (k : ℕ) → None ≡ Some (Held k) → ⊥
             none_some k h = cc
 
         right : (j : ℕ) (posted : EnvyRow) → slice_get (places_after audit history) j ≡ Some (Filled posted) → row_of posted ≡ row audit.base.allocation j
-        right = all_right audit.base audit.opening history legal (λ j posted is. (let h : None ≡ Some (Filled posted) = sym (ap (λ l. slice_get l j) opening) ∙ is in absurd (none_filled posted h)))
+        right =
+            all_right audit.base audit.opening history legal
+            (λ j posted is. (let h : None ≡ Some (Filled posted) = sym (ap (λ l. slice_get l j) opening) ∙ is in absurd (none_filled posted h)))
           where
             none_filled : (posted : EnvyRow) → None ≡ Some (Filled posted) → ⊥
             none_filled posted h = cc
 
-        filled : (p : Place) → slice_get (places_after audit history) i ≡ Some p → (posted : EnvyRow) × (posted_in (slice_get (places_after audit history) i) ≡ Some posted) × (row_of posted ≡ row audit.base.allocation i)
+        filled : (p : Place) → slice_get (places_after audit history) i ≡ Some p
+            → (posted : EnvyRow) × (posted_in (slice_get (places_after audit history) i) ≡ Some posted) × (row_of posted ≡ row audit.base.allocation i)
         filled (Held k) is = absurd (none_held k (known k (of_seat i k is)) i is)
         filled (Filled posted) is = (posted, ap posted_in is, right i posted is)
 
@@ -136,7 +146,8 @@ sum_of-replicate (suc n) share =
     let goal : share + a ≡ suc n * share = omega arith in goal
 
 -- a seat that has seen nothing is free
-pub new_free : (audit : Origin Terms Progress) (number left : ℕ) (seat : Seat) → seat ≡ standing (Some audit) number left [] [] → audit.opening.places ≡ [] → left ≡ 2 * count_in audit + 1 → IsFree audit seat
+pub new_free : (audit : Origin Terms Progress) (number left : ℕ) (seat : Seat) → seat ≡ standing (Some audit) number left [] [] → audit.opening.places ≡ []
+    → left ≡ 2 * count_in audit + 1 → IsFree audit seat
 new_free audit number left seat is opens allotted = subst (λ (s : Seat). IsFree audit s) (sym is) (record {
   is_seat = record {
     of = refl;
@@ -153,24 +164,32 @@ new_free audit number left seat is opens allotted = subst (λ (s : Seat). IsFree
     none student h = cc
 
 -- each number below the count is that of a seat, of the seats that were lent whole and came back as many
-pub every_number : (count len : ℕ) (lent new old : List Seat) → length lent ≡ count → len ≡ length lent → length new ≡ length lent → ((n : ℕ) (d : Seat) → n < length lent → (slice_index_or new n d).number ≡ n)
+pub every_number : (count len : ℕ) (lent new old : List Seat) → length lent ≡ count → len ≡ length lent → length new ≡ length lent
+    → ((n : ℕ) (d : Seat) → n < length lent → (slice_index_or new n d).number ≡ n)
     → (n : ℕ) → n < count → Any (λ (s : Seat). s.number ≡ n) (take len (new ++ drop (length new) old))
 every_number count len lent new old counted whole back numbers n low =
     subst (λ seats. Any (λ (s : Seat). s.number ≡ n) seats) (sym (lent_back len new old (whole ∙ sym back)))
-    (all_at_their_numbers count new (let goal : count ≤ length new = omega arith in goal) (λ k d below. numbers k d (let goal : k < length lent = omega arith in goal)) n low)
+    (all_at_their_numbers count new (let goal : count ≤ length new = omega arith in goal)
+    (λ k d below. numbers k d (let goal : k < length lent = omega arith in goal)) n low)
 
 -- seats that finished are of the audit
-pub all_of_audit : (audit : Origin Terms Progress) (len : ℕ) (new old : List Seat) → len ≡ length new → All (λ (s : Seat). IsFinished audit s) new → All (λ (s : Seat). s.chronicle ≡ Some audit) (take len (new ++ drop (length new) old))
-all_of_audit audit len new old whole finished = subst (All (λ (s : Seat). s.chronicle ≡ Some audit)) (sym (lent_back len new old whole)) (λ k d low. (finished k d low).is_seat.of)
+pub all_of_audit : (audit : Origin Terms Progress) (len : ℕ) (new old : List Seat) → len ≡ length new → All (λ (s : Seat). IsFinished audit s) new
+    → All (λ (s : Seat). s.chronicle ≡ Some audit) (take len (new ++ drop (length new) old))
+all_of_audit audit len new old whole finished =
+    subst (All (λ (s : Seat). s.chronicle ≡ Some audit)) (sym (lent_back len new old whole)) (λ k d low. (finished k d low).is_seat.of)
 
 -- what the register has then
-pub filled_as : (audit : Origin Terms Progress) (history : List (StepOf AuditCall AuditReply)) (len : ℕ) (new old : List Seat) (register : RegisterData) → len ≡ length new → 1 ≤ length audit.allotments
-    → ((n : ℕ) → n < length audit.allotments → Any (λ (s : Seat). s.number ≡ n) (take len (new ++ drop (length new) old))) → All (λ (s : Seat). IsFinished audit s) new
+pub filled_as : (audit : Origin Terms Progress) (history : List (StepOf AuditCall AuditReply)) (len : ℕ) (new old : List Seat) (register : RegisterData)
+    → len ≡ length new → 1 ≤ length audit.allotments
+    → ((n : ℕ) → n < length audit.allotments → Any (λ (s : Seat). s.number ≡ n) (take len (new ++ drop (length new) old)))
+    → All (λ (s : Seat). IsFinished audit s) new
     → IsLegal is_sound progress_after reply_to audit.base audit.opening history
     → All (λ (step : StepOf AuditCall AuditReply). Any (λ (s : Seat). s.number ≡ step.seat) (take len (new ++ drop (length new) old))) history
     → All (λ (s : Seat). BeginsWith history s.seen) (take len (new ++ drop (length new) old))
-    → All (λ (s : Seat). (rest : List (StepOf AuditCall AuditReply)) → history ≡ s.seen ++ rest → calls_by s.number rest ≡ []) (take len (new ++ drop (length new) old))
-    → record { allocation = register.allocation } ≡ audit.base → record { places = register.places } ≡ state_after progress_after audit.base audit.opening history → AreFilled register.allocation register.places
+    → All (λ (s : Seat). (rest : List (StepOf AuditCall AuditReply)) → history ≡ s.seen ++ rest → calls_by s.number rest ≡ [])
+    (take len (new ++ drop (length new) old))
+    → record { allocation = register.allocation } ≡ audit.base
+    → record { places = register.places } ≡ state_after progress_after audit.base audit.opening history → AreFilled register.allocation register.places
 filled_as audit history len new old register whole some all finished legal steps seen others base last =
     let back = lent_back len new old whole in
     subst (λ (a : Allocation). AreFilled a register.places) (sym (ap (λ (t : Terms). t.allocation) base))

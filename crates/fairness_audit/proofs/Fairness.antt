@@ -30,7 +30,8 @@ none_below : (z : ℤ) → z <ℤ z → ⊥
 none_below z low = omega (arith, ints)
 
 -- no other choice is worth more than the best one
-none_better : (w : Wishes) (price : ℕ → ℕ) (budget : ℕ) (allowed : ℕ → Bool) (own other : List ℕ) → IsBest w price budget allowed own → IsChoice w price budget allowed other → utility w own <ℤ utility w other → ⊥
+none_better : (w : Wishes) (price : ℕ → ℕ) (budget : ℕ) (allowed : ℕ → Bool) (own other : List ℕ) → IsBest w price budget allowed own
+    → IsChoice w price budget allowed other → utility w own <ℤ utility w other → ⊥
 none_better w price budget allowed own other best choice more =
     let apart : other ≢ own = λ same. none_below (utility w own) (subst (λ l. utility w own <ℤ utility w l) same more) in
     decide (best.preferred other choice apart)
@@ -43,7 +44,8 @@ either_way : (x y : ℤ) → (x ≤ℤ y) ⊎ (y <ℤ x)
 either_way x y = grind (arith, ints)
 
 -- what could be taken out of the bundle of one with no greater budget could have been bought
-no_more : (mine theirs : Wishes) (price : ℕ → ℕ) (b c : ℕ) (allowed : ℕ → Bool) (own other bundle : List ℕ) → IsBest mine price b allowed own → IsBest theirs price c allowed other → c ≤ b → IsFeasible mine bundle
+no_more : (mine theirs : Wishes) (price : ℕ → ℕ) (b c : ℕ) (allowed : ℕ → Bool) (own other bundle : List ℕ) → IsBest mine price b allowed own
+    → IsBest theirs price c allowed other → c ≤ b → IsFeasible mine bundle
     → ((s : ℕ) → has bundle s ≡ true → has other s ≡ true) → utility mine bundle ≤ℤ utility mine own
 no_more mine theirs price b c allowed own other bundle best have less may part =
     let cost : ℕ = total price bundle in
@@ -68,12 +70,15 @@ no_lower_envy market streams text accepted =
       journal = optimal.journal;
       is_journal = optimal.is_journal;
       sees_no_more = λ mine theirs low low' less bundle may part.
-          no_more (wishes_in market optimal.journal mine) (wishes_in market optimal.journal theirs) (slice_index p.prices) (slice_index p.budgets mine) (slice_index p.budgets theirs)
-          (all_sections (length market.catalog.sections)) (settled_of p mine) (settled_of p theirs) bundle (optimal.stage_two mine low) (optimal.stage_two theirs low') less may part;
+          no_more (wishes_in market optimal.journal mine) (wishes_in market optimal.journal theirs) (slice_index p.prices) (slice_index p.budgets mine)
+          (slice_index p.budgets theirs)
+          (all_sections (length market.catalog.sections)) (settled_of p mine) (settled_of p theirs) bundle (optimal.stage_two mine low)
+          (optimal.stage_two theirs low') less may part;
     }
 
 -- each student has in stage two what it takes at the printed prices
-taken : (market : Market) (streams : List (List Command)) (text : List ℕ) (accepted : IsAccepted market streams text) → AreTakenAt (settled_in accepted.holds.crowd accepted.publication) (slice_index accepted.publication.prices)
+taken : (market : Market) (streams : List (List Command)) (text : List ℕ) (accepted : IsAccepted market streams text)
+    → AreTakenAt (settled_in accepted.holds.crowd accepted.publication) (slice_index accepted.publication.prices)
 unfolding demands
 taken market streams text accepted k low =
     let p : Publication = accepted.publication in
@@ -81,8 +86,11 @@ taken market streams text accepted k low =
     let student : Student = student_in crowd k in
     settled_is market streams text accepted k low
     ∙ best-only student.menu (slice_index p.prices) student.budget (λ s. nat_lt s crowd.sections) _ (best_in_stage_two market streams text accepted k low)
-    ∙ sym (get_or-map (demand crowd.sections (slice_index p.prices)) crowd.students k (record { menu = record { places = []; pairs = []; clashes = []; credits = 0; courses = 0 }; budget = 0 }) [] low)
+    ∙ sym
+    (get_or-map (demand crowd.sections (slice_index p.prices)) crowd.students k
+    (record { menu = record { places = []; pairs = []; clashes = []; credits = 0; courses = 0 }; budget = 0 }) [] low)
 
 pub no_lower_count : NoLowerCountInAccepted
 no_lower_count market streams text accepted i low =
-    none_counted_lower (settled_in accepted.holds.crowd accepted.publication) (slice_index accepted.publication.prices) (taken market streams text accepted) i low
+    none_counted_lower (settled_in accepted.holds.crowd accepted.publication) (slice_index accepted.publication.prices) (taken market streams text accepted) i
+    low

@@ -19,8 +19,10 @@ use Rattle.fairness_audit.specs.Audits.{IsAudited, final_in, settled_in}
 use Rattle.fairness_audit.specs.Checked.{IsChecked}
 
 -- the crowd that workers share is the one that was checked
-module _ (catalog : CatalogData) (roll : RollData) (publication : Publication) (crowd shared : Crowd) (same : shared ≡ crowd) (is : IsChecked catalog roll (publication_of publication) (crowd_seen crowd)) where
-  settled_is : (bundles : List Bundle) → map sections_of bundles ≡ demanded (publication_of publication) → allocation_of shared bundles ≡ settled_in (crowd_seen crowd) (publication_of publication)
+module _ (catalog : CatalogData) (roll : RollData) (publication : Publication) (crowd shared : Crowd) (same : shared ≡ crowd)
+    (is : IsChecked catalog roll (publication_of publication) (crowd_seen crowd)) where
+  settled_is : (bundles : List Bundle) → map sections_of bundles ≡ demanded (publication_of publication)
+      → allocation_of shared bundles ≡ settled_in (crowd_seen crowd) (publication_of publication)
   settled_is bundles read = λ i. record { crowd = crowd_seen (same i); bundles = read i }
 
   final_is : allocation_of shared publication.allocation.items ≡ final_in (crowd_seen crowd) (publication_of publication)
@@ -34,16 +36,20 @@ module _ (catalog : CatalogData) (roll : RollData) (publication : Publication) (
   final_may = subst IsAllocation (sym final_is) is.final
 
   -- rows of the crowd are rows of the roll and the catalogue
-  pub among_tables : MakeCrowd crowd.menus.items crowd.budgets.items crowd.sections → (found : List RowData) → AreRowsAmong (length shared.menus.items) shared.sections found → AreRowsAmong (length roll.students) (length catalog.sections) found
+  pub among_tables : MakeCrowd crowd.menus.items crowd.budgets.items crowd.sections → (found : List RowData)
+      → AreRowsAmong (length shared.menus.items) shared.sections found → AreRowsAmong (length roll.students) (length catalog.sections) found
   among_tables whole found are =
       subst (λ n. AreRowsAmong (length roll.students) n found) is.sections
       (subst (λ n. AreRowsAmong n crowd.sections found) (sym (students_length crowd.menus.items crowd.budgets.items whole.same) ∙ is.students)
       (subst (λ (c : Crowd). AreRowsAmong (length c.menus.items) c.sections found) same are))
 
   -- the text of both rows is that of what is published
-  pub is_audited : (bundles : List Bundle) (first last : List RowData) (text : List ℕ) → map sections_of bundles ≡ demanded (publication_of publication) → first ≡ rows (allocation_of shared bundles) → last ≡ rows (allocation_of shared publication.allocation.items)
-      → text ≡ audit_text (names_of roll.students) (section_names catalog.sections) first last → IsAudited catalog roll (crowd_seen crowd) (publication_of publication) text
+  pub is_audited : (bundles : List Bundle) (first last : List RowData) (text : List ℕ) → map sections_of bundles ≡ demanded (publication_of publication)
+      → first ≡ rows (allocation_of shared bundles) → last ≡ rows (allocation_of shared publication.allocation.items)
+      → text ≡ audit_text (names_of roll.students) (section_names catalog.sections) first last
+      → IsAudited catalog roll (crowd_seen crowd) (publication_of publication) text
   is_audited bundles first last text read one other written =
       written
       ∙ ap (λ all. audit_text (names_of roll.students) (section_names catalog.sections) all last) (one ∙ ap rows (settled_is bundles read))
-      ∙ ap (audit_text (names_of roll.students) (section_names catalog.sections) (rows (settled_in (crowd_seen crowd) (publication_of publication)))) (other ∙ ap rows final_is)
+      ∙ ap (audit_text (names_of roll.students) (section_names catalog.sections) (rows (settled_in (crowd_seen crowd) (publication_of publication))))
+      (other ∙ ap rows final_is)

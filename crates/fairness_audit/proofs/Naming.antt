@@ -44,7 +44,8 @@ found_in p (x ∷ xs) s is = elim (cases_Bool (p x)) [
 section_low : (n : ℕ) (places : List Rated) (k : ℕ) → All (λ (rated : Rated). rated.section.0 < n) places → k < length places → section_at places k < n
 section_low n [] k all low = absurd (omega arith)
 section_low n (r ∷ rs) zero all low = all 0 r (omega arith)
-section_low n (r ∷ rs) (suc k) all low = section_low n rs k (λ i d h. all (suc i) d (let m : ℕ = length rs in let b : i < m = h in let goal : suc i < suc m = omega arith in goal)) (omega arith)
+section_low n (r ∷ rs) (suc k) all low =
+    section_low n rs k (λ i d h. all (suc i) d (let m : ℕ = length rs in let b : i < m = h in let goal : suc i < suc m = omega arith in goal)) (omega arith)
 
 rated_low : (n : ℕ) (menu : MenuData) (s : ℕ) → IsWithin n menu → 0 < (wishes_of menu).rating s → s < n
 unfolding wishes_of
@@ -64,7 +65,10 @@ module _ (a : Allocation) (crowd : IsCrowd a.crowd) (are : IsAllocation a) where
   sight_among : (i j : ℕ) → i < student_count a → j < student_count a → IsSightAmong (student_count a) a.crowd.sections (sight a i j)
   sight_among i j low low' = record {
     student = low';
-    bundle = all_of a.crowd.sections (seen (menu_at a i) (bundle_at a j)) (λ s is. rated_low a.crowd.sections (menu_at a i) s (within i low) ((best-is (menu_at a i) (λ t. 0) 0 (has (bundle_at a j))).choice.feasible.rated s is));
+    bundle =
+        all_of a.crowd.sections (seen (menu_at a i) (bundle_at a j))
+        (λ s is. rated_low a.crowd.sections (menu_at a i) s (within i low)
+        ((best-is (menu_at a i) (λ t. 0) 0 (has (bundle_at a j))).choice.feasible.rated s is));
     without = named (ends_but_for a i j) refl;
   }
     where
@@ -86,7 +90,8 @@ module _ (a : Allocation) (crowd : IsCrowd a.crowd) (are : IsAllocation a) where
     where
       named : (o : Option ℕ) → find (envies a i) (students a) ≡ o → IfSome (option_map (sight a i) o) (IsSightAmong (student_count a) a.crowd.sections)
       named None is = tt
-      named (Some j) is = sight_among i j low (let n : ℕ = student_count a in let h : j < 0 + n = found_below (envies a i) n 0 j is in let goal : j < n = omega arith in goal)
+      named (Some j) is =
+          sight_among i j low (let n : ℕ = student_count a in let h : j < 0 + n = found_below (envies a i) n 0 j is in let goal : j < n = omega arith in goal)
 
   -- a row for each student, which names students and sections of the crowd
   pub rows_among : AreRowsAmong (student_count a) a.crowd.sections (rows a)

@@ -15,7 +15,8 @@ use Rattle.fairness_audit.specs.Tallies.{with_sight}
 -- a range of one number more
 pub range_more : (a n : ℕ) → range_with_len a (suc n) ≡ range_with_len a n ++ (a + n) ∷ []
 range_more a zero = ap (λ m. m ∷ []) (let goal : a ≡ a + 0 = omega arith in goal)
-range_more a (suc n) = ap (λ l. a ∷ l) (range_more (a + 1) n ∙ ap (λ m. range_with_len (a + 1) n ++ m ∷ []) (let goal : a + 1 + n ≡ a + suc n = omega arith in goal))
+range_more a (suc n) =
+    ap (λ l. a ∷ l) (range_more (a + 1) n ∙ ap (λ m. range_with_len (a + 1) n ++ m ∷ []) (let goal : a + 1 + n ≡ a + suc n = omega arith in goal))
 
 module _ {X : Type 0} (p : X → Bool) where
   pub count_more : (xs : List X) (x : X) → count_by p (xs ++ x ∷ []) ≡ count_by p xs + cond (p x) 1 0
@@ -24,7 +25,8 @@ module _ {X : Type 0} (p : X → Bool) where
       let n : ℕ = cond (p x) 1 0 in
       sum_by-append (λ y. cond (p y) 1 0) xs (x ∷ []) ∙ (let goal : m + (0 + n) ≡ m + n = omega arith in goal)
 
-  find_more : {Y : Type 0} (f : X → Y) (xs : List X) (x : X) → option_map f (find p (xs ++ x ∷ [])) ≡ option_or (option_map f (find p xs)) (cond (p x) (Some (f x)) None)
+  find_more : {Y : Type 0} (f : X → Y) (xs : List X) (x : X)
+      → option_map f (find p (xs ++ x ∷ [])) ≡ option_or (option_map f (find p xs)) (cond (p x) (Some (f x)) None)
   find_more f xs x = ap (option_map f) (find-append p xs (x ∷ [])) ∙ both (find p xs)
     where
       one : option_map f (find p (x ∷ [])) ≡ cond (p x) (Some (f x)) None
@@ -45,7 +47,11 @@ module _ (a : Allocation) (i : ℕ) (others : List ℕ) (k : ℕ) where
     lower = none_more (has_lower_envy a i) (rw not_so refl) j;
     higher = none_more (has_higher_envy a i) (rw not_so refl) j;
     beyond = none_more (has_envy_beyond_one a i) (rw not_so refl) j;
-    first = (find_more (envies a i) (sight a i) others k ∙ ap (λ b. option_or (option_map (sight a i) (find (envies a i) others)) (cond b (Some (sight a i k)) None)) not_so ∙ or_none (option_map (sight a i) (find (envies a i) others))) j;
+    first =
+        (find_more (envies a i) (sight a i) others k
+        ∙ ap (λ b. option_or (option_map (sight a i) (find (envies a i) others)) (cond b (Some (sight a i k)) None)) not_so
+        ∙ or_none (option_map (sight a i) (find (envies a i) others)))
+        j;
   }
     where
       none_more : (p : ℕ → Bool) → p k ≡ false → count_by p (others ++ k ∷ []) ≡ count_by p others
@@ -72,7 +78,8 @@ module _ (a : Allocation) (i : ℕ) (others : List ℕ) (k : ℕ) where
       and_false false = refl
 
   -- and one who is envied
-  pub is_envied : (seen : SeenData) (is_lower : Bool) → ¬ (k ≡ i) → envied (menu_at a i) (own_worth a i) k (bundle_at a k) ≡ Some seen → is_lower ≡ nat_le (budget_at a k) (budget_at a i)
+  pub is_envied : (seen : SeenData) (is_lower : Bool) → ¬ (k ≡ i) → envied (menu_at a i) (own_worth a i) k (bundle_at a k) ≡ Some seen
+      → is_lower ≡ nat_le (budget_at a k) (budget_at a i)
       → row_over a i (others ++ k ∷ []) ≡ with_sight (row_over a i others) seen is_lower
   is_envied seen is_lower apart some lower =
       let found = is_sight in
@@ -100,7 +107,8 @@ module _ (a : Allocation) (i : ℕ) (others : List ℕ) (k : ℕ) where
       one_unless b = cond b 0 1
 
       test_higher : one_if (has_higher_envy a i k) ≡ one_unless is_lower
-      test_higher = ap (λ b. one_if (b && nat_lt (budget_at a i) (budget_at a k))) is_sight.0 ∙ either (budget_at a k) (budget_at a i) ∙ ap one_unless (sym lower)
+      test_higher =
+          ap (λ b. one_if (b && nat_lt (budget_at a i) (budget_at a k))) is_sight.0 ∙ either (budget_at a k) (budget_at a i) ∙ ap one_unless (sym lower)
         where
           either : (m n : ℕ) → one_if (nat_lt n m) ≡ one_unless (nat_le m n)
           either m n = elim (cases_Bool (nat_le m n)) [
@@ -112,7 +120,8 @@ module _ (a : Allocation) (i : ℕ) (others : List ℕ) (k : ℕ) where
       test_beyond = ap (λ b. b && is_none (ends_but_for a i k)) is_sight.0 ∙ ap (λ (s : SeenData). is_none s.without) is_sight.1
 
 -- no count is above the number of those who were looked at
-pub counts_few : (a : Allocation) (i : ℕ) (others : List ℕ) (row : RowData) → row ≡ row_over a i others → length others ≤ 2000 → (row.lower ≤ 2000) × (row.higher ≤ 2000) × (row.beyond ≤ 2000)
+pub counts_few : (a : Allocation) (i : ℕ) (others : List ℕ) (row : RowData) → row ≡ row_over a i others → length others ≤ 2000
+    → (row.lower ≤ 2000) × (row.higher ≤ 2000) × (row.beyond ≤ 2000)
 counts_few a i others row is few =
     let n : ℕ = length others in
     let low : count_by (has_lower_envy a i) others ≤ n = count_by-le-length (has_lower_envy a i) others in

@@ -26,7 +26,8 @@ true_below : (x y : ℤ) → int_lt x y ≡ true → x <ℤ y
 true_below x y h = grind (arith, ints)
 
 -- no other choice is worth more than a best bundle
-best_worth : (w : Wishes) (price : ℕ → ℕ) (budget : ℕ) (allowed : ℕ → Bool) (own other : List ℕ) → IsBest w price budget allowed own → IsChoice w price budget allowed other → utility w own <ℤ utility w other → ⊥
+best_worth : (w : Wishes) (price : ℕ → ℕ) (budget : ℕ) (allowed : ℕ → Bool) (own other : List ℕ) → IsBest w price budget allowed own
+    → IsChoice w price budget allowed other → utility w own <ℤ utility w other → ⊥
 best_worth w price budget allowed own other best choice more =
     let apart : other ≢ own = λ same. none_below (utility w own) (subst (λ l. utility w own <ℤ utility w l) same more) in
     decide (best.preferred other choice apart)
@@ -45,11 +46,13 @@ module _ (a : Allocation) (price : ℕ → ℕ) (taken : AreTakenAt a price) whe
   has_best : (i : ℕ) → i < student_count a → IsBest (wishes_of (menu_at a i)) price (budget_at a i) all (bundle_at a i)
   unfolding all demands
   has_best i low =
-      let is : bundle_at a i ≡ best (menu_at a i) price (budget_at a i) all = taken i low ∙ get_or-map (demand a.crowd.sections price) a.crowd.students i _ [] low in
+      let is : bundle_at a i ≡ best (menu_at a i) price (budget_at a i) all =
+      taken i low ∙ get_or-map (demand a.crowd.sections price) a.crowd.students i _ [] low in
       subst (IsBest (wishes_of (menu_at a i)) price (budget_at a i) all) (sym is) (best-is (menu_at a i) price (budget_at a i) all)
 
   -- what is seen in the bundle of one with no greater budget could have been bought
-  could_buy : (i j : ℕ) → j < student_count a → budget_at a j ≤ budget_at a i → IsChoice (wishes_of (menu_at a i)) price (budget_at a i) all (seen (menu_at a i) (bundle_at a j))
+  could_buy : (i j : ℕ) → j < student_count a → budget_at a j ≤ budget_at a i
+      → IsChoice (wishes_of (menu_at a i)) price (budget_at a i) all (seen (menu_at a i) (bundle_at a j))
   could_buy i j low cheap =
       let theirs = has_best j low in
       let best_seen = best-is (menu_at a i) (λ s. 0) 0 (has (bundle_at a j)) in
@@ -58,7 +61,9 @@ module _ (a : Allocation) (price : ℕ → ℕ) (taken : AreTakenAt a price) whe
       let cost : ℕ = total price (bundle_at a j) in
       let part : ℕ = total price (seen (menu_at a i) (bundle_at a j)) in
       let paid : cost ≤ b = theirs.choice.affordable in
-      let less : part ≤ cost = total_part price (seen (menu_at a i) (bundle_at a j)) (bundle_at a j) best_seen.choice.feasible.set theirs.choice.feasible.set best_seen.choice.within in
+      let less : part ≤ cost =
+      total_part price (seen (menu_at a i) (bundle_at a j)) (bundle_at a j) best_seen.choice.feasible.set theirs.choice.feasible.set
+      best_seen.choice.within in
       let no_more : b ≤ c = cheap in
       record {
         feasible = best_seen.choice.feasible;
@@ -91,7 +96,9 @@ none_counted p zero none = refl
 none_counted p (suc n) none =
     let rest : count_by p (range_with_len 0 n) ≡ 0 = none_counted p n (λ j low. none j (omega arith)) in
     let last : p n ≡ false = none n (omega arith) in
-    ap (count_by p) (range_more 0 n ∙ ap (λ m. range_with_len 0 n ++ m ∷ []) (let goal : 0 + n ≡ n = omega arith in goal)) ∙ count_more p (range_with_len 0 n) n ∙ (let m : ℕ = count_by p (range_with_len 0 n) in let h : m ≡ 0 = rest in rw last (let goal : m + 0 ≡ 0 = omega arith in goal))
+    ap (count_by p) (range_more 0 n ∙ ap (λ m. range_with_len 0 n ++ m ∷ []) (let goal : 0 + n ≡ n = omega arith in goal)) ∙ count_more p (range_with_len 0 n) n
+    ∙ (let m : ℕ = count_by p (range_with_len 0 n) in let h : m ≡ 0 = rest in rw last (let goal : m + 0 ≡ 0 = omega arith in goal))
 
-pub none_counted_lower : (a : Allocation) (price : ℕ → ℕ) → AreTakenAt a price → (i : ℕ) → i < student_count a → count_by (has_lower_envy a i) (range_with_len 0 (student_count a)) ≡ 0
+pub none_counted_lower : (a : Allocation) (price : ℕ → ℕ) → AreTakenAt a price → (i : ℕ) → i < student_count a
+    → count_by (has_lower_envy a i) (range_with_len 0 (student_count a)) ≡ 0
 none_counted_lower a price taken i low = none_counted (has_lower_envy a i) (student_count a) (λ j low'. none_lower a price taken i j low low')

@@ -29,12 +29,14 @@ use Rattle.fairness_audit.proofs.Histories.{all_few, all_held, all_stay, few_dra
 use Rattle.fairness_audit.proofs.Places.{last_cases, last_there, set_cases, set_there}
 
 -- what a call of the chronicle says
-pub record HasCalled (audit : Origin Terms Progress) (call : AuditCall) (reply : AuditReply) (old new : Standing Terms Progress AuditCall AuditReply) : Type 0 where
+pub record HasCalled (audit : Origin Terms Progress) (call : AuditCall) (reply : AuditReply) (old new : Standing Terms Progress AuditCall AuditReply) : Type
+    0 where
   pub seen : Extends old.seen new.seen (step_of old.number call reply)
   pub legal : IsLegal is_sound progress_after reply_to audit.base audit.opening new.seen
   pub own : new.own ≡ old.own ++ step_of old.number call reply ∷ []
   pub all_own : calls_by old.number new.seen ≡ new.own
-  pub others : (between : List (StepOf AuditCall AuditReply)) → new.seen ≡ (old.seen ++ between) ++ step_of old.number call reply ∷ [] → calls_by old.number between ≡ []
+  pub others : (between : List (StepOf AuditCall AuditReply)) → new.seen ≡ (old.seen ++ between) ++ step_of old.number call reply ∷ []
+      → calls_by old.number between ≡ []
   pub left : new.left + 1 ≡ old.left
   pub same : (new.chronicle ≡ old.chronicle) × (new.number ≡ old.number)
 
@@ -77,7 +79,8 @@ module _ (audit : Origin Terms Progress) where
       let whole : seat.left + l ≡ 2 * n + 1 = holding.is_seat.allotment in
       let goal : 1 ≤ seat.left = omega arith in goal
 
-  module _ (old new : Standing Terms Progress AuditCall AuditReply) (call : AuditCall) (reply : AuditReply) (is_seat : IsSeatOf audit old) (called : HasCalled audit call reply old new) where
+  module _ (old new : Standing Terms Progress AuditCall AuditReply) (call : AuditCall) (reply : AuditReply) (is_seat : IsSeatOf audit old)
+      (called : HasCalled audit call reply old new) where
     between : List (StepOf AuditCall AuditReply)
     between = called.seen.0
 
@@ -101,7 +104,8 @@ module _ (audit : Origin Terms Progress) where
     pub after_is : places_after audit new.seen ≡ (progress_after audit.base before old.number call).places
     after_is =
         ap (places_after audit) called.seen.1
-        ∙ ap (λ (p : Progress). p.places) (state_after-append progress_after audit.base audit.opening (old.seen ++ called.seen.0) (step_of old.number call reply ∷ []))
+        ∙ ap (λ (p : Progress). p.places)
+        (state_after-append progress_after audit.base audit.opening (old.seen ++ called.seen.0) (step_of old.number call reply ∷ []))
         ∙ ap (λ p. (progress_after audit.base p old.number call).places) before_is
 
     pub few_before : length before.places ≤ count_in audit
@@ -111,15 +115,18 @@ module _ (audit : Origin Terms Progress) where
     -- between its calls nothing of what it holds changes
     pub still_held : (i : ℕ) → Holds audit old i → slice_get before.places i ≡ Some (Held old.number)
     unfolding before at_rest between
-    still_held i holds = all_stay audit.base i old.number at_rest called.seen.0 (none_own old.number called.seen.0 (called.others called.seen.0 called.seen.1)) holds
+    still_held i holds =
+        all_stay audit.base i old.number at_rest called.seen.0 (none_own old.number called.seen.0 (called.others called.seen.0 called.seen.1)) holds
 
     pub none_more : (R : ℕ → Type 0) → ((i : ℕ) → Holds audit old i → R i) → (i : ℕ) → slice_get before.places i ≡ Some (Held old.number) → R i
     unfolding before at_rest between
     none_more R were i is =
-        all_held audit.base (λ j k. k ≡ old.number → R j) at_rest called.seen.0 (others called.seen.0 (none_own old.number called.seen.0 (called.others called.seen.0 called.seen.1)))
+        all_held audit.base (λ j k. k ≡ old.number → R j) at_rest called.seen.0
+        (others called.seen.0 (none_own old.number called.seen.0 (called.others called.seen.0 called.seen.1)))
         (λ j k held same. were j (subst (λ m. slice_get (places_after audit old.seen) j ≡ Some (Held m)) same held)) i old.number is refl
       where
-        others : (history : List (StepOf AuditCall AuditReply)) → Each (λ (step : StepOf AuditCall AuditReply). step.seat ≢ old.number) history → Each (λ (step : StepOf AuditCall AuditReply). (j : ℕ) → step.seat ≡ old.number → R j) history
+        others : (history : List (StepOf AuditCall AuditReply)) → Each (λ (step : StepOf AuditCall AuditReply). step.seat ≢ old.number) history
+            → Each (λ (step : StepOf AuditCall AuditReply). (j : ℕ) → step.seat ≡ old.number → R j) history
         others [] each = tt
         others (step ∷ more) each = ((λ j same. absurd (each.0 same)), others more each.1)
 
@@ -128,7 +135,9 @@ module _ (audit : Origin Terms Progress) where
     draws_more =
         let d : ℕ = draws old.own in
         let g : ℕ = if gives_student reply then 1 else 0 in
-        ap draws called.own ∙ total-append (λ (step : StepOf AuditCall AuditReply). if gives_student step.reply then 1 else 0) old.own (step_of old.number call reply ∷ []) ∙ (let goal : d + (g + 0) ≡ d + g = omega arith in goal)
+        ap draws called.own
+        ∙ total-append (λ (step : StepOf AuditCall AuditReply). if gives_student step.reply then 1 else 0) old.own (step_of old.number call reply ∷ [])
+        ∙ (let goal : d + (g + 0) ≡ d + g = omega arith in goal)
 
     pub one_more : length new.own ≡ length old.own + 1
     one_more = ap length called.own ∙ length-append old.own (step_of old.number call reply ∷ [])
@@ -150,7 +159,8 @@ module _ (audit : Origin Terms Progress) where
     }
 
     -- what it holds then, by the places
-    pub holds_by : (places : List Place) → (progress_after audit.base before old.number call).places ≡ places → (i : ℕ) → (Holds audit new i → slice_get places i ≡ Some (Held old.number)) × (slice_get places i ≡ Some (Held old.number) → Holds audit new i)
+    pub holds_by : (places : List Place) → (progress_after audit.base before old.number call).places ≡ places → (i : ℕ)
+        → (Holds audit new i → slice_get places i ≡ Some (Held old.number)) × (slice_get places i ≡ Some (Held old.number) → Holds audit new i)
     holds_by places is i =
         let same : slice_get (places_after audit new.seen) i ≡ slice_get places i = ap (λ p. slice_get p i) (after_is ∙ is) in
         let number : Some (Held new.number) ≡ Some (Held old.number) = ap (λ n. Some (Held n)) called.same.1 in
@@ -158,7 +168,8 @@ module _ (audit : Origin Terms Progress) where
 
   -- ---- a draw
 
-  module _ (old new : Standing Terms Progress AuditCall AuditReply) (reply : AuditReply) (free : IsFree audit old) (called : HasCalled audit Draw reply old new) where
+  module _ (old new : Standing Terms Progress AuditCall AuditReply) (reply : AuditReply) (free : IsFree audit old)
+      (called : HasCalled audit Draw reply old new) where
     places : List Place
     places = (before old new Draw reply free.is_seat called).places
 
@@ -170,7 +181,8 @@ module _ (audit : Origin Terms Progress) where
     unfolding places
     free_before = none_more old new Draw reply free.is_seat called (λ i. ⊥) free.holds_nobody
 
-    by_places : (next : List Place) → places_drawn (count_in audit) places old.number ≡ next → (i : ℕ) → (Holds audit new i → slice_get next i ≡ Some (Held old.number)) × (slice_get next i ≡ Some (Held old.number) → Holds audit new i)
+    by_places : (next : List Place) → places_drawn (count_in audit) places old.number ≡ next → (i : ℕ)
+        → (Holds audit new i → slice_get next i ≡ Some (Held old.number)) × (slice_get next i ≡ Some (Held old.number) → Holds audit new i)
     unfolding places
     by_places = holds_by old new Draw reply free.is_seat called
 
@@ -234,13 +246,16 @@ module _ (audit : Origin Terms Progress) where
 
   -- ---- a post
 
-  module _ (old new : Standing Terms Progress AuditCall AuditReply) (student : StudentNo) (posted : EnvyRow) (reply : AuditReply) (holding : IsHolding audit student.0 old) (called : HasCalled audit (Post student posted) reply old new) where
+  module _ (old new : Standing Terms Progress AuditCall AuditReply) (student : StudentNo) (posted : EnvyRow) (reply : AuditReply)
+      (holding : IsHolding audit student.0 old) (called : HasCalled audit (Post student posted) reply old new) where
     standing : List Place
     standing = (before old new (Post student posted) reply holding.is_seat called).places
 
     mine : is_held_by old.number (slice_get standing student.0) ≡ true
     unfolding standing
-    mine = ap (is_held_by old.number) (still_held old new (Post student posted) reply holding.is_seat called student.0 holding.holds) ∙ (let n : ℕ = old.number in let goal : (n == n) ≡ true = grind (arith, nat_tests) in goal)
+    mine =
+        ap (is_held_by old.number) (still_held old new (Post student posted) reply holding.is_seat called student.0 holding.holds)
+        ∙ (let n : ℕ = old.number in let goal : (n == n) ≡ true = grind (arith, nat_tests) in goal)
 
     only : (i : ℕ) → slice_get standing i ≡ Some (Held old.number) → i ≡ student.0
     unfolding standing
@@ -250,15 +265,19 @@ module _ (audit : Origin Terms Progress) where
     unfolding standing
     taken = replied old new (Post student posted) reply holding.is_seat called ∙ ap (λ b. if b then Taken else NotYours) mine
 
-    by_posted : (next : List Place) → places_posted standing old.number student.0 posted ≡ next → (i : ℕ) → (Holds audit new i → slice_get next i ≡ Some (Held old.number)) × (slice_get next i ≡ Some (Held old.number) → Holds audit new i)
+    by_posted : (next : List Place) → places_posted standing old.number student.0 posted ≡ next → (i : ℕ)
+        → (Holds audit new i → slice_get next i ≡ Some (Held old.number)) × (slice_get next i ≡ Some (Held old.number) → Holds audit new i)
     unfolding standing
     by_posted = holds_by old new (Post student posted) reply holding.is_seat called
 
     not_here : (i : ℕ) → i ≡ student.0 → slice_get (slice_set standing student.0 (Filled posted)) i ≡ Some (Held old.number) → ⊥
     unfolding standing
     not_here i same there =
-        let shown : slice_get (slice_set standing student.0 (Filled posted)) student.0 ≡ Some (Filled posted) = set_there standing student.0 (Filled posted) (Held old.number) (still_held old new (Post student posted) reply holding.is_seat called student.0 holding.holds) in
-        let e : Some (Filled posted) ≡ Some (Held old.number) = sym shown ∙ ap (slice_get (slice_set standing student.0 (Filled posted))) (sym same) ∙ there in cc
+        let shown : slice_get (slice_set standing student.0 (Filled posted)) student.0 ≡ Some (Filled posted) =
+        set_there standing student.0 (Filled posted) (Held old.number)
+        (still_held old new (Post student posted) reply holding.is_seat called student.0 holding.holds) in
+        let e : Some (Filled posted) ≡ Some (Held old.number) = sym shown ∙ ap (slice_get (slice_set standing student.0 (Filled posted))) (sym same) ∙ there in
+        cc
 
     pub posted_free : IsFree audit new
     posted_free =
@@ -268,12 +287,14 @@ module _ (audit : Origin Terms Progress) where
         let c : ℕ = draws new.own in
         let d : ℕ = draws old.own in
         let more : a ≡ b + 1 = one_more old new (Post student posted) reply holding.is_seat called in
-        let none_drawn : c ≡ d + 0 = draws_more old new (Post student posted) reply holding.is_seat called ∙ ap (λ r. d + (if gives_student r then 1 else 0)) taken in
+        let none_drawn : c ≡ d + 0 =
+        draws_more old new (Post student posted) reply holding.is_seat called ∙ ap (λ r. d + (if gives_student r then 1 else 0)) taken in
         let odd : b + 1 ≡ 2 * d = holding.others_posted in
         record {
           is_seat = seat_after old new (Post student posted) reply holding.is_seat called;
           holds_nobody = λ i held.
-              let there : slice_get (slice_set standing student.0 (Filled posted)) i ≡ Some (Held old.number) = (by_posted (slice_set standing student.0 (Filled posted)) written i).0 held in
+              let there : slice_get (slice_set standing student.0 (Filled posted)) i ≡ Some (Held old.number) =
+              (by_posted (slice_set standing student.0 (Filled posted)) written i).0 held in
               elim (set_cases standing student.0 (Filled posted) i (Held old.number) there) [
                 | inl earlier ↦ not_here i (only i earlier) there
                 | inr here ↦ (let e : Filled posted ≡ Held old.number = here.1 in cc)

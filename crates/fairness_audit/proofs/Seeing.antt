@@ -60,8 +60,16 @@ pub is_seen : (menu : MenuData) (sections bundle : List ℕ) → IsBestOfThese (
 is_seen menu sections bundle best =
     best-only menu (λ s. 0) 0 (has sections) bundle
     (record {
-      choice = record { feasible = best.choice.feasible; affordable = best.choice.affordable; within = λ s in_it. best.extends.among s (subst (λ l. has l s ≡ true) best.extends.whole in_it) };
-      preferred = λ other is apart. best.preferred other (free_choice (wishes_of menu) other is.feasible) (record { more = other; whole = refl; among = is.within }) apart;
+      choice =
+          record {
+            feasible = best.choice.feasible;
+            affordable = best.choice.affordable;
+            within = λ s in_it. best.extends.among s
+                (subst (λ l. has l s ≡ true) best.extends.whole in_it);
+          };
+      preferred =
+          λ other is apart. best.preferred other (free_choice (wishes_of menu) other is.feasible) (record { more = other; whole = refl; among = is.within })
+          apart;
     })
 
 -- the others are one fewer
@@ -71,10 +79,12 @@ few_left chosen (x ∷ xs) few =
     let n : ℕ = length xs in
     let whole : chosen + suc n ≤ 8 = few in
     let j : suc n - 1 ≡ n = omega arith in
-    subst (λ m. chosen + length (take m xs) ≤ 8) (sym j) (subst (λ (l : List SectionNo). chosen + length l ≤ 8) (sym (take-length xs)) (let goal : chosen + n ≤ 8 = omega arith in goal))
+    subst (λ m. chosen + length (take m xs) ≤ 8) (sym j)
+    (subst (λ (l : List SectionNo). chosen + length l ≤ 8) (sym (take-length xs)) (let goal : chosen + n ≤ 8 = omega arith in goal))
 
 -- the lowest section that passes a test is the first that does
-pub first_at : (p : ℕ → Bool) (items : List SectionNo) (k : ℕ) (d : SectionNo) → k < length items → find p (ordinals (take k items)) ≡ None → p (get_or items k d).0 ≡ true → find p (ordinals items) ≡ Some (get_or items k d).0
+pub first_at : (p : ℕ → Bool) (items : List SectionNo) (k : ℕ) (d : SectionNo) → k < length items → find p (ordinals (take k items)) ≡ None
+    → p (get_or items k d).0 ≡ true → find p (ordinals items) ≡ Some (get_or items k d).0
 first_at p [] k d low before passes = absurd (omega arith)
 first_at p (x ∷ xs) zero d low before passes = rw passes refl
 first_at p (x ∷ xs) (suc k) d low before passes = elim (cases_Bool (p x.0)) [
@@ -83,7 +93,10 @@ first_at p (x ∷ xs) (suc k) d low before passes = elim (cases_Bool (p x.0)) [
 ]
 
 -- one more that does not pass
-pub none_more : (p : ℕ → Bool) (items : List SectionNo) (k : ℕ) (d : SectionNo) → k < length items → find p (ordinals (take k items)) ≡ None → p (get_or items k d).0 ≡ false → find p (ordinals (take (k + 1) items)) ≡ None
+pub none_more : (p : ℕ → Bool) (items : List SectionNo) (k : ℕ) (d : SectionNo) → k < length items → find p (ordinals (take k items)) ≡ None
+    → p (get_or items k d).0 ≡ false → find p (ordinals (take (k + 1) items)) ≡ None
 none_more p items k d low before fails =
-    ap (λ l. find p (ordinals l)) (take_more items k d low) ∙ ap (find p) (map-append (λ (section : SectionNo). section.0) (take k items) (get_or items k d ∷ []))
-    ∙ find-append p (ordinals (take k items)) ((get_or items k d).0 ∷ []) ∙ ap (λ o. option_or o (find p ((get_or items k d).0 ∷ []))) before ∙ (let goal : find p ((get_or items k d).0 ∷ []) ≡ None = rw fails refl in goal)
+    ap (λ l. find p (ordinals l)) (take_more items k d low)
+    ∙ ap (find p) (map-append (λ (section : SectionNo). section.0) (take k items) (get_or items k d ∷ []))
+    ∙ find-append p (ordinals (take k items)) ((get_or items k d).0 ∷ []) ∙ ap (λ o. option_or o (find p ((get_or items k d).0 ∷ []))) before
+    ∙ (let goal : find p ((get_or items k d).0 ∷ []) ≡ None = rw fails refl in goal)

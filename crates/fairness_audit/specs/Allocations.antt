@@ -14,9 +14,15 @@ pub record Allocation : Type 0 where
   pub crowd : CrowdData
   pub bundles : List (List ℕ)
 
--- the student of a number; a number that no student has stands for one that wants nothing and has a budget of 0
+-- the student of a number; a number that no student has stands for one that wants nothing and has a
+-- budget of 0
 abbrev pub student_at : Allocation → ℕ → Student
-student_at a i = slice_index_or a.crowd.students i (record { menu = record { places = []; pairs = []; clashes = []; credits = 0; courses = 0 }; budget = 0 })
+student_at a i =
+    slice_index_or a.crowd.students i
+    (record {
+      menu = record { places = []; pairs = []; clashes = []; credits = 0; courses = 0 };
+      budget = 0;
+    })
 
 -- its menu, its unraised budget, its bundle
 abbrev pub menu_at : Allocation → ℕ → MenuData
@@ -38,8 +44,13 @@ students a = range_with_len 0 (student_count a)
 -- one bundle for each student, which it may take
 pub record IsAllocation (a : Allocation) : Type 0 where
   pub each : length a.bundles ≡ student_count a
-  pub feasible : (i : ℕ) → i < student_count a → IsFeasible (wishes_of (menu_at a i)) (bundle_at a i)
+  pub feasible : (i : ℕ) → i < student_count a
+      → IsFeasible (wishes_of (menu_at a i)) (bundle_at a i)
 
 -- the allocation of these bundles to this crowd
 abbrev pub allocation_of : Crowd → List Bundle → Allocation
-allocation_of crowd bundles = record { crowd = crowd_of crowd.menus.items crowd.budgets.items crowd.sections; bundles = map sections_of bundles }
+allocation_of crowd bundles =
+    record {
+      crowd = crowd_of crowd.menus.items crowd.budgets.items crowd.sections;
+      bundles = map sections_of bundles;
+    }

@@ -20,17 +20,22 @@ settled_in crowd p = record { crowd = crowd; bundles = demanded p }
 abbrev pub final_in : CrowdData → Publication → Allocation
 final_in crowd p = record { crowd = crowd; bundles = p.allocation }
 
--- the text tells the rows of the students with their bundles of stage two, and the rows of the same with their final ones
+-- the text tells the rows of the students with their bundles of stage two, and the rows of the same
+-- with their final ones
 abbrev pub IsAudited : CatalogData → RollData → CrowdData → Publication → List ℕ → Type 0
-IsAudited catalog roll crowd p text = text ≡ audit_text (names_of roll.students) (section_names catalog.sections) (rows (settled_in crowd p)) (rows (final_in crowd p))
+IsAudited catalog roll crowd p text =
+    text
+    ≡ audit_text (names_of roll.students) (section_names catalog.sections)
+    (rows (settled_in crowd p)) (rows (final_in crowd p))
 
 -- no row counts any lower envy
 abbrev pub CountsNoLower : Allocation → Type 0
 CountsNoLower a = (i : ℕ) → i < student_count a → (row a i).lower ≡ 0
 
--- the text tells these rows of what an accepted text publishes, by the crowd after its order, whose budgets are those that the seed draws; and
--- none of those of stage two counts any lower envy
-pub record IsAuditOf (market : Market) (streams : List (List Command)) (published text : List ℕ) : Type 0 where
+-- the text tells these rows of what an accepted text publishes, by the crowd after its order, whose
+-- budgets are those that the seed draws; and none of those of stage two counts any lower envy
+pub record IsAuditOf (market : Market) (streams : List (List Command))
+    (published text : List ℕ) : Type 0 where
   pub publication : Publication
   pub is_text : IsTextOf market publication published
   pub crowd : CrowdData

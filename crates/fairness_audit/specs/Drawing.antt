@@ -1,4 +1,5 @@
--- The steps of a register: students are drawn in their order, and each row is taken from the seat that drew its student.
+-- The steps of a register: students are drawn in their order, and each row is taken from the seat
+-- that drew its student.
 use Rattle.std.specs.Prelude.{ℕ, ◌≡◌, ◌<◌, ◌==◌, ◌++◌, Bool, true, false, Option, Some, None, List, [], ◌∷◌, length, slice_get, slice_set, nat_lt, if◌then◌else◌}
 use Rattle.fairness_audit.specs.declared.calls.AuditReply.{AuditReply}
 use Rattle.fairness_audit.specs.declared.calls.AuditReply.TheVariants.{Student, Done, Taken, NotYours}
@@ -20,19 +21,24 @@ is_held_by seat (Some place) = held_in seat place
 
 -- what a draw answers: the first of so many students that is not drawn, if there is one
 abbrev pub draw_answer : ℕ → List Place → AuditReply
-draw_answer count places = if nat_lt (length places) count then Student (record { 0 = length places }) else Done
+draw_answer count places =
+    if nat_lt (length places) count then Student (record { 0 = length places }) else Done
 
 -- the seat then holds it
 abbrev pub places_drawn : ℕ → List Place → ℕ → List Place
-places_drawn count places seat = if nat_lt (length places) count then places ++ Held seat ∷ [] else places
+places_drawn count places seat =
+    if nat_lt (length places) count then places ++ Held seat ∷ [] else places
 
 -- what a post answers: the row is taken exactly where the seat holds the student
 abbrev pub post_answer : List Place → ℕ → ℕ → AuditReply
-post_answer places seat student = if is_held_by seat (slice_get places student) then Taken else NotYours
+post_answer places seat student =
+    if is_held_by seat (slice_get places student) then Taken else NotYours
 
 -- it then stands in its place
 abbrev pub places_posted : List Place → ℕ → ℕ → EnvyRow → List Place
-places_posted places seat student row = if is_held_by seat (slice_get places student) then slice_set places student (Filled row) else places
+places_posted places seat student row =
+    if is_held_by seat (slice_get places student) then slice_set places student (Filled row)
+    else places
 
 -- the row that was posted
 abbrev pub row_in : Place → Option EnvyRow
@@ -45,4 +51,7 @@ posted_in (Some place) = row_in place
 
 -- the row of each student is posted
 abbrev pub AreFilled : Allocation → List Place → Type 0
-AreFilled a places = (i : ℕ) → i < student_count a → (posted : EnvyRow) × (posted_in (slice_get places i) ≡ Some posted) × (row_of posted ≡ row a i)
+AreFilled a places =
+    (i : ℕ) → i < student_count a
+    → (posted : EnvyRow) × (posted_in (slice_get places i) ≡ Some posted)
+    × (row_of posted ≡ row a i)

@@ -6,7 +6,8 @@ use Rattle.bundle_rules.specs.Menus.{MenuData, wishes_of}
 use Rattle.bundle_rules.specs.Sets.{has}
 use Rattle.bundle_rules.specs.Wishes.{utility}
 
--- what a student with this menu sees in a bundle: its best bundle out of these sections, where none costs anything
+-- what a student with this menu sees in a bundle: its best bundle out of these sections, where none
+-- costs anything
 abbrev pub seen : MenuData → List ℕ → List ℕ
 seen menu bundle = best menu (λ s. 0) 0 (has bundle)
 
@@ -22,6 +23,7 @@ is_more menu own bundle = int_lt own (worth menu (seen menu bundle))
 abbrev pub but_for : ℕ → List ℕ → List ℕ
 but_for s bundle = filter (λ t. not (t == s)) bundle
 
--- The lowest section of the bundle but for which what is seen is not worth more; none where there is no such section. Bundles ascend.
+-- The lowest section of the bundle but for which what is seen is not worth more; none where there
+-- is no such section. Bundles ascend.
 abbrev pub ended_by : MenuData → ℤ → List ℕ → Option ℕ
 ended_by menu own bundle = find (λ s. not (is_more menu own (but_for s bundle))) bundle

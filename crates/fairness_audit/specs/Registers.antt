@@ -5,7 +5,8 @@ use Rattle.fairness_audit.specs.Allocations.{Allocation, allocation_of, student_
 use Rattle.fairness_audit.specs.declared.place.Place.{Place}
 use Rattle.fairness_audit.specs.declared.register.Register.TheInside.{Inside}
 
--- the students with what each has; where the rows of the drawn ones stand, in file order; and how many calls there is room for
+-- the students with what each has; where the rows of the drawn ones stand, in file order; and how
+-- many calls there is room for
 pub record RegisterData : Type 0 where
   pub allocation : Allocation
   pub places : List Place
@@ -15,7 +16,12 @@ abbrev pub allocation_in : Inside → Allocation
 allocation_in register = allocation_of (arc_value register.crowd) (arc_value register.bundles).items
 
 abbrev pub register_of : Inside → RegisterData
-register_of register = record { allocation = allocation_in register; places = register.places.items; room = register.calls }
+register_of register =
+    record {
+      allocation = allocation_in register;
+      places = register.places.items;
+      room = register.calls;
+    }
 
 -- at most 2,000 students, of whom no more than all are drawn, and memory for a place of each
 pub record IsKept (register : Inside) : Type 0 where

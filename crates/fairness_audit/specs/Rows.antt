@@ -9,7 +9,8 @@ use Rattle.fairness_audit.specs.Envy.{ended_by, is_more, seen, worth}
 abbrev pub own_worth : Allocation → ℕ → ℤ
 own_worth a i = worth (menu_at a i) (bundle_at a i)
 
--- the student envies a different one: it sees in that one's bundle what is worth more to it than its own bundle
+-- the student envies a different one: it sees in that one's bundle what is worth more to it than
+-- its own bundle
 abbrev pub envies : Allocation → ℕ → ℕ → Bool
 envies a i j = not (j == i) && is_more (menu_at a i) (own_worth a i) (bundle_at a j)
 
@@ -35,20 +36,30 @@ pub record SeenData : Type 0 where
   pub bundle : List ℕ
   pub without : Option ℕ
 
--- how many students are envied with lower and with higher envy, how many of either kind with envy beyond one, and the first envied student
+-- how many students are envied with lower and with higher envy, how many of either kind with envy
+-- beyond one, and the first envied student
 pub record RowData : Type 0 where
   pub lower : ℕ
   pub higher : ℕ
   pub beyond : ℕ
   pub first : Option SeenData
 
--- what a student to whom its own bundle is worth so much sees in the bundle of student j, if that is worth more
+-- what a student to whom its own bundle is worth so much sees in the bundle of student j, if that
+-- is worth more
 abbrev pub envied : MenuData → ℤ → ℕ → List ℕ → Option SeenData
-envied menu own j bundle = if is_more menu own bundle then Some (record { student = j; bundle = seen menu bundle; without = ended_by menu own bundle }) else None
+envied menu own j bundle =
+    if is_more menu own bundle
+    then Some (record { student = j; bundle = seen menu bundle; without = ended_by menu own bundle })
+    else None
 
 -- what a student sees in the bundle of another
 abbrev pub sight : Allocation → ℕ → ℕ → SeenData
-sight a i j = record { student = j; bundle = seen (menu_at a i) (bundle_at a j); without = ends_but_for a i j }
+sight a i j =
+    record {
+      student = j;
+      bundle = seen (menu_at a i) (bundle_at a j);
+      without = ends_but_for a i j;
+    }
 
 -- the row of a student over these others
 abbrev pub row_over : Allocation → ℕ → List ℕ → RowData

@@ -32,14 +32,18 @@ gives_student NotYours = false
 
 -- how many students these calls drew
 abbrev pub draws : List (StepOf AuditCall AuditReply) → ℕ
-draws own = total (λ (step : StepOf AuditCall AuditReply). if gives_student step.reply then 1 else 0) own
+draws own =
+    total (λ (step : StepOf AuditCall AuditReply). if gives_student step.reply then 1 else 0) own
 
 -- the seat holds the student, after all that it has seen
 abbrev pub Holds : Origin Terms Progress → Standing Terms Progress AuditCall AuditReply → ℕ → Type 0
-Holds audit seat student = slice_get (places_after audit seat.seen) student ≡ Some (Held seat.number)
+Holds audit seat student =
+    slice_get (places_after audit seat.seen) student ≡ Some (Held seat.number)
 
--- a seat of the audit's chronicle, in which nobody was drawn at first; of its allotment, twice the number of students and 1, its calls are spent
-pub record IsSeatOf (audit : Origin Terms Progress) (seat : Standing Terms Progress AuditCall AuditReply) : Type 0 where
+-- a seat of the audit's chronicle, in which nobody was drawn at first; of its allotment, twice the
+-- number of students and 1, its calls are spent
+pub record IsSeatOf (audit : Origin Terms Progress)
+    (seat : Standing Terms Progress AuditCall AuditReply) : Type 0 where
   pub of : seat.chronicle ≡ Some audit
   pub opening : audit.opening.places ≡ []
   pub legal : IsLegal is_sound progress_after reply_to audit.base audit.opening seat.seen
@@ -47,17 +51,21 @@ pub record IsSeatOf (audit : Origin Terms Progress) (seat : Standing Terms Progr
   pub allotment : seat.left + length seat.own ≡ 2 * count_in audit + 1
 
 -- it holds no student
-abbrev pub HoldsNobody : Origin Terms Progress → Standing Terms Progress AuditCall AuditReply → Type 0
+abbrev pub HoldsNobody : Origin Terms Progress → Standing Terms Progress AuditCall AuditReply
+    → Type 0
 HoldsNobody audit seat = (student : ℕ) → ¬ Holds audit seat student
 
 -- A worker that may draw: it posted the row of each student that it drew
-pub record IsFree (audit : Origin Terms Progress) (seat : Standing Terms Progress AuditCall AuditReply) : Type 0 where
+pub record IsFree (audit : Origin Terms Progress)
+    (seat : Standing Terms Progress AuditCall AuditReply) : Type 0 where
   pub is_seat : IsSeatOf audit seat
   pub holds_nobody : HoldsNobody audit seat
   pub each_posted : length seat.own ≡ 2 * draws seat.own
 
--- a worker that drew this student, and may post its row: it posted the row of each other one that it drew
-pub record IsHolding (audit : Origin Terms Progress) (student : ℕ) (seat : Standing Terms Progress AuditCall AuditReply) : Type 0 where
+-- a worker that drew this student, and may post its row: it posted the row of each other one that
+-- it drew
+pub record IsHolding (audit : Origin Terms Progress) (student : ℕ)
+    (seat : Standing Terms Progress AuditCall AuditReply) : Type 0 where
   pub is_seat : IsSeatOf audit seat
   pub below : student < count_in audit
   pub holds : Holds audit seat student
@@ -65,7 +73,8 @@ pub record IsHolding (audit : Origin Terms Progress) (student : ℕ) (seat : Sta
   pub others_posted : length seat.own + 1 ≡ 2 * draws seat.own
 
 -- a worker that was told that each student is drawn
-pub record IsFinished (audit : Origin Terms Progress) (seat : Standing Terms Progress AuditCall AuditReply) : Type 0 where
+pub record IsFinished (audit : Origin Terms Progress)
+    (seat : Standing Terms Progress AuditCall AuditReply) : Type 0 where
   pub is_seat : IsSeatOf audit seat
   pub holds_nobody : HoldsNobody audit seat
   pub all_drawn : length (places_after audit seat.seen) ≡ count_in audit

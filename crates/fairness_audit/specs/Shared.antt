@@ -23,16 +23,21 @@ abbrev pub same_first : Option SeenData → Option SeenData → Bool
 same_first None None = true
 same_first None (Some b) = false
 same_first (Some a) None = false
-same_first (Some a) (Some b) = a.student == b.student && (bytes_eq a.bundle b.bundle && same_section a.without b.without)
+same_first (Some a) (Some b) =
+    a.student == b.student && (bytes_eq a.bundle b.bundle && same_section a.without b.without)
 
 -- the same row
 abbrev pub same_row : RowData → RowData → Bool
-same_row a b = a.lower == b.lower && (a.higher == b.higher && (a.beyond == b.beyond && same_first a.first b.first))
+same_row a b =
+    a.lower == b.lower
+    && (a.higher == b.higher && (a.beyond == b.beyond && same_first a.first b.first))
 
 -- a posted row is that of a student of the allocation
 abbrev pub is_sound : Terms → AuditCall → Bool
 is_sound terms Draw = true
-is_sound terms (Post student posted) = nat_lt student.0 (student_count terms.allocation) && same_row (row_of posted) (row terms.allocation student.0)
+is_sound terms (Post student posted) =
+    nat_lt student.0 (student_count terms.allocation)
+    && same_row (row_of posted) (row terms.allocation student.0)
 
 -- the reply to a call
 abbrev pub reply_to : Terms → Progress → ℕ → AuditCall → AuditReply
@@ -41,5 +46,7 @@ reply_to terms progress seat (Post student posted) = post_answer progress.places
 
 -- where the rows stand after a call
 abbrev pub progress_after : Terms → Progress → ℕ → AuditCall → Progress
-progress_after terms progress seat Draw = record { places = places_drawn (student_count terms.allocation) progress.places seat }
-progress_after terms progress seat (Post student posted) = record { places = places_posted progress.places seat student.0 posted }
+progress_after terms progress seat Draw =
+    record { places = places_drawn (student_count terms.allocation) progress.places seat }
+progress_after terms progress seat (Post student posted) =
+    record { places = places_posted progress.places seat student.0 posted }

@@ -17,9 +17,11 @@ ending sections (Some s) = spaced (codes "but for" ∷ name_at sections s ∷ []
 abbrev pub sight_line : List (List ℕ) → List (List ℕ) → SeenData → List ℕ
 sight_line students sections seen = spaced (codes "sees" ∷ name_at students seen.student ∷ bundle_text sections seen.bundle ∷ ending sections seen.without ∷ [])
 
--- the line of three counts: the word of the part, whose they are, and the counts of lower envy, of higher envy and of envy beyond one
+-- the line of three counts: the word of the part, whose they are, and the counts of lower envy, of
+-- higher envy and of envy beyond one
 abbrev pub counts_line : List ℕ → List ℕ → ℕ → ℕ → ℕ → List ℕ
-counts_line part name lower higher beyond = spaced (part ∷ name ∷ decimal lower ∷ decimal higher ∷ decimal beyond ∷ [])
+counts_line part name lower higher beyond =
+    spaced (part ∷ name ∷ decimal lower ∷ decimal higher ∷ decimal beyond ∷ [])
 
 -- the line of the first envied student, if there is one
 abbrev pub first_lines : List (List ℕ) → List (List ℕ) → Option SeenData → List (List ℕ)
@@ -28,21 +30,25 @@ first_lines students sections (Some seen) = sight_line students sections seen �
 
 -- the lines of a student's row
 abbrev pub row_lines : List ℕ → List (List ℕ) → List (List ℕ) → List ℕ → RowData → List (List ℕ)
-row_lines part students sections name row = counts_line part name row.lower row.higher row.beyond ∷ first_lines students sections row.first
+row_lines part students sections name row =
+    counts_line part name row.lower row.higher row.beyond ∷ first_lines students sections row.first
 
 -- the line of the sums of all rows
 abbrev pub total_line : List ℕ → List RowData → List ℕ
 total_line part rows = counts_line part (codes "total") (total (λ (row : RowData). row.lower) rows) (total (λ (row : RowData). row.higher) rows) (total (λ (row : RowData). row.beyond) rows)
 
 -- the lines of the rows of students of these names, in their order
-abbrev pub rows_lines : List ℕ → List (List ℕ) → List (List ℕ) → List (List ℕ) → List RowData → List (List ℕ)
+abbrev pub rows_lines : List ℕ → List (List ℕ) → List (List ℕ) → List (List ℕ) → List RowData
+    → List (List ℕ)
 rows_lines part students sections [] rows = []
 rows_lines part students sections (name ∷ names) [] = []
-rows_lines part students sections (name ∷ names) (row ∷ rows) = row_lines part students sections name row ++ rows_lines part students sections names rows
+rows_lines part students sections (name ∷ names) (row ∷ rows) =
+    row_lines part students sections name row ++ rows_lines part students sections names rows
 
 -- the lines of all rows, in file order, and of their sums
 abbrev pub part_lines : List ℕ → List (List ℕ) → List (List ℕ) → List RowData → List (List ℕ)
-part_lines part students sections rows = rows_lines part students sections students rows ++ total_line part rows ∷ []
+part_lines part students sections rows =
+    rows_lines part students sections students rows ++ total_line part rows ∷ []
 
 -- the text of an audit: the rows of the bundles of stage two, and then those of the final ones
 abbrev pub audit_text : List (List ℕ) → List (List ℕ) → List RowData → List RowData → List ℕ

@@ -8,8 +8,19 @@ use Rattle.fairness_audit.specs.Rows.{RowData, SeenData}
 
 -- an envied student
 abbrev pub seen_of : Seen → SeenData
-seen_of seen = record { student = seen.student.0; bundle = sections_of seen.bundle; without = option_map (λ (s : SectionNo). s.0) seen.without }
+seen_of seen =
+    record {
+      student = seen.student.0;
+      bundle = sections_of seen.bundle;
+      without = option_map (λ (s : SectionNo). s.0) seen.without;
+    }
 
 -- a row
 abbrev pub row_of : EnvyRow → RowData
-row_of row = record { lower = row.lower; higher = row.higher; beyond = row.beyond; first = option_map seen_of row.first }
+row_of row =
+    record {
+      lower = row.lower;
+      higher = row.higher;
+      beyond = row.beyond;
+      first = option_map seen_of row.first;
+    }

@@ -16,8 +16,13 @@ gains f first (suc count) = gain (f first) + gains f (first + 1) count
 
 -- the rating of a place, and what its adjustments with the later places can add
 abbrev pub weight_at : MenuData → ℕ → ℕ
-weight_at menu place = rating_at menu.places place + gains (adjustment_in menu.pairs place) (place + 1) (length menu.places - (place + 1))
+weight_at menu place =
+    rating_at menu.places place
+    + gains (adjustment_in menu.pairs place) (place + 1) (length menu.places - (place + 1))
 
--- of each section at least as much as its rating and its adjustments with whatever rated sections above it
+-- of each section at least as much as its rating and its adjustments with whatever rated sections
+-- above it
 abbrev pub AreWeights : Wishes → List ℕ → Type 0
-AreWeights wishes weights = (s : ℕ) (later : List ℕ) → IsAscending (s ∷ later) → AllRated wishes (s ∷ later) → (pos (wishes.rating s) +ℤ adjustments wishes s later) ≤ℤ pos (slice_index weights s)
+AreWeights wishes weights =
+    (s : ℕ) (later : List ℕ) → IsAscending (s ∷ later) → AllRated wishes (s ∷ later)
+    → (pos (wishes.rating s) +ℤ adjustments wishes s later) ≤ℤ pos (slice_index weights s)

@@ -22,10 +22,11 @@ use std::sync::{Arc, Wait};
 use std::thread;
 use std::thread::Threads;
 
-/// Whom each student of a crowd envies, where the students have these bundles: one for each, in file order, which it may take. The rows
-/// are in file order, found by 1 to 16 workers in threads of their own where those can be started, and the same for any number of them.
-/// Each worker passes the gate before its first student and after each row. All memory is taken before the first worker starts, and
-/// `NoMemory` is the only error.
+/// Whom each student of a crowd envies, where the students have these bundles: one for each, in
+/// file order, which it may take. The rows are in file order, found by 1 to 16 workers in threads
+/// of their own where those can be started, and the same for any number of them. Each worker passes
+/// the gate before its first student and after each row. All memory is taken before the first
+/// worker starts, and `NoMemory` is the only error.
 pub fn audit<R: Threads + Wait + Sync, G: Gate + Sync>(
     rt: &R,
     alloc: Global,
@@ -34,11 +35,16 @@ pub fn audit<R: Threads + Wait + Sync, G: Gate + Sync>(
     workers: u16,
     gate: &G,
 ) -> Result<Vec<EnvyRow>, NoMemory>
-    requires crowd { MakeCrowd (arc_value crowd).menus.items (arc_value crowd).budgets.items (arc_value crowd).sections }
+    requires crowd { MakeCrowd (arc_value crowd).menus.items (arc_value crowd).budgets.items
+        (arc_value crowd).sections }
     requires bundles { IsAllocation (allocation_of (arc_value crowd) (arc_value bundles).items) }
     requires workers { (1 ≤ workers) × (workers ≤ MAX_WORKERS) }
-    ensures rows { IfOk result (λ found. map row_of found.items ≡ rows (allocation_of (arc_value crowd) (arc_value bundles).items)) }
-    ensures among { IfOk result (λ found. AreRowsAmong (length (arc_value crowd).menus.items) (arc_value crowd).sections (map row_of found.items)) }
+    ensures rows { IfOk result
+        (λ found. map row_of found.items
+        ≡ rows (allocation_of (arc_value crowd) (arc_value bundles).items)) }
+    ensures among { IfOk result
+        (λ found. AreRowsAmong (length (arc_value crowd).menus.items) (arc_value crowd).sections
+        (map row_of found.items)) }
 {
     let shared = Arc::try_clone(&crowd)?;
     let held = Arc::try_clone(&bundles)?;
@@ -52,7 +58,8 @@ pub fn audit<R: Threads + Wait + Sync, G: Gate + Sync>(
     Ok(found)
 }
 
-// From the start of the first worker to the rows: it is given no allocator and has no error, so no memory is taken meanwhile.
+// From the start of the first worker to the rows: it is given no allocator and has no error, so no
+// memory is taken meanwhile.
 fn work_and_write<R: Threads + Wait + Sync, G: Gate + Sync>(
     rt: &R,
     chronicle: Chronicle<Register>,
@@ -65,12 +72,15 @@ fn work_and_write<R: Threads + Wait + Sync, G: Gate + Sync>(
     requires crowd { MakeCrowd crowd.now.menus.items crowd.now.budgets.items crowd.now.sections }
     requires bundles { IsAllocation (allocation_of crowd.now bundles.now) }
     requires chronicle { chronicle.base.allocation ≡ allocation_of crowd.now bundles.now }
-    requires count { (1 ≤ vec_len seats) × (vec_len seats ≤ 16) × (length chronicle.allotments ≡ vec_len seats) }
-    requires numbers { (n : ℕ) (d : _) → n < vec_len seats → (slice_index_or seats.items n d).number ≡ n }
+    requires count { (1 ≤ vec_len seats) × (vec_len seats ≤ 16)
+        × (length chronicle.allotments ≡ vec_len seats) }
+    requires numbers { (n : ℕ) (d : _) → n < vec_len seats
+        → (slice_index_or seats.items n d).number ≡ n }
     requires free { All (λ seat. IsFree chronicle seat) seats.items }
     requires rows { length rows.old ≡ student_count chronicle.base.allocation }
     ensures count { length rows.new ≡ length rows.old }
-    ensures each { (i : ℕ) (d : EnvyRow) → i < length rows.new → row_of (slice_index_or rows.new i d) ≡ row chronicle.base.allocation i }
+    ensures each { (i : ℕ) (d : EnvyRow) → i < length rows.new
+        → row_of (slice_index_or rows.new i d) ≡ row chronicle.base.allocation i }
 {
     work_all(rt, &chronicle, seats.as_mut_slice(), crowd, bundles, gate);
     let (register, _) = chronicle.close(seats);
@@ -90,10 +100,12 @@ fn work_all<R: Threads + Wait + Sync, G: Gate + Sync>(
     requires bundles { IsAllocation (allocation_of crowd.now bundles.now) }
     requires chronicle { chronicle.now.base.allocation ≡ allocation_of crowd.now bundles.now }
     requires count { (1 ≤ length seats.old) × (length seats.old ≤ 16) }
-    requires numbers { (n : ℕ) (d : _) → n < length seats.old → (slice_index_or seats.old n d).number ≡ n }
+    requires numbers { (n : ℕ) (d : _) → n < length seats.old
+        → (slice_index_or seats.old n d).number ≡ n }
     requires free { All (λ seat. IsFree chronicle.now seat) seats.old }
     ensures count { length seats.new ≡ length seats.old }
-    ensures numbers { (n : ℕ) (d : _) → n < length seats.old → (slice_index_or seats.new n d).number ≡ n }
+    ensures numbers { (n : ℕ) (d : _) → n < length seats.old
+        → (slice_index_or seats.new n d).number ≡ n }
     ensures finished { All (λ seat. IsFinished chronicle.now seat) seats.new }
 {
     let threads = seats.len();
@@ -102,7 +114,10 @@ fn work_all<R: Threads + Wait + Sync, G: Gate + Sync>(
         seats,
         threads,
         &|n, seat|
-            requires { (seat.now.number < 16) × IsFree chronicle.now seat.now × MakeCrowd crowd.now.menus.items crowd.now.budgets.items crowd.now.sections × IsAllocation (allocation_of crowd.now bundles.now) × (chronicle.now.base.allocation ≡ allocation_of crowd.now bundles.now) }
+            requires { (seat.now.number < 16) × IsFree chronicle.now seat.now
+                × MakeCrowd crowd.now.menus.items crowd.now.budgets.items crowd.now.sections
+                × IsAllocation (allocation_of crowd.now bundles.now)
+                × (chronicle.now.base.allocation ≡ allocation_of crowd.now bundles.now) }
         { work(rt, chronicle, seat, crowd, bundles, gate) },
     );
 }

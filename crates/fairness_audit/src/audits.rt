@@ -33,11 +33,13 @@ use std::thread::Threads;
 use student_roll::Roll;
 use utility_language::Command;
 
-/// The text of an audit of what a text publishes that is accepted for this market and these streams, one for each session: whom
-/// each student envies at the bundles of stage two, and whom at the final ones; and the first finding where the text is not
-/// accepted. 1 to 16 workers look for both, and no number of workers occurs in what is told. For each of the two each worker
-/// passes the gate before its first student and after each of its students. Whom a finding names is on the roll, or in the
-/// catalogue. The text has fewer than 4,294,967,295 bytes. `NoMemory` comes where memory is wanted, and has no other cause.
+/// The text of an audit of what a text publishes that is accepted for this market and these
+/// streams, one for each session: whom each student envies at the bundles of stage two, and whom at
+/// the final ones; and the first finding where the text is not accepted. 1 to 16 workers look for
+/// both, and no number of workers occurs in what is told. For each of the two each worker passes
+/// the gate before its first student and after each of its students. Whom a finding names is on the
+/// roll, or in the catalogue. The text has fewer than 4,294,967,295 bytes. `NoMemory` comes where
+/// memory is wanted, and has no other cause.
 pub fn published_audit<R: Threads + Wait + Sync, G: Gate + Sync>(
     rt: &R,
     alloc: Global,
@@ -53,9 +55,17 @@ pub fn published_audit<R: Threads + Wait + Sync, G: Gate + Sync>(
     requires text { length text.items < 2 ^ 32 - 1 }
     requires spread { settings.now.spread ≤ 49 }
     requires raise { settings.now.raise ≤ 50 }
-    ensures audited { IfOk result (λ audited. IsAuditOf (market_of catalog.now roll.now settings.now) (map (λ stream. stream.items) streams.now) text.items audited.items) }
-    ensures first { IfErr result (λ end. OnFound end (IsFirstFinding (market_of catalog.now roll.now settings.now) (map (λ stream. stream.items) streams.now) text.items)) }
-    ensures refused { IfErr result (λ end. OnFound end (λ _. ¬ IsAccepted (market_of catalog.now roll.now settings.now) (map (λ stream. stream.items) streams.now) text.items)) }
+    ensures audited { IfOk result
+        (λ audited. IsAuditOf (market_of catalog.now roll.now settings.now)
+        (map (λ stream. stream.items) streams.now) text.items audited.items) }
+    ensures first { IfErr result
+        (λ end. OnFound end
+        (IsFirstFinding (market_of catalog.now roll.now settings.now)
+        (map (λ stream. stream.items) streams.now) text.items)) }
+    ensures refused { IfErr result
+        (λ end. OnFound end
+        (λ _. ¬ IsAccepted (market_of catalog.now roll.now settings.now)
+        (map (λ stream. stream.items) streams.now) text.items)) }
     ensures named { IfErr result (λ end. OnFound end (IsNamedIn (tables_of catalog.now roll.now))) }
 {
     let accepted = accept(alloc, catalog, roll, settings, streams, text)?;
@@ -76,9 +86,13 @@ fn audit_accepted<R: Threads + Wait + Sync, G: Gate + Sync>(
     gate: &G,
 ) -> Result<Vec<u8>, NoMemory>
     requires workers { (1 ≤ workers) × (workers ≤ MAX_WORKERS) }
-    requires checked { IsChecked catalog.now roll.now (publication_of accepted.publication) (crowd_seen accepted.crowd) }
-    requires whole { MakeCrowd accepted.crowd.menus.items accepted.crowd.budgets.items accepted.crowd.sections }
-    ensures { IfOk result (λ audited. IsAudited catalog.now roll.now (crowd_seen accepted.crowd) (publication_of accepted.publication) audited.items) }
+    requires checked { IsChecked catalog.now roll.now (publication_of accepted.publication)
+        (crowd_seen accepted.crowd) }
+    requires whole { MakeCrowd accepted.crowd.menus.items accepted.crowd.budgets.items
+        accepted.crowd.sections }
+    ensures { IfOk result
+        (λ audited. IsAudited catalog.now roll.now (crowd_seen accepted.crowd)
+        (publication_of accepted.publication) audited.items) }
 {
     let Accepted { publication, crowd } = accepted;
     let settled = settled_bundles(alloc, &publication)?;
@@ -90,7 +104,8 @@ fn audit_accepted<R: Threads + Wait + Sync, G: Gate + Sync>(
 
 // Each student's bundle of stage two.
 fn settled_bundles(alloc: Global, publication: &Publication) -> Result<Vec<Bundle>, NoMemory>
-    ensures { IfOk result (λ bundles. map sections_of bundles.items ≡ demanded (publication_of publication.now)) }
+    ensures { IfOk result
+        (λ bundles. map sections_of bundles.items ≡ demanded (publication_of publication.now)) }
 {
     let mut bundles = Vec::with_capacity(alloc, publication.bundles.len())?;
     'students: for proved in &publication.bundles {
@@ -109,10 +124,15 @@ fn rows_with<R: Threads + Wait + Sync, G: Gate + Sync>(
     gate: &G,
 ) -> Result<Vec<EnvyRow>, NoMemory>
     requires workers { (1 ≤ workers) × (workers ≤ MAX_WORKERS) }
-    requires crowd { MakeCrowd (arc_value crowd.now).menus.items (arc_value crowd.now).budgets.items (arc_value crowd.now).sections }
+    requires crowd { MakeCrowd (arc_value crowd.now).menus.items (arc_value crowd.now).budgets.items
+        (arc_value crowd.now).sections }
     requires bundles { IsAllocation (allocation_of (arc_value crowd.now) bundles.items) }
-    ensures rows { IfOk result (λ found. map row_of found.items ≡ rows (allocation_of (arc_value crowd.now) bundles.items)) }
-    ensures among { IfOk result (λ found. AreRowsAmong (length (arc_value crowd.now).menus.items) (arc_value crowd.now).sections (map row_of found.items)) }
+    ensures rows { IfOk result
+        (λ found. map row_of found.items
+        ≡ rows (allocation_of (arc_value crowd.now) bundles.items)) }
+    ensures among { IfOk result
+        (λ found. AreRowsAmong (length (arc_value crowd.now).menus.items)
+        (arc_value crowd.now).sections (map row_of found.items)) }
 {
     let shared = Arc::try_clone(crowd)?;
     let held = Arc::new(alloc, bundles)?;

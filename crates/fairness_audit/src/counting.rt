@@ -12,7 +12,8 @@ use bundle_rules::{Bundle, utility};
 use demand_api::Crowd;
 use market_units::StudentNo;
 
-/// Whom one student envies, of all who have these bundles: one for each student of the crowd, which it may take.
+/// Whom one student envies, of all who have these bundles: one for each student of the crowd, which
+/// it may take.
 pub fn count_envy(crowd: &Crowd, bundles: &[Bundle], student: StudentNo) -> EnvyRow
     requires crowd { MakeCrowd crowd.now.menus.items crowd.now.budgets.items crowd.now.sections }
     requires bundles { IsAllocation (allocation_of crowd.now bundles.now) }

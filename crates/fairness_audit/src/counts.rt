@@ -18,7 +18,8 @@ pub struct Counts {
 impl Counts {
     // The counts of one row.
     pub(crate) fn of(row: &EnvyRow) -> Counts
-        ensures value { result ≡ record { lower = row.now.lower; higher = row.now.higher; beyond = row.now.beyond } }
+        ensures value { result
+            ≡ record { lower = row.now.lower; higher = row.now.higher; beyond = row.now.beyond } }
         ensures few { (result.lower ≤ 65535) × (result.higher ≤ 65535) × (result.beyond ≤ 65535) }
     {
         Counts {
@@ -35,7 +36,8 @@ pub(crate) fn sum_up(rows: &[EnvyRow]) -> Counts
     ensures lower { result.lower ≡ total (λ (row : RowData). row.lower) (map row_of rows.now) }
     ensures higher { result.higher ≡ total (λ (row : RowData). row.higher) (map row_of rows.now) }
     ensures beyond { result.beyond ≡ total (λ (row : RowData). row.beyond) (map row_of rows.now) }
-    ensures few { (result.lower ≤ 65535 * length rows.now) × (result.higher ≤ 65535 * length rows.now) × (result.beyond ≤ 65535 * length rows.now) }
+    ensures few { (result.lower ≤ 65535 * length rows.now)
+        × (result.higher ≤ 65535 * length rows.now) × (result.beyond ≤ 65535 * length rows.now) }
 {
     match rows {
         [] => Counts {

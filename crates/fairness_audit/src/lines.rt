@@ -14,14 +14,19 @@ use market_certificate::{put_bundle_field, put_field, put_number_field};
 use market_units::{NoMemory, SectionNo};
 use student_roll::Roll;
 
-// Puts the line of three counts behind the text: the word of the part, whose they are, and the counts.
+// Puts the line of three counts behind the text: the word of the part, whose they are, and the
+// counts.
 pub(crate) fn put_counts(
     text: &mut Vec<u8>,
     part: &[u8],
     name: &[u8],
     counts: Counts,
 ) -> Result<(), NoMemory>
-    ensures { OnOk result (text.new.items ≡ text.old.items ++ counts_line part.now name.now counts.lower counts.higher counts.beyond ++ 10 ∷ []) }
+    ensures { OnOk result
+        (text.new.items
+        ≡ text.old.items
+        ++ counts_line part.now name.now counts.lower counts.higher counts.beyond ++ 10
+        ∷ []) }
 {
     text.extend_from_slice(part)?;
     put_field(text, name)?;
@@ -39,8 +44,14 @@ pub(crate) fn put_first(
     roll: &Roll,
     first: Option<Seen>,
 ) -> Result<(), NoMemory>
-    requires { IfSome (option_map seen_of first) (IsSightAmong (length roll.now.students) (length catalog.now.sections)) }
-    ensures { OnOk result (text.new.items ≡ text.old.items ++ joined (first_lines (names_of roll.now.students) (section_names catalog.now.sections) (option_map seen_of first))) }
+    requires { IfSome (option_map seen_of first)
+        (IsSightAmong (length roll.now.students) (length catalog.now.sections)) }
+    ensures { OnOk result
+        (text.new.items
+        ≡ text.old.items
+        ++ joined
+        (first_lines (names_of roll.now.students) (section_names catalog.now.sections)
+        (option_map seen_of first))) }
 {
     match first {
         Some(seen) => put_sight(text, catalog, roll, &seen),
@@ -55,8 +66,15 @@ fn put_sight(
     roll: &Roll,
     seen: &Seen,
 ) -> Result<(), NoMemory>
-    requires { IsSightAmong (length roll.now.students) (length catalog.now.sections) (seen_of seen.now) }
-    ensures { OnOk result (text.new.items ≡ text.old.items ++ joined (sight_line (names_of roll.now.students) (section_names catalog.now.sections) (seen_of seen.now) ∷ [])) }
+    requires { IsSightAmong (length roll.now.students) (length catalog.now.sections)
+        (seen_of seen.now) }
+    ensures { OnOk result
+        (text.new.items
+        ≡ text.old.items
+        ++ joined
+        (sight_line (names_of roll.now.students) (section_names catalog.now.sections)
+        (seen_of seen.now)
+        ∷ [])) }
 {
     text.extend_from_slice(b"sees")?;
     put_field(text, roll.name(seen.student).bytes())?;
@@ -72,8 +90,13 @@ fn put_ending(
     catalog: &Catalog,
     without: Option<SectionNo>,
 ) -> Result<(), NoMemory>
-    requires { IfSome (option_map (λ (s : SectionNo). s.0) without) (λ s. s < length catalog.now.sections) }
-    ensures { OnOk result (text.new.items ≡ text.old.items ++ 32 ∷ ending (section_names catalog.now.sections) (option_map (λ (s : SectionNo). s.0) without)) }
+    requires { IfSome (option_map (λ (s : SectionNo). s.0) without)
+        (λ s. s < length catalog.now.sections) }
+    ensures { OnOk result
+        (text.new.items
+        ≡ text.old.items ++ 32
+        ∷ ending (section_names catalog.now.sections)
+        (option_map (λ (s : SectionNo). s.0) without)) }
 {
     match without {
         Some(section) => {

@@ -17,7 +17,8 @@ use std::alloc::Global;
 use std::marker::Model;
 use std::sync::Arc;
 
-/// Gives each student of an allocation once, and takes its row from the seat that drew it. All memory is taken when it is made.
+/// Gives each student of an allocation once, and takes its row from the seat that drew it. All
+/// memory is taken when it is made.
 #[derive(Drop)]
 pub struct Register {
     crowd: Arc<Crowd>,
@@ -43,19 +44,26 @@ impl Model for Register {
 }
 
 impl Register {
-    /// A register of which no student is drawn, with room for the calls of 1 to 16 workers. The only error is that memory was wanted
-    /// and not given.
+    /// A register of which no student is drawn, with room for the calls of 1 to 16 workers. The
+    /// only error is that memory was wanted and not given.
     pub fn make(
         alloc: Global,
         crowd: Arc<Crowd>,
         bundles: Arc<Vec<Bundle>>,
         workers: u16,
     ) -> Result<Register, NoMemory>
-        requires crowd { MakeCrowd (arc_value crowd).menus.items (arc_value crowd).budgets.items (arc_value crowd).sections }
+        requires crowd { MakeCrowd (arc_value crowd).menus.items (arc_value crowd).budgets.items
+            (arc_value crowd).sections }
         requires workers { (1 ≤ workers) × (workers ≤ 16) }
-        ensures allocation { IfOk result (λ register. register.allocation ≡ allocation_of (arc_value crowd) (arc_value bundles).items) }
+        ensures allocation { IfOk result
+            (λ register. register.allocation
+            ≡ allocation_of (arc_value crowd) (arc_value bundles).items) }
         ensures places { IfOk result (λ register. register.places ≡ []) }
-        ensures room { IfOk result (λ register. register.room ≡ workers * (2 * student_count (allocation_of (arc_value crowd) (arc_value bundles).items) + 1)) }
+        ensures room { IfOk result
+            (λ register. register.room
+            ≡ workers
+            * (2 * student_count (allocation_of (arc_value crowd) (arc_value bundles).items)
+            + 1)) }
     {
         let students = crowd.menus.len();
         let places = Vec::with_capacity(alloc, students)?;
@@ -79,7 +87,8 @@ impl Register {
     /// Gives the worker the next student, and says that there is none where each is drawn.
     pub fn draw(&mut self, worker: u16) -> AuditReply
         ensures answer { result ≡ draw_answer (student_count self.old.allocation) self.old.places }
-        ensures places { self.new.places ≡ places_drawn (student_count self.old.allocation) self.old.places worker }
+        ensures places { self.new.places
+            ≡ places_drawn (student_count self.old.allocation) self.old.places worker }
         ensures allocation { self.new.allocation ≡ self.old.allocation }
         ensures room { self.new.room ≡ self.old.room }
     {
@@ -130,7 +139,8 @@ impl Register {
         requires filled { AreFilled self.now.allocation self.now.places }
         requires count { length rows.old ≡ student_count self.now.allocation }
         ensures count { length rows.new ≡ length rows.old }
-        ensures each { (i : ℕ) (d : EnvyRow) → i < length rows.new → row_of (slice_index_or rows.new i d) ≡ row self.now.allocation i }
+        ensures each { (i : ℕ) (d : EnvyRow) → i < length rows.new
+            → row_of (slice_index_or rows.new i d) ≡ row self.now.allocation i }
     {
         'students: for place in 0..rows.len() {
             rows[place] = self.row(place);

@@ -13,7 +13,8 @@ pub struct Seen {
     pub student: StudentNo,
     /// The best bundle out of that student's one, where no section costs anything.
     pub bundle: Bundle,
-    /// The lowest section of that student's bundle but for which the envy ends, if it ends but for one.
+    /// The lowest section of that student's bundle but for which the envy ends, if it ends but for
+    /// one.
     pub without: Option<SectionNo>,
 }
 

@@ -21,7 +21,8 @@ impl Model for Terms {
     ghost also_owns = { λ _. ftrue };
 }
 
-/// What the steps of a register change: where the rows of the drawn students stand, in file order. Contracts alone see it.
+/// What the steps of a register change: where the rows of the drawn students stand, in file order.
+/// Contracts alone see it.
 pub struct Progress {
     pub ghost places: { List Place } by { Prim.hlevel (codes, place.the_row.coded) },
 }

@@ -46,7 +46,8 @@ pub(crate) fn sight(
 
 // The lowest section of the bundle but for which what is seen is not worth more.
 fn ended_by(menu: &Menu, own: i32, bundle: &Bundle) -> Option<SectionNo>
-    ensures { option_map (λ (s : SectionNo). s.0) result ≡ ended_by menu.now own (sections_of bundle.now) }
+    ensures { option_map (λ (s : SectionNo). s.0) result
+        ≡ ended_by menu.now own (sections_of bundle.now) }
 {
     for section in bundle.sections() {
         if !is_more(menu, own, &but_for(bundle, *section)) {
@@ -93,7 +94,8 @@ fn best_from(menu: &Menu, later: &[SectionNo], chosen: Bundle) -> Bundle
     requires chosen { IsFeasible (wishes_of menu.now) (sections_of chosen) }
     requires few { length (sections_of chosen) + length later.now ≤ 8 }
     requires later { IsAscending (sections_of chosen ++ ordinals later.now) }
-    ensures { IsBestOfThese (wishes_of menu.now) (sections_of chosen) (ordinals later.now) (sections_of result) }
+    ensures { IsBestOfThese (wishes_of menu.now) (sections_of chosen) (ordinals later.now)
+        (sections_of result) }
 {
     match later {
         [] => chosen,
@@ -118,9 +120,12 @@ fn best_from(menu: &Menu, later: &[SectionNo], chosen: Bundle) -> Bundle
 fn extended(menu: &Menu, chosen: Bundle, section: SectionNo) -> Option<Bundle>
     requires room { length (sections_of chosen) < 8 }
     requires above { IsAscending (sections_of chosen ++ section.0 ∷ []) }
-    ensures value { IfSome result (λ wider. sections_of wider ≡ sections_of chosen ++ section.0 ∷ []) }
-    ensures feasible { IfSome result (λ wider. IsFeasible (wishes_of menu.now) (sections_of wider)) }
-    ensures none { IfNone result (¬ IsFeasible (wishes_of menu.now) (sections_of chosen ++ section.0 ∷ [])) }
+    ensures value { IfSome result
+        (λ wider. sections_of wider ≡ sections_of chosen ++ section.0 ∷ []) }
+    ensures feasible { IfSome result
+        (λ wider. IsFeasible (wishes_of menu.now) (sections_of wider)) }
+    ensures none { IfNone result
+        (¬ IsFeasible (wishes_of menu.now) (sections_of chosen ++ section.0 ∷ [])) }
 {
     let wider = chosen.with(section);
     if feasible(menu, &wider) {

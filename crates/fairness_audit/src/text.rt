@@ -14,10 +14,11 @@ use market_units::{NoMemory, StudentNo};
 use std::alloc::Global;
 use student_roll::Roll;
 
-/// The text of an audit: for each student of the roll in file order a line with its three counts, and where it envies someone a line
-/// with what it sees in the bundle of the first; behind them the sums of the counts. First come the rows of the settled bundles of stage
-/// two, then those of the last ones. Each has a row for each student, which names students of the roll and sections of the catalogue.
-/// `NoMemory` is the only error.
+/// The text of an audit: for each student of the roll in file order a line with its three counts,
+/// and where it envies someone a line with what it sees in the bundle of the first; behind them the
+/// sums of the counts. First come the rows of the settled bundles of stage two, then those of the
+/// last ones. Each has a row for each student, which names students of the roll and sections of the
+/// catalogue. `NoMemory` is the only error.
 pub fn put_rows(
     alloc: Global,
     catalog: &Catalog,
@@ -25,9 +26,14 @@ pub fn put_rows(
     settled: &[EnvyRow],
     last: &[EnvyRow],
 ) -> Result<Vec<u8>, NoMemory>
-    requires settled { AreRowsAmong (length roll.now.students) (length catalog.now.sections) (map row_of settled.now) }
-    requires last { AreRowsAmong (length roll.now.students) (length catalog.now.sections) (map row_of last.now) }
-    ensures { IfOk result (λ text. text.items ≡ audit_text (names_of roll.now.students) (section_names catalog.now.sections) (map row_of settled.now) (map row_of last.now)) }
+    requires settled { AreRowsAmong (length roll.now.students) (length catalog.now.sections)
+        (map row_of settled.now) }
+    requires last { AreRowsAmong (length roll.now.students) (length catalog.now.sections)
+        (map row_of last.now) }
+    ensures { IfOk result
+        (λ text. text.items
+        ≡ audit_text (names_of roll.now.students) (section_names catalog.now.sections)
+        (map row_of settled.now) (map row_of last.now)) }
 {
     let mut text = Vec::new(alloc);
     put_part(&mut text, catalog, roll, b"settled", settled)?;
@@ -43,8 +49,14 @@ fn put_part(
     part: &[u8],
     rows: &[EnvyRow],
 ) -> Result<(), NoMemory>
-    requires { AreRowsAmong (length roll.now.students) (length catalog.now.sections) (map row_of rows.now) }
-    ensures { OnOk result (text.new.items ≡ text.old.items ++ joined (part_lines part.now (names_of roll.now.students) (section_names catalog.now.sections) (map row_of rows.now))) }
+    requires { AreRowsAmong (length roll.now.students) (length catalog.now.sections)
+        (map row_of rows.now) }
+    ensures { OnOk result
+        (text.new.items
+        ≡ text.old.items
+        ++ joined
+        (part_lines part.now (names_of roll.now.students)
+        (section_names catalog.now.sections) (map row_of rows.now))) }
 {
     'students: for student in 0..roll.len() {
         let name = roll.name(StudentNo(student));
@@ -65,7 +77,12 @@ fn put_row(
     row: EnvyRow,
 ) -> Result<(), NoMemory>
     requires { IsRowAmong (length roll.now.students) (length catalog.now.sections) (row_of row) }
-    ensures { OnOk result (text.new.items ≡ text.old.items ++ joined (row_lines part.now (names_of roll.now.students) (section_names catalog.now.sections) name.now (row_of row))) }
+    ensures { OnOk result
+        (text.new.items
+        ≡ text.old.items
+        ++ joined
+        (row_lines part.now (names_of roll.now.students)
+        (section_names catalog.now.sections) name.now (row_of row))) }
 {
     put_counts(text, part, name, Counts::of(&row))?;
     put_first(text, catalog, roll, row.first)?;

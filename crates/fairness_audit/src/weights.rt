@@ -10,10 +10,12 @@ ghost use Rattle.fairness_audit.specs.Weights.{AreWeights, gain, gains, weight_a
 use bundle_rules::{Bundle, Menu};
 use market_units::SectionNo;
 
-// What each section can at most add to a bundle of a student, by ordinal. A section that the student does not rate adds nothing.
+// What each section can at most add to a bundle of a student, by ordinal. A section that the
+// student does not rate adds nothing.
 pub(crate) type Weights = [u32; 400];
 
-// The weights of the sections of a menu: the rating, and all adjustments with later sections that are not negative.
+// The weights of the sections of a menu: the rating, and all adjustments with later sections that
+// are not negative.
 pub(crate) fn weights_of(menu: &Menu) -> Weights
     ensures weights { AreWeights (wishes_of menu.now) result }
     ensures few { All (λ weight. weight ≤ 20000) result }
@@ -27,12 +29,14 @@ pub(crate) fn weights_of(menu: &Menu) -> Weights
     weights
 }
 
-// What the adjustments of a place with this one and those behind it add where they are not negative.
+// What the adjustments of a place with this one and those behind it add where they are not
+// negative.
 fn gains(menu: &Menu, place: u8, other: u8) -> u32
     requires menu { IsMenu menu.now }
     requires place { place < length menu.now.places }
     requires other { other ≤ length menu.now.places }
-    ensures value { result ≡ gains (adjustment_in menu.now.pairs place) other (length menu.now.places - other) }
+    ensures value { result
+        ≡ gains (adjustment_in menu.now.pairs place) other (length menu.now.places - other) }
     ensures few { result ≤ 200 * (length menu.now.places - other) }
 {
     if other >= menu.len() {

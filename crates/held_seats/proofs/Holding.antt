@@ -26,12 +26,15 @@ use Rattle.demand_api.proofs.Holders.{holders_set}
 -- a bundle's sections have a count of 1 at least
 pub holds_one : (s : ℕ) (held : List (List ℕ)) (i : ℕ) (bundle : List ℕ) → slice_get held i ≡ Some bundle → has bundle s ≡ true → 1 ≤ holders s held
 holds_one s [] i bundle there in_it = absurd (cc there)
-holds_one s (x ∷ xs) zero bundle there in_it = let same : x ≡ bundle = cc there in let is : has x s ≡ true = ap (λ b. has b s) same ∙ in_it in rw is (omega arith)
+holds_one s (x ∷ xs) zero bundle there in_it =
+    let same : x ≡ bundle = cc there in let is : has x s ≡ true = ap (λ b. has b s) same ∙ in_it in rw is (omega arith)
 holds_one s (x ∷ xs) (suc i) bundle there in_it = let more = holds_one s xs i bundle there in_it in omega (arith, more)
 
 -- what holds of each section of a bundle holds of each of its list
-pub all_listed : (P : ℕ → Type 0) (sections : List SectionNo) (bundle : List ℕ) → ordinals sections ≡ bundle → ((s : ℕ) → has bundle s ≡ true → P s) → All (λ section. P section.0) sections
-all_listed P sections bundle listed each = λ k d low. each (slice_index_or sections k d).0 (ap (λ b. has b (slice_index_or sections k d).0) (sym listed) ∙ listed_in sections k d low)
+pub all_listed : (P : ℕ → Type 0) (sections : List SectionNo) (bundle : List ℕ) → ordinals sections ≡ bundle → ((s : ℕ) → has bundle s ≡ true → P s)
+    → All (λ section. P section.0) sections
+all_listed P sections bundle listed each =
+    λ k d low. each (slice_index_or sections k d).0 (ap (λ b. has b (slice_index_or sections k d).0) (sym listed) ∙ listed_in sections k d low)
 
 -- and what holds of each of its list holds of each section
 pub each_listed : (P : ℕ → Type 0) (sections : List SectionNo) → All (λ section. P section.0) sections → (s : ℕ) → has (ordinals sections) s ≡ true → P s
@@ -42,15 +45,18 @@ each_listed P (x ∷ xs) all s in_it = elim (has-cases x.0 (ordinals xs) s in_it
 ]
 
 -- the bundle at a place has sections below the bound
-pub below_at : (n : ℕ) (held : List (List ℕ)) (i : ℕ) (bundle : List ℕ) → AreBelow n held → slice_get held i ≡ Some bundle → (s : ℕ) → has bundle s ≡ true → s < n
+pub below_at : (n : ℕ) (held : List (List ℕ)) (i : ℕ) (bundle : List ℕ) → AreBelow n held → slice_get held i ≡ Some bundle → (s : ℕ) → has bundle s ≡ true
+    → s < n
 below_at n held i bundle below there s in_it =
     let low = slice_get_within held i bundle there in
     let here = get_or_from_slice_get held i bundle bundle there in
     below i bundle low s (ap (λ b. has b s) here ∙ in_it)
 
 -- the counts where a bundle was given up and another was taken
-pub counts_after : (n : ℕ) (held : List (List ℕ)) (i : ℕ) (before after : List ℕ) (old between new : List ℕ) → AreCounts n held old → slice_get held i ≡ Some before → length between ≡ length old → length new ≡ length between
-    → ((s : ℕ) → s < length old → HasCounted between old before s) → ((s : ℕ) → s < length between → HasCounted between new after s) → AreCounts n (slice_set held i after) new
+pub counts_after : (n : ℕ) (held : List (List ℕ)) (i : ℕ) (before after : List ℕ) (old between new : List ℕ) → AreCounts n held old
+    → slice_get held i ≡ Some before → length between ≡ length old → length new ≡ length between
+    → ((s : ℕ) → s < length old → HasCounted between old before s) → ((s : ℕ) → s < length between → HasCounted between new after s)
+    → AreCounts n (slice_set held i after) new
 counts_after n held i before after old between new are there size size' fewer more = record {
   len = size' ∙ size ∙ are.len;
   each = λ s low.
@@ -63,7 +69,8 @@ counts_after n held i before after old between new are there size size' fewer mo
 }
 
 -- the counts leave room for a bundle
-pub room_for : (n : ℕ) (held : List (List ℕ)) (before : List ℕ) (old between : List ℕ) (few : ℕ) → AreCounts n held old → length held ≤ 2000 → few ≤ 8 → length between ≡ length old → ((s : ℕ) → s < length old → HasCounted between old before s)
+pub room_for : (n : ℕ) (held : List (List ℕ)) (before : List ℕ) (old between : List ℕ) (few : ℕ) → AreCounts n held old → length held ≤ 2000 → few ≤ 8
+    → length between ≡ length old → ((s : ℕ) → s < length old → HasCounted between old before s)
     → All (λ count. count + few < 4294967296) between
 room_for n held before old between few are short bundle size fewer k d low =
     let len = are.len in
@@ -74,7 +81,8 @@ room_for n held before old between few are short bundle size fewer k d low =
     omega (arith, at, least, most, read)
 
 -- a section of neither bundle is as free as it was
-unchanged : (n : ℕ) (held : List (List ℕ)) (i : ℕ) (before after : List ℕ) (old new seats : List ℕ) (s : ℕ) → n ≡ length seats → AreCounts n held old → AreCounts n (slice_set held i after) new → slice_get held i ≡ Some before → has before s ≡ false → has after s ≡ false
+unchanged : (n : ℕ) (held : List (List ℕ)) (i : ℕ) (before after : List ℕ) (old new seats : List ℕ) (s : ℕ) → n ≡ length seats → AreCounts n held old
+    → AreCounts n (slice_set held i after) new → slice_get held i ≡ Some before → has before s ≡ false → has after s ≡ false
     → nat_lt (slice_index old s) (slice_index seats s) ≡ nat_lt (slice_index new s) (slice_index seats s)
 unchanged n held i before after old new seats s size are are' there lacked leaves = elim (cases_lt s n) [
   | inl low ↦
@@ -87,9 +95,11 @@ unchanged n held i before after old new seats s size are are' there lacked leave
 ]
 
 -- the free sections after both bundles' sections were looked at
-pub free_after : (n : ℕ) (held : List (List ℕ)) (i : ℕ) (before after : List ℕ) (old new seats : List ℕ) (free between result : set.FinSet nat_cmp) → n ≡ length seats → AreCounts n held old → AreCounts n (slice_set held i after) new → slice_get held i ≡ Some before
+pub free_after : (n : ℕ) (held : List (List ℕ)) (i : ℕ) (before after : List ℕ) (old new seats : List ℕ) (free between result : set.FinSet nat_cmp)
+    → n ≡ length seats → AreCounts n held old → AreCounts n (slice_set held i after) new → slice_get held i ≡ Some before
     → ((s : ℕ) → set.contains free s ≡ nat_lt (slice_index old s) (slice_index seats s))
-    → Tells (λ s. nat_lt (slice_index new s) (slice_index seats s)) free before between → Tells (λ s. nat_lt (slice_index new s) (slice_index seats s)) between after result
+    → Tells (λ s. nat_lt (slice_index new s) (slice_index seats s)) free before between
+    → Tells (λ s. nat_lt (slice_index new s) (slice_index seats s)) between after result
     → (s : ℕ) → set.contains result s ≡ nat_lt (slice_index new s) (slice_index seats s)
 free_after n held i before after old new seats free between result size are are' there was first second s = elim (cases_Bool (has after s)) [
   | inl takes ↦ second s ∙ rw takes refl
@@ -100,8 +110,10 @@ free_after n held i before after old new seats free between result size are are'
 ]
 
 -- what may be chosen, by the free sections that are kept
-pub may_choose_of : (seats : List ℕ) (held : List (List ℕ)) (i : ℕ) (bundle : List ℕ) (counts : List ℕ) (free result : set.FinSet nat_cmp) → slice_get held i ≡ Some bundle → AreCounts (length seats) held counts
-    → ((s : ℕ) → set.contains free s ≡ nat_lt (slice_index counts s) (slice_index seats s)) → ((s : ℕ) → set.contains result s ≡ (has bundle s || set.contains free s)) → (s : ℕ) → set.contains result s ≡ may_choose seats held i s
+pub may_choose_of : (seats : List ℕ) (held : List (List ℕ)) (i : ℕ) (bundle : List ℕ) (counts : List ℕ) (free result : set.FinSet nat_cmp)
+    → slice_get held i ≡ Some bundle → AreCounts (length seats) held counts
+    → ((s : ℕ) → set.contains free s ≡ nat_lt (slice_index counts s) (slice_index seats s))
+    → ((s : ℕ) → set.contains result s ≡ (has bundle s || set.contains free s)) → (s : ℕ) → set.contains result s ≡ may_choose seats held i s
 may_choose_of seats held i bundle counts free result there are was told s =
     let own : slice_index_or held i [] ≡ bundle = get_or_from_slice_get held i bundle [] there in
     told s ∙ ap (λ b. b || set.contains free s) (ap (λ b. has b s) (sym own)) ∙ ap (λ b. has (slice_index_or held i []) s || b) (was s ∙ by_holders)
@@ -113,13 +125,16 @@ may_choose_of seats held i bundle counts free result there are was told s =
     ]
 
 -- the bundle that is read at a place
-pub there_at : (held : List Bundle) (i : ℕ) (item : Bundle) → i < length held → item ≡ slice_index_or held i item → slice_get (map sections_of held) i ≡ Some (sections_of item)
+pub there_at : (held : List Bundle) (i : ℕ) (item : Bundle) → i < length held → item ≡ slice_index_or held i item
+    → slice_get (map sections_of held) i ≡ Some (sections_of item)
 there_at held i item low is = slice_get-map sections_of held i ∙ ap (option_map sections_of) (slice_get_read held (length held) i item refl low is)
 
-pub listed_at : (held : List Bundle) (i : ℕ) (item : Bundle) → i < length held → item ≡ slice_index_or held i item → sections_of item ≡ slice_index_or (map sections_of held) i []
+pub listed_at : (held : List Bundle) (i : ℕ) (item : Bundle) → i < length held → item ≡ slice_index_or held i item
+    → sections_of item ≡ slice_index_or (map sections_of held) i []
 listed_at held i item low is = ap sections_of is ∙ sym (get_or-map sections_of held i item [] low)
 
-pub below_item : (n : ℕ) (held : List Bundle) (i : ℕ) (item : Bundle) → AreBelow n (map sections_of held) → i < length held → item ≡ slice_index_or held i item → (s : ℕ) → has (sections_of item) s ≡ true → s < n
+pub below_item : (n : ℕ) (held : List Bundle) (i : ℕ) (item : Bundle) → AreBelow n (map sections_of held) → i < length held → item ≡ slice_index_or held i item
+    → (s : ℕ) → has (sections_of item) s ≡ true → s < n
 below_item n held i item below low is = below_at n (map sections_of held) i (sections_of item) below (there_at held i item low is)
 
 -- a greater bound
@@ -150,23 +165,31 @@ equal_lists [] = refl
 equal_lists (x ∷ xs) = let head : nat_eq x x ≡ true = grind (arith, nat_tests) in rw head (equal_lists xs)
 
 -- the counts that were lent, after a bundle's sections were taken out of them
-pub lent_is : (len : ℕ) (old lent between lent' : List ℕ) → len ≡ length old → lent ≡ old → length between ≡ length lent → lent' ≡ take len (between ++ drop (length between) old) → lent' ≡ between
+pub lent_is : (len : ℕ) (old lent between lent' : List ℕ) → len ≡ length old → lent ≡ old → length between ≡ length lent
+    → lent' ≡ take len (between ++ drop (length between) old) → lent' ≡ between
 lent_is len old lent between lent' size same kept is = is ∙ lent_back len between old (size ∙ ap length (sym same) ∙ sym kept)
 
 -- the counts by the sections of the two bundles
-pub recounted : (n i len : ℕ) (held : List (List ℕ)) (before after : List ℕ) (old lent between lent' new : List ℕ) (gone come : List SectionNo) → AreCounts n held old → slice_get held i ≡ Some before → len ≡ length old → ordinals gone ≡ before → ordinals come ≡ after
-    → lent ≡ old → length between ≡ length lent → ((s : ℕ) → s < length lent → HasCounted between lent (ordinals gone) s) → lent' ≡ take len (between ++ drop (length between) old)
+pub recounted : (n i len : ℕ) (held : List (List ℕ)) (before after : List ℕ) (old lent between lent' new : List ℕ) (gone come : List SectionNo)
+    → AreCounts n held old → slice_get held i ≡ Some before → len ≡ length old → ordinals gone ≡ before → ordinals come ≡ after
+    → lent ≡ old → length between ≡ length lent → ((s : ℕ) → s < length lent → HasCounted between lent (ordinals gone) s)
+    → lent' ≡ take len (between ++ drop (length between) old)
     → length new ≡ length lent' → ((s : ℕ) → s < length lent' → HasCounted lent' new (ordinals come) s) → AreCounts n (slice_set held i after) new
 recounted n i len held before after old lent between lent' new gone come are there size listed listed' same kept fewer is kept' more =
     let back = lent_is len old lent between lent' size same kept is in
     counts_after n held i before after old between new are there (kept ∙ ap length same) (kept' ∙ ap length back)
-    (λ s low. subst (λ l. HasCounted between l before s) same (subst (λ b. HasCounted between lent b s) listed (fewer s (let e = ap length same in omega (arith, e, low)))))
-    (λ s low. subst (λ l. HasCounted l new after s) back (subst (λ b. HasCounted lent' new b s) listed' (more s (let e = ap length back in omega (arith, e, low)))))
+    (λ s low. subst (λ l. HasCounted between l before s) same
+    (subst (λ b. HasCounted between lent b s) listed (fewer s (let e = ap length same in omega (arith, e, low)))))
+    (λ s low. subst (λ l. HasCounted l new after s) back
+    (subst (λ b. HasCounted lent' new b s) listed' (more s (let e = ap length back in omega (arith, e, low)))))
 
 -- what was told by lent counts and a lent list is told by the counts and the bundle
-pub told_by : (seats read new : List ℕ) (free result : set.FinSet nat_cmp) (sections : List SectionNo) (bundle : List ℕ) → read ≡ new → ordinals sections ≡ bundle → Tells (λ s. nat_lt (slice_index read s) (slice_index seats s)) free (ordinals sections) result
+pub told_by : (seats read new : List ℕ) (free result : set.FinSet nat_cmp) (sections : List SectionNo) (bundle : List ℕ) → read ≡ new
+    → ordinals sections ≡ bundle → Tells (λ s. nat_lt (slice_index read s) (slice_index seats s)) free (ordinals sections) result
     → Tells (λ s. nat_lt (slice_index new s) (slice_index seats s)) free bundle result
-told_by seats read new free result sections bundle same listed told = subst (λ b. Tells (λ s. nat_lt (slice_index new s) (slice_index seats s)) free b result) listed (subst (λ r. Tells (λ s. nat_lt (slice_index r s) (slice_index seats s)) free (ordinals sections) result) same told)
+told_by seats read new free result sections bundle same listed told =
+    subst (λ b. Tells (λ s. nat_lt (slice_index new s) (slice_index seats s)) free b result) listed
+    (subst (λ r. Tells (λ s. nat_lt (slice_index r s) (slice_index seats s)) free (ordinals sections) result) same told)
 
 -- each count is at most the number of students
 pub counts_few : (n : ℕ) (held : List (List ℕ)) (counts : List ℕ) → AreCounts n held counts → length held ≤ 2000 → All (λ count. count ≤ 2000) counts
@@ -179,5 +202,6 @@ counts_few n held counts are few k d low =
 -- the counts as a list
 pub counts_are : (n : ℕ) (held : List (List ℕ)) (counts : List ℕ) → AreCounts n held counts → counts ≡ map (λ s. holders s held) (places_from 0 n)
 counts_are n held counts are =
-    listed_by_place (λ s. holders s held) counts 0 (λ s low. are.each s (let size = are.len in omega (arith, low, size)) ∙ ap (λ t. holders t held) (let e : s ≡ 0 + s = omega arith in e))
+    listed_by_place (λ s. holders s held) counts 0
+    (λ s low. are.each s (let size = are.len in omega (arith, low, size)) ∙ ap (λ t. holders t held) (let e : s ≡ 0 + s = omega arith in e))
     ∙ ap (λ m. map (λ s. holders s held) (places_from 0 m)) are.len

@@ -1,4 +1,5 @@
--- What a student may choose of the sections' seats, and whether these suffice, where students hold bundles, in file order.
+-- What a student may choose of the sections' seats, and whether these suffice, where students hold
+-- bundles, in file order.
 use Rattle.std.specs.Prelude.{ℕ, ◌<◌, ◌≤◌, ◌||◌, Bool, nat_lt, List, [], slice_index, slice_index_or}
 use Rattle.bundle_rules.specs.Sets.{has}
 use Rattle.demand_api.specs.Crowds.{holders}

@@ -17,4 +17,5 @@ held_on floor = map sections_of floor.held.items
 -- each section's holders are counted, and the free sections are those with fewer holders than seats
 pub record IsFloor (seats : List ℕ) (floor : Floor) : Type 0 where
   pub counts : AreCounts (length seats) (held_on floor) floor.used.items
-  pub free : (s : ℕ) → set.contains floor.free s ≡ nat_lt (slice_index floor.used.items s) (slice_index seats s)
+  pub free : (s : ℕ)
+      → set.contains floor.free s ≡ nat_lt (slice_index floor.used.items s) (slice_index seats s)

@@ -15,7 +15,8 @@ pub fn are_below(sections: usize, bundles: &[Bundle]) -> bool
 }
 
 fn each_is_below(sections: usize, bundles: &[Bundle]) -> bool
-    ensures { IsTrue result ↔ All (λ bundle. (s : ℕ) → has (sections_of bundle) s ≡ true → s < sections) bundles.now }
+    ensures { IsTrue result
+        ↔ All (λ bundle. (s : ℕ) → has (sections_of bundle) s ≡ true → s < sections) bundles.now }
 {
     bundles.iter().all(|bundle| is_below(sections, bundle))
 }

@@ -20,7 +20,8 @@ pub(crate) fn count_all(
 ) -> Result<Vec<u32>, NoMemory>
     requires few { length bundles.now ≤ 2000 }
     requires below { AreBelow sections (map sections_of bundles.now) }
-    ensures { IfOk result (λ counts. AreCounts sections (map sections_of bundles.now) counts.items) }
+    ensures { IfOk result
+        (λ counts. AreCounts sections (map sections_of bundles.now) counts.items) }
 {
     let mut counts = vec![in alloc; 0u32; sections]?;
     for bundle in bundles {
@@ -33,7 +34,8 @@ pub(crate) fn count_all(
 pub(crate) fn free_sections(counts: &[u32], seats: &[u16]) -> SectionSet
     requires few { length seats.now ≤ 400 }
     requires same { length counts.now ≡ length seats.now }
-    ensures { (s : ℕ) → set.contains result s ≡ nat_lt (slice_index counts.now s) (slice_index seats.now s) }
+    ensures { (s : ℕ)
+        → set.contains result s ≡ nat_lt (slice_index counts.now s) (slice_index seats.now s) }
 {
     let mut free = SectionSet::empty();
     for place in 0..seats.len() {
@@ -54,7 +56,11 @@ pub(crate) fn freed(
     requires few { length seats.now ≤ 400 }
     requires same { length counts.now ≡ length seats.now }
     requires range { All (λ section. section.0 < length seats.now) sections.now }
-    ensures { (s : ℕ) → set.contains result s ≡ (if has (ordinals sections.now) s then nat_lt (slice_index counts.now s) (slice_index seats.now s) else set.contains free s) }
+    ensures { (s : ℕ)
+        → set.contains result s
+        ≡ (if has (ordinals sections.now) s
+        then nat_lt (slice_index counts.now s) (slice_index seats.now s)
+        else set.contains free s) }
 {
     match sections {
         [] => free,
@@ -73,7 +79,8 @@ pub(crate) fn freed(
 // The set with these sections too.
 pub(crate) fn with_all(free: SectionSet, sections: &[SectionNo]) -> SectionSet
     requires { All (λ section. section.0 < 400) sections.now }
-    ensures { (s : ℕ) → set.contains result s ≡ (has (ordinals sections.now) s || set.contains free s) }
+    ensures { (s : ℕ)
+        → set.contains result s ≡ (has (ordinals sections.now) s || set.contains free s) }
 {
     match sections {
         [] => free,

@@ -24,7 +24,8 @@ pub struct Floor {
 }
 
 impl Floor {
-    /// The floor on which these bundles are held, where each section has so many seats. The one error is the want of memory.
+    /// The floor on which these bundles are held, where each section has so many seats. The one
+    /// error is the want of memory.
     pub fn open(alloc: Global, seats: &[u16], bundles: &[Bundle]) -> Result<Floor, NoMemory>
         requires sections { length seats.now ≤ 400 }
         requires few { length bundles.now ≤ 2000 }
@@ -41,11 +42,13 @@ impl Floor {
         })
     }
 
-    /// The sections that the student at this place may choose: those that it holds and those that are free.
+    /// The sections that the student at this place may choose: those that it holds and those that
+    /// are free.
     pub fn choices(&self, place: usize) -> SectionSet
         requires place { place < length (held_on self.now) }
         requires below { AreBelow 400 (held_on self.now) }
-        ensures { (seats : List ℕ) → IsFloor seats self.now → (s : ℕ) → set.contains result s ≡ may_choose seats (held_on self.now) place s }
+        ensures { (seats : List ℕ) → IsFloor seats self.now → (s : ℕ)
+            → set.contains result s ≡ may_choose seats (held_on self.now) place s }
     {
         with_all(self.free, self.held[place].sections())
     }
@@ -60,8 +63,10 @@ impl Floor {
         requires within { (s : ℕ) → has (sections_of bundle) s ≡ true → s < length seats.now }
         ensures held { held_on self.new ≡ slice_set (held_on self.old) place (sections_of bundle) }
         ensures floor { IsFloor seats.now self.new }
-        ensures quiet { result ≡ false → slice_get (held_on self.old) place ≡ Some (sections_of bundle) }
-        ensures moved { result ≡ true → slice_get (held_on self.old) place ≢ Some (sections_of bundle) }
+        ensures quiet { result ≡ false
+            → slice_get (held_on self.old) place ≡ Some (sections_of bundle) }
+        ensures moved { result ≡ true
+            → slice_get (held_on self.old) place ≢ Some (sections_of bundle) }
     {
         if self.held[place] == bundle {
             return false;

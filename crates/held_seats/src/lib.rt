@@ -1,5 +1,5 @@
-//! What students hold of the sections' seats: each bundle, the holders of each section, and the free
-//! sections.
+//! What students hold of the sections' seats: each bundle, the holders of each section, and the
+//! free sections.
 // Neither: how long it takes.
 #![tactic(auto)]
 

@@ -46,11 +46,13 @@ abbrev made_names : ℕ → List (List ℕ)
 made_names students = map student_name (numbers_to students)
 
 -- the student that is named as the one with this ordinal has its name
-named_so : (names : DeskNames) (students k : ℕ) (student : Name) → names.students ≡ made_names students → k < students → is_named names k student ≡ true → name_bytes student ≡ student_name (k + 1)
+named_so : (names : DeskNames) (students k : ℕ) (student : Name) → names.students ≡ made_names students → k < students → is_named names k student ≡ true
+    → name_bytes student ≡ student_name (k + 1)
 named_so names students k student are below named =
     let parts = both_parts (has_name names.students student) (nat_eq (ordinal_of names.students student) k) named in
     let place : ordinal_of names.students student ≡ k = let test : nat_eq (ordinal_of names.students student) k ≡ true = parts.1 in grind (arith, nat_tests) in
-    let there : bytes_eq (name_bytes student) (get_or names.students (ordinal_of names.students student) []) ≡ true = found_there (bytes_eq (name_bytes student)) names.students [] parts.0 in
+    let there : bytes_eq (name_bytes student) (get_or names.students (ordinal_of names.students student) []) ≡ true =
+    found_there (bytes_eq (name_bytes student)) names.students [] parts.0 in
     let name : get_or names.students (ordinal_of names.students student) [] ≡ student_name (k + 1) =
     ap (λ i. get_or names.students i []) place ∙ ap (λ (all : List (List ℕ)). get_or all k []) are
     ∙ get_or-map-range_with_len student_name 1 students k (k + 1) [] below (omega arith) in
@@ -61,7 +63,8 @@ one_number : (i j : ℕ) → i < 2 ^ 64 → j < 2 ^ 64 → student_name i ≡ st
 one_number i j low high same = decimal_injective i j low high (append_cancel_left (codes "S") (decimal i) (decimal j) same)
 
 -- a student of another parity is not named
-not_named : (names : DeskNames) (students k i r : ℕ) (student : Name) → names.students ≡ made_names students → students ≤ 2000 → k < students → i ≤ students → i % 2 ≡ r → (k + 1) % 2 ≢ r → name_bytes student ≡ student_name i
+not_named : (names : DeskNames) (students k i r : ℕ) (student : Name) → names.students ≡ made_names students → students ≤ 2000 → k < students → i ≤ students
+    → i % 2 ≡ r → (k + 1) % 2 ≢ r → name_bytes student ≡ student_name i
     → is_named names k student ≡ false
 not_named names students k i r student are few below within parity other name =
     elim (is_named names k student) as (λ b. is_named names k student ≡ b → is_named names k student ≡ false) [
@@ -72,10 +75,13 @@ not_named names students k i r student are few below within parity other name =
     ] refl
 
 -- a command of a student of another parity is not of this one
-not_about : (names : DeskNames) (students k i r : ℕ) (command : Command) → names.students ≡ made_names students → students ≤ 2000 → k < students → i ≤ students → i % 2 ≡ r → (k + 1) % 2 ≢ r → IsSaidOf i command
+not_about : (names : DeskNames) (students k i r : ℕ) (command : Command) → names.students ≡ made_names students → students ≤ 2000 → k < students → i ≤ students
+    → i % 2 ≡ r → (k + 1) % 2 ≢ r → IsSaidOf i command
     → is_about names k command ≡ false
-not_about names students k i r (Rate student section n) are few below within parity other said = not_named names students k i r student are few below within parity other said
-not_about names students k i r (Pair student first second n) are few below within parity other said = not_named names students k i r student are few below within parity other said
+not_about names students k i r (Rate student section n) are few below within parity other said =
+    not_named names students k i r student are few below within parity other said
+not_about names students k i r (Pair student first second n) are few below within parity other said =
+    not_named names students k i r student are few below within parity other said
 not_about names students k i r (Clear student) are few below within parity other said = absurd said
 not_about names students k i r Close are few below within parity other said = refl
 not_about names students k i r Unreadable are few below within parity other said = refl
@@ -98,7 +104,8 @@ SaysOnly students r commands = All (λ command. (i : ℕ) × IsOfParity students
 says_open : (students r : ℕ) (commands : List Command) → SaysOnly students r commands → All LeavesOpen commands
 says_open students r commands says k d below = let one = says k d below in leaves_open one.0 (get_or commands k d) one.2
 
-says_silent : (names : DeskNames) (students k r : ℕ) (commands : List Command) → names.students ≡ made_names students → students ≤ 2000 → k < students → (k + 1) % 2 ≢ r → SaysOnly students r commands → AreSilentOn names k commands
+says_silent : (names : DeskNames) (students k r : ℕ) (commands : List Command) → names.students ≡ made_names students → students ≤ 2000 → k < students
+    → (k + 1) % 2 ≢ r → SaysOnly students r commands → AreSilentOn names k commands
 says_silent names students k r commands are few below other says at d within =
     let one = says at d within in
     not_about names students k one.0 r (get_or commands at d) are few below one.1.0 one.1.1 other one.2
@@ -110,22 +117,34 @@ of_two P first second p q (suc zero) below = q
 of_two P first second p q (suc (suc m)) below = absurd (omega arith)
 
 -- of two streams, one of students of odd and one of students of even number, one alone speaks for a student
-speaks : (names : DeskNames) (students k : ℕ) (first second : List Command) → names.students ≡ made_names students → students ≤ 2000 → k < students → SaysOnly students 1 first → SaysOnly students 0 second
+speaks : (names : DeskNames) (students k : ℕ) (first second : List Command) → names.students ≡ made_names students → students ≤ 2000 → k < students
+    → SaysOnly students 1 first → SaysOnly students 0 second
     → (n : ℕ) × (n < 2) × ((m : ℕ) → m < 2 → m ≢ n → AreSilentOn names k (get_or (first ∷ second ∷ []) m []))
 speaks names students k first second are few below odd even =
     elim (nat_eq ((k + 1) % 2) 1) as (λ b. nat_eq ((k + 1) % 2) 1 ≡ b → (n : ℕ) × (n < 2) × ((m : ℕ) → m < 2 → m ≢ n → AreSilentOn names k (get_or (first ∷ second ∷ []) m []))) [
       | true ↦ λ test.
-          let parity : (k + 1) % 2 ≡ 1 = grind (arith, nat_tests) in
-          (0, omega arith, of_two (λ m commands. m ≢ 0 → AreSilentOn names k commands) first second (λ other. absurd (other refl)) (λ other. says_silent names students k 0 second are few below (λ is. absurd (omega arith)) even))
+          let parity : (k + 1) % 2 ≡ 1 = grind (arith, nat_tests) in (
+            0,
+            omega arith,
+            of_two (λ m commands. m ≢ 0 → AreSilentOn names k commands) first second (λ other. absurd (other refl))
+                (λ other. says_silent names students k 0 second are few below (λ is. absurd (omega arith)) even),
+          )
       | false ↦ λ test.
-          let parity : (k + 1) % 2 ≢ 1 = grind (arith, nat_tests) in
-          (1, omega arith, of_two (λ m commands. m ≢ 1 → AreSilentOn names k commands) first second (λ other. says_silent names students k 1 first are few below parity odd) (λ other. absurd (other refl)))
+          let parity : (k + 1) % 2 ≢ 1 = grind (arith, nat_tests) in (
+            1,
+            omega arith,
+            of_two (λ m commands. m ≢ 1 → AreSilentOn names k commands) first second (λ other. says_silent names students k 1 first are few below parity odd)
+                (λ other. absurd (other refl)),
+          )
     ] refl
 
-two_apart : (names : DeskNames) (students : ℕ) (first second : List Command) → names.students ≡ made_names students → students ≤ 2000 → SaysOnly students 1 first → SaysOnly students 0 second → AreApart names (first ∷ second ∷ [])
+two_apart : (names : DeskNames) (students : ℕ) (first second : List Command) → names.students ≡ made_names students → students ≤ 2000
+    → SaysOnly students 1 first → SaysOnly students 0 second → AreApart names (first ∷ second ∷ [])
 two_apart names students first second are few odd even = record {
   stay_open = of_two (λ m commands. All LeavesOpen commands) first second (says_open students 1 first odd) (says_open students 0 second even);
-  apart = λ k below. speaks names students k first second are few (omega (arith, ap length are, length-map (numbers_to students) student_name, length-range_with_len 1 students)) odd even;
+  apart =
+      λ k below. speaks names students k first second are few
+      (omega (arith, ap length are, length-map (numbers_to students) student_name, length-range_with_len 1 students)) odd even;
 }
 
 names_named : (numbers : List ℕ) → map (λ (student : Student). student.name) (map made_student numbers) ≡ map student_name numbers
@@ -133,7 +152,8 @@ names_named [] = refl
 names_named (i ∷ numbers) = ap (λ (more : List (List ℕ)). student_name i ∷ more) (names_named numbers)
 
 -- the students that the roll of a made market names
-names_made : (seed students sections accept : ℕ) → AreNumbers seed students sections accept → (market : Market) (streams : List (List Command)) → IsMadeMarket seed students sections accept market streams
+names_made : (seed students sections accept : ℕ) → AreNumbers seed students sections accept → (market : Market) (streams : List (List Command))
+    → IsMadeMarket seed students sections accept market streams
     → (names_in market).students ≡ made_names students
 names_made seed students sections accept are market streams made =
     let grammars = texts_read seed students sections accept are.seed_fits are.few_students are.some_sections are.few_sections are.accept_fits in
@@ -142,11 +162,14 @@ names_made seed students sections accept are market streams made =
     ap (λ (r : RollData). map (λ (student : Student). student.name) r.students) roll ∙ names_named (numbers_to students)
 
 -- the sessions of a made market speak for different students
-pub made_apart : (seed students sections accept : ℕ) → AreNumbers seed students sections accept → (market : Market) (streams : List (List Command)) → IsMadeMarket seed students sections accept market streams → AreApart (names_in market) streams
+pub made_apart : (seed students sections accept : ℕ) → AreNumbers seed students sections accept → (market : Market) (streams : List (List Command))
+    → IsMadeMarket seed students sections accept market streams → AreApart (names_in market) streams
 made_apart seed students sections accept are market (first ∷ second ∷ []) made =
     two_apart (names_in market) students first second (names_made seed students sections accept are market (first ∷ second ∷ []) made) are.few_students
-    (session_said is_odd (IsOfParity students 1) seed students sections first are.few_students are.some_sections are.few_sections (λ i test low high. (high, let is : nat_eq (i % 2) 1 ≡ true = test in grind (arith, nat_tests))) made.sessions_say.0)
-    (session_said is_even (IsOfParity students 0) seed students sections second are.few_students are.some_sections are.few_sections (λ i test low high. (high, let is : nat_eq (i % 2) 0 ≡ true = test in grind (arith, nat_tests))) made.sessions_say.1.0)
+    (session_said is_odd (IsOfParity students 1) seed students sections first are.few_students are.some_sections are.few_sections
+    (λ i test low high. (high, let is : nat_eq (i % 2) 1 ≡ true = test in grind (arith, nat_tests))) made.sessions_say.0)
+    (session_said is_even (IsOfParity students 0) seed students sections second are.few_students are.some_sections are.few_sections
+    (λ i test low high. (high, let is : nat_eq (i % 2) 0 ≡ true = test in grind (arith, nat_tests))) made.sessions_say.1.0)
 made_apart seed students sections accept are market [] made = absurd made.sessions_say
 made_apart seed students sections accept are market (first ∷ []) made = absurd made.sessions_say.1
 made_apart seed students sections accept are market (first ∷ second ∷ third ∷ more) made = absurd made.sessions_say.1.1

@@ -32,12 +32,14 @@ both_said (x ∷ more) of =
     ] refl
 
 -- a journal that merges two streams has as many entries as they have commands
-count_merged : (first second : List Command) (journal : List Entry) → MergesStreams (first ∷ second ∷ []) journal → length journal ≡ length first + length second
+count_merged : (first second : List Command) (journal : List Entry) → MergesStreams (first ∷ second ∷ []) journal
+    → length journal ≡ length first + length second
 count_merged first second journal merges =
     let says : length (commands_of_session 1 journal) ≡ length first = ap length (merges.whole 0 (omega arith)) in
     let adds : length (commands_of_session 2 journal) ≡ length second = ap length (merges.whole 1 (omega arith)) in
     both_said journal merges.given ∙ omega arith
 
 -- two journals that merge the same two streams have as many entries
-pub same_count : (first second : List Command) (one other : List Entry) → MergesStreams (first ∷ second ∷ []) one → MergesStreams (first ∷ second ∷ []) other → length one ≡ length other
+pub same_count : (first second : List Command) (one other : List Entry) → MergesStreams (first ∷ second ∷ []) one → MergesStreams (first ∷ second ∷ []) other
+    → length one ≡ length other
 same_count first second one other merges does = count_merged first second one merges ∙ sym (count_merged first second other does)

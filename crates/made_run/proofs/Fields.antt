@@ -53,7 +53,10 @@ day_letters (suc (suc (suc (suc (suc d))))) small = absurd (omega arith)
 
 pub plain_meeting : (j : ℕ) → IsPlain (meeting_of j)
 plain_meeting j =
-    plain_of_high (meeting_of j) ((day_letters (j % 5) (omega arith)).1, (omega arith, (omega arith, (omega arith, (omega arith, (omega arith, (omega arith, (omega arith, (omega arith, (omega arith, tt))))))))))
+    plain_of_high (meeting_of j) (
+      (day_letters (j % 5) (omega arith)).1,
+      (omega arith, (omega arith, (omega arith, (omega arith, (omega arith, (omega arith, (omega arith, (omega arith, (omega arith, tt))))))))),
+    )
 
 -- the text of a row of plain fields
 body_plain : (f : List ℕ) (fields : List (List ℕ)) → ArePlain (f ∷ fields) → row_body default_writer (f ∷ fields) ≡ row_of (f ∷ fields)

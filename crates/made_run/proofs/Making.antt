@@ -15,8 +15,10 @@ use Rattle.utility_language.specs.Commands.{AreCommands}
 use Rattle.made_run.specs.Laws.{AreNumbers}
 use Rattle.made_run.specs.Made.{IsMadeMarket}
 
-pub made_from : (seed students sections accept : ℕ) (catalog : CatalogData) (roll : RollData) (settings : Settings) (streams : List (List Command)) → AreNumbers seed students sections accept → catalog ≡ made_catalog students sections
-    → roll ≡ made_roll students → settings ≡ made_settings seed accept → AllZip AreCommands (session_texts seed students sections) streams → IsMadeMarket seed students sections accept (market_of catalog roll settings) streams
+pub made_from : (seed students sections accept : ℕ) (catalog : CatalogData) (roll : RollData) (settings : Settings) (streams : List (List Command))
+    → AreNumbers seed students sections accept → catalog ≡ made_catalog students sections
+    → roll ≡ made_roll students → settings ≡ made_settings seed accept → AllZip AreCommands (session_texts seed students sections) streams
+    → IsMadeMarket seed students sections accept (market_of catalog roll settings) streams
 made_from seed students sections accept catalog roll settings streams are offered enrolled rules says =
     let grammars = texts_read seed students sections accept are.seed_fits are.few_students are.some_sections are.few_sections are.accept_fits in
     record {

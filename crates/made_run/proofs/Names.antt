@@ -19,7 +19,8 @@ digit_is_name_byte b least most = rw (le-leb 48 b least, le-leb b 57 most) refl
 
 name_digits : (ds : List ℕ) → AllDigits 10 ds → All (λ b. IsTrue (is_name_byte b)) ds
 name_digits [] all = λ k d inside. absurd (omega arith)
-name_digits (c ∷ cs) all = let inside = digit_from_value c all.0 in All-cons (λ b. IsTrue (is_name_byte b)) c cs (digit_is_name_byte c inside.0 inside.1) (name_digits cs all.1)
+name_digits (c ∷ cs) all =
+    let inside = digit_from_value c all.0 in All-cons (λ b. IsTrue (is_name_byte b)) c cs (digit_is_name_byte c inside.0 inside.1) (name_digits cs all.1)
 
 -- a letter and a number are a name
 pub numbered_name : (letter n : ℕ) → IsTrue (is_name_byte letter) → n < 2 ^ 64 → IsName (letter ∷ decimal n)
@@ -37,14 +38,21 @@ other_name letter a b small small' other = elim (cases_Bool (bytes_eq (letter �
 ]
 
 no_position : (p : List ℕ → Bool) (xs : List (List ℕ)) → All (λ x. p x ≡ false) xs → position p xs ≡ None
-no_position p xs none = rw (position_or_len_is p xs (length xs) [] (omega arith) (λ k inside. none k [] inside) (λ inside. absurd (omega arith)), le-ltb (length xs) (length xs) (omega arith)) refl
+no_position p xs none =
+    rw (
+      position_or_len_is p xs (length xs) [] (omega arith) (λ k inside. none k [] inside) (λ inside. absurd (omega arith)),
+      le-ltb (length xs) (length xs) (omega arith),
+    )
+    refl
 
 -- no earlier number has the name of this one
-pub no_earlier : (letter earlier : ℕ) → earlier + 1 < 2 ^ 64 → position (bytes_eq (letter ∷ decimal (earlier + 1))) (map (λ j. letter ∷ decimal j) (range_with_len 1 earlier)) ≡ None
+pub no_earlier : (letter earlier : ℕ) → earlier + 1 < 2 ^ 64
+    → position (bytes_eq (letter ∷ decimal (earlier + 1))) (map (λ j. letter ∷ decimal j) (range_with_len 1 earlier)) ≡ None
 no_earlier letter earlier small =
     let name = λ (j : ℕ). letter ∷ decimal j in
     no_position (bytes_eq (name (earlier + 1))) (map name (range_with_len 1 earlier)) (
     λ k d inside.
     let within : k < earlier = omega (arith, length-map-range_with_len name 1 earlier) in
-    subst (λ x. bytes_eq (name (earlier + 1)) x ≡ false) (sym (get_or-map-range_with_len name 1 earlier k (1 + k) d within refl)) (other_name letter (earlier + 1) (1 + k) small (omega arith) (λ same. omega arith))
+    subst (λ x. bytes_eq (name (earlier + 1)) x ≡ false) (sym (get_or-map-range_with_len name 1 earlier k (1 + k) d within refl))
+    (other_name letter (earlier + 1) (1 + k) small (omega arith) (λ same. omega arith))
     )

@@ -17,7 +17,8 @@ unfolding records_from rows_text next_record
 records_begin zero [] few = refl
 records_begin (suc n) [] few = refl
 records_begin zero (row ∷ rows) few = absurd (omega arith)
-records_begin (suc n) (row ∷ rows) few = rw (read-write row (rows_text rows)) (ap (λ (t : List (List (List ℕ))). read_back row ∷ t) (records_begin n rows (omega arith)))
+records_begin (suc n) (row ∷ rows) few =
+    rw (read-write row (rows_text rows)) (ap (λ (t : List (List (List ℕ))). read_back row ∷ t) (records_begin n rows (omega arith)))
 
 -- each row has a byte at least
 rows_long : (rows : List (List (List ℕ))) → length rows ≤ length (rows_text rows)
@@ -33,25 +34,33 @@ pub records_written : (rows : List (List (List ℕ))) → records default_config
 records_written rows = records_begin (length (rows_text rows) + 1) rows (omega (arith, rows_long rows))
 
 -- rows one behind another are their lines one behind another
-pub rows_lines : (fields : ℕ → List (List ℕ)) (from n : ℕ) → ((j : ℕ) → from ≤ j → j < from + n → row_text default_writer (fields j) ≡ ended (row_of (fields j)))
+pub rows_lines : (fields : ℕ → List (List ℕ)) (from n : ℕ)
+    → ((j : ℕ) → from ≤ j → j < from + n → row_text default_writer (fields j) ≡ ended (row_of (fields j)))
     → text_of (map (λ j. row_of (fields j)) (range_with_len from n)) ≡ rows_text (map fields (range_with_len from n))
 unfolding rows_text
 rows_lines fields from zero each = refl
 rows_lines fields from (suc n) each =
-    ap₂ (λ (a b : List ℕ). a ++ b) (sym (each from (omega arith) (omega arith))) (rows_lines fields (from + 1) n (λ j least most. each j (omega arith) (omega arith)))
+    ap₂ (λ (a b : List ℕ). a ++ b) (sym (each from (omega arith) (omega arith)))
+    (rows_lines fields (from + 1) n (λ j least most. each j (omega arith) (omega arith)))
 
-pub read_back_rows : (fields : ℕ → List (List ℕ)) (from n : ℕ) → ((j : ℕ) → read_back (fields j) ≡ fields j) → map read_back (map fields (range_with_len from n)) ≡ map fields (range_with_len from n)
+pub read_back_rows : (fields : ℕ → List (List ℕ)) (from n : ℕ) → ((j : ℕ) → read_back (fields j) ≡ fields j)
+    → map read_back (map fields (range_with_len from n)) ≡ map fields (range_with_len from n)
 read_back_rows fields from zero same = refl
 read_back_rows fields from (suc n) same = ap₂ (λ (a : List (List ℕ)) (b : List (List (List ℕ))). a ∷ b) (same from) (read_back_rows fields (from + 1) n same)
 
 -- a record without a fault says what its row is
-pub answered : {R E : Type 0} (rules : Rules R E) (version : ℕ) (names fields : List (List ℕ)) (row : R) → surplus rules version names ≡ None → other_width rules version names fields ≡ None → no_name rules version names fields ≡ None
-    → repeat rules version names fields ≡ None → rules.row version (row_after rules version names) fields ≡ Ok row → answer_to rules version names fields ≡ Ok row
+pub answered : {R E : Type 0} (rules : Rules R E) (version : ℕ) (names fields : List (List ℕ)) (row : R) → surplus rules version names ≡ None
+    → other_width rules version names fields ≡ None → no_name rules version names fields ≡ None
+    → repeat rules version names fields ≡ None → rules.row version (row_after rules version names) fields ≡ Ok row
+    → answer_to rules version names fields ≡ Ok row
 answered rules version names fields row few wide named new is = rw (few, wide, named, new) is
 
 -- each of these records says its row, and has its name
-pub all_answered : {R E : Type 0} (rules : Rules R E) (version : ℕ) (fields : ℕ → List (List ℕ)) (row : ℕ → R) (name : ℕ → List ℕ) (before n : ℕ) → ((j : ℕ) → first_field (fields j) ≡ name j)
-    → ((earlier : ℕ) → before ≤ earlier → earlier < before + n → answer_to rules version (map name (range_with_len 1 earlier)) (fields (earlier + 1)) ≡ Ok (row (earlier + 1)))
+pub all_answered : {R E : Type 0} (rules : Rules R E) (version : ℕ) (fields : ℕ → List (List ℕ)) (row : ℕ → R) (name : ℕ → List ℕ) (before n : ℕ)
+    → ((j : ℕ) → first_field (fields j) ≡ name j)
+    →
+    ((earlier : ℕ) → before ≤ earlier → earlier < before + n
+    → answer_to rules version (map name (range_with_len 1 earlier)) (fields (earlier + 1)) ≡ Ok (row (earlier + 1)))
     → answers rules version (map name (range_with_len 1 before)) (map fields (range_with_len (before + 1) n)) ≡ map Ok (map row (range_with_len (before + 1) n))
 all_answered rules version fields row name before zero named each = refl
 all_answered {R} {E} rules version fields row name before (suc n) named each =

@@ -29,7 +29,8 @@ student_said : (row i : ℕ) → student_of 1 row (fields_of_student i) ≡ Ok (
 unfolding field_at digits
 student_said row i = refl
 
-student_answered : (earlier : ℕ) → earlier < 2000 → answer_to roll_rules 1 (map student_name (range_with_len 1 earlier)) (fields_of_student (earlier + 1)) ≡ Ok (made_student (earlier + 1))
+student_answered : (earlier : ℕ) → earlier < 2000
+    → answer_to roll_rules 1 (map student_name (range_with_len 1 earlier)) (fields_of_student (earlier + 1)) ≡ Ok (made_student (earlier + 1))
 unfolding field_at
 student_answered earlier few =
     let i = earlier + 1 in
@@ -60,6 +61,9 @@ roll_records students few =
 pub roll_read : (students : ℕ) → students ≤ 2000 → roll_of (roll_text students) ≡ Ok (made_roll students)
 unfolding field_at
 roll_read students few =
-    let said = all_answered roll_rules 1 fields_of_student made_student student_name 0 students (λ i. refl) (λ earlier least most. student_answered earlier (omega arith)) in
-    let good = (rows_where_all_are_good_law (answers roll_rules 1 [] (map fields_of_student (numbers_to students))) (map made_student (numbers_to students))).1 said in
+    let said =
+    all_answered roll_rules 1 fields_of_student made_student student_name 0 students (λ i. refl)
+    (λ earlier least most. student_answered earlier (omega arith)) in
+    let good =
+    (rows_where_all_are_good_law (answers roll_rules 1 [] (map fields_of_student (numbers_to students))) (map made_student (numbers_to students))).1 said in
     rw (roll_records students few, good) refl

@@ -45,9 +45,11 @@ other_verb verb word (inr is) same other = let e : ◌≡◌ {A = ℕ} 112 99 = 
 
 -- the command of such words
 said_command : (i : ℕ) (words : List (List ℕ)) (command : Command) → IsSaidBy i words → IsCommandOf words command → IsSaidOf i command
-said_command i words (Rate student section n) said (inl spells) = let both : said.verb ∷ student_name i ∷ said.rest ≡ words_by (Rate student section n) = sym said.written ∙ spells.written in cc
+said_command i words (Rate student section n) said (inl spells) =
+    let both : said.verb ∷ student_name i ∷ said.rest ≡ words_by (Rate student section n) = sym said.written ∙ spells.written in cc
 said_command i words (Rate student section n) said (inr none) = let e = none.0 in cc
-said_command i words (Pair student first second n) said (inl spells) = let both : said.verb ∷ student_name i ∷ said.rest ≡ words_by (Pair student first second n) = sym said.written ∙ spells.written in cc
+said_command i words (Pair student first second n) said (inl spells) =
+    let both : said.verb ∷ student_name i ∷ said.rest ≡ words_by (Pair student first second n) = sym said.written ∙ spells.written in cc
 said_command i words (Pair student first second n) said (inr none) = let e = none.0 in cc
 said_command i words (Clear student) said (inl spells) =
     let both : said.verb ∷ student_name i ∷ said.rest ≡ words_by (Clear student) = sym said.written ∙ spells.written in
@@ -77,9 +79,11 @@ name_is_word : (i : ℕ) → i ≤ 2000 → IsWord (student_name i)
 name_is_word i small = is_word (student_name i) (omega arith) (omega arith, from_decimal 33 i (omega arith) (omega arith))
 
 -- a verb and a name in front of other words
-begins_said : (i : ℕ) (verb rest : List ℕ) → i ≤ 2000 → IsWord verb → words_of (verb ++ 32 ∷ (student_name i ++ 32 ∷ rest)) ≡ verb ∷ student_name i ∷ words_of rest
+begins_said : (i : ℕ) (verb rest : List ℕ) → i ≤ 2000 → IsWord verb
+    → words_of (verb ++ 32 ∷ (student_name i ++ 32 ∷ rest)) ≡ verb ∷ student_name i ∷ words_of rest
 begins_said i verb rest small is =
-    ended_word verb 32 (student_name i ++ 32 ∷ rest) is refl ∙ ap (λ (more : List (List ℕ)). verb ∷ more) (ended_word (student_name i) 32 rest (name_is_word i small) refl)
+    ended_word verb 32 (student_name i ++ 32 ∷ rest) is refl
+    ∙ ap (λ (more : List (List ℕ)). verb ∷ more) (ended_word (student_name i) 32 rest (name_is_word i small) refl)
 
 rating_said : (seed i j : ℕ) → i ≤ 2000 → IsSaidBy i (words_of (rating_line seed i j))
 rating_said seed i j small = record {
@@ -93,7 +97,10 @@ rating_said seed i j small = record {
 adjustment_said : (seed sections i : ℕ) → i ≤ 2000 → IsSaidBy i (words_of (adjustment_line seed sections i))
 adjustment_said seed sections i small = record {
   verb = codes "pair";
-  rest = words_of (join_with_byte 32 (section_name (rated_section sections i 0) ∷ section_name (rated_section sections i 1) ∷ signed_decimal (adjustment_of seed i) ∷ []));
+  rest =
+      words_of
+      (join_with_byte 32
+      (section_name (rated_section sections i 0) ∷ section_name (rated_section sections i 1) ∷ signed_decimal (adjustment_of seed i) ∷ []));
   known = inr refl;
   written = begins_said i (codes "pair") (join_with_byte 32 (section_name (rated_section sections i 0) ∷ section_name (rated_section sections i 1) ∷ signed_decimal (adjustment_of seed i) ∷ [])) small
       (is_word (codes "pair") (omega arith) (omega arith, (omega arith, (omega arith, (omega arith, tt)))));
@@ -103,7 +110,8 @@ adjustment_said seed sections i small = record {
 
 -- the command of the first words, and those of the others
 one_more : (R : ℕ → Type 0) (words : List (List ℕ)) (others : List (List (List ℕ))) (commands : List Command) → ((i : ℕ) × R i × IsSaidBy i words)
-    → ((rest : List Command) → AllZip IsCommandOf others rest → All (λ command. (i : ℕ) × R i × IsSaidOf i command) rest) → AllZip IsCommandOf (words ∷ others) commands → All (λ command. (i : ℕ) × R i × IsSaidOf i command) commands
+    → ((rest : List Command) → AllZip IsCommandOf others rest → All (λ command. (i : ℕ) × R i × IsSaidOf i command) rest)
+    → AllZip IsCommandOf (words ∷ others) commands → All (λ command. (i : ℕ) × R i × IsSaidOf i command) commands
 one_more R words others [] first rest are = absurd are
 one_more R words others (command ∷ more) first rest are =
     All-cons (λ c. (i : ℕ) × R i × IsSaidOf i c) command more (first.0, first.1, said_command first.0 words command first.2 are.0) (rest more are.1)
@@ -133,7 +141,8 @@ module _ (R : ℕ → Type 0) where
       (said_if (nat_lt (rated_count sections) 2) i (adjustment_line seed sections i) is (adjustment_said seed sections i small))
 
   -- the students of such a number, among those from this one on
-  students_said : (is_in : ℕ → Bool) (seed sections from n : ℕ) → from + n ≤ 2001 → ((i : ℕ) → is_in i ≡ true → from ≤ i → i < from + n → R i) → AreSaid (flat_map (student_lines seed sections) (filter is_in (range_with_len from n)))
+  students_said : (is_in : ℕ → Bool) (seed sections from n : ℕ) → from + n ≤ 2001 → ((i : ℕ) → is_in i ≡ true → from ≤ i → i < from + n → R i)
+      → AreSaid (flat_map (student_lines seed sections) (filter is_in (range_with_len from n)))
   students_said is_in seed sections from zero few gives = tt
   students_said is_in seed sections from (suc n) few gives =
       let rest : AreSaid (flat_map (student_lines seed sections) (filter is_in (range_with_len (from + 1) n))) =
@@ -146,12 +155,15 @@ module _ (R : ℕ → Type 0) where
       ] refl
 
   -- the commands of lines of such students
-  commands_said : (lines : List (List ℕ)) (commands : List Command) → AreSaid lines → AllZip IsCommandOf (filter is_command (map words_of lines)) commands → All (λ command. (i : ℕ) × R i × IsSaidOf i command) commands
+  commands_said : (lines : List (List ℕ)) (commands : List Command) → AreSaid lines → AllZip IsCommandOf (filter is_command (map words_of lines)) commands
+      → All (λ command. (i : ℕ) × R i × IsSaidOf i command) commands
   commands_said [] [] said are = All-nil (λ command. (i : ℕ) × R i × IsSaidOf i command)
   commands_said [] (command ∷ commands) said are = absurd are
   commands_said (line ∷ lines) commands said are =
       elim (is_command (words_of line)) as (λ b. AllZip IsCommandOf (cond b (words_of line ∷ filter is_command (map words_of lines)) (filter is_command (map words_of lines))) commands → All (λ command. (i : ℕ) × R i × IsSaidOf i command) commands) [
-        | true ↦ λ zipped. one_more R (words_of line) (filter is_command (map words_of lines)) commands said.0 (λ rest zip. commands_said lines rest said.1 zip) zipped
+        | true ↦
+            λ zipped. one_more R (words_of line) (filter is_command (map words_of lines)) commands said.0 (λ rest zip. commands_said lines rest said.1 zip)
+            zipped
         | false ↦ λ zipped. commands_said lines commands said.1 zipped
       ] are
 
@@ -173,12 +185,16 @@ unstripped line from = ap (λ b. cond b (take (length line - 1) line) line) (ne_
 lines_back : (lines : List (List ℕ)) → AreWhole lines → utility.lines_of (text_of lines) ≡ lines
 lines_back [] whole = refl
 lines_back (line ∷ lines) whole =
-    ap utility.lines_of (append_assoc line (10 ∷ []) (text_of lines)) ∙ ended_line line (text_of lines) (one_line line whole.0) ∙ ap (λ (l : List ℕ). l ∷ utility.lines_of (text_of lines)) (unstripped line whole.0)
+    ap utility.lines_of (append_assoc line (10 ∷ []) (text_of lines)) ∙ ended_line line (text_of lines) (one_line line whole.0)
+    ∙ ap (λ (l : List ℕ). l ∷ utility.lines_of (text_of lines)) (unstripped line whole.0)
     ∙ ap (λ (more : List (List ℕ)). line ∷ more) (lines_back lines whole.1)
 
 -- what a session of the students of such a number says: each command is of one of them
-pub session_said : (is_in : ℕ → Bool) (R : ℕ → Type 0) (seed students sections : ℕ) (commands : List Command) → students ≤ 2000 → 1 ≤ sections → sections ≤ 400 → ((i : ℕ) → is_in i ≡ true → 1 ≤ i → i ≤ students → R i)
+pub session_said : (is_in : ℕ → Bool) (R : ℕ → Type 0) (seed students sections : ℕ) (commands : List Command) → students ≤ 2000 → 1 ≤ sections → sections ≤ 400
+    → ((i : ℕ) → is_in i ≡ true → 1 ≤ i → i ≤ students → R i)
     → AreCommands (text_of (lines_of is_in seed students sections)) commands → All (λ command. (i : ℕ) × R i × IsSaidOf i command) commands
 session_said is_in R seed students sections commands few some small gives are =
-    commands_said R (lines_of is_in seed students sections) commands (students_said R is_in seed sections 1 students (omega arith) (λ i test low high. gives i test low (omega arith)))
-    (subst (λ (lines : List (List ℕ)). AllZip IsCommandOf (filter is_command (map words_of lines)) commands) (lines_back (lines_of is_in seed students sections) (session_whole is_in seed students sections few some small)) are)
+    commands_said R (lines_of is_in seed students sections) commands
+    (students_said R is_in seed sections 1 students (omega arith) (λ i test low high. gives i test low (omega arith)))
+    (subst (λ (lines : List (List ℕ)). AllZip IsCommandOf (filter is_command (map words_of lines)) commands)
+    (lines_back (lines_of is_in seed students sections) (session_whole is_in seed students sections few some small)) are)

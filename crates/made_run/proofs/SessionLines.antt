@@ -39,7 +39,9 @@ from_name letter n behind low small from = (low, from_append 32 (decimal n) (32 
 
 rating_whole : (seed i j : ℕ) → i ≤ 2000 → j ≤ 400 → AreFrom 32 (rating_line seed i j)
 rating_whole seed i j small small' =
-    let behind = from_name 83 i _ (omega arith) (omega arith) (from_name 67 j (decimal (rating_of seed i j)) (omega arith) (omega arith) (from_decimal 32 (rating_of seed i j) (omega arith) (omega arith))) in
+    let behind =
+    from_name 83 i _ (omega arith) (omega arith)
+    (from_name 67 j (decimal (rating_of seed i j)) (omega arith) (omega arith) (from_decimal 32 (rating_of seed i j) (omega arith) (omega arith))) in
     (omega arith, (omega arith, (omega arith, (omega arith, (omega arith, behind)))))
 
 adjustment_whole : (seed sections i : ℕ) → i ≤ 2000 → 1 ≤ sections → sections ≤ 400 → AreFrom 32 (adjustment_line seed sections i)
@@ -47,7 +49,9 @@ adjustment_whole seed sections i small some few =
     let one = rated_section sections i 0 in
     let other = rated_section sections i 1 in
     let last = from_signed (adjustment_of seed i) ((seed % 41 + i) % 41) 20 refl (omega arith) (omega arith) in
-    let pair = from_name 67 one _ (omega arith) (omega (arith, rated_small sections i 0 some few)) (from_name 67 other (signed_decimal (adjustment_of seed i)) (omega arith) (omega (arith, rated_small sections i 1 some few)) last) in
+    let pair =
+    from_name 67 one _ (omega arith) (omega (arith, rated_small sections i 0 some few))
+    (from_name 67 other (signed_decimal (adjustment_of seed i)) (omega arith) (omega (arith, rated_small sections i 1 some few)) last) in
     (omega arith, (omega arith, (omega arith, (omega arith, (omega arith, from_name 83 i _ (omega arith) (omega arith) pair)))))
 
 -- each line of these is whole
@@ -70,37 +74,46 @@ whole_if false line whole = (whole, tt)
 student_whole : (seed sections i : ℕ) → i ≤ 2000 → 1 ≤ sections → sections ≤ 400 → AreWhole (student_lines seed sections i)
 student_whole seed sections i small some few =
     whole_append (map (rating_behind seed sections i) (range_with_len 0 (rated_count sections))) (adjustment_lines seed sections i)
-    (whole_mapped (rating_behind seed sections i) 0 (rated_count sections) (λ t. rating_whole seed i (rated_section sections i t) small (rated_small sections i t some few)))
+    (whole_mapped (rating_behind seed sections i) 0 (rated_count sections)
+    (λ t. rating_whole seed i (rated_section sections i t) small (rated_small sections i t some few)))
     (whole_if (nat_lt (rated_count sections) 2) (adjustment_line seed sections i) (adjustment_whole seed sections i small some few))
 
-whole_flat : (lines : ℕ → List (List ℕ)) (students : List ℕ) → All (λ i. i ≤ 2000) students → ((i : ℕ) → i ≤ 2000 → AreWhole (lines i)) → AreWhole (flat_map lines students)
+whole_flat : (lines : ℕ → List (List ℕ)) (students : List ℕ) → All (λ i. i ≤ 2000) students → ((i : ℕ) → i ≤ 2000 → AreWhole (lines i))
+    → AreWhole (flat_map lines students)
 whole_flat lines [] small each = tt
 whole_flat lines (i ∷ more) small each =
-    whole_append (lines i) (flat_map lines more) (each i (All-head (λ j. j ≤ 2000) i more small)) (whole_flat lines more (All-tail (λ j. j ≤ 2000) i more small) each)
+    whole_append (lines i) (flat_map lines more) (each i (All-head (λ j. j ≤ 2000) i more small))
+    (whole_flat lines more (All-tail (λ j. j ≤ 2000) i more small) each)
 
 small_numbers : (n : ℕ) → n ≤ 2000 → All (λ i. i ≤ 2000) (numbers_to n)
 small_numbers n few k d inside =
     let within : k < n = omega (arith, length-range_with_len 1 n) in
     subst (λ (i : ℕ). i ≤ 2000) (sym (get_or-range_with_len 1 n k d within)) (omega arith)
 
-pub session_whole : (is_in : ℕ → Bool) (seed students sections : ℕ) → students ≤ 2000 → 1 ≤ sections → sections ≤ 400 → AreWhole (lines_of is_in seed students sections)
+pub session_whole : (is_in : ℕ → Bool) (seed students sections : ℕ) → students ≤ 2000 → 1 ≤ sections → sections ≤ 400
+    → AreWhole (lines_of is_in seed students sections)
 session_whole is_in seed students sections few some small =
-    whole_flat (student_lines seed sections) (filter is_in (numbers_to students)) (All-filter is_in (λ i. i ≤ 2000) (numbers_to students) (small_numbers students few)) (λ i least. student_whole seed sections i least some small)
+    whole_flat (student_lines seed sections) (filter is_in (numbers_to students))
+    (All-filter is_in (λ i. i ≤ 2000) (numbers_to students) (small_numbers students few)) (λ i least. student_whole seed sections i least some small)
 
 -- ---- so a text has as many lines as it was made of, and no more commands
 
 lines_counted : (lines : List (List ℕ)) → AreWhole lines → length (utility.lines_of (text_of lines)) ≡ length lines
 lines_counted [] whole = refl
 lines_counted (line ∷ lines) whole =
-    ap (λ t. length (utility.lines_of t)) (append_assoc line (10 ∷ []) (text_of lines)) ∙ ap length (ended_line line (text_of lines) (one_line line whole.0)) ∙ ap suc (lines_counted lines whole.1)
+    ap (λ t. length (utility.lines_of t)) (append_assoc line (10 ∷ []) (text_of lines)) ∙ ap length (ended_line line (text_of lines) (one_line line whole.0))
+    ∙ ap suc (lines_counted lines whole.1)
 
 commands_few : (text : List ℕ) → length (command_lines text) ≤ length (utility.lines_of text)
-commands_few text = let words = map words_of (utility.lines_of text) in omega (arith, length-filter_both is_command (λ w. not (is_command w)) (λ w. refl) words, length-map (utility.lines_of text) words_of)
+commands_few text =
+    let words = map words_of (utility.lines_of text) in
+    omega (arith, length-filter_both is_command (λ w. not (is_command w)) (λ w. refl) words, length-map (utility.lines_of text) words_of)
 
 session_few : (is_in : ℕ → Bool) (seed students sections : ℕ) → students ≤ 2000 → 1 ≤ sections → sections ≤ 400
     → length (command_lines (text_of (lines_of is_in seed students sections))) ≤ length (lines_of is_in seed students sections)
 session_few is_in seed students sections few some small =
-    let lines = lines_of is_in seed students sections in omega (arith, commands_few (text_of lines), lines_counted lines (session_whole is_in seed students sections few some small))
+    let lines = lines_of is_in seed students sections in
+    omega (arith, commands_few (text_of lines), lines_counted lines (session_whole is_in seed students sections few some small))
 
 pub sessions_few : (seed students sections : ℕ) → seed < 2 ^ 64 → students ≤ 2000 → 1 ≤ sections → sections ≤ 400
     → length (command_lines (first_text seed students sections)) + length (command_lines (second_text seed students sections)) ≤ 200000

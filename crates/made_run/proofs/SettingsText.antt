@@ -39,14 +39,16 @@ text_is seed accept = settings_parts seed accept ∙ grouped settings_begin (dec
 
 small_ascii : (bs : List ℕ) → list_all (λ b. nat_lt b 128) bs ≡ true → IsAscii bs
 small_ascii [] all = IsAscii-nil
-small_ascii (b ∷ bs) all = let parts = and_parts (nat_lt b 128) (list_all (λ c. nat_lt c 128) bs) all in IsAscii-cons b bs (ltb-true b 128 parts.0) (small_ascii bs parts.1)
+small_ascii (b ∷ bs) all =
+    let parts = and_parts (nat_lt b 128) (list_all (λ c. nat_lt c 128) bs) all in IsAscii-cons b bs (ltb-true b 128 parts.0) (small_ascii bs parts.1)
 
 is_text : (seed accept : ℕ) → seed < 2 ^ 64 → accept < 2 ^ 64 → is_utf8 (grouped_text seed accept) ≡ true
 is_text seed accept small small' =
     let last = IsAscii-append (decimal accept) settings_end (IsAscii-decimal accept small') (small_ascii settings_end refl) in
     let later = IsAscii-append settings_middle (decimal accept ++ settings_end) (small_ascii settings_middle refl) last in
     let behind = IsAscii-append (decimal seed) (settings_middle ++ (decimal accept ++ settings_end)) (IsAscii-decimal seed small) later in
-    let whole = IsAscii-append settings_begin (decimal seed ++ (settings_middle ++ (decimal accept ++ settings_end))) (small_ascii settings_begin refl) behind in
+    let whole =
+    IsAscii-append settings_begin (decimal seed ++ (settings_middle ++ (decimal accept ++ settings_end))) (small_ascii settings_begin refl) behind in
     is_utf8-from_IsUtf8 (grouped_text seed accept) (IsUtf8-from_ascii (grouped_text seed accept) whole)
 
 -- ---- the lexemes of each part
@@ -95,7 +97,14 @@ lexed : (seed accept : ℕ) → seed < 2 ^ 64 → accept < 2 ^ 64 → lex betwee
 lexed seed accept small small' =
     let after = lex-number (decimal accept) settings_end (IsNumber-decimal accept small') refl in
     let before = lex-number (decimal seed) (settings_middle ++ (decimal accept ++ settings_end)) (IsNumber-decimal seed small) refl in
-    rw (begin_lexed (decimal seed ++ (settings_middle ++ (decimal accept ++ settings_end))), before, middle_lexed (decimal accept ++ settings_end), after, end_lexed) refl
+    rw (
+      begin_lexed (decimal seed ++ (settings_middle ++ (decimal accept ++ settings_end))),
+      before,
+      middle_lexed (decimal accept ++ settings_end),
+      after,
+      end_lexed,
+    )
+    refl
 
 -- ---- the value that they are
 
@@ -155,16 +164,20 @@ kept seed accept =
     member (codes "turns") (whole 25) no_members)))))))
     )
 
-data_of : (seed accept : ℕ) → seed < 2 ^ 64 → accept < 2 ^ 64 → of_json (values (json.number (decimal seed)) (json.number (decimal accept))) ≡ Some (kept seed accept)
-data_of seed accept small small' = rw (number_of-decimal seed small, number_of-decimal accept small', one_read, ten_read, twenty_read, twenty_five_read, hundred_read) refl
+data_of : (seed accept : ℕ) → seed < 2 ^ 64 → accept < 2 ^ 64
+    → of_json (values (json.number (decimal seed)) (json.number (decimal accept))) ≡ Some (kept seed accept)
+data_of seed accept small small' =
+    rw (number_of-decimal seed small, number_of-decimal accept small', one_read, ten_read, twenty_read, twenty_five_read, hundred_read) refl
 
 read_kept : (seed accept : ℕ) → seed < 2 ^ 64 → accept < 2 ^ 64 → read (grouped_text seed accept) ≡ Some (kept seed accept)
 read_kept seed accept small small' = rw (lexed seed accept small small', valued (decimal seed) (decimal accept)) (data_of seed accept small small')
 
 -- ---- the settings
 
-settled : (seed accept : ℕ) → seed < 2 ^ 64 → accept ≤ 10 ^ 12 → unless (fault_of (kept seed accept)) (values_of (kept seed accept)) ≡ Ok (made_settings seed accept)
-settled seed accept small few = rw (le-leb 0 seed (omega arith), le-leb 0 accept (omega arith), le-leb seed (2 ^ 64 - 1) (omega arith), le-leb accept 1000000000000 (omega arith)) refl
+settled : (seed accept : ℕ) → seed < 2 ^ 64 → accept ≤ 10 ^ 12
+    → unless (fault_of (kept seed accept)) (values_of (kept seed accept)) ≡ Ok (made_settings seed accept)
+settled seed accept small few =
+    rw (le-leb 0 seed (omega arith), le-leb 0 accept (omega arith), le-leb seed (2 ^ 64 - 1) (omega arith), le-leb accept 1000000000000 (omega arith)) refl
 
 reading_kept : (seed accept : ℕ) → seed < 2 ^ 64 → accept < 2 ^ 64 → reading (grouped_text seed accept) ≡ Some (kept seed accept)
 reading_kept seed accept small small' =
@@ -175,4 +188,5 @@ settings_from bytes d e = rw (e, settings_of) refl
 
 pub settings_read : (seed accept : ℕ) → seed < 2 ^ 64 → accept ≤ 10 ^ 12 → settings_of (settings_text seed accept) ≡ Ok (made_settings seed accept)
 settings_read seed accept small few =
-    ap settings_of (text_is seed accept) ∙ settings_from (grouped_text seed accept) (kept seed accept) (reading_kept seed accept small (omega arith)) ∙ settled seed accept small few
+    ap settings_of (text_is seed accept) ∙ settings_from (grouped_text seed accept) (kept seed accept) (reading_kept seed accept small (omega arith))
+    ∙ settled seed accept small few

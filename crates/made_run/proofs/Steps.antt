@@ -26,9 +26,11 @@ stays_open_changed names state (Clear student) leaves = refl
 stays_open_changed names state Close leaves = absurd leaves
 stays_open_changed names state Unreadable leaves = refl
 
-pub stays_open : (names : DeskNames) (state : DeskState) (command : Command) → LeavesOpen command → state.closed ≡ false → (state_after names state command).closed ≡ false
+pub stays_open : (names : DeskNames) (state : DeskState) (command : Command) → LeavesOpen command → state.closed ≡ false
+    → (state_after names state command).closed ≡ false
 stays_open names state command leaves is =
-    either_state (λ s. s.closed ≡ false) (is_done (reply_to names state command)) (changed names state command) state (stays_open_changed names state command leaves ∙ is) is
+    either_state (λ s. s.closed ≡ false) (is_done (reply_to names state command)) (changed names state command) state
+    (stays_open_changed names state command leaves ∙ is) is
 
 -- it keeps a place for each student
 pub keeps_rows : (names : DeskNames) (state : DeskState) (command : Command) → length (state_after names state command).preferences ≡ length state.preferences
@@ -43,7 +45,8 @@ no_student_first false false rest is = cc
 others_stay : (state : DeskState) (at k : ℕ) (new : StudentPreferences) → at ≢ k → preferences_at (with_preferences state at new) k ≡ preferences_at state k
 others_stay state at k new other = get_or-set_other state.preferences at k new no_preferences (λ same. other (sym same))
 
-other_named : (names : DeskNames) (k : ℕ) (student : Name) → has_name names.students student ≡ true → is_named names k student ≡ false → ordinal_of names.students student ≢ k
+other_named : (names : DeskNames) (k : ℕ) (student : Name) → has_name names.students student ≡ true → is_named names k student ≡ false
+    → ordinal_of names.students student ≢ k
 other_named names k student known other same =
     let test : nat_eq (ordinal_of names.students student) k ≡ true = grind (arith, nat_tests) in
     let both : is_named names k student ≡ true = rw (known, test) refl in
@@ -55,7 +58,8 @@ known_or_not P true yes' no' = yes' refl
 known_or_not P false yes' no' = no' refl
 
 -- a command that changes the row of a student whose name is on the roll, or nothing
-unless_known : (names : DeskNames) (k : ℕ) (state : DeskState) (command : Command) (student : Name) (new : StudentPreferences) → is_named names k student ≡ false
+unless_known : (names : DeskNames) (k : ℕ) (state : DeskState) (command : Command) (student : Name) (new : StudentPreferences)
+    → is_named names k student ≡ false
     → (has_name names.students student ≡ false → is_done (reply_to names state command) ≡ false)
     → changed names state command ≡ with_preferences state (ordinal_of names.students student) new
     → preferences_at (state_after names state command) k ≡ preferences_at state k
@@ -66,13 +70,17 @@ unless_known names k state command student new other unknown makes =
     (λ none. ap (λ b. preferences_at (cond b (changed names state command) state) k) (unknown none))
 
 -- a command of another student changes nothing for this one
-pub other_keeps : (names : DeskNames) (k : ℕ) (state : DeskState) (command : Command) → LeavesOpen command → state.closed ≡ false → is_about names k command ≡ false
+pub other_keeps : (names : DeskNames) (k : ℕ) (state : DeskState) (command : Command) → LeavesOpen command → state.closed ≡ false
+    → is_about names k command ≡ false
     → preferences_at (state_after names state command) k ≡ preferences_at state k
 other_keeps names k state (Rate student section n) leaves is other =
-    unless_known names k state (Rate student section n) student _ other (λ none. no_student_first state.closed (not (has_name names.students student)) _ (ap not none)) refl
+    unless_known names k state (Rate student section n) student _ other
+    (λ none. no_student_first state.closed (not (has_name names.students student)) _ (ap not none)) refl
 other_keeps names k state (Pair student first second n) leaves is other =
-    unless_known names k state (Pair student first second n) student _ other (λ none. no_student_first state.closed (not (has_name names.students student)) _ (ap not none)) refl
+    unless_known names k state (Pair student first second n) student _ other
+    (λ none. no_student_first state.closed (not (has_name names.students student)) _ (ap not none)) refl
 other_keeps names k state (Clear student) leaves is other =
-    unless_known names k state (Clear student) student _ other (λ none. no_student_first state.closed (not (has_name names.students student)) _ (ap not none)) refl
+    unless_known names k state (Clear student) student _ other (λ none. no_student_first state.closed (not (has_name names.students student)) _ (ap not none))
+    refl
 other_keeps names k state Close leaves is other = absurd leaves
 other_keeps names k state Unreadable leaves is other = refl

@@ -7,7 +7,8 @@ use Rattle.preference_desk.specs.DeskNames.{DeskNames, has_name, ordinal_of}
 
 -- the name is that of the student with this ordinal
 abbrev pub is_named : DeskNames → ℕ → Name → Bool
-is_named names k student = has_name names.students student && (ordinal_of names.students student == k)
+is_named names k student =
+    has_name names.students student && (ordinal_of names.students student == k)
 
 -- the command is of the student with this ordinal
 abbrev pub is_about : DeskNames → ℕ → Command → Bool
@@ -29,7 +30,11 @@ LeavesOpen Unreadable = ⊤
 abbrev pub AreSilentOn : DeskNames → ℕ → List Command → Type 0
 AreSilentOn names k commands = All (λ command. is_about names k command ≡ false) commands
 
--- No stream closes the desk, and of each student all commands are in one stream: the others are silent on it.
+-- No stream closes the desk, and of each student all commands are in one stream: the others are
+-- silent on it.
 pub record AreApart (names : DeskNames) (streams : List (List Command)) : Type 0 where
   pub stay_open : (m : ℕ) → m < length streams → All LeavesOpen (slice_index_or streams m [])
-  pub apart : (k : ℕ) → k < length names.students → (n : ℕ) × (n < length streams) × ((m : ℕ) → m < length streams → m ≢ n → AreSilentOn names k (slice_index_or streams m []))
+  pub apart : (k : ℕ) → k < length names.students
+      → (n : ℕ) × (n < length streams)
+      × ((m : ℕ) → m < length streams → m ≢ n
+      → AreSilentOn names k (slice_index_or streams m []))

@@ -27,28 +27,44 @@ pub record AreNumbers (seed students sections accept : ℕ) : Type 0 where
 
 -- a made market has one summary
 abbrev pub OneMadeSummary : Type 0
-OneMadeSummary = (seed students sections accept : ℕ) (one other : List ℕ) → AreNumbers seed students sections accept → IsMadeSummary seed students sections accept one → IsMadeSummary seed students sections accept other → one ≡ other
+OneMadeSummary =
+    (seed students sections accept : ℕ) (one other : List ℕ)
+    → AreNumbers seed students sections accept → IsMadeSummary seed students sections accept one
+    → IsMadeSummary seed students sections accept other → one ≡ other
 
 -- where it finds no prices, it has one least error
 abbrev pub OneMadeError : Type 0
-OneMadeError = (seed students sections accept one other : ℕ) → AreNumbers seed students sections accept → IsMadeUnpriced seed students sections accept one → IsMadeUnpriced seed students sections accept other → one ≡ other
+OneMadeError =
+    (seed students sections accept one other : ℕ) → AreNumbers seed students sections accept
+    → IsMadeUnpriced seed students sections accept one
+    → IsMadeUnpriced seed students sections accept other → one ≡ other
 
 -- it never has both
 abbrev pub SummaryIsPriced : Type 0
-SummaryIsPriced = (seed students sections accept : ℕ) (text : List ℕ) (least : ℕ) → AreNumbers seed students sections accept → IsMadeSummary seed students sections accept text → ¬ IsMadeUnpriced seed students sections accept least
+SummaryIsPriced =
+    (seed students sections accept : ℕ) (text : List ℕ) (least : ℕ)
+    → AreNumbers seed students sections accept → IsMadeSummary seed students sections accept text
+    → ¬ IsMadeUnpriced seed students sections accept least
 
--- each text is of its grammar, and this is what it says; the sessions have at most so many commands together
+-- each text is of its grammar, and this is what it says; the sessions have at most so many commands
+-- together
 pub record AreOfTheirGrammars (seed students sections accept : ℕ) : Type 0 where
   pub catalog : catalog_of (catalog_text students sections) ≡ Ok (made_catalog students sections)
   pub roll : roll_of (roll_text students) ≡ Ok (made_roll students)
   pub settings : settings_of (settings_text seed accept) ≡ Ok (made_settings seed accept)
-  pub commands : length (command_lines (first_text seed students sections)) + length (command_lines (second_text seed students sections)) ≤ 200000
+  pub commands : length (command_lines (first_text seed students sections))
+      + length (command_lines (second_text seed students sections))
+      ≤ 200000
 
 -- so it is with every made market
 abbrev pub MadeTextsAreOfTheirGrammars : Type 0
-MadeTextsAreOfTheirGrammars = (seed students sections accept : ℕ) → seed < 2 ^ 64 → students ≤ 2000 → 1 ≤ sections → sections ≤ 400 → accept ≤ 10 ^ 12 → AreOfTheirGrammars seed students sections accept
+MadeTextsAreOfTheirGrammars =
+    (seed students sections accept : ℕ) → seed < 2 ^ 64 → students ≤ 2000 → 1 ≤ sections
+    → sections ≤ 400 → accept ≤ 10 ^ 12 → AreOfTheirGrammars seed students sections accept
 
 -- two journals that merge such streams close with the same preferences
 abbrev pub OrdersCloseAlike : Type 0
-OrdersCloseAlike = (names : DeskNames) (streams : List (List Command)) (one other : List Entry) → AreApart names streams → MergesStreams streams one → MergesStreams streams other
+OrdersCloseAlike =
+    (names : DeskNames) (streams : List (List Command)) (one other : List Entry)
+    → AreApart names streams → MergesStreams streams one → MergesStreams streams other
     → closed_preferences names one ≡ closed_preferences names other

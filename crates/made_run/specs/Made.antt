@@ -14,21 +14,28 @@ use Rattle.student_roll.specs.Rolls.{roll_of}
 use Rattle.utility_language.specs.declared.commands.Command.{Command}
 use Rattle.utility_language.specs.Commands.{AreCommands}
 
--- the texts of the made market of these numbers stand for this market, and what its two sessions say are these streams
-pub record IsMadeMarket (seed students sections accept : ℕ) (market : Market) (streams : List (List Command)) : Type 0 where
+-- the texts of the made market of these numbers stand for this market, and what its two sessions
+-- say are these streams
+pub record IsMadeMarket (seed students sections accept : ℕ) (market : Market)
+    (streams : List (List Command)) : Type 0 where
   pub catalog_says : catalog_of (catalog_text students sections) ≡ Ok market.catalog
   pub roll_says : roll_of (roll_text students) ≡ Ok market.roll
   pub settings_say : settings_of (settings_text seed accept) ≡ Ok market.settings
-  pub sessions_say : AllZip AreCommands (first_text seed students sections ∷ second_text seed students sections ∷ []) streams
+  pub sessions_say : AllZip AreCommands
+      (first_text seed students sections ∷ second_text seed students sections ∷ []) streams
 
--- the text is the summary of what is published of that market, where the commands of both sessions are taken in some order
+-- the text is the summary of what is published of that market, where the commands of both sessions
+-- are taken in some order
 abbrev pub IsMadeSummary : ℕ → ℕ → ℕ → ℕ → List ℕ → Type 0
 IsMadeSummary seed students sections accept text =
-    (market : Market) × (streams : List (List Command)) × IsMadeMarket seed students sections accept market streams
+    (market : Market) × (streams : List (List Command))
+    × IsMadeMarket seed students sections accept market streams
     × (order : List ℕ) × IsSummaryText market streams order text
 
--- that market finds no prices, where the commands of both sessions are taken in some order, and this is the least error
+-- that market finds no prices, where the commands of both sessions are taken in some order, and
+-- this is the least error
 abbrev pub IsMadeUnpriced : ℕ → ℕ → ℕ → ℕ → ℕ → Type 0
 IsMadeUnpriced seed students sections accept least =
-    (market : Market) × (streams : List (List Command)) × IsMadeMarket seed students sections accept market streams
+    (market : Market) × (streams : List (List Command))
+    × IsMadeMarket seed students sections accept market streams
     × (order : List ℕ) × IsUnpriced market streams order least

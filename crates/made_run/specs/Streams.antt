@@ -4,4 +4,5 @@ use Rattle.market_maker.specs.Sessions.{first_text, second_text}
 
 -- the text of each session
 abbrev pub session_texts : ℕ → ℕ → ℕ → List (List ℕ)
-session_texts seed students sections = first_text seed students sections ∷ second_text seed students sections ∷ []
+session_texts seed students sections =
+    first_text seed students sections ∷ second_text seed students sections ∷ []

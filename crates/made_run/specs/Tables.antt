@@ -26,11 +26,13 @@ made_section students j = record {
 
 -- the catalogue of so many sections, where there are so many students
 abbrev pub made_catalog : ℕ → ℕ → CatalogData
-made_catalog students sections = record { version = 1; sections = map (made_section students) (numbers_to sections) }
+made_catalog students sections =
+    record { version = 1; sections = map (made_section students) (numbers_to sections) }
 
 -- student i
 abbrev pub made_student : ℕ → Student
-made_student i = record { name = student_name i; base = 100000; credits = 12; courses = 4; carry = 0 }
+made_student i =
+    record { name = student_name i; base = 100000; credits = 12; courses = 4; carry = 0 }
 
 -- the roll of so many students
 abbrev pub made_roll : ℕ → RollData

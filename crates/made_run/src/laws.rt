@@ -31,7 +31,8 @@ pub fn summary_is_priced()
     orders_close_alike();
 }
 
-/// The texts of a made market are read as its catalogue, its roll, its settings and at most 200,000 commands.
+/// The texts of a made market are read as its catalogue, its roll, its settings and at most 200,000
+/// commands.
 pub fn made_texts_are_of_their_grammars()
     ensures { MadeTextsAreOfTheirGrammars }
 {}

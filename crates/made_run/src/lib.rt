@@ -1,8 +1,8 @@
 //! The made market: its texts, read; and its summary, which its four numbers alone determine.
 //!
-//! The texts are of their grammars and within the limits of their readers, for all numbers: so only memory can be wanted.
-//! Its two sessions speak for different students: in whatever order their commands are taken, the students want the same
-//! in the end.
+//! The texts are of their grammars and within the limits of their readers, for all numbers: so only
+//! memory can be wanted. Its two sessions speak for different students: in whatever order their
+//! commands are taken, the students want the same in the end.
 #![tactic(auto)]
 
 pub mod laws;

@@ -33,9 +33,10 @@ pub struct MadeMarket {
     pub streams: Vec<Vec<Command>>,
 }
 
-/// The market of these numbers, as its texts are read: 1 to 2,000 students, 1 to 400 sections, and a clearing error of at
-/// most 10^12 that its settings accept. The seed is that of the settings, and the ratings depend on it. The sessions have at
-/// most 200,000 commands together. `NoMemory` is the only error.
+/// The market of these numbers, as its texts are read: 1 to 2,000 students, 1 to 400 sections, and
+/// a clearing error of at most 10^12 that its settings accept. The seed is that of the settings,
+/// and the ratings depend on it. The sessions have at most 200,000 commands together. `NoMemory` is
+/// the only error.
 pub fn make_market(
     alloc: Global,
     seed: u64,
@@ -52,7 +53,9 @@ pub fn make_market(
     ensures roll { IfOk result (λ made. made.roll ≡ made_roll students) }
     ensures settings { IfOk result (λ made. made.settings ≡ made_settings seed accept) }
     ensures in_range { IfOk result (λ made. AreInRange made.settings) }
-    ensures streams { IfOk result (λ made. AllZip AreCommands (session_texts seed students sections) (map (λ (stream : Vec Command Global). stream.items) made.streams.items)) }
+    ensures streams { IfOk result
+        (λ made. AllZip AreCommands (session_texts seed students sections)
+        (map (λ (stream : Vec Command Global). stream.items) made.streams.items)) }
     ensures few { IfOk result (λ made. total vec_len made.streams.items ≤ 200000) }
 {
     let made = make(alloc, seed, students, sections, accept)?;

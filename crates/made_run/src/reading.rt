@@ -63,7 +63,8 @@ pub(crate) fn settings_in(alloc: Global, text: &[u8]) -> Result<Settings, NoMemo
 fn stream_in(alloc: Global, session: &[u8], room: u32) -> Result<Vec<Command>, NoMemory>
     requires { length (command_lines session.now) ≤ room }
     ensures commands { IfOk result (λ commands. AreCommands session.now commands.items) }
-    ensures count { IfOk result (λ commands. length commands.items ≡ length (command_lines session.now)) }
+    ensures count { IfOk result
+        (λ commands. length commands.items ≡ length (command_lines session.now)) }
 {
     match read_stream(alloc, session, room) {
         Ok(commands) => Ok(commands),
@@ -79,7 +80,9 @@ pub(crate) fn streams_in(
     second: &[u8],
 ) -> Result<Vec<Vec<Command>>, NoMemory>
     requires { length (command_lines first.now) + length (command_lines second.now) ≤ 200000 }
-    ensures commands { IfOk result (λ streams. AllZip AreCommands (first.now ∷ second.now ∷ []) (map (λ (stream : Vec Command Global). stream.items) streams.items)) }
+    ensures commands { IfOk result
+        (λ streams. AllZip AreCommands (first.now ∷ second.now ∷ [])
+        (map (λ (stream : Vec Command Global). stream.items) streams.items)) }
     ensures few { IfOk result (λ streams. total vec_len streams.items ≤ 200000) }
 {
     let mut streams = Vec::with_capacity(alloc, 2)?;

@@ -10,9 +10,10 @@ use std::alloc::Global;
 use std::sync::Wait;
 use std::thread::Threads;
 
-/// The summary of the market of these numbers, which 1 to 16 workers run: of 1 to 2,000 students, 1 to 400 sections, and
-/// an error of at most 10^12 that its settings accept. `NoPrices` comes exactly where the search's least error exceeds
-/// that. Both are determined by the four numbers, and by no number of workers.
+/// The summary of the market of these numbers, which 1 to 16 workers run: of 1 to 2,000 students, 1
+/// to 400 sections, and an error of at most 10^12 that its settings accept. `NoPrices` comes
+/// exactly where the search's least error exceeds that. Both are determined by the four numbers,
+/// and by no number of workers.
 pub fn made_summary<R: Threads + Wait + Sync>(
     rt: &R,
     alloc: Global,
@@ -28,7 +29,8 @@ pub fn made_summary<R: Threads + Wait + Sync>(
     requires sections { (1 ≤ sections) × (sections ≤ 400) }
     requires accept { accept ≤ 10 ^ 12 }
     ensures text { IfOk result (λ text. IsMadeSummary seed students sections accept text.items) }
-    ensures no_prices { (least : ℕ) → result ≡ Err (PublishEnd.NoPrices least) → IsMadeUnpriced seed students sections accept least }
+    ensures no_prices { (least : ℕ) → result ≡ Err (PublishEnd.NoPrices least)
+        → IsMadeUnpriced seed students sections accept least }
 {
     let made = make_market(alloc, seed, students, sections, accept)?;
     held_summary(

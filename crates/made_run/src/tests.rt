@@ -1,4 +1,5 @@
-// Made markets that are run. The summaries are worked examples that were computed apart from this program.
+// Made markets that are run. The summaries are worked examples that were computed apart from this
+// program.
 use super::*;
 use market_edge::OpenGate;
 use published_market::PublishEnd;

@@ -23,7 +23,8 @@ use Rattle.market_certificate.proofs.Cuts.{cut_once, joined_lack, parts_of}
 -- no name has a byte that names do not have
 pub name_lacks : (stop : ℕ) (name : List ℕ) → is_name_byte stop ≡ false → IsName name → Lacks stop name
 name_lacks stop name other is k d inside =
-    ne_eqb (get_or name k d) stop (λ e. let byte : IsTrue (is_name_byte stop) = subst (λ (b : ℕ). IsTrue (is_name_byte b)) e (is.each k d inside) in absurd (cc (other, byte)))
+    ne_eqb (get_or name k d) stop
+    (λ e. let byte : IsTrue (is_name_byte stop) = subst (λ (b : ℕ). IsTrue (is_name_byte b)) e (is.each k d inside) in absurd (cc (other, byte)))
 
 first_differs : (x : List ℕ) (xs : List (List ℕ)) (k : ℕ) → AllByRecursion (λ y. bytes_eq x y ≡ false) xs → k < length xs → x ≢ name_at xs k
 first_differs x [] k apart inside e = absurd (omega arith)
@@ -40,7 +41,8 @@ different (x ∷ xs) (suc a) zero distinct inside inside' e = absurd (first_diff
 different (x ∷ xs) (suc a) (suc b) distinct inside inside' e = ap suc (different xs a b distinct.1 (omega arith) (omega arith) e)
 
 -- names tell the sections whose they are
-pub same_sections : (names : List (List ℕ)) (a b : List ℕ) → AreNames names → All (λ s. s < length names) a → All (λ s. s < length names) b → map (name_at names) a ≡ map (name_at names) b → a ≡ b
+pub same_sections : (names : List (List ℕ)) (a b : List ℕ) → AreNames names → All (λ s. s < length names) a → All (λ s. s < length names) b
+    → map (name_at names) a ≡ map (name_at names) b → a ≡ b
 same_sections names [] [] are below below' e = refl
 same_sections names [] (y ∷ b) are below below' e = absurd (omega (arith, ap length e))
 same_sections names (x ∷ a) [] are below below' e = absurd (omega (arith, ap length e))
@@ -54,25 +56,31 @@ same_sections names (x ∷ a) (y ∷ b) are below below' e =
 pub named : (names : List (List ℕ)) (s : ℕ) → AreNames names → s < length names → IsName (name_at names s)
 named names s are inside = are.each s [] inside
 
-pub names_lack : (stop : ℕ) (names : List (List ℕ)) (bundle : List ℕ) → is_name_byte stop ≡ false → AreNames names → All (λ s. s < length names) bundle → AllByRecursion (Lacks stop) (map (name_at names) bundle)
+pub names_lack : (stop : ℕ) (names : List (List ℕ)) (bundle : List ℕ) → is_name_byte stop ≡ false → AreNames names → All (λ s. s < length names) bundle
+    → AllByRecursion (Lacks stop) (map (name_at names) bundle)
 names_lack stop names [] other are below = tt
 names_lack stop names (s ∷ bundle) other are below =
-    let P : ℕ → Type 0 = λ s. s < length names in
-    (name_lacks stop (name_at names s) other (named names s are (All-head P s bundle below)), names_lack stop names bundle other are (All-tail P s bundle below))
+    let P : ℕ → Type 0 = λ s. s < length names in (
+      name_lacks stop (name_at names s) other (named names s are (All-head P s bundle below)),
+      names_lack stop names bundle other are (All-tail P s bundle below),
+    )
 
 some_text : (names : List (List ℕ)) (s : ℕ) (bundle : List ℕ) → AreNames names → s < length names → join_with_byte 44 (map (name_at names) (s ∷ bundle)) ≢ []
 some_text names s [] are inside e = absurd (omega (arith, ap length e, (named names s are inside).some))
-some_text names s (t ∷ bundle) are inside e = absurd (omega (arith, ap length e, length-append (name_at names s) (44 ∷ join_with_byte 44 (map (name_at names) (t ∷ bundle)))))
+some_text names s (t ∷ bundle) are inside e =
+    absurd (omega (arith, ap length e, length-append (name_at names s) (44 ∷ join_with_byte 44 (map (name_at names) (t ∷ bundle)))))
 
 -- the parts of a bundle's names
-pub parts_are : (names : List (List ℕ)) (bundle text : List ℕ) → AreNames names → All (λ s. s < length names) bundle → text ≢ [] → text ≡ join_with_byte 44 (map (name_at names) bundle)
+pub parts_are : (names : List (List ℕ)) (bundle text : List ℕ) → AreNames names → All (λ s. s < length names) bundle → text ≢ []
+    → text ≡ join_with_byte 44 (map (name_at names) bundle)
     → slice_split (λ b. b == 44) text ≡ map (name_at names) bundle
 parts_are names [] text are below some e = absurd (some e)
 parts_are names (s ∷ bundle) text are below some e =
     ap (slice_split (λ b. b == 44)) e ∙ parts_of 44 (name_at names s) (map (name_at names) bundle) (names_lack 44 names (s ∷ bundle) refl are below)
 
 -- one text of names is one bundle
-pub same_joined : (names : List (List ℕ)) (a b : List ℕ) → AreNames names → All (λ s. s < length names) a → All (λ s. s < length names) b → join_with_byte 44 (map (name_at names) a) ≡ join_with_byte 44 (map (name_at names) b) → a ≡ b
+pub same_joined : (names : List (List ℕ)) (a b : List ℕ) → AreNames names → All (λ s. s < length names) a → All (λ s. s < length names) b
+    → join_with_byte 44 (map (name_at names) a) ≡ join_with_byte 44 (map (name_at names) b) → a ≡ b
 same_joined names [] [] are below below' e = refl
 same_joined names [] (y ∷ b) are below below' e = absurd (some_text names y b are (All-head (λ s. s < length names) y b below') (sym e))
 same_joined names (x ∷ a) b are below below' e =
@@ -82,10 +90,12 @@ same_joined names (x ∷ a) b are below below' e =
     ∙ parts_are names b (join_with_byte 44 (map (name_at names) (x ∷ a))) are below' some e
     )
 
-pub same_bundle : (names : List (List ℕ)) (a b : List ℕ) → AreNames names → IsBundleOf names a → IsBundleOf names b → bundle_text names a ≡ bundle_text names b → a ≡ b
+pub same_bundle : (names : List (List ℕ)) (a b : List ℕ) → AreNames names → IsBundleOf names a → IsBundleOf names b → bundle_text names a ≡ bundle_text names b
+    → a ≡ b
 same_bundle names a b are is is' e =
     let inner = cut_once 93 (join_with_byte 44 (map (name_at names) a)) (join_with_byte 44 (map (name_at names) b)) [] []
-    (joined_lack 44 93 (map (name_at names) a) refl (names_lack 93 names a refl are is.of_catalog)) (joined_lack 44 93 (map (name_at names) b) refl (names_lack 93 names b refl are is'.of_catalog))
+    (joined_lack 44 93 (map (name_at names) a) refl (names_lack 93 names a refl are is.of_catalog))
+    (joined_lack 44 93 (map (name_at names) b) refl (names_lack 93 names b refl are is'.of_catalog))
     (append_cancel_left (91 ∷ []) _ _ e) in
     same_joined names a b are is.of_catalog is'.of_catalog inner.0
 
@@ -117,9 +127,12 @@ pub record GoesOnWith (names : List (List ℕ)) (so_far : List ℕ) (next : List
   pub is_named : name_at names section ≡ next
   pub front : take (length so_far + 1) bundle ≡ so_far ++ section ∷ []
 
-pub goes_on : (names : List (List ℕ)) (text : List ℕ) (yielded : List (List ℕ)) (so_far : List ℕ) (next : List ℕ) (bundle : List ℕ) → AreNames names → text ≢ [] → All (λ s. s < length names) so_far
-    → yielded ≡ map (name_at names) so_far → yielded ≡ take (length yielded) (slice_split (λ b. b == 44) text) → length yielded < length (slice_split (λ b. b == 44) text)
-    → next ≡ get_or (slice_split (λ b. b == 44) text) (length yielded) next → IsBundleOf names bundle → text ≡ join_with_byte 44 (map (name_at names) bundle) → GoesOnWith names so_far next bundle
+pub goes_on : (names : List (List ℕ)) (text : List ℕ) (yielded : List (List ℕ)) (so_far : List ℕ) (next : List ℕ) (bundle : List ℕ) → AreNames names → text ≢ []
+    → All (λ s. s < length names) so_far
+    → yielded ≡ map (name_at names) so_far → yielded ≡ take (length yielded) (slice_split (λ b. b == 44) text)
+    → length yielded < length (slice_split (λ b. b == 44) text)
+    → next ≡ get_or (slice_split (λ b. b == 44) text) (length yielded) next → IsBundleOf names bundle → text ≡ join_with_byte 44 (map (name_at names) bundle)
+    → GoesOnWith names so_far next bundle
 goes_on names text yielded so_far next bundle are some below read front inside here is e =
     let parts = parts_are names bundle text are is.of_catalog some e in
     let k = length so_far in
@@ -133,32 +146,43 @@ goes_on names text yielded so_far next bundle are some below read front inside h
     record {
       section = section;
       inside = is.of_catalog k 0 within;
-      is_named = sym (here ∙ ap (λ ps. get_or ps (length yielded) next) parts ∙ ap (λ n. get_or (map (name_at names) bundle) n next) count ∙ get_or-map (name_at names) bundle k 0 next within);
+      is_named =
+          sym
+          (here ∙ ap (λ ps. get_or ps (length yielded) next) parts ∙ ap (λ n. get_or (map (name_at names) bundle) n next) count
+          ∙ get_or-map (name_at names) bundle k 0 next within);
       front = take_more bundle k 0 within ∙ ap (λ xs. xs ++ section ∷ []) (sym so);
     }
 
 -- the parts so far, and at the end all of them; the iterator's own facts first
-pub parts_so_far : {S A B : Type 0} {steps : S → Option A → S → Type 0} {v : A → B} {s : S} {all : List B} (xs : List A) (t : S) (y : Yields steps s xs t) → YieldsList steps v s all → map v xs ≡ take (length xs) all
+pub parts_so_far : {S A B : Type 0} {steps : S → Option A → S → Type 0} {v : A → B} {s : S} {all : List B} (xs : List A) (t : S) (y : Yields steps s xs t)
+    → YieldsList steps v s all → map v xs ≡ take (length xs) all
 parts_so_far xs t y e = YieldsList-so_far e xs t y
 
-pub part_of_turn : {S A B : Type 0} {steps : S → Option A → S → Type 0} {v : A → B} {s : S} {all : List B} (xs : List A) (t : S) (y : Yields steps s xs t) → (r : Option A) (u : S) (x : A) → r ≡ Some x → steps t r u → YieldsList steps v s all
+pub part_of_turn : {S A B : Type 0} {steps : S → Option A → S → Type 0} {v : A → B} {s : S} {all : List B} (xs : List A) (t : S) (y : Yields steps s xs t)
+    → (r : Option A) (u : S) (x : A) → r ≡ Some x → steps t r u → YieldsList steps v s all
     → (length xs < length all) × (v x ≡ get_or all (length xs) (v x))
 part_of_turn xs t y r u x is step e = YieldsList-turn e xs t y r u x is step
 
-pub all_parts : {S A B : Type 0} {steps : S → Option A → S → Type 0} {v : A → B} {s : S} {all : List B} (xs : List A) (t : S) (y : Yields steps s xs t) → (r : Option A) (u : S) → r ≡ None → steps t r u → YieldsList steps v s all → map v xs ≡ all
+pub all_parts : {S A B : Type 0} {steps : S → Option A → S → Type 0} {v : A → B} {s : S} {all : List B} (xs : List A) (t : S) (y : Yields steps s xs t)
+    → (r : Option A) (u : S) → r ≡ None → steps t r u → YieldsList steps v s all → map v xs ≡ all
 all_parts xs t y r u is step e = (YieldsList-end e xs t y r u is step).0
 
 -- the same of the items of a loop
-pub goes_on_with : {A : Type 0} (now : A → List ℕ) (names : List (List ℕ)) (text : List ℕ) (items : List A) (so_far : List ℕ) (next : List ℕ) (bundle : List ℕ) → AreNames names → text ≢ [] → All (λ s. s < length names) so_far
-    → map now items ≡ map (name_at names) so_far → map now items ≡ take (length items) (slice_split (λ b. b == 44) text) → length items < length (slice_split (λ b. b == 44) text)
-    → next ≡ get_or (slice_split (λ b. b == 44) text) (length items) next → IsBundleOf names bundle → text ≡ join_with_byte 44 (map (name_at names) bundle) → GoesOnWith names so_far next bundle
+pub goes_on_with : {A : Type 0} (now : A → List ℕ) (names : List (List ℕ)) (text : List ℕ) (items : List A) (so_far : List ℕ) (next : List ℕ) (bundle : List ℕ)
+    → AreNames names → text ≢ [] → All (λ s. s < length names) so_far
+    → map now items ≡ map (name_at names) so_far → map now items ≡ take (length items) (slice_split (λ b. b == 44) text)
+    → length items < length (slice_split (λ b. b == 44) text)
+    → next ≡ get_or (slice_split (λ b. b == 44) text) (length items) next → IsBundleOf names bundle → text ≡ join_with_byte 44 (map (name_at names) bundle)
+    → GoesOnWith names so_far next bundle
 goes_on_with now names text items so_far next bundle are some below read front inside here =
     let parts = slice_split (λ b. b == 44) text in
     let long = length-map items now in
-    goes_on names text (map now items) so_far next bundle are some below read (front ∙ ap (λ n. take n parts) (sym long)) (omega (arith, inside, long)) (here ∙ ap (λ n. get_or parts n next) (sym long))
+    goes_on names text (map now items) so_far next bundle are some below read (front ∙ ap (λ n. take n parts) (sym long)) (omega (arith, inside, long))
+    (here ∙ ap (λ n. get_or parts n next) (sym long))
 
 -- a section of the next part's name can be put behind the sections so far
-pub goes_on_fits : (names : List (List ℕ)) (so_far : List ℕ) (next : List ℕ) (bundle : List ℕ) (section : ℕ) → AreNames names → GoesOnWith names so_far next bundle → IsBundleOf names bundle → section < length names → name_at names section ≡ next
+pub goes_on_fits : (names : List (List ℕ)) (so_far : List ℕ) (next : List ℕ) (bundle : List ℕ) (section : ℕ) → AreNames names
+    → GoesOnWith names so_far next bundle → IsBundleOf names bundle → section < length names → name_at names section ≡ next
     → IsBundle (so_far ++ section ∷ [])
 goes_on_fits names so_far next bundle section are goes is inside e =
     let same = different names goes.section section are.distinct goes.inside inside (goes.is_named ∙ sym e) in

@@ -14,7 +14,8 @@ use Rattle.market_certificate.specs.Lines.{Lacks}
 pub cut_once : (stop : ℕ) (a b y z : List ℕ) → Lacks stop a → Lacks stop b → a ++ stop ∷ y ≡ b ++ stop ∷ z → (a ≡ b) × (y ≡ z)
 cut_once stop a b y z free free' e =
     let at : (stop == stop) ≡ true = grind (arith, nat_tests) in
-    let cut = sym (slice_split_at (λ c. c == stop) a stop y free at) ∙ ap (slice_split (λ c. c == stop)) e ∙ slice_split_at (λ c. c == stop) b stop z free' at in
+    let cut =
+    sym (slice_split_at (λ c. c == stop) a stop y free at) ∙ ap (slice_split (λ c. c == stop)) e ∙ slice_split_at (λ c. c == stop) b stop z free' at in
     let front : a ≡ b = cc cut in
     let behind = append_cancel_left b (stop ∷ y) (stop ∷ z) (ap (λ w. w ++ stop ∷ y) (sym front) ∙ e) in
     (front, cc behind)
@@ -42,7 +43,8 @@ joined_lack c stop (x ∷ []) other free = free.0
 joined_lack c stop (x ∷ y ∷ parts) other free = lacks_more stop x (join_with_byte c (y ∷ parts)) c other free.0 (joined_lack c stop (y ∷ parts) other free.1)
 
 -- the parts of a joined text
-pub parts_of : (stop : ℕ) (x : List ℕ) (parts : List (List ℕ)) → AllByRecursion (Lacks stop) (x ∷ parts) → slice_split (λ c. c == stop) (join_with_byte stop (x ∷ parts)) ≡ x ∷ parts
+pub parts_of : (stop : ℕ) (x : List ℕ) (parts : List (List ℕ)) → AllByRecursion (Lacks stop) (x ∷ parts)
+    → slice_split (λ c. c == stop) (join_with_byte stop (x ∷ parts)) ≡ x ∷ parts
 parts_of stop x [] free = slice_split_none (λ c. c == stop) x free.0
 parts_of stop x (y ∷ parts) free =
     let at : (stop == stop) ≡ true = grind (arith, nat_tests) in

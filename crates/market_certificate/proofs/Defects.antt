@@ -16,23 +16,39 @@ use Rattle.market_certificate.proofs.DueLemmas.{published_from, published_to}
 use Rattle.market_certificate.proofs.OneText.{lines_lack}
 
 -- one language in two spellings
-stops_same : (P Q : List (List ℕ) → Type 0) (front : List (List ℕ)) (tail : List ℕ) (fault : LineFault) → ((lines : List (List ℕ)) → P lines → Q lines) → ((lines : List (List ℕ)) → Q lines → P lines) → Stops P front tail fault → Stops Q front tail fault
+stops_same : (P Q : List (List ℕ) → Type 0) (front : List (List ℕ)) (tail : List ℕ) (fault : LineFault) → ((lines : List (List ℕ)) → P lines → Q lines)
+    → ((lines : List (List ℕ)) → Q lines → P lines) → Stops P front tail fault → Stops Q front tail fault
 stops_same P Q front tail faults.Missing to from stop = ((stop.0.0, stop.0.1, to _ stop.0.2), stop.1)
 stops_same P Q front tail faults.Form to from stop =
-    let out = stop.1 in ((stop.0.0, stop.0.1, to _ stop.0.2), record { line = out.line; rest = out.rest; next = out.next; whole = out.whole; form = λ begins. out.form (begins.0, from _ begins.1) })
+    let out = stop.1 in (
+      (stop.0.0, stop.0.1, to _ stop.0.2),
+      record { line = out.line; rest = out.rest; next = out.next; whole = out.whole; form = λ begins. out.form (begins.0, from _ begins.1) },
+    )
 stops_same P Q front tail faults.Rest to from stop = (to _ stop.0, stop.1)
 
-finds_same : (P Q : List (List ℕ) → Type 0) (number : ℕ) (text : List ℕ) (at : ℕ) (fault : LineFault) → ((lines : List (List ℕ)) → P lines → Q lines) → ((lines : List (List ℕ)) → Q lines → P lines) → Finds P number text at fault → Finds Q number text at fault
-finds_same P Q number text at fault to from finds = record { front = finds.front; tail = finds.tail; ahead = finds.ahead; line = finds.line; stop = stops_same P Q finds.front finds.tail fault to from finds.stop }
+finds_same : (P Q : List (List ℕ) → Type 0) (number : ℕ) (text : List ℕ) (at : ℕ) (fault : LineFault) → ((lines : List (List ℕ)) → P lines → Q lines)
+    → ((lines : List (List ℕ)) → Q lines → P lines) → Finds P number text at fault → Finds Q number text at fault
+finds_same P Q number text at fault to from finds =
+    record {
+      front = finds.front;
+      tail = finds.tail;
+      ahead = finds.ahead;
+      line = finds.line;
+      stop = stops_same P Q finds.front finds.tail fault to from finds.stop;
+    }
 
 -- the first defect by the lines that are due is that by the lines that publications have
-pub finds_published : (tables : Tables) (number : ℕ) (text : List ℕ) (at : ℕ) (fault : LineFault) → Finds (AreDue tables (due_of tables)) number text at fault → Finds (ArePublished tables) number text at fault
-finds_published tables number text at fault = finds_same (AreDue tables (due_of tables)) (ArePublished tables) number text at fault (published_from tables) (published_to tables)
+pub finds_published : (tables : Tables) (number : ℕ) (text : List ℕ) (at : ℕ) (fault : LineFault) → Finds (AreDue tables (due_of tables)) number text at fault
+    → Finds (ArePublished tables) number text at fault
+finds_published tables number text at fault =
+    finds_same (AreDue tables (due_of tables)) (ArePublished tables) number text at fault (published_from tables) (published_to tables)
 
 -- lines in front of a text of lines are its first lines
-split_lines : (front lines : List (List ℕ)) (tail : List ℕ) → AllByRecursion (Lacks 10) front → AllByRecursion (Lacks 10) lines → joined front ++ tail ≡ joined lines → (rest : List (List ℕ)) × (lines ≡ front ++ rest) × (tail ≡ joined rest)
+split_lines : (front lines : List (List ℕ)) (tail : List ℕ) → AllByRecursion (Lacks 10) front → AllByRecursion (Lacks 10) lines
+    → joined front ++ tail ≡ joined lines → (rest : List (List ℕ)) × (lines ≡ front ++ rest) × (tail ≡ joined rest)
 split_lines [] lines tail free free' e = (lines, refl, e)
-split_lines (x ∷ front) [] tail free free' e = absurd (omega (arith, ap length (sym (append_assoc x (10 ∷ joined front) tail) ∙ e), length-append x (10 ∷ (joined front ++ tail))))
+split_lines (x ∷ front) [] tail free free' e =
+    absurd (omega (arith, ap length (sym (append_assoc x (10 ∷ joined front) tail) ∙ e), length-append x (10 ∷ (joined front ++ tail))))
 split_lines (x ∷ front) (y ∷ lines) tail free free' e =
     let cut = cut_once 10 x y (joined front ++ tail) (joined lines) free.0 free'.0 (sym (append_assoc x (10 ∷ joined front) tail) ∙ e) in
     let more = split_lines front lines tail free.1 free'.1 cut.1 in
@@ -55,17 +71,20 @@ nothing_left : (rest : List (List ℕ)) (tail : List ℕ) → tail ≡ joined re
 nothing_left [] tail e free = refl
 nothing_left (x ∷ rest) tail e free = absurd (lacks_not 10 x (joined rest) (subst (Lacks 10) e free))
 
-one_left : (P : List (List ℕ) → Type 0) (front rest : List (List ℕ)) (tail : List ℕ) → IsPlain P → P front → P (front ++ rest) → tail ≡ joined rest → 0 < length tail → ⊥
+one_left : (P : List (List ℕ) → Type 0) (front rest : List (List ℕ)) (tail : List ℕ) → IsPlain P → P front → P (front ++ rest) → tail ≡ joined rest
+    → 0 < length tail → ⊥
 one_left P front [] tail plain is is' e some = absurd (omega (arith, ap length e))
 one_left P front (x ∷ rest) tail plain is is' e some = plain.alone front x rest is is'
 
-out_of : (P : List (List ℕ) → Type 0) (front rest : List (List ℕ)) (tail : List ℕ) → AllByRecursion (Lacks 10) rest → P (front ++ rest) → tail ≡ joined rest → IsOutOfForm P front tail → ⊥
+out_of : (P : List (List ℕ) → Type 0) (front rest : List (List ℕ)) (tail : List ℕ) → AllByRecursion (Lacks 10) rest → P (front ++ rest) → tail ≡ joined rest
+    → IsOutOfForm P front tail → ⊥
 out_of P front [] tail free is e out = absurd (omega (arith, ap length (sym out.next ∙ e), length-append out.line (10 ∷ out.rest)))
 out_of P front (x ∷ rest) tail free is e out =
     let cut = cut_once 10 out.line x out.rest (joined rest) out.whole free.0 (sym out.next ∙ e) in
     out.form (rest, subst P (sym (append_assoc front (out.line ∷ []) rest)) (subst (λ (l : List ℕ). P (front ++ l ∷ rest)) (sym cut.0) is))
 
-no_stop : (P : List (List ℕ) → Type 0) (front lines : List (List ℕ)) (tail : List ℕ) (fault : LineFault) → IsPlain P → P lines → joined front ++ tail ≡ joined lines → Stops P front tail fault → ⊥
+no_stop : (P : List (List ℕ) → Type 0) (front lines : List (List ℕ)) (tail : List ℕ) (fault : LineFault) → IsPlain P → P lines
+    → joined front ++ tail ≡ joined lines → Stops P front tail fault → ⊥
 no_stop P front lines tail faults.Missing plain is e stop =
     let free = front_of front _ (plain.lacks _ stop.0.2) in
     let cut = split_lines front lines tail free (plain.lacks lines is) e in
@@ -80,7 +99,8 @@ no_stop P front lines tail faults.Rest plain is e stop =
     let cut = split_lines front lines tail free (plain.lacks lines is) e in
     one_left P front cut.0 tail plain stop.0 (subst P cut.1 is) cut.2 stop.1
 
-no_finding : (P : List (List ℕ) → Type 0) (number : ℕ) (text : List ℕ) (at : ℕ) (fault : LineFault) → IsPlain P → Finds P number text at fault → (lines : List (List ℕ)) → P lines → text ≢ joined lines
+no_finding : (P : List (List ℕ) → Type 0) (number : ℕ) (text : List ℕ) (at : ℕ) (fault : LineFault) → IsPlain P → Finds P number text at fault
+    → (lines : List (List ℕ)) → P lines → text ≢ joined lines
 no_finding P number text at fault plain finds lines is e = no_stop P finds.front lines finds.tail fault plain is (sym finds.ahead ∙ e) finds.stop
 
 -- no lines that are due begin longer ones
@@ -106,13 +126,16 @@ alone_turns tables form due alone (x ∷ lines) line more (inl both) (inr both')
 alone_turns tables form due alone (x ∷ lines) line more (inr both) (inl both') = both.0 (_, both'.0.2)
 alone_turns tables form due alone (x ∷ lines) line more (inr both) (inr both') = alone (x ∷ lines) line more both.1 both'.1
 
-alone_behind : (tables : Tables) (students sections : List (List ℕ)) → Alone tables (Turns ∷ (each_due FinalForm students ++ (each_due UsedForm sections ++ One EndForm ∷ [])))
+alone_behind : (tables : Tables) (students sections : List (List ℕ))
+    → Alone tables (Turns ∷ (each_due FinalForm students ++ (each_due UsedForm sections ++ One EndForm ∷ [])))
 alone_behind tables [] [] = alone_turns tables EndForm [] (alone_one tables EndForm [] (alone_none tables))
 alone_behind tables [] (section ∷ sections) =
-    alone_turns tables (UsedForm section) (each_due UsedForm sections ++ One EndForm ∷ []) (alone_each tables UsedForm (section ∷ sections) (One EndForm ∷ []) (alone_one tables EndForm [] (alone_none tables)))
+    alone_turns tables (UsedForm section) (each_due UsedForm sections ++ One EndForm ∷ [])
+    (alone_each tables UsedForm (section ∷ sections) (One EndForm ∷ []) (alone_one tables EndForm [] (alone_none tables)))
 alone_behind tables (student ∷ students) sections =
     alone_turns tables (FinalForm student) (each_due FinalForm students ++ (each_due UsedForm sections ++ One EndForm ∷ [])) (
-    alone_each tables FinalForm (student ∷ students) (each_due UsedForm sections ++ One EndForm ∷ []) (alone_each tables UsedForm sections (One EndForm ∷ []) (alone_one tables EndForm [] (alone_none tables)))
+    alone_each tables FinalForm (student ∷ students) (each_due UsedForm sections ++ One EndForm ∷ [])
+    (alone_each tables UsedForm sections (One EndForm ∷ []) (alone_one tables EndForm [] (alone_none tables)))
     )
 
 alone_all : (tables : Tables) → Alone tables (due_of tables)
@@ -123,7 +146,8 @@ alone_all tables =
     alone_each tables (AmountForm kinds.Start) tables.sections (One ErrorForm ∷ (each_due (AmountForm kinds.Price) tables.sections ++ outcome_due tables)) (
     alone_one tables ErrorForm (each_due (AmountForm kinds.Price) tables.sections ++ outcome_due tables) (
     alone_each tables (AmountForm kinds.Price) tables.sections (outcome_due tables) (
-    alone_each tables BundleForm tables.students (Turns ∷ (each_due FinalForm tables.students ++ (each_due UsedForm tables.sections ++ One EndForm ∷ []))) (alone_behind tables tables.students tables.sections)
+    alone_each tables BundleForm tables.students (Turns ∷ (each_due FinalForm tables.students ++ (each_due UsedForm tables.sections ++ One EndForm ∷ [])))
+    (alone_behind tables tables.students tables.sections)
     )
     )
     )
@@ -134,7 +158,9 @@ alone_all tables =
 plain : (tables : Tables) → AreTables tables → IsPlain (ArePublished tables)
 plain tables are = record {
   lacks = λ lines published. subst (AllByRecursion (Lacks 10)) (sym published.2) (lines_lack tables are published.0 published.1);
-  alone = λ lines line more published published'. alone_all tables lines line more (published_to tables lines published) (published_to tables (lines ++ line ∷ more) published');
+  alone =
+      λ lines line more published published'. alone_all tables lines line more (published_to tables lines published)
+      (published_to tables (lines ++ line ∷ more) published');
 }
 
 pub no_defect : NoDefectInPublished

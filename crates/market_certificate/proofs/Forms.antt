@@ -19,7 +19,11 @@ least_proved = record { bundle = []; tree = 42 ∷ [] }
 
 least_is_proved : (sections : List (List ℕ)) → IsProved sections least_proved
 unfolding least_proved
-least_is_proved sections = record { bundle = no_sections sections; tree = record { some = omega arith; each = All-cons (λ byte. IsTrue (is_tree_byte byte)) 42 [] refl (All-nil (λ byte. IsTrue (is_tree_byte byte))) } }
+least_is_proved sections =
+    record {
+      bundle = no_sections sections;
+      tree = record { some = omega arith; each = All-cons (λ byte. IsTrue (is_tree_byte byte)) 42 [] refl (All-nil (λ byte. IsTrue (is_tree_byte byte))) };
+    }
 
 none_is_small : (kind : Amount) → 0 ≤ most_of kind
 none_is_small kinds.Budget = omega arith
@@ -74,7 +78,8 @@ pub record SomeLines (tables : Tables) (due : List Due) : Type 0 where
   pub are_due : AreDue tables due lines
   pub no_turns : AllByRecursion (λ line. ¬ StartsTurn line) lines
 
-behind_no_turns : (tables : Tables) (due : List Due) (lines : List (List ℕ)) → AreDue tables due lines → AllByRecursion (λ line. ¬ StartsTurn line) lines → AreDue tables (Turns ∷ due) lines
+behind_no_turns : (tables : Tables) (due : List Due) (lines : List (List ℕ)) → AreDue tables due lines → AllByRecursion (λ line. ¬ StartsTurn line) lines
+    → AreDue tables (Turns ∷ due) lines
 behind_no_turns tables due [] are none = are
 behind_no_turns tables due (line ∷ lines) are none = inr (none.0, are)
 

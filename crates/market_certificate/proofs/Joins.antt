@@ -30,7 +30,8 @@ join_last x [] p = refl
 join_last x (y ∷ parts) p = ap (λ w. x ++ 44 ∷ w) (join_last y parts p) ∙ sym (append_assoc x (44 ∷ join_with_byte 44 (y ∷ parts)) (44 ∷ p))
 
 -- one part more, behind a comma where there are parts
-join_more : (parts : List (List ℕ)) (p : List ℕ) (k : ℕ) → length parts ≡ k → join_with_byte 44 (parts ++ p ∷ []) ≡ join_with_byte 44 parts ++ (cond (k == 0) [] (44 ∷ []) ++ p)
+join_more : (parts : List (List ℕ)) (p : List ℕ) (k : ℕ) → length parts ≡ k
+    → join_with_byte 44 (parts ++ p ∷ []) ≡ join_with_byte 44 parts ++ (cond (k == 0) [] (44 ∷ []) ++ p)
 join_more [] p k e = subst (λ (n : ℕ). p ≡ cond (n == 0) [] (44 ∷ []) ++ p) e refl
 join_more (x ∷ parts) p k e =
     join_last x parts p ∙ ap (λ b. join_with_byte 44 (x ∷ parts) ++ (cond b [] (44 ∷ []) ++ p)) (sym (ne_eqb k 0 (λ (z : k ≡ 0). omega (arith, e, z))))
@@ -48,7 +49,8 @@ each_last line (n ∷ names) [] name value e = absurd (omega arith)
 each_last line (n ∷ names) (v ∷ values) name value e = ap (λ ls. line n v ∷ ls) (each_last line names values name value (omega arith))
 
 -- one line more
-pub each_more : {V : Type 0} (line : List ℕ → V → List ℕ) (names : List (List ℕ)) (values : List V) (k : ℕ) (name : List ℕ) (value : V) → k < length names → k < length values → name ≡ get_or names k [] → value ≡ get_or values k value
+pub each_more : {V : Type 0} (line : List ℕ → V → List ℕ) (names : List (List ℕ)) (values : List V) (k : ℕ) (name : List ℕ) (value : V) → k < length names
+    → k < length values → name ≡ get_or names k [] → value ≡ get_or values k value
     → each_line line (take (k + 1) names) (take (k + 1) values) ≡ each_line line (take k names) (take k values) ++ line name value ∷ []
 each_more line names values k name value inside inside' e e' =
     let long : length (take k names) ≡ length (take k values) = length-take-le k names (omega arith) ∙ sym (length-take-le k values (omega arith)) in
@@ -59,7 +61,8 @@ each_more line names values k name value inside inside' e e' =
     ∙ ap (λ v. each_line line (take k names) (take k values) ++ line name v ∷ []) (sym e')
 
 -- a text with one line more
-pub text_more : (begun text new line : List ℕ) (lines more : List (List ℕ)) → more ≡ lines ++ line ∷ [] → text ≡ begun ++ joined lines → new ≡ (text ++ line) ++ 10 ∷ [] → new ≡ begun ++ joined more
+pub text_more : (begun text new line : List ℕ) (lines more : List (List ℕ)) → more ≡ lines ++ line ∷ [] → text ≡ begun ++ joined lines
+    → new ≡ (text ++ line) ++ 10 ∷ [] → new ≡ begun ++ joined more
 text_more begun text new line lines more e so is =
     is
     ∙ append_assoc text line (10 ∷ [])
@@ -68,7 +71,8 @@ text_more begun text new line lines more e so is =
     ∙ ap (λ t. begun ++ t) (sym (ap joined e ∙ joined_append lines (line ∷ [])))
 
 -- a text with the line of one name more
-pub names_more : {V : Type 0} (line : List ℕ → V → List ℕ) (names : List Name) (values : List V) (k next : ℕ) (name : Name) (value : V) (begun text new : List ℕ)
+pub names_more : {V : Type 0} (line : List ℕ → V → List ℕ) (names : List Name) (values : List V) (k next : ℕ) (name : Name) (value : V)
+    (begun text new : List ℕ)
     → next ≡ k + 1 → k < length names → k < length values → ((d : Name) → name ≡ get_or names k d) → value ≡ get_or values k value
     → text ≡ begun ++ joined (each_line line (take k (map name_bytes names)) (take k values)) → new ≡ (text ++ line (name_bytes name) value) ++ 10 ∷ []
     → new ≡ begun ++ joined (each_line line (take next (map name_bytes names)) (take next values))
@@ -89,40 +93,54 @@ map_last f [] x = refl
 map_last f (y ∷ xs) x = ap (λ l. f y ∷ l) (map_last f xs x)
 
 -- one name more in a bundle
-pub bundle_more : (names : List (List ℕ)) (sections : List SectionNo) (bundle : List ℕ) (k : ℕ) (section : SectionNo) (begun text comma new : List ℕ) → map (λ (s : SectionNo). s.0) sections ≡ bundle → k < length sections → section ≡ get_or sections k section
-    → text ≡ begun ++ join_with_byte 44 (map (name_at names) (take k bundle)) → comma ≡ text ++ cond (k == 0) [] (44 ∷ []) → new ≡ comma ++ name_at names section.0
+pub bundle_more : (names : List (List ℕ)) (sections : List SectionNo) (bundle : List ℕ) (k : ℕ) (section : SectionNo) (begun text comma new : List ℕ)
+    → map (λ (s : SectionNo). s.0) sections ≡ bundle → k < length sections → section ≡ get_or sections k section
+    → text ≡ begun ++ join_with_byte 44 (map (name_at names) (take k bundle)) → comma ≡ text ++ cond (k == 0) [] (44 ∷ [])
+    → new ≡ comma ++ name_at names section.0
     → new ≡ begun ++ join_with_byte 44 (map (name_at names) (take (k + 1) bundle))
 bundle_more names sections bundle k section begun text comma new e inside is so parted named =
     let within : k < length bundle = omega (arith, ap length e, length-map sections (λ (s : SectionNo). s.0)) in
-    let here : get_or bundle k 0 ≡ section.0 = ap (λ b. get_or b k 0) (sym e) ∙ get_or-map (λ (s : SectionNo). s.0) sections k section 0 inside ∙ ap (λ (s : SectionNo). s.0) (sym is) in
+    let here : get_or bundle k 0 ≡ section.0 =
+    ap (λ b. get_or b k 0) (sym e) ∙ get_or-map (λ (s : SectionNo). s.0) sections k section 0 inside ∙ ap (λ (s : SectionNo). s.0) (sym is) in
     let front = map (name_at names) (take k bundle) in
     let long : length front ≡ k = length-map (take k bundle) (name_at names) ∙ length-take-le k bundle (omega arith) in
     let last : map (name_at names) (take (k + 1) bundle) ≡ front ++ name_at names section.0 ∷ [] =
-    ap (map (name_at names)) (take_more bundle k 0 within) ∙ ap (λ n. map (name_at names) (take k bundle ++ n ∷ [])) here ∙ map_last (name_at names) (take k bundle) section.0 in
+    ap (map (name_at names)) (take_more bundle k 0 within) ∙ ap (λ n. map (name_at names) (take k bundle ++ n ∷ [])) here
+    ∙ map_last (name_at names) (take k bundle) section.0 in
     named
     ∙ ap (λ t. t ++ name_at names section.0) (parted ∙ ap (λ t. t ++ cond (k == 0) [] (44 ∷ [])) so)
     ∙ ap (λ t. t ++ name_at names section.0) (append_assoc begun (join_with_byte 44 front) (cond (k == 0) [] (44 ∷ [])))
     ∙ append_assoc begun (join_with_byte 44 front ++ cond (k == 0) [] (44 ∷ [])) (name_at names section.0)
-    ∙ ap (λ t. begun ++ t) (append_assoc (join_with_byte 44 front) (cond (k == 0) [] (44 ∷ [])) (name_at names section.0) ∙ sym (join_more front (name_at names section.0) k long) ∙ ap (join_with_byte 44) (sym last))
+    ∙ ap (λ t. begun ++ t)
+    (append_assoc (join_with_byte 44 front) (cond (k == 0) [] (44 ∷ [])) (name_at names section.0) ∙ sym (join_more front (name_at names section.0) k long)
+    ∙ ap (join_with_byte 44) (sym last))
 
 -- the section of a place is below what all are below
-pub section_below : (items : List SectionNo) (bundle : List ℕ) (n k : ℕ) (d : SectionNo) → map (λ (s : SectionNo). s.0) items ≡ bundle → All (λ s. s < n) bundle → k < length items → (get_or items k d).0 < n
+pub section_below : (items : List SectionNo) (bundle : List ℕ) (n k : ℕ) (d : SectionNo) → map (λ (s : SectionNo). s.0) items ≡ bundle → All (λ s. s < n) bundle
+    → k < length items → (get_or items k d).0 < n
 section_below items bundle n k d e each inside =
     let within : k < length bundle = omega (arith, ap length e, length-map items (λ (s : SectionNo). s.0)) in
     let here : get_or bundle k 0 ≡ (get_or items k d).0 = ap (λ b. get_or b k 0) (sym e) ∙ get_or-map (λ (s : SectionNo). s.0) items k d 0 inside in
     subst (λ (s : ℕ). s < n) here (each k 0 within)
 
 -- one section's name more in a bundle's text
-pub section_more : (names : List Name) (items : List SectionNo) (bundle : List ℕ) (k from : ℕ) (d : SectionNo) (e : Name) (name : Name) (bytes begun text comma new : List ℕ) → map (λ (s : SectionNo). s.0) items ≡ bundle → k < length items
-    → from ≡ (get_or items k d).0 → from < length names → name ≡ get_or names from e → bytes ≡ name_bytes name → text ≡ begun ++ join_with_byte 44 (map (name_at (map name_bytes names)) (take k bundle))
-    → comma ≡ text ++ cond (k == 0) [] (44 ∷ []) → new ≡ comma ++ bytes → new ≡ begun ++ join_with_byte 44 (map (name_at (map name_bytes names)) (take (k + 1) bundle))
+pub section_more : (names : List Name) (items : List SectionNo) (bundle : List ℕ) (k from : ℕ) (d : SectionNo) (e : Name) (name : Name)
+    (bytes begun text comma new : List ℕ)
+    → map (λ (s : SectionNo). s.0) items ≡ bundle → k < length items
+    → from ≡ (get_or items k d).0 → from < length names → name ≡ get_or names from e → bytes ≡ name_bytes name
+    → text ≡ begun ++ join_with_byte 44 (map (name_at (map name_bytes names)) (take k bundle))
+    → comma ≡ text ++ cond (k == 0) [] (44 ∷ []) → new ≡ comma ++ bytes
+    → new ≡ begun ++ join_with_byte 44 (map (name_at (map name_bytes names)) (take (k + 1) bundle))
 section_more names items bundle k from d e name bytes begun text comma new same inside is within named spelled so parted put =
     let section = get_or items k d in
-    let here : bytes ≡ name_at (map name_bytes names) section.0 = spelled ∙ ap name_bytes named ∙ sym (get_or-map name_bytes names from e [] within) ∙ ap (name_at (map name_bytes names)) is in
-    bundle_more (map name_bytes names) items bundle k section begun text comma new same inside (get_or_default items k d section inside) so parted (put ∙ ap (λ b. comma ++ b) here)
+    let here : bytes ≡ name_at (map name_bytes names) section.0 =
+    spelled ∙ ap name_bytes named ∙ sym (get_or-map name_bytes names from e [] within) ∙ ap (name_at (map name_bytes names)) is in
+    bundle_more (map name_bytes names) items bundle k section begun text comma new same inside (get_or_default items k d section inside) so parted
+    (put ∙ ap (λ b. comma ++ b) here)
 
 -- what holds of each mapped element
-pub value_each : {W V : Type 0} (P : V → Type 0) (f : W → V) (ws : List W) (k : ℕ) (w : W) → All P (map f ws) → k < length ws → ((d : W) → w ≡ get_or ws k d) → P (f w)
+pub value_each : {W V : Type 0} (P : V → Type 0) (f : W → V) (ws : List W) (k : ℕ) (w : W) → All P (map f ws) → k < length ws → ((d : W) → w ≡ get_or ws k d)
+    → P (f w)
 value_each P f ws k w each inside is = subst P (sym (value_at f ws k w inside is)) (each k (f w) (omega (arith, length-map ws f)))
 
 -- the line of an order
@@ -132,8 +150,10 @@ order_written order text word numbers new e e' e'' =
     ∙ ap (λ t. t ++ 10 ∷ []) (e' ∙ ap (λ t. t ++ flat_map (λ n. 32 ∷ decimal n) order) e ∙ append_assoc text (codes "order") (flat_map (λ n. 32 ∷ decimal n) order) ∙ ap (λ t. text ++ t) (sym (spaced_numbers (codes "order") order)))
 
 -- the pair of a turn of a loop over two lists, with the iterator's own facts first
-pub pair_of_turn : {A B : Type 0} (ks : List A) (vs : List B) (xs : List (Bor A × Bor B)) (s t u : Zip (Iter A) (Iter B)) (r : Option (Bor A × Bor B)) → Yields (zips fronts fronts) s xs t → (p : Bor A × Bor B) → r ≡ Some p → zips fronts fronts t r u
-    → iter_rest (zip_first s) ≡ ks → iter_rest (zip_second s) ≡ vs → (length xs < length ks) × (length xs < length vs) × ((d : A) → p.0.now ≡ get_or ks (length xs) d) × ((d : B) → p.1.now ≡ get_or vs (length xs) d)
+pub pair_of_turn : {A B : Type 0} (ks : List A) (vs : List B) (xs : List (Bor A × Bor B)) (s t u : Zip (Iter A) (Iter B)) (r : Option (Bor A × Bor B))
+    → Yields (zips fronts fronts) s xs t → (p : Bor A × Bor B) → r ≡ Some p → zips fronts fronts t r u
+    → iter_rest (zip_first s) ≡ ks → iter_rest (zip_second s) ≡ vs
+    → (length xs < length ks) × (length xs < length vs) × ((d : A) → p.0.now ≡ get_or ks (length xs) d) × ((d : B) → p.1.now ≡ get_or vs (length xs) d)
 pair_of_turn ks vs xs s t u r y p is step first second = zip_turn ks vs xs s t u r first second y p is step
 
 pub one_longer : {A : Type 0} (xs : List A) (x : A) → length (xs ++ x ∷ []) ≡ length xs + 1
@@ -144,7 +164,8 @@ pub below_names : (names : List Name) (bundle : List ℕ) → IsBundleOf (map na
 below_names names bundle is = subst (λ (n : ℕ). All (λ s. s < n) bundle) (length-map names name_bytes) is.of_catalog
 
 -- a text with the line of one turn more
-pub turn_more : (line : ProvedTurn → List ℕ) (turns : List ProvedTurn) (k next : ℕ) (turn : ProvedTurn) (begun text new : List ℕ) → next ≡ k + 1 → k < length turns → turn ≡ get_or turns k turn → text ≡ begun ++ joined (map line (take k turns))
+pub turn_more : (line : ProvedTurn → List ℕ) (turns : List ProvedTurn) (k next : ℕ) (turn : ProvedTurn) (begun text new : List ℕ) → next ≡ k + 1
+    → k < length turns → turn ≡ get_or turns k turn → text ≡ begun ++ joined (map line (take k turns))
     → new ≡ (text ++ line turn) ++ 10 ∷ [] → new ≡ begun ++ joined (map line (take next turns))
 turn_more line turns k next turn begun text new e inside here so is =
     subst (λ (n : ℕ). new ≡ begun ++ joined (map line (take n turns))) (sym e) (
@@ -160,12 +181,14 @@ pub mapped_at : {W V : Type 0} (f : W → V) (ws : List W) (k : ℕ) (d w : W) �
 mapped_at f ws k d w inside is = value_at f ws k w inside (λ e. is ∙ get_or_default ws k d e inside)
 
 -- a name is that of its place, by another name of the list
-pub name_here : (items names : List Name) (k : ℕ) (d name : Name) → items ≡ names → k < length items → name ≡ get_or items k d → name_bytes name ≡ get_or (map name_bytes names) k []
+pub name_here : (items names : List Name) (k : ℕ) (d name : Name) → items ≡ names → k < length items → name ≡ get_or items k d
+    → name_bytes name ≡ get_or (map name_bytes names) k []
 name_here items names k d name e inside is =
     subst (λ (ns : List Name). name_bytes name ≡ get_or (map name_bytes ns) k []) e (ap name_bytes is ∙ sym (get_or-map name_bytes items k d [] inside))
 
 -- and that place is one of the names' texts
-pub name_stands : (items names : List Name) (k : ℕ) (d name : Name) → items ≡ names → k < length items → name ≡ get_or items k d → (k < length (map name_bytes names)) × (name_bytes name ≡ get_or (map name_bytes names) k [])
+pub name_stands : (items names : List Name) (k : ℕ) (d name : Name) → items ≡ names → k < length items → name ≡ get_or items k d
+    → (k < length (map name_bytes names)) × (name_bytes name ≡ get_or (map name_bytes names) k [])
 name_stands items names k d name e inside is = (omega (arith, length-map names name_bytes, ap length e), name_here items names k d name e inside is)
 
 pub mapped_push : {W V : Type 0} (f : W → V) (ws new : List W) (w : W) → new ≡ ws ++ w ∷ [] → map f new ≡ map f ws ++ f w ∷ []

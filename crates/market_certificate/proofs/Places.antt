@@ -16,13 +16,15 @@ use Rattle.std.proofs.Math.Seq.{take-length}
 use Rattle.market_certificate.specs.Lines.{Lacks}
 
 none_cases : (p : ℕ → Bool) (xs : List ℕ) → (position_or_len p xs < length xs → ⊥) → (k d : ℕ) → k < length xs → p (get_or xs k d) ≡ false
-none_cases p xs none k d inside = fails_before_first p xs k d (elim (cases_lt (position_or_len p xs) (length xs)) [ inl within ↦ absurd (none within) | inr above ↦ omega arith ])
+none_cases p xs none k d inside =
+    fails_before_first p xs k d (elim (cases_lt (position_or_len p xs) (length xs)) [ inl within ↦ absurd (none within) | inr above ↦ omega arith ])
 
 pub place_none : (stop : ℕ) (bytes : List ℕ) → position (λ byte. byte == stop) bytes ≡ None → Lacks stop bytes
 place_none stop bytes e = none_cases (λ byte. byte == stop) bytes (λ within. let t = lt-ltb _ _ within in let found = rw t at e in cc)
 
 -- what stands around it
-pub place_found : (stop : ℕ) (bytes : List ℕ) (end : ℕ) → position (λ byte. byte == stop) bytes ≡ Some end → (bytes ≡ take end bytes ++ stop ∷ drop (end + 1) bytes) × Lacks stop (take end bytes)
+pub place_found : (stop : ℕ) (bytes : List ℕ) (end : ℕ) → position (λ byte. byte == stop) bytes ≡ Some end
+    → (bytes ≡ take end bytes ++ stop ∷ drop (end + 1) bytes) × Lacks stop (take end bytes)
 place_found stop bytes end e =
     let at = position-Some (λ byte. byte == stop) bytes end 0 e in
     let before = λ (k d : ℕ) (low : k < end).
@@ -34,12 +36,16 @@ place_found stop bytes end e =
       λ k d inside. before k d (omega (arith, length-take-le end bytes (omega (arith, at.0)))),
     )
 
-pub stripped_some : (s p : List ℕ) (r : Option (Bor (List ℕ))) → MatchOption r (pointwise eqb (take (length p) s) p ≡ false) (λ x. (pointwise eqb (take (length p) s) p ≡ true) × (x.now ≡ drop (length p) s) × (length x.now + length p ≡ length s))
+pub stripped_some : (s p : List ℕ) (r : Option (Bor (List ℕ)))
+    → MatchOption r (pointwise eqb (take (length p) s) p ≡ false)
+    (λ x. (pointwise eqb (take (length p) s) p ≡ true) × (x.now ≡ drop (length p) s) × (length x.now + length p ≡ length s))
     → IfSome r (λ rest. s ≡ p ++ rest.now)
 stripped_some s p None m = tt
 stripped_some s p (Some x) m = strip_prefix_is Decides-eqb s p (Some x) m
 
-pub stripped_none : (s p : List ℕ) (r : Option (Bor (List ℕ))) → MatchOption r (pointwise eqb (take (length p) s) p ≡ false) (λ x. (pointwise eqb (take (length p) s) p ≡ true) × (x.now ≡ drop (length p) s) × (length x.now + length p ≡ length s))
+pub stripped_none : (s p : List ℕ) (r : Option (Bor (List ℕ)))
+    → MatchOption r (pointwise eqb (take (length p) s) p ≡ false)
+    (λ x. (pointwise eqb (take (length p) s) p ≡ true) × (x.now ≡ drop (length p) s) × (length x.now + length p ≡ length s))
     → IfNone r ((rest : List ℕ) → s ≢ p ++ rest)
 stripped_none s p None m = strip_prefix_is Decides-eqb s p None m
 stripped_none s p (Some x) m = tt
@@ -52,7 +58,8 @@ first_rest [] d some = absurd (omega arith)
 first_rest (x ∷ xs) d some = ap (λ l. x ∷ l) (sym (take-length xs) ∙ ap (λ n. take n xs) (let h : length xs ≡ suc (length xs) - 1 = omega arith in h))
 
 -- what stands between two bytes
-pub in_two : (bytes rest : List ℕ) (r : Option (Bor (List ℕ))) → bytes ≡ 91 ∷ rest → MatchOption r ((front : List ℕ) → rest ≢ front ++ 93 ∷ []) (λ x. rest ≡ x.now ++ 93 ∷ []) → IfSome r (λ inner. bytes ≡ 91 ∷ (inner.now ++ 93 ∷ []))
+pub in_two : (bytes rest : List ℕ) (r : Option (Bor (List ℕ))) → bytes ≡ 91 ∷ rest
+    → MatchOption r ((front : List ℕ) → rest ≢ front ++ 93 ∷ []) (λ x. rest ≡ x.now ++ 93 ∷ []) → IfSome r (λ inner. bytes ≡ 91 ∷ (inner.now ++ 93 ∷ []))
 in_two bytes rest None e m = tt
 in_two bytes rest (Some x) e m = e ∙ ap (λ l. 91 ∷ l) m
 

@@ -18,24 +18,29 @@ use Rattle.market_certificate.proofs.Cuts.{cut_once, digits_lack, joined_lack, l
 pub behind_same : (front line rest other : List ℕ) → line ≡ front ++ 32 ∷ rest → line ≡ front ++ 32 ∷ other → rest ≡ other
 behind_same front line rest other e e' = append_cancel_left (32 ∷ []) rest other (append_cancel_left front (32 ∷ rest) (32 ∷ other) (sym e ∙ e'))
 
-pub behind_two : (word name line rest last other : List ℕ) → line ≡ word ++ 32 ∷ rest → rest ≡ name ++ 32 ∷ last → line ≡ word ++ 32 ∷ (name ++ 32 ∷ other) → last ≡ other
+pub behind_two : (word name line rest last other : List ℕ) → line ≡ word ++ 32 ∷ rest → rest ≡ name ++ 32 ∷ last → line ≡ word ++ 32 ∷ (name ++ 32 ∷ other)
+    → last ≡ other
 behind_two word name line rest last other e e' e'' = behind_same name rest last other e' (behind_same word line rest (name ++ 32 ∷ other) e e'')
 
 -- a bundle's text lacks what is in no name, and is no bracket or comma
-pub bundle_lacks : (stop : ℕ) (names : List (List ℕ)) (bundle : List ℕ) → is_name_byte stop ≡ false → (91 == stop) ≡ false → (44 == stop) ≡ false → (93 == stop) ≡ false → AreNames names → IsBundleOf names bundle → Lacks stop (bundle_text names bundle)
+pub bundle_lacks : (stop : ℕ) (names : List (List ℕ)) (bundle : List ℕ) → is_name_byte stop ≡ false → (91 == stop) ≡ false → (44 == stop) ≡ false
+    → (93 == stop) ≡ false → AreNames names → IsBundleOf names bundle → Lacks stop (bundle_text names bundle)
 bundle_lacks stop names bundle other begin comma close are is =
     let P : ℕ → Type 0 = λ byte. (byte == stop) ≡ false in
     All-cons P 91 (join_with_byte 44 (map (name_at names) bundle) ++ 93 ∷ []) begin (
-    lacks_more stop (join_with_byte 44 (map (name_at names) bundle)) [] 93 close (joined_lack 44 stop (map (name_at names) bundle) comma (names_lack stop names bundle other are is.of_catalog)) (All-nil P)
+    lacks_more stop (join_with_byte 44 (map (name_at names) bundle)) [] 93 close
+    (joined_lack 44 stop (map (name_at names) bundle) comma (names_lack stop names bundle other are is.of_catalog)) (All-nil P)
     )
 
 pub no_proved : (names : List (List ℕ)) (bytes : List ℕ) → Lacks 32 bytes → (proved : Proved) → bytes ≢ proved_text names proved
 no_proved names bytes lacks proved e = lacks_not 32 (bundle_text names proved.bundle) proved.tree (subst (Lacks 32) e lacks)
 
-pub proved_parts : (names : List (List ℕ)) (bytes front tree : List ℕ) (proved : Proved) → AreNames names → IsProved names proved → bytes ≡ front ++ 32 ∷ tree → Lacks 32 front → bytes ≡ proved_text names proved
+pub proved_parts : (names : List (List ℕ)) (bytes front tree : List ℕ) (proved : Proved) → AreNames names → IsProved names proved → bytes ≡ front ++ 32 ∷ tree
+    → Lacks 32 front → bytes ≡ proved_text names proved
     → (front ≡ bundle_text names proved.bundle) × (tree ≡ proved.tree)
 proved_parts names bytes front tree proved are is e lacks e' =
-    cut_once 32 front (bundle_text names proved.bundle) tree proved.tree lacks (bundle_lacks 32 names proved.bundle refl refl refl refl are is.bundle) (sym e ∙ e')
+    cut_once 32 front (bundle_text names proved.bundle) tree proved.tree lacks (bundle_lacks 32 names proved.bundle refl refl refl refl are is.bundle)
+    (sym e ∙ e')
 
 -- the parts of a turn's line
 pub record AreTurnParts (tables : Tables) (digits name last : List ℕ) (turn : ProvedTurn) : Type 0 where
@@ -44,14 +49,17 @@ pub record AreTurnParts (tables : Tables) (digits name last : List ℕ) (turn : 
   pub proved : last ≡ proved_text tables.sections (record { bundle = turn.bundle; tree = turn.tree })
 
 pub behind_turn : (tables : Tables) (line rest : List ℕ) (turn : ProvedTurn) → line ≡ codes "turn" ++ 32 ∷ rest → line ≡ turn_line tables.students tables.sections turn
-    → rest ≡ decimal turn.pass ++ 32 ∷ (name_at tables.students turn.student ++ 32 ∷ proved_text tables.sections (record { bundle = turn.bundle; tree = turn.tree }))
+    → rest
+    ≡ decimal turn.pass ++ 32 ∷ (name_at tables.students turn.student ++ 32 ∷ proved_text tables.sections (record { bundle = turn.bundle; tree = turn.tree }))
 behind_turn tables line rest turn e e' = behind_same (codes "turn") line rest _ e e'
 
 pub no_pass : (tables : Tables) (line rest : List ℕ) → line ≡ codes "turn" ++ 32 ∷ rest → Lacks 32 rest → ¬ IsTurnLine tables line
 no_pass tables line rest e lacks has = lacks_not 32 (decimal has.0.pass) _ (subst (Lacks 32) (behind_turn tables line rest has.0 e has.2) lacks)
 
 pub pass_parts : (tables : Tables) (line rest digits more : List ℕ) (turn : ProvedTurn) → IsTurn tables.students tables.sections turn → line ≡ codes "turn" ++ 32 ∷ rest → rest ≡ digits ++ 32 ∷ more → Lacks 32 digits
-    → line ≡ turn_line tables.students tables.sections turn → (digits ≡ decimal turn.pass) × (more ≡ name_at tables.students turn.student ++ 32 ∷ proved_text tables.sections (record { bundle = turn.bundle; tree = turn.tree }))
+    → line ≡ turn_line tables.students tables.sections turn
+    → (digits ≡ decimal turn.pass)
+    × (more ≡ name_at tables.students turn.student ++ 32 ∷ proved_text tables.sections (record { bundle = turn.bundle; tree = turn.tree }))
 pass_parts tables line rest digits more turn is e e' lacks e'' =
     cut_once 32 digits (decimal turn.pass) more _ lacks (digits_lack 32 turn.pass (omega arith) is.most) (sym e' ∙ behind_turn tables line rest turn e e'')
 
@@ -60,15 +68,20 @@ no_name tables line rest digits more e e' lacks lacks' has =
     lacks_not 32 (name_at tables.students has.0.student) _ (subst (Lacks 32) (pass_parts tables line rest digits more has.0 has.1 e e' lacks has.2).1 lacks')
 
 pub turn_parts : (tables : Tables) (line rest digits more name last : List ℕ) (turn : ProvedTurn) → AreTables tables → IsTurn tables.students tables.sections turn → line ≡ codes "turn" ++ 32 ∷ rest → rest ≡ digits ++ 32 ∷ more
-    → Lacks 32 digits → more ≡ name ++ 32 ∷ last → Lacks 32 name → line ≡ turn_line tables.students tables.sections turn → AreTurnParts tables digits name last turn
+    → Lacks 32 digits → more ≡ name ++ 32 ∷ last → Lacks 32 name → line ≡ turn_line tables.students tables.sections turn
+    → AreTurnParts tables digits name last turn
 turn_parts tables line rest digits more name last turn are is e e' lacks e'' lacks' e''' =
     let begun = pass_parts tables line rest digits more turn is e e' lacks e''' in
-    let then = cut_once 32 name (name_at tables.students turn.student) last _ lacks' (name_lacks 32 (name_at tables.students turn.student) refl (named tables.students turn.student are.students is.student)) (sym e'' ∙ begun.1) in
+    let then =
+    cut_once 32 name (name_at tables.students turn.student) last _ lacks'
+    (name_lacks 32 (name_at tables.students turn.student) refl (named tables.students turn.student are.students is.student)) (sym e'' ∙ begun.1) in
     record { pass = begun.0; student = then.0; proved = then.1 }
 
 -- two numbers, cut at the space between them
-pub seat_parts : (numbers front back : List ℕ) (seats : ℕ × ℕ) → IsUsed seats → numbers ≡ front ++ 32 ∷ back → Lacks 32 front → numbers ≡ decimal seats.0 ++ 32 ∷ decimal seats.1 → (front ≡ decimal seats.0) × (back ≡ decimal seats.1)
-seat_parts numbers front back seats is e lacks e' = cut_once 32 front (decimal seats.0) back (decimal seats.1) lacks (digits_lack 32 seats.0 (omega arith) (omega (arith, is.used))) (sym e ∙ e')
+pub seat_parts : (numbers front back : List ℕ) (seats : ℕ × ℕ) → IsUsed seats → numbers ≡ front ++ 32 ∷ back → Lacks 32 front
+    → numbers ≡ decimal seats.0 ++ 32 ∷ decimal seats.1 → (front ≡ decimal seats.0) × (back ≡ decimal seats.1)
+seat_parts numbers front back seats is e lacks e' =
+    cut_once 32 front (decimal seats.0) back (decimal seats.1) lacks (digits_lack 32 seats.0 (omega arith) (omega (arith, is.used))) (sym e ∙ e')
 
 pub no_seats : (numbers : List ℕ) (seats : ℕ × ℕ) → Lacks 32 numbers → numbers ≢ decimal seats.0 ++ 32 ∷ decimal seats.1
 no_seats numbers seats lacks e = lacks_not 32 (decimal seats.0) (decimal seats.1) (subst (Lacks 32) e lacks)
@@ -76,13 +89,17 @@ no_seats numbers seats lacks e = lacks_not 32 (decimal seats.0) (decimal seats.1
 -- numbers of sessions, joined by spaces
 numbers_lack : (stop : ℕ) (order : List ℕ) → stop < 48 → All IsSession order → AllByRecursion (Lacks stop) (map decimal order)
 numbers_lack stop [] low each = tt
-numbers_lack stop (n ∷ order) low each = (digits_lack stop n low (omega (arith, (All-head IsSession n order each).most)), numbers_lack stop order low (All-tail IsSession n order each))
+numbers_lack stop (n ∷ order) low each =
+    (digits_lack stop n low (omega (arith, (All-head IsSession n order each).most)), numbers_lack stop order low (All-tail IsSession n order each))
 
-pub order_parts : (order text : List ℕ) → order ≢ [] → All IsSession order → text ≡ join_with_byte 32 (map decimal order) → slice_split (λ b. b == 32) text ≡ map decimal order
+pub order_parts : (order text : List ℕ) → order ≢ [] → All IsSession order → text ≡ join_with_byte 32 (map decimal order)
+    → slice_split (λ b. b == 32) text ≡ map decimal order
 order_parts [] text some each e = absurd (some refl)
-order_parts (n ∷ order) text some each e = ap (slice_split (λ b. b == 32)) e ∙ parts_of 32 (decimal n) (map decimal order) (numbers_lack 32 (n ∷ order) (omega arith) each)
+order_parts (n ∷ order) text some each e =
+    ap (slice_split (λ b. b == 32)) e ∙ parts_of 32 (decimal n) (map decimal order) (numbers_lack 32 (n ∷ order) (omega arith) each)
 
-pub session_at : (order text word : List ℕ) (k : ℕ) → order ≢ [] → All IsSession order → text ≡ join_with_byte 32 (map decimal order) → k < length (slice_split (λ b. b == 32) text) → word ≡ get_or (slice_split (λ b. b == 32) text) k word
+pub session_at : (order text word : List ℕ) (k : ℕ) → order ≢ [] → All IsSession order → text ≡ join_with_byte 32 (map decimal order)
+    → k < length (slice_split (λ b. b == 32) text) → word ≡ get_or (slice_split (λ b. b == 32) text) k word
     → (session : ℕ) × IsSession session × (word ≡ decimal session)
 session_at order text word k some each e inside here =
     let parts = order_parts order text some each e in

@@ -29,16 +29,23 @@ pub data Due : Type 0 where
 abbrev pub HasForm : Tables → Form → List ℕ → Type 0
 HasForm tables HeadForm line = line ≡ head_line tables
 HasForm tables OrderForm line = (order : List ℕ) × All IsSession order × (line ≡ order_line order)
-HasForm tables (AmountForm kind name) line = (tokens : ℕ) × (tokens ≤ most_of kind) × (line ≡ amount_line kind name tokens)
+HasForm tables (AmountForm kind name) line =
+    (tokens : ℕ) × (tokens ≤ most_of kind) × (line ≡ amount_line kind name tokens)
 HasForm tables ErrorForm line = (error : ℕ) × (error < 2 ^ 64) × (line ≡ error_line error)
-HasForm tables (BundleForm name) line = (proved : Proved) × IsProved tables.sections proved × (line ≡ bundle_line tables.sections name proved)
-HasForm tables (FinalForm name) line = (bundle : List ℕ) × IsBundleOf tables.sections bundle × (line ≡ final_line tables.sections name bundle)
+HasForm tables (BundleForm name) line =
+    (proved : Proved) × IsProved tables.sections proved
+    × (line ≡ bundle_line tables.sections name proved)
+HasForm tables (FinalForm name) line =
+    (bundle : List ℕ) × IsBundleOf tables.sections bundle
+    × (line ≡ final_line tables.sections name bundle)
 HasForm tables (UsedForm name) line = (seats : ℕ × ℕ) × IsUsed seats × (line ≡ used_line name seats)
 HasForm tables EndForm line = line ≡ end_line
 
 -- the line is that of a turn
 abbrev pub IsTurnLine : Tables → List ℕ → Type 0
-IsTurnLine tables line = (turn : ProvedTurn) × IsTurn tables.students tables.sections turn × (line ≡ turn_line tables.students tables.sections turn)
+IsTurnLine tables line =
+    (turn : ProvedTurn) × IsTurn tables.students tables.sections turn
+    × (line ≡ turn_line tables.students tables.sections turn)
 
 -- the line begins as a turn does
 abbrev pub StartsTurn : List ℕ → Type 0
@@ -52,7 +59,9 @@ Then P more (line ∷ lines) = P line × more lines
 -- the lines that begin as a turn does are turns, and then other lines come
 abbrev pub TurnsThen : Tables → (List (List ℕ) → Type 0) → List (List ℕ) → Type 0
 TurnsThen tables more [] = more []
-TurnsThen tables more (line ∷ lines) = (IsTurnLine tables line × TurnsThen tables more lines) ⊎ ((¬ StartsTurn line) × more (line ∷ lines))
+TurnsThen tables more (line ∷ lines) =
+    (IsTurnLine tables line × TurnsThen tables more lines)
+    ⊎ ((¬ StartsTurn line) × more (line ∷ lines))
 
 -- the lines are those that are due
 abbrev pub AreDue : Tables → List Due → List (List ℕ) → Type 0
@@ -88,10 +97,12 @@ due_of tables = One HeadForm ∷ One OrderForm ∷ prices_due tables (outcome_du
 
 -- no line that begins as a turn does is next
 abbrev pub NoTurnNext : List ℕ → Type 0
-NoTurnNext text = (line rest : List ℕ) → text ≡ line ++ 10 ∷ rest → Lacks 10 line → ¬ StartsTurn line
+NoTurnNext text =
+    (line rest : List ℕ) → text ≡ line ++ 10 ∷ rest → Lacks 10 line → ¬ StartsTurn line
 
 -- these lines stand in front of the rest of a text
-pub record Takes (lines : List (List ℕ)) (number : ℕ) (text : List ℕ) (next : ℕ) (rest : List ℕ) : Type 0 where
+pub record Takes (lines : List (List ℕ)) (number : ℕ) (text : List ℕ) (next : ℕ)
+    (rest : List ℕ) : Type 0 where
   pub ahead : text ≡ joined lines ++ rest
   pub count : next ≡ number + length lines
 
@@ -105,7 +116,8 @@ prices_lines tables budgets start error prices more =
     ++ more)))
 
 -- the lines of these values, to the last line
-abbrev pub outcome_lines : Tables → List Proved → List ProvedTurn → List (List ℕ) → List (ℕ × ℕ) → List (List ℕ)
+abbrev pub outcome_lines : Tables → List Proved → List ProvedTurn → List (List ℕ) → List (ℕ × ℕ)
+    → List (List ℕ)
 outcome_lines tables bundles turns allocation used =
     each_line (bundle_line tables.sections) tables.students bundles
     ++ (map (turn_line tables.students tables.sections) turns
@@ -113,18 +125,23 @@ outcome_lines tables bundles turns allocation used =
     ++ (each_line used_line tables.sections used
     ++ end_line ∷ [])))
 
--- These values, in their ranges, are in front of the rest of a text: with lines behind them it is the text, and the first defect behind
--- them is the first defect of the text.
-pub record ArePrices (tables : Tables) (budgets start : List ℕ) (error : ℕ) (prices : List ℕ) (number : ℕ) (text : List ℕ) (next : ℕ) (rest : List ℕ) : Type 0 where
+-- These values, in their ranges, are in front of the rest of a text: with lines behind them it is
+-- the text, and the first defect behind them is the first defect of the text.
+pub record ArePrices (tables : Tables) (budgets start : List ℕ) (error : ℕ) (prices : List ℕ)
+    (number : ℕ) (text : List ℕ) (next : ℕ) (rest : List ℕ) : Type 0 where
   pub each_budget : AreFor tables.students (λ tokens. tokens ≤ most_of amount.Budget) budgets
   pub each_start : AreFor tables.sections (λ tokens. tokens ≤ most_of amount.Start) start
   pub small_error : error < 2 ^ 64
   pub each_price : AreFor tables.sections (λ tokens. tokens ≤ most_of amount.Price) prices
-  pub whole : (more : List (List ℕ)) → rest ≡ joined more → text ≡ joined (prices_lines tables budgets start error prices more)
-  pub passed : (more : List Due) (at : ℕ) (fault : LineFault) → Finds (AreDue tables more) next rest at fault → Finds (AreDue tables (prices_due tables more)) number text at fault
+  pub whole : (more : List (List ℕ)) → rest ≡ joined more
+      → text ≡ joined (prices_lines tables budgets start error prices more)
+  pub passed : (more : List Due) (at : ℕ) (fault : LineFault)
+      → Finds (AreDue tables more) next rest at fault
+      → Finds (AreDue tables (prices_due tables more)) number text at fault
 
 -- These values, in their ranges, are the text.
-pub record AreOutcome (tables : Tables) (bundles : List Proved) (turns : List ProvedTurn) (allocation : List (List ℕ)) (used : List (ℕ × ℕ)) (text : List ℕ) : Type 0 where
+pub record AreOutcome (tables : Tables) (bundles : List Proved) (turns : List ProvedTurn)
+    (allocation : List (List ℕ)) (used : List (ℕ × ℕ)) (text : List ℕ) : Type 0 where
   pub each_bundle : AreFor tables.students (IsProved tables.sections) bundles
   pub each_turn : All (IsTurn tables.students tables.sections) turns
   pub each_final : AreFor tables.students (IsBundleOf tables.sections) allocation

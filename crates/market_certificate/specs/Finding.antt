@@ -15,7 +15,8 @@ abbrev pub Begins : (List (List ℕ) → Type 0) → List (List ℕ) → Type 0
 Begins Is front = (lines : List (List ℕ)) × Is (front ++ lines)
 
 -- the next line is no line with which a text could go on
-pub record IsOutOfForm (Is : List (List ℕ) → Type 0) (front : List (List ℕ)) (tail : List ℕ) : Type 0 where
+pub record IsOutOfForm (Is : List (List ℕ) → Type 0) (front : List (List ℕ))
+    (tail : List ℕ) : Type 0 where
   pub line : List ℕ
   pub rest : List ℕ
   pub next : tail ≡ line ++ 10 ∷ rest
@@ -28,9 +29,10 @@ Stops Is front tail Missing = GoesOn Is front × Lacks 10 tail
 Stops Is front tail Form = GoesOn Is front × IsOutOfForm Is front tail
 Stops Is front tail Rest = Is front × (0 < length tail)
 
--- The text's first defect, its first line having this number: a text of the language could begin with
--- the lines in front, and not with the next line.
-pub record Finds (Is : List (List ℕ) → Type 0) (number : ℕ) (text : List ℕ) (at : ℕ) (fault : LineFault) : Type 0 where
+-- The text's first defect, its first line having this number: a text of the language could begin
+-- with the lines in front, and not with the next line.
+pub record Finds (Is : List (List ℕ) → Type 0) (number : ℕ) (text : List ℕ) (at : ℕ)
+    (fault : LineFault) : Type 0 where
   pub front : List (List ℕ)
   pub tail : List ℕ
   pub ahead : text ≡ joined front ++ tail

@@ -9,16 +9,18 @@ pub record Proved : Type 0 where
   pub bundle : List ℕ
   pub tree : List ℕ
 
--- a turn of the aftermarket: its pass, its student, and the bundle that the student then has, with its tree
+-- a turn of the aftermarket: its pass, its student, and the bundle that the student then has, with
+-- its tree
 pub record ProvedTurn : Type 0 where
   pub pass : ℕ
   pub student : ℕ
   pub bundle : List ℕ
   pub tree : List ℕ
 
--- the session of each journal entry; each student's budget; each section's price in stage one; the clearing error; each section's price
--- in stage two; each student's bundle at these prices; the turns of the aftermarket; each student's bundle after them; of each section how
--- many seats are used, and how many there are
+-- the session of each journal entry; each student's budget; each section's price in stage one; the
+-- clearing error; each section's price in stage two; each student's bundle at these prices; the
+-- turns of the aftermarket; each student's bundle after them; of each section how many seats are
+-- used, and how many there are
 pub record Publication : Type 0 where
   pub order : List ℕ
   pub budgets : List ℕ
@@ -59,7 +61,8 @@ pub record IsUsed (seats : ℕ × ℕ) : Type 0 where
   pub all : seats.1 ≤ 9999
 
 -- one value for each of the names, each of this kind
-pub record AreFor {V : Type 0} (names : List (List ℕ)) (P : V → Type 0) (values : List V) : Type 0 where
+pub record AreFor {V : Type 0} (names : List (List ℕ)) (P : V → Type 0)
+    (values : List V) : Type 0 where
   pub count : length values ≡ length names
   pub each : All P values
 

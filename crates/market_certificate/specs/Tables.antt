@@ -19,7 +19,12 @@ section_names sections = map (λ section. section.name) sections
 
 -- of this catalogue and this roll
 abbrev pub tables_of : CatalogData → RollData → Tables
-tables_of catalog roll = record { version = max catalog.version roll.version; students = names_of roll.students; sections = section_names catalog.sections }
+tables_of catalog roll =
+    record {
+      version = max catalog.version roll.version;
+      students = names_of roll.students;
+      sections = section_names catalog.sections;
+    }
 
 -- different names
 pub record AreNames (names : List (List ℕ)) : Type 0 where

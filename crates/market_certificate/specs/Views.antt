@@ -15,7 +15,13 @@ proved_of p = record { bundle = sections_of p.bundle; tree = p.tree.items }
 
 -- a turn, its student as a number, its bundle and tree as their lists
 abbrev pub turn_of : turn.ProvedTurn → ProvedTurn
-turn_of t = record { pass = t.pass; student = t.student.0; bundle = sections_of t.bundle; tree = t.tree.items }
+turn_of t =
+    record {
+      pass = t.pass;
+      student = t.student.0;
+      bundle = sections_of t.bundle;
+      tree = t.tree.items;
+    }
 
 -- the lists of a publication, its amounts, students and sections as numbers
 abbrev pub publication_of : publication.Publication → Publication
@@ -33,4 +39,9 @@ publication_of p = record {
 
 -- the names of both tables as their bytes
 abbrev pub seen : tables.TableNames → Tables
-seen t = record { version = t.version; students = map name_bytes t.students.items; sections = map name_bytes t.sections.items }
+seen t =
+    record {
+      version = t.version;
+      students = map name_bytes t.students.items;
+      sections = map name_bytes t.sections.items;
+    }

@@ -4,7 +4,8 @@ ghost use Rattle.market_certificate.specs.Texts.{most_of, word_of};
 
 use market_units::{MAX_BUDGET, MAX_PRICE};
 
-/// What the amounts of a part of the text are: each kind has a word of its own and a greatest amount.
+/// What the amounts of a part of the text are: each kind has a word of its own and a greatest
+/// amount.
 #[derive(Clone, Copy)]
 pub(crate) enum Amount {
     /// The students' budgets.

@@ -1,5 +1,5 @@
-//! The published text of a market: how a publication is written, what a text is read as, and the fields of printed
-//! lines.
+//! The published text of a market: how a publication is written, what a text is read as, and the
+//! fields of printed lines.
 // Neither: how much time and memory writing and reading take.
 #![tactic(auto)]
 

@@ -30,8 +30,9 @@ use std::alloc::Global;
 use student_roll::Roll;
 use turns::read_turns;
 
-/// The publication of this catalogue and this roll whose text this is; else the text's first defect. The text has fewer than
-/// 4,294,967,295 bytes, so that each line has a number. `NoMemory` comes where memory is wanted, and has no other cause.
+/// The publication of this catalogue and this roll whose text this is; else the text's first
+/// defect. The text has fewer than 4,294,967,295 bytes, so that each line has a number. `NoMemory`
+/// comes where memory is wanted, and has no other cause.
 pub fn read_publication(
     alloc: Global,
     catalog: &Catalog,
@@ -39,10 +40,18 @@ pub fn read_publication(
     text: &[u8],
 ) -> Result<Publication, TextRefusal>
     requires { length text.now < 2 ^ 32 - 1 }
-    ensures publication { IfOk result (λ publication. IsPublication (tables_of catalog.now roll.now) (publication_of publication)) }
-    ensures text { IfOk result (λ publication. text.now ≡ text_of (tables_of catalog.now roll.now) (publication_of publication)) }
-    ensures defect { IfErr result (λ refusal. OnDefect refusal (Finds (ArePublished (tables_of catalog.now roll.now)) 1 text.now)) }
-    ensures refused { IfErr result (λ refusal. OnDefect refusal (λ _ _. ¬ IsPublished (tables_of catalog.now roll.now) text.now)) }
+    ensures publication { IfOk result
+        (λ publication. IsPublication (tables_of catalog.now roll.now)
+        (publication_of publication)) }
+    ensures text { IfOk result
+        (λ publication. text.now
+        ≡ text_of (tables_of catalog.now roll.now) (publication_of publication)) }
+    ensures defect { IfErr result
+        (λ refusal. OnDefect refusal
+        (Finds (ArePublished (tables_of catalog.now roll.now)) 1 text.now)) }
+    ensures refused { IfErr result
+        (λ refusal. OnDefect refusal
+        (λ _ _. ¬ IsPublished (tables_of catalog.now roll.now) text.now)) }
 {
     let tables = TableNames::of(alloc, catalog, roll)?;
     let left = read_head(Lines::of(text), &tables)?;
@@ -86,8 +95,16 @@ fn read_prices<'t>(
     lines: Lines<'t>,
     tables: &TableNames,
 ) -> Result<(Prices, Lines<'t>), TextRefusal>
-    ensures prices { IfOk result (λ read. ArePrices (seen tables.now) (map (λ tokens. tokens.0) read.0.budgets.items) (map (λ tokens. tokens.0) read.0.start.items) read.0.error (map (λ tokens. tokens.0) read.0.prices.items) lines.entry.number lines.entry.rest.now read.1.number read.1.rest.now) }
-    ensures defect { IfErr result (λ refusal. (more : List Due) → OnDefect refusal (Finds (AreDue (seen tables.now) (prices_due (seen tables.now) more)) lines.entry.number lines.entry.rest.now)) }
+    ensures prices { IfOk result
+        (λ read. ArePrices (seen tables.now) (map (λ tokens. tokens.0) read.0.budgets.items)
+        (map (λ tokens. tokens.0) read.0.start.items) read.0.error
+        (map (λ tokens. tokens.0) read.0.prices.items) lines.entry.number lines.entry.rest.now
+        read.1.number read.1.rest.now) }
+    ensures defect { IfErr result
+        (λ refusal. (more : List Due)
+        → OnDefect refusal
+        (Finds (AreDue (seen tables.now) (prices_due (seen tables.now) more))
+        lines.entry.number lines.entry.rest.now)) }
 {
     let (budgets, left) = read_amounts(alloc, lines, Amount::Budget, &tables.students)?;
     let (start, left) = read_amounts(alloc, left, Amount::Start, &tables.sections)?;
@@ -104,8 +121,14 @@ fn read_prices<'t>(
 
 // What the lines behind the prices tell, to the last byte of the text.
 fn read_outcome(alloc: Global, lines: Lines, tables: &TableNames) -> Result<Outcome, TextRefusal>
-    ensures outcome { IfOk result (λ outcome. AreOutcome (seen tables.now) (map proved_of outcome.bundles.items) (map turn_of outcome.turns.items) (map sections_of outcome.allocation.items) outcome.used.items lines.entry.rest.now) }
-    ensures defect { IfErr result (λ refusal. OnDefect refusal (Finds (AreDue (seen tables.now) (outcome_due (seen tables.now))) lines.entry.number lines.entry.rest.now)) }
+    ensures outcome { IfOk result
+        (λ outcome. AreOutcome (seen tables.now) (map proved_of outcome.bundles.items)
+        (map turn_of outcome.turns.items) (map sections_of outcome.allocation.items)
+        outcome.used.items lines.entry.rest.now) }
+    ensures defect { IfErr result
+        (λ refusal. OnDefect refusal
+        (Finds (AreDue (seen tables.now) (outcome_due (seen tables.now))) lines.entry.number
+        lines.entry.rest.now)) }
 {
     let (bundles, left) = read_bundles(alloc, lines, tables)?;
     let (turns, left) = read_turns(alloc, left, tables)?;

@@ -49,8 +49,11 @@ impl<'a> TableNames<'a> {
     /// The student of these bytes' name.
     pub fn student(&self, bytes: &[u8]) -> Option<StudentNo>
         ensures within { IfSome result (λ student. student.0 < length (seen self.now).students) }
-        ensures name { IfSome result (λ student. name_at (seen self.now).students student.0 ≡ bytes.now) }
-        ensures none { IfNone result ((n : ℕ) → n < length (seen self.now).students → name_at (seen self.now).students n ≢ bytes.now) }
+        ensures name { IfSome result
+            (λ student. name_at (seen self.now).students student.0 ≡ bytes.now) }
+        ensures none { IfNone result
+            ((n : ℕ) → n < length (seen self.now).students
+            → name_at (seen self.now).students n ≢ bytes.now) }
     {
         let name = read_name(bytes)?;
         self.roll.find(&name)
@@ -59,8 +62,11 @@ impl<'a> TableNames<'a> {
     /// The section of these bytes' name.
     pub fn section(&self, bytes: &[u8]) -> Option<SectionNo>
         ensures within { IfSome result (λ section. section.0 < length (seen self.now).sections) }
-        ensures name { IfSome result (λ section. name_at (seen self.now).sections section.0 ≡ bytes.now) }
-        ensures none { IfNone result ((n : ℕ) → n < length (seen self.now).sections → name_at (seen self.now).sections n ≢ bytes.now) }
+        ensures name { IfSome result
+            (λ section. name_at (seen self.now).sections section.0 ≡ bytes.now) }
+        ensures none { IfNone result
+            ((n : ℕ) → n < length (seen self.now).sections
+            → name_at (seen self.now).sections n ≢ bytes.now) }
     {
         let name = read_name(bytes)?;
         self.catalog.find(&name)
@@ -79,7 +85,8 @@ fn student_names(alloc: Global, roll: &Roll) -> Result<Vec<Name>, NoMemory>
 }
 
 fn section_names(alloc: Global, catalog: &Catalog) -> Result<Vec<Name>, NoMemory>
-    ensures names { IfOk result (λ names. map name_bytes names.items ≡ section_names catalog.now.sections) }
+    ensures names { IfOk result
+        (λ names. map name_bytes names.items ≡ section_names catalog.now.sections) }
     ensures catalog { IfOk result (λ names. IsCatalog catalog.now) }
 {
     let mut names = Vec::with_capacity(alloc, usize::from(catalog.len()))?;

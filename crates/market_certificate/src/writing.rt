@@ -21,8 +21,9 @@ use market_units::NoMemory;
 use std::alloc::Global;
 use student_roll::Roll;
 
-/// The text of a publication of this catalogue and this roll: there is one value for each student or each section, and each
-/// is in the ranges of the text. `NoMemory` comes where memory is wanted, and has no other cause.
+/// The text of a publication of this catalogue and this roll: there is one value for each student
+/// or each section, and each is in the ranges of the text. `NoMemory` comes where memory is wanted,
+/// and has no other cause.
 pub fn put_publication(
     alloc: Global,
     catalog: &Catalog,
@@ -30,7 +31,9 @@ pub fn put_publication(
     publication: &Publication,
 ) -> Result<Vec<u8>, NoMemory>
     requires { IsPublication (tables_of catalog.now roll.now) (publication_of publication.now) }
-    ensures { IfOk result (λ text. text.items ≡ text_of (tables_of catalog.now roll.now) (publication_of publication.now)) }
+    ensures { IfOk result
+        (λ text. text.items
+        ≡ text_of (tables_of catalog.now roll.now) (publication_of publication.now)) }
 {
     let tables = TableNames::of(alloc, catalog, roll)?;
     let students = &tables.students;

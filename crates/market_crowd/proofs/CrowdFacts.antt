@@ -22,7 +22,8 @@ use Rattle.student_roll.specs.Students.{IsRoll, RollData, Student}
 use Rattle.market_crowd.specs.Crowds.{IsCrowdOf}
 
 -- as many menus as students
-pub menus_length : (catalog : List Section) (students : List Student) (wanted : List StudentPreferences) (menus : List MenuData) → AreMenusOf catalog students wanted menus → length menus ≡ length students
+pub menus_length : (catalog : List Section) (students : List Student) (wanted : List StudentPreferences) (menus : List MenuData)
+    → AreMenusOf catalog students wanted menus → length menus ≡ length students
 menus_length catalog [] [] [] are = refl
 menus_length catalog (s ∷ students) (w ∷ wanted) (m ∷ menus) are = omega (arith, menus_length catalog students wanted menus are.1)
 menus_length catalog [] [] (m ∷ menus) are = absurd are
@@ -31,13 +32,15 @@ menus_length catalog (s ∷ students) [] menus are = absurd are
 menus_length catalog (s ∷ students) (w ∷ wanted) [] are = absurd are
 
 -- a menu has sections of the catalogue
-menu_within : (catalog : List Section) (student : Student) (wanted : StudentPreferences) (menu : MenuData) → IsMenuOf catalog student wanted menu → SectionsBelow (length catalog) wanted → IsWithin (length catalog) menu
+menu_within : (catalog : List Section) (student : Student) (wanted : StudentPreferences) (menu : MenuData) → IsMenuOf catalog student wanted menu
+    → SectionsBelow (length catalog) wanted → IsWithin (length catalog) menu
 menu_within catalog student wanted menu is below =
     subst (λ (places : List Rated). All (λ (rated : Rated). rated.section.0 < length catalog) places) (sym is.places)
     (All-map (λ (rated : Rated). rated.section.0 < length catalog) (rated_of catalog) (entries wanted.ratings) below.rated)
 
 -- so has each menu
-menus_within : (catalog : List Section) (students : List Student) (wanted : List StudentPreferences) (menus : List MenuData) → AreMenusOf catalog students wanted menus → All (SectionsBelow (length catalog)) wanted
+menus_within : (catalog : List Section) (students : List Student) (wanted : List StudentPreferences) (menus : List MenuData)
+    → AreMenusOf catalog students wanted menus → All (SectionsBelow (length catalog)) wanted
     → All (IsWithin (length catalog)) menus
 menus_within catalog [] [] [] are below = All-nil (IsWithin (length catalog))
 menus_within catalog (s ∷ students) (w ∷ wanted) (m ∷ menus) are below =
@@ -49,13 +52,15 @@ menus_within catalog (s ∷ students) [] menus are below = absurd are
 menus_within catalog (s ∷ students) (w ∷ wanted) [] are below = absurd are
 
 -- the menus of a crowd
-menus_of_crowd : (menus : List MenuData) (budgets : List Tokens) → length budgets ≡ length menus → map (λ (student : CrowdStudent). student.menu) (students_of menus budgets) ≡ menus
+menus_of_crowd : (menus : List MenuData) (budgets : List Tokens) → length budgets ≡ length menus
+    → map (λ (student : CrowdStudent). student.menu) (students_of menus budgets) ≡ menus
 menus_of_crowd [] budgets same = refl
 menus_of_crowd (m ∷ menus) [] same = absurd (omega arith)
 menus_of_crowd (m ∷ menus) (b ∷ budgets) same = ap (λ rest. m ∷ rest) (menus_of_crowd menus budgets (omega arith))
 
 -- and its budgets
-budgets_of_crowd : (menus : List MenuData) (budgets : List Tokens) → length budgets ≡ length menus → map (λ (student : CrowdStudent). student.budget) (students_of menus budgets) ≡ amounts budgets
+budgets_of_crowd : (menus : List MenuData) (budgets : List Tokens) → length budgets ≡ length menus
+    → map (λ (student : CrowdStudent). student.budget) (students_of menus budgets) ≡ amounts budgets
 budgets_of_crowd [] [] same = refl
 budgets_of_crowd [] (b ∷ budgets) same = absurd (omega arith)
 budgets_of_crowd (m ∷ menus) [] same = absurd (omega arith)
@@ -76,7 +81,8 @@ module _ (catalog : CatalogData) (roll : RollData) (wanted : List StudentPrefere
       omega (arith, menus_length catalog.sections roll.students wanted menus are)
 
   -- they make a crowd
-  pub crowd_is_whole : IsCatalog catalog → IsRoll roll → All (SectionsBelow (length catalog.sections)) wanted → All (λ (budget : Tokens). budget.0 ≤ 997951) budgets → MakeCrowd menus budgets (length catalog.sections)
+  pub crowd_is_whole : IsCatalog catalog → IsRoll roll → All (SectionsBelow (length catalog.sections)) wanted
+      → All (λ (budget : Tokens). budget.0 ≤ 997951) budgets → MakeCrowd menus budgets (length catalog.sections)
   crowd_is_whole listed enrolled below high = record {
     same = same;
     few = omega (arith, enrolled.few, menus_length catalog.sections roll.students wanted menus are);
@@ -94,13 +100,17 @@ module _ (catalog : CatalogData) (roll : RollData) (wanted : List StudentPrefere
   }
 
 -- a market's crowd has as many students as the roll
-pub crowd_length : (catalog : List Section) (roll : List Student) (wanted : List StudentPreferences) (seed spread : ℕ) (crowd : CrowdData) → IsCrowdOf catalog roll wanted seed spread crowd → length crowd.students ≡ length roll
+pub crowd_length : (catalog : List Section) (roll : List Student) (wanted : List StudentPreferences) (seed spread : ℕ) (crowd : CrowdData)
+    → IsCrowdOf catalog roll wanted seed spread crowd → length crowd.students ≡ length roll
 crowd_length catalog roll wanted seed spread crowd is =
-    sym (length-map crowd.students (λ (student : CrowdStudent). student.menu)) ∙ menus_length catalog roll wanted (map (λ (student : CrowdStudent). student.menu) crowd.students) is.menus
+    sym (length-map crowd.students (λ (student : CrowdStudent). student.menu))
+    ∙ menus_length catalog roll wanted (map (λ (student : CrowdStudent). student.menu) crowd.students) is.menus
 
 -- the sections of preferences are those of the catalogue whose names a desk knows
-pub sections_known : (names : DeskNames) (catalog : List Section) (roll : List Student) (wanted : List StudentPreferences) → names ≡ market_names catalog roll → All (SectionsBelow (length names.sections)) wanted
+pub sections_known : (names : DeskNames) (catalog : List Section) (roll : List Student) (wanted : List StudentPreferences) → names ≡ market_names catalog roll
+    → All (SectionsBelow (length names.sections)) wanted
     → All (SectionsBelow (length catalog)) wanted
 sections_known names catalog roll wanted same below =
-    let long : length names.sections ≡ length catalog = ap (λ (all : DeskNames). length all.sections) same ∙ length-map catalog (λ (section : Section). section.name) in
+    let long : length names.sections ≡ length catalog =
+    ap (λ (all : DeskNames). length all.sections) same ∙ length-map catalog (λ (section : Section). section.name) in
     subst (λ (n : ℕ). All (SectionsBelow n) wanted) long below

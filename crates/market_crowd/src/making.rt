@@ -14,9 +14,9 @@ use preference_desk::Preferences;
 use std::alloc::Global;
 use student_roll::Roll;
 
-/// The crowd of the students of a roll, in file order: each with the menu that its preferences, the catalogue and the
-/// roll give, and the budget that the seed draws for it, with 0 to 49 tokens between neighbouring ranks. `NoMemory` is
-/// the only error.
+/// The crowd of the students of a roll, in file order: each with the menu that its preferences, the
+/// catalogue and the roll give, and the budget that the seed draws for it, with 0 to 49 tokens
+/// between neighbouring ranks. `NoMemory` is the only error.
 pub fn make_crowd(
     alloc: Global,
     catalog: &Catalog,
@@ -26,10 +26,14 @@ pub fn make_crowd(
     spread: u8,
 ) -> Result<Crowd, NoMemory>
     requires students { length (preferences_of preferences.now) ≡ length roll.now.students }
-    requires sections { All (SectionsBelow (length catalog.now.sections)) (preferences_of preferences.now) }
+    requires sections { All (SectionsBelow (length catalog.now.sections))
+        (preferences_of preferences.now) }
     requires spread { spread ≤ 49 }
-    ensures crowd { IfOk result (λ crowd. IsCrowdOf catalog.now.sections roll.now.students (preferences_of preferences.now) seed spread (crowd_of crowd.menus.items crowd.budgets.items crowd.sections)) }
-    ensures whole { IfOk result (λ crowd. MakeCrowd crowd.menus.items crowd.budgets.items crowd.sections) }
+    ensures crowd { IfOk result
+        (λ crowd. IsCrowdOf catalog.now.sections roll.now.students (preferences_of preferences.now)
+        seed spread (crowd_of crowd.menus.items crowd.budgets.items crowd.sections)) }
+    ensures whole { IfOk result
+        (λ crowd. MakeCrowd crowd.menus.items crowd.budgets.items crowd.sections) }
 {
     let _few_students = roll.len();
     let menus = menus(alloc, catalog, roll, preferences)?;

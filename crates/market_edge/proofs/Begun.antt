@@ -16,20 +16,23 @@ ended (one ∷ []) name b = refl
 ended (one ∷ next ∷ more) name b = ap (λ rest. one ∷ rest) (ended (next ∷ more) name b)
 
 -- a text that is begun and then read to its end
-pub begun_and_ended : (old mid new : Option (List Opening)) (name : List ℕ) → Changes old mid (with_begun name) → Changes mid new with_end → Changes old new (with_read_out (name ∷ []))
+pub begun_and_ended : (old mid new : Option (List Opening)) (name : List ℕ) → Changes old mid (with_begun name) → Changes mid new with_end
+    → Changes old new (with_read_out (name ∷ []))
 begun_and_ended old mid None name p q = tt
 begun_and_ended old None (Some z) name p q = absurd q
 begun_and_ended None (Some y) (Some z) name p q = absurd p
 begun_and_ended (Some x) (Some y) (Some z) name p q = q ∙ ap with_end p ∙ ended x name false
 
 -- the begun text is put behind the others, and no text is begun
-pub closed : (files : List File) (old new : Option (List (ℕ × Bool))) (begun : Option Place) (was is : Bool) → Lists old new (earlier_of begun was) → Changes (openings_of files old begun was) (openings_of files new None is) as_before
+pub closed : (files : List File) (old new : Option (List (ℕ × Bool))) (begun : Option Place) (was is : Bool) → Lists old new (earlier_of begun was)
+    → Changes (openings_of files old begun was) (openings_of files new None is) as_before
 closed files old None begun was is p = tt
 closed files None (Some z) begun was is p = absurd p
 closed files (Some x) (Some z) begun was is p = ap (map (opening_of files)) (append-nil z ∙ p)
 
 -- the same, and a text is begun
-pub opened : (files : List File) (old new : Option (List (ℕ × Bool))) (begun : Option Place) (was : Bool) (place : Place) (name : List ℕ) → name_at files place.file ≡ name → Lists old new (earlier_of begun was)
+pub opened : (files : List File) (old new : Option (List (ℕ × Bool))) (begun : Option Place) (was : Bool) (place : Place) (name : List ℕ)
+    → name_at files place.file ≡ name → Lists old new (earlier_of begun was)
     → Changes (openings_of files old begun was) (openings_of files new (Some place) false) (with_begun name)
 opened files old None begun was place name named p = tt
 opened files None (Some z) begun was place name named p = absurd p
@@ -38,7 +41,8 @@ opened files (Some x) (Some z) begun was place name named p =
     ∙ ap (λ front. map (opening_of files) front ++ (name_at files place.file, false) ∷ []) p
     ∙ ap (λ bytes. map (opening_of files) (x ++ earlier_of begun was) ++ (bytes, false) ∷ []) named
 
-is_over : (files : List File) (told : Option (List (ℕ × Bool))) (was now : Place) (b : Bool) → now.file ≡ was.file → Changes (openings_of files told (Some was) b) (openings_of files told (Some now) true) with_end
+is_over : (files : List File) (told : Option (List (ℕ × Bool))) (was now : Place) (b : Bool) → now.file ≡ was.file
+    → Changes (openings_of files told (Some was) b) (openings_of files told (Some now) true) with_end
 is_over files None was now b same = tt
 is_over files (Some x) was now b same =
     ap (λ file. map (opening_of files) (x ++ (file, true) ∷ [])) same

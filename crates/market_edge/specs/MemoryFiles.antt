@@ -61,11 +61,13 @@ serves_name files (Some place) name = is_same_place (Some place.file) (place_of 
 
 -- the count of a name
 abbrev pub count_of : List File → List ℕ → ℕ → List ℕ → ℕ
-count_of files counts others name = option_map_or (λ file. slice_index_or counts file 0) (place_of files name) others
+count_of files counts others name =
+    option_map_or (λ file. slice_index_or counts file 0) (place_of files name) others
 
 -- one more fault of each of these names, and of no other
 abbrev pub Raises : (List ℕ → Bool) → (List ℕ → ℕ) → (List ℕ → ℕ) → Type 0
-Raises is_raised before after = (name : List ℕ) → after name ≡ (if is_raised name then raised (before name) else before name)
+Raises is_raised before after =
+    (name : List ℕ) → after name ≡ (if is_raised name then raised (before name) else before name)
 
 -- the name of the file at a place
 abbrev pub name_at : List File → ℕ → List ℕ
@@ -89,6 +91,8 @@ abbrev pub opening_of : List File → ℕ × Bool → Opening
 opening_of files text = (name_at files text.0, text.1)
 
 -- the texts that were begun, the one that is begun last among them
-abbrev pub openings_of : List File → Option (List (ℕ × Bool)) → Option Place → Bool → Option (List Opening)
+abbrev pub openings_of : List File → Option (List (ℕ × Bool)) → Option Place → Bool
+    → Option (List Opening)
 openings_of files None begun is_ended = None
-openings_of files (Some earlier) begun is_ended = Some (map (opening_of files) (earlier ++ earlier_of begun is_ended))
+openings_of files (Some earlier) begun is_ended =
+    Some (map (opening_of files) (earlier ++ earlier_of begun is_ended))

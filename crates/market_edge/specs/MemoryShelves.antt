@@ -44,4 +44,5 @@ faults_of shelf = count_of shelf.files.items shelf.counts.items shelf.others
 
 -- the texts that were begun, while there is room for them
 abbrev pub told_openings : MemoryShelf → Option (List Opening)
-told_openings shelf = openings_of shelf.files.items (told_texts shelf.earlier) shelf.begun shelf.is_ended
+told_openings shelf =
+    openings_of shelf.files.items (told_texts shelf.earlier) shelf.begun shelf.is_ended

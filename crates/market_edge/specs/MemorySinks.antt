@@ -25,4 +25,5 @@ faults_of sink = sink.faults
 
 -- no room is left, or the next write is to fail by its number
 abbrev pub IsRefused : MemorySink → Type 0
-IsRefused sink = (length sink.bytes.items ≡ sink.size) ⊎ Contains sink.failing.items (raised sink.writes)
+IsRefused sink =
+    (length sink.bytes.items ≡ sink.size) ⊎ Contains sink.failing.items (raised sink.writes)

@@ -6,7 +6,8 @@ abbrev pub Opening : Type 0
 Opening = List ℕ × Bool
 
 -- What is told after a call was told before it, and is this of that. The telling may end.
-abbrev pub Changes : Option (List Opening) → Option (List Opening) → (List Opening → List Opening) → Type 0
+abbrev pub Changes : Option (List Opening) → Option (List Opening) → (List Opening → List Opening)
+    → Type 0
 Changes old None change = ⊤
 Changes None (Some new) change = ⊥
 Changes (Some old) (Some new) change = new ≡ change old

@@ -7,7 +7,8 @@ use Rattle.market_edge.specs.declared.sure_shelf.Begun.TheVariants as begun
 use Rattle.market_edge.specs.Holdings.{Holding}
 use Rattle.market_edge.specs.MemoryFiles.{File, entry_of, is_same_place, place_of, text_at}
 
--- where a name has more than one file, the first counts; where it has none, it stands for the empty text
+-- where a name has more than one file, the first counts; where it has none, it stands for the empty
+-- text
 abbrev pub sure_holding : List File → Holding
 sure_holding files = record { texts = from_entries (map entry_of files); others_empty = true }
 

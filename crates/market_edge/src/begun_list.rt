@@ -9,8 +9,8 @@ use std::alloc::Global;
 // As many texts as are told.
 const ROOM: usize = 128;
 
-/// The files whose texts were begun, in order, each with whether it was read to its end. They are told while there is
-/// room for them, and never again from then on.
+/// The files whose texts were begun, in order, each with whether it was read to its end. They are
+/// told while there is room for them, and never again from then on.
 #[derive(Drop)]
 pub struct BegunList {
     texts: Vec<(usize, bool)>,

@@ -10,8 +10,8 @@ use std::fs;
 use std::io::Read;
 use std::rt::Files;
 
-/// The files of the system, by path. Each failure is counted for every name; while a file is open, every name is
-/// served.
+/// The files of the system, by path. Each failure is counted for every name; while a file is open,
+/// every name is served.
 #[derive(Drop)]
 pub struct FileShelf<'r, R: Files> {
     rt: &'r R,
@@ -49,19 +49,36 @@ impl<'r, R: Files> Shelf for FileShelf<'r, R> {
     ghost faults = { λ shelf _. shelf.faults };
 
     fn begin(&mut self, name: &str) -> Result<(), Failed>
-        ensures holds { ⟦<FileShelf<'r, R> as Shelf>⟧.holds self.new ≡ ⟦<FileShelf<'r, R> as Shelf>⟧.holds self.old }
+        ensures holds { ⟦<FileShelf<'r, R> as Shelf>⟧.holds self.new
+            ≡ ⟦<FileShelf<'r, R> as Shelf>⟧.holds self.old }
         ensures begun { OnOk result (IsTrue (⟦<FileShelf<'r, R> as Shelf>⟧.is_begun self.new)) }
-        ensures text { OnOk result (Begins (⟦<FileShelf<'r, R> as Shelf>⟧.holds self.old) name.now (⟦<FileShelf<'r, R> as Shelf>⟧.left self.new)) }
-        ensures serves { OnOk result (IsTrue (⟦<FileShelf<'r, R> as Shelf>⟧.serves self.new name.now)) }
+        ensures text { OnOk result
+            (Begins (⟦<FileShelf<'r, R> as Shelf>⟧.holds self.old) name.now
+            (⟦<FileShelf<'r, R> as Shelf>⟧.left self.new)) }
+        ensures serves { OnOk result
+            (IsTrue (⟦<FileShelf<'r, R> as Shelf>⟧.serves self.new name.now)) }
         ensures none { OnErr result (⟦<FileShelf<'r, R> as Shelf>⟧.is_begun self.new ≡ false) }
-        ensures opens { OnOk result (Changes (⟦<FileShelf<'r, R> as Shelf>⟧.openings self.old) (⟦<FileShelf<'r, R> as Shelf>⟧.openings self.new) (with_begun name.now)) }
-        ensures opens_none { OnErr result (Changes (⟦<FileShelf<'r, R> as Shelf>⟧.openings self.old) (⟦<FileShelf<'r, R> as Shelf>⟧.openings self.new) as_before) }
-        ensures cause { OnErr result (Rose (⟦<FileShelf<'r, R> as Shelf>⟧.faults self.old name.now) (⟦<FileShelf<'r, R> as Shelf>⟧.faults self.new name.now)) }
-        ensures uncounted { OnOk result (⟦<FileShelf<'r, R> as Shelf>⟧.faults self.new ≡ ⟦<FileShelf<'r, R> as Shelf>⟧.faults self.old) }
-        ensures later { (other : List ℕ) → ⟦<FileShelf<'r, R> as Shelf>⟧.faults self.old other ≤ ⟦<FileShelf<'r, R> as Shelf>⟧.faults self.new other }
+        ensures opens { OnOk result
+            (Changes (⟦<FileShelf<'r, R> as Shelf>⟧.openings self.old)
+            (⟦<FileShelf<'r, R> as Shelf>⟧.openings self.new) (with_begun name.now)) }
+        ensures opens_none { OnErr result
+            (Changes (⟦<FileShelf<'r, R> as Shelf>⟧.openings self.old)
+            (⟦<FileShelf<'r, R> as Shelf>⟧.openings self.new) as_before) }
+        ensures cause { OnErr result
+            (Rose (⟦<FileShelf<'r, R> as Shelf>⟧.faults self.old name.now)
+            (⟦<FileShelf<'r, R> as Shelf>⟧.faults self.new name.now)) }
+        ensures uncounted { OnOk result
+            (⟦<FileShelf<'r, R> as Shelf>⟧.faults self.new
+            ≡ ⟦<FileShelf<'r, R> as Shelf>⟧.faults self.old) }
+        ensures later { (other : List ℕ)
+            → ⟦<FileShelf<'r, R> as Shelf>⟧.faults self.old other
+            ≤ ⟦<FileShelf<'r, R> as Shelf>⟧.faults self.new other }
 
         // Each failure is counted for every name.
-        ensures counted { OnErr result ((other : List ℕ) → ⟦<FileShelf<'r, R> as Shelf>⟧.faults self.new other ≡ raised (⟦<FileShelf<'r, R> as Shelf>⟧.faults self.old other)) }
+        ensures counted { OnErr result
+            ((other : List ℕ)
+            → ⟦<FileShelf<'r, R> as Shelf>⟧.faults self.new other
+            ≡ raised (⟦<FileShelf<'r, R> as Shelf>⟧.faults self.old other)) }
     {
         self.file = None;
         match fs::open(self.rt, name) {
@@ -80,23 +97,47 @@ impl<'r, R: Files> Shelf for FileShelf<'r, R> {
         requires begun { IsTrue (⟦<FileShelf<'r, R> as Shelf>⟧.is_begun self.old) }
         requires room { 0 < length room.old }
 
-        ensures holds { ⟦<FileShelf<'r, R> as Shelf>⟧.holds self.new ≡ ⟦<FileShelf<'r, R> as Shelf>⟧.holds self.old }
+        ensures holds { ⟦<FileShelf<'r, R> as Shelf>⟧.holds self.new
+            ≡ ⟦<FileShelf<'r, R> as Shelf>⟧.holds self.old }
         ensures begun { IsTrue (⟦<FileShelf<'r, R> as Shelf>⟧.is_begun self.new) }
         ensures bound { IfOk result (λ n. n ≤ length room.new) }
-        ensures bytes { ReadConsumes (⟦<FileShelf<'r, R> as Shelf>⟧.left self.old) (⟦<FileShelf<'r, R> as Shelf>⟧.left self.new) result room.new }
-        ensures ends { IfOk result (λ n. n ≡ 0 → Changes (⟦<FileShelf<'r, R> as Shelf>⟧.openings self.old) (⟦<FileShelf<'r, R> as Shelf>⟧.openings self.new) with_end) }
-        ensures goes_on { IfOk result (λ n. 0 < n → Changes (⟦<FileShelf<'r, R> as Shelf>⟧.openings self.old) (⟦<FileShelf<'r, R> as Shelf>⟧.openings self.new) as_before) }
-        ensures stays { OnErr result (Changes (⟦<FileShelf<'r, R> as Shelf>⟧.openings self.old) (⟦<FileShelf<'r, R> as Shelf>⟧.openings self.new) as_before) }
-        ensures serves { (other : List ℕ) → ⟦<FileShelf<'r, R> as Shelf>⟧.serves self.new other ≡ ⟦<FileShelf<'r, R> as Shelf>⟧.serves self.old other }
-        ensures cause { OnErr result ((other : List ℕ) → IsTrue (⟦<FileShelf<'r, R> as Shelf>⟧.serves self.old other) → Rose (⟦<FileShelf<'r, R> as Shelf>⟧.faults self.old other) (⟦<FileShelf<'r, R> as Shelf>⟧.faults self.new other)) }
-        ensures uncounted { OnOk result (⟦<FileShelf<'r, R> as Shelf>⟧.faults self.new ≡ ⟦<FileShelf<'r, R> as Shelf>⟧.faults self.old) }
-        ensures later { (other : List ℕ) → ⟦<FileShelf<'r, R> as Shelf>⟧.faults self.old other ≤ ⟦<FileShelf<'r, R> as Shelf>⟧.faults self.new other }
+        ensures bytes { ReadConsumes (⟦<FileShelf<'r, R> as Shelf>⟧.left self.old)
+            (⟦<FileShelf<'r, R> as Shelf>⟧.left self.new) result room.new }
+        ensures ends { IfOk result
+            (λ n. n ≡ 0
+            → Changes (⟦<FileShelf<'r, R> as Shelf>⟧.openings self.old)
+            (⟦<FileShelf<'r, R> as Shelf>⟧.openings self.new) with_end) }
+        ensures goes_on { IfOk result
+            (λ n. 0 < n
+            → Changes (⟦<FileShelf<'r, R> as Shelf>⟧.openings self.old)
+            (⟦<FileShelf<'r, R> as Shelf>⟧.openings self.new) as_before) }
+        ensures stays { OnErr result
+            (Changes (⟦<FileShelf<'r, R> as Shelf>⟧.openings self.old)
+            (⟦<FileShelf<'r, R> as Shelf>⟧.openings self.new) as_before) }
+        ensures serves { (other : List ℕ)
+            → ⟦<FileShelf<'r, R> as Shelf>⟧.serves self.new other
+            ≡ ⟦<FileShelf<'r, R> as Shelf>⟧.serves self.old other }
+        ensures cause { OnErr result
+            ((other : List ℕ) → IsTrue (⟦<FileShelf<'r, R> as Shelf>⟧.serves self.old other)
+            → Rose (⟦<FileShelf<'r, R> as Shelf>⟧.faults self.old other)
+            (⟦<FileShelf<'r, R> as Shelf>⟧.faults self.new other)) }
+        ensures uncounted { OnOk result
+            (⟦<FileShelf<'r, R> as Shelf>⟧.faults self.new
+            ≡ ⟦<FileShelf<'r, R> as Shelf>⟧.faults self.old) }
+        ensures later { (other : List ℕ)
+            → ⟦<FileShelf<'r, R> as Shelf>⟧.faults self.old other
+            ≤ ⟦<FileShelf<'r, R> as Shelf>⟧.faults self.new other }
 
-        // The room is passed on to the open file once: what was read of the file is what is answered, and after a failed call nothing.
-        ensures passed { ReadConsumes (known_rest R.File.remaining (file_of self.old)) (known_rest R.File.remaining (file_of self.new)) result room.new }
+        // The room is passed on to the open file once: what was read of the file is what is
+        // answered, and after a failed call nothing.
+        ensures passed { ReadConsumes (known_rest R.File.remaining (file_of self.old))
+            (known_rest R.File.remaining (file_of self.new)) result room.new }
 
         // Each failure is counted for every name.
-        ensures counted { OnErr result ((other : List ℕ) → ⟦<FileShelf<'r, R> as Shelf>⟧.faults self.new other ≡ raised (⟦<FileShelf<'r, R> as Shelf>⟧.faults self.old other)) }
+        ensures counted { OnErr result
+            ((other : List ℕ)
+            → ⟦<FileShelf<'r, R> as Shelf>⟧.faults self.new other
+            ≡ raised (⟦<FileShelf<'r, R> as Shelf>⟧.faults self.old other)) }
     {
         let Some(file) = &mut self.file else {
             unreachable!()

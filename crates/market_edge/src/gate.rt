@@ -13,8 +13,8 @@ pub enum Stop {
     WorkerCall(u16),
 }
 
-/// Is passed at each stop, by the thread that stands there. Nothing is promised of a pass: it may wait, and no answer
-/// depends on it.
+/// Is passed at each stop, by the thread that stands there. Nothing is promised of a pass: it may
+/// wait, and no answer depends on it.
 pub trait Gate {
     fn pass(&self, stop: Stop);
 }
@@ -30,7 +30,8 @@ impl Gate for OpenGate {
 /// A gate of any type, which threads may share.
 pub type AnyGate<'g> = &'g (dyn Gate + Sync);
 
-/// Passes a gate of any type, for a call that takes a gate by its type. Its one form is `Passed<AnyGate>`.
+/// Passes a gate of any type, for a call that takes a gate by its type. Its one form is
+/// `Passed<AnyGate>`.
 #[derive(Drop)]
 pub struct Passed<G> {
     pub gate: G,

@@ -1,5 +1,6 @@
-//! The outside of the market: shelves that texts are read from, sinks that texts are written to, and gates that
-//! sessions and workers pass. Whatever the outside does, a text is had whole or a counted fault says why not.
+//! The outside of the market: shelves that texts are read from, sinks that texts are written to,
+//! and gates that sessions and workers pass. Whatever the outside does, a text is had whole or a
+//! counted fault says why not.
 // Neither: what a real file or pipe holds; what `MeetingGate` counts, and for whom it waits, since
 // a `Gate` promises nothing of a pass.
 #![tactic(auto)]

@@ -6,7 +6,8 @@ use std::sync::atomic::{AtomicU64, Ordering};
 // How often a session or a worker looks for the other one before it passes on alone.
 const TURNS: u32 = 1_000_000_000;
 
-/// The stops of one session or worker: those before its first command or task, and those after an answered one.
+/// The stops of one session or worker: those before its first command or task, and those after an
+/// answered one.
 #[derive(Drop)]
 pub struct Passes {
     starts: AtomicU64,
@@ -38,8 +39,9 @@ impl Passes {
     }
 }
 
-/// Counts the stops of three sessions and two workers. The calls of the first two sessions meet, and those of the workers: after each
-/// reply they wait until the other has had one. It is there for tests.
+/// Counts the stops of three sessions and two workers. The calls of the first two sessions meet,
+/// and those of the workers: after each reply they wait until the other has had one. It is there
+/// for tests.
 #[derive(Drop)]
 pub struct MeetingGate {
     /// The stops of session 1.

@@ -13,8 +13,9 @@ use crate::{Failed, Shelf};
 use market_units::NoMemory;
 use std::alloc::Global;
 
-/// A shelf of files in memory, whose calls of certain numbers fail. Begins and reads together are numbered from 1. Of
-/// two files of one name the first counts. It tells of the first 128 begun texts.
+/// A shelf of files in memory, whose calls of certain numbers fail. Begins and reads together are
+/// numbered from 1. Of two files of one name the first counts. It tells of the first 128 begun
+/// texts.
 #[derive(Drop)]
 pub struct MemoryShelf {
     files: Vec<(String, Vec<u8>)>,
@@ -81,18 +82,27 @@ impl Shelf for MemoryShelf {
         ensures text { OnOk result (Begins (told_holding self.old) name.now (rest_of self.new)) }
         ensures serves { OnOk result (IsTrue (serves_of self.new name.now)) }
         ensures none { OnErr result (has_begun self.new ≡ false) }
-        ensures opens { OnOk result (Changes (told_openings self.old) (told_openings self.new) (with_begun name.now)) }
-        ensures opens_none { OnErr result (Changes (told_openings self.old) (told_openings self.new) as_before) }
-        ensures cause { OnErr result (Rose (faults_of self.old name.now) (faults_of self.new name.now)) }
+        ensures opens { OnOk result
+            (Changes (told_openings self.old) (told_openings self.new) (with_begun name.now)) }
+        ensures opens_none { OnErr result
+            (Changes (told_openings self.old) (told_openings self.new) as_before) }
+        ensures cause { OnErr result
+            (Rose (faults_of self.old name.now) (faults_of self.new name.now)) }
         ensures uncounted { OnOk result (faults_of self.new ≡ faults_of self.old) }
         ensures later { (other : List ℕ) → faults_of self.old other ≤ faults_of self.new other }
 
         // It serves the name of the begun file alone.
-        ensures alone { OnOk result ((other : List ℕ) → serves_of self.new other ≡ has_place_of (files_of self.old) name.now other) }
+        ensures alone { OnOk result
+            ((other : List ℕ)
+            → serves_of self.new other ≡ has_place_of (files_of self.old) name.now other) }
 
-        // It fails exactly at the calls of these numbers, and where no file has the name; each failure is counted.
-        ensures fails { IsErr result ↔ (IsNone (place_of (files_of self.old) name.now) ⊎ FailsNext self.old) }
-        ensures counted { OnErr result (Raises (has_place_of (files_of self.old) name.now) (faults_of self.old) (faults_of self.new)) }
+        // It fails exactly at the calls of these numbers, and where no file has the name; each
+        // failure is counted.
+        ensures fails { IsErr result
+            ↔ (IsNone (place_of (files_of self.old) name.now) ⊎ FailsNext self.old) }
+        ensures counted { OnErr result
+            (Raises (has_place_of (files_of self.old) name.now) (faults_of self.old)
+            (faults_of self.new)) }
 
         ensures calls { calls_of self.new ≡ raised (calls_of self.old) }
         ensures files { files_of self.new ≡ files_of self.old }
@@ -122,17 +132,23 @@ impl Shelf for MemoryShelf {
         ensures begun { IsTrue (has_begun self.new) }
         ensures bound { IfOk result (λ n. n ≤ length room.new) }
         ensures bytes { ReadConsumes (rest_of self.old) (rest_of self.new) result room.new }
-        ensures ends { IfOk result (λ n. n ≡ 0 → Changes (told_openings self.old) (told_openings self.new) with_end) }
-        ensures goes_on { IfOk result (λ n. 0 < n → Changes (told_openings self.old) (told_openings self.new) as_before) }
-        ensures stays { OnErr result (Changes (told_openings self.old) (told_openings self.new) as_before) }
+        ensures ends { IfOk result
+            (λ n. n ≡ 0 → Changes (told_openings self.old) (told_openings self.new) with_end) }
+        ensures goes_on { IfOk result
+            (λ n. 0 < n → Changes (told_openings self.old) (told_openings self.new) as_before) }
+        ensures stays { OnErr result
+            (Changes (told_openings self.old) (told_openings self.new) as_before) }
         ensures serves { (other : List ℕ) → serves_of self.new other ≡ serves_of self.old other }
-        ensures cause { OnErr result ((other : List ℕ) → IsTrue (serves_of self.old other) → Rose (faults_of self.old other) (faults_of self.new other)) }
+        ensures cause { OnErr result
+            ((other : List ℕ) → IsTrue (serves_of self.old other)
+            → Rose (faults_of self.old other) (faults_of self.new other)) }
         ensures uncounted { OnOk result (faults_of self.new ≡ faults_of self.old) }
         ensures later { (other : List ℕ) → faults_of self.old other ≤ faults_of self.new other }
 
         // It fails exactly at the calls of these numbers; each failure is counted.
         ensures fails { IsErr result ↔ FailsNext self.old }
-        ensures counted { OnErr result (Raises (serves_of self.old) (faults_of self.old) (faults_of self.new)) }
+        ensures counted { OnErr result
+            (Raises (serves_of self.old) (faults_of self.old) (faults_of self.new)) }
 
         ensures calls { calls_of self.new ≡ raised (calls_of self.old) }
         ensures files { files_of self.new ≡ files_of self.old }

@@ -7,7 +7,8 @@ use crate::{Failed, Sink};
 use market_units::NoMemory;
 use std::alloc::Global;
 
-/// A sink with room for so many bytes, whose writes of certain numbers fail. Writes are numbered from 1.
+/// A sink with room for so many bytes, whose writes of certain numbers fail. Writes are numbered
+/// from 1.
 #[derive(Drop)]
 pub struct MemorySink {
     bytes: Vec<u8>,
@@ -66,15 +67,19 @@ impl Sink for MemorySink {
 
         ensures some { IfOk result (λ n. 0 < n) }
         ensures bound { IfOk result (λ n. n ≤ length piece.now) }
-        ensures bytes { IfOk result (λ n. Takes (Some (bytes_of self.old)) (Some (bytes_of self.new)) (take n piece.now)) }
-        ensures none { OnErr result (Takes (Some (bytes_of self.old)) (Some (bytes_of self.new)) []) }
+        ensures bytes { IfOk result
+            (λ n. Takes (Some (bytes_of self.old)) (Some (bytes_of self.new)) (take n piece.now)) }
+        ensures none { OnErr result
+            (Takes (Some (bytes_of self.old)) (Some (bytes_of self.new)) []) }
         ensures cause { OnErr result (Rose (faults_of self.old) (faults_of self.new)) }
         ensures uncounted { OnOk result (faults_of self.new ≡ faults_of self.old) }
         ensures later { faults_of self.old ≤ faults_of self.new }
 
-        // It fails exactly at the calls of these numbers, and where no room is left; each failure is counted.
+        // It fails exactly at the calls of these numbers, and where no room is left; each failure
+        // is counted.
         ensures fails { IsErr result ↔ IsRefused self.old }
-        ensures most { IfOk result (λ n. n ≡ min (length piece.now) (size_of self.old - length (bytes_of self.old))) }
+        ensures most { IfOk result
+            (λ n. n ≡ min (length piece.now) (size_of self.old - length (bytes_of self.old))) }
         ensures counted { OnErr result (faults_of self.new ≡ raised (faults_of self.old)) }
 
         ensures writes { writes_of self.new ≡ raised (writes_of self.old) }

@@ -38,8 +38,10 @@ pub trait Shelf {
         ensures text { OnOk result (Begins (holds self.old) name.now (left self.new)) }
         ensures serves { OnOk result (IsTrue (serves self.new name.now)) }
         ensures none { OnErr result (is_begun self.new ≡ false) }
-        ensures opens { OnOk result (Changes (openings self.old) (openings self.new) (with_begun name.now)) }
-        ensures opens_none { OnErr result (Changes (openings self.old) (openings self.new) as_before) }
+        ensures opens { OnOk result
+            (Changes (openings self.old) (openings self.new) (with_begun name.now)) }
+        ensures opens_none { OnErr result
+            (Changes (openings self.old) (openings self.new) as_before) }
         ensures cause { OnErr result (Rose (faults self.old name.now) (faults self.new name.now)) }
         // An equation of the whole function of names, so that no caller's proof needs a premise for
         // each name.
@@ -55,11 +57,15 @@ pub trait Shelf {
         ensures begun { IsTrue (is_begun self.new) }
         ensures bound { IfOk result (λ n. n ≤ length room.new) }
         ensures bytes { ReadConsumes (left self.old) (left self.new) result room.new }
-        ensures ends { IfOk result (λ n. n ≡ 0 → Changes (openings self.old) (openings self.new) with_end) }
-        ensures goes_on { IfOk result (λ n. 0 < n → Changes (openings self.old) (openings self.new) as_before) }
+        ensures ends { IfOk result
+            (λ n. n ≡ 0 → Changes (openings self.old) (openings self.new) with_end) }
+        ensures goes_on { IfOk result
+            (λ n. 0 < n → Changes (openings self.old) (openings self.new) as_before) }
         ensures stays { OnErr result (Changes (openings self.old) (openings self.new) as_before) }
         ensures serves { (other : List ℕ) → serves self.new other ≡ serves self.old other }
-        ensures cause { OnErr result ((other : List ℕ) → IsTrue (serves self.old other) → Rose (faults self.old other) (faults self.new other)) }
+        ensures cause { OnErr result
+            ((other : List ℕ) → IsTrue (serves self.old other)
+            → Rose (faults self.old other) (faults self.new other)) }
         ensures uncounted { OnOk result (faults self.new ≡ faults self.old) }
         ensures later { (other : List ℕ) → faults self.old other ≤ faults self.new other };
 }

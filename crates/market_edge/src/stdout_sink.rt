@@ -7,7 +7,8 @@ ghost use Rattle.market_edge.specs.Sinks.{Takes};
 use crate::{Failed, Sink};
 use std::io::Write;
 
-/// Standard output, or another writer of std. A write that takes no byte is a fault, as one that fails is.
+/// Standard output, or another writer of std. A write that takes no byte is a fault, as one that
+/// fails is.
 #[derive(Drop)]
 pub struct StdoutSink<W: Write + Drop> {
     writer: W,
@@ -38,17 +39,30 @@ impl<W: Write + Drop> Sink for StdoutSink<W> {
 
         ensures some { IfOk result (λ n. 0 < n) }
         ensures bound { IfOk result (λ n. n ≤ length piece.now) }
-        ensures bytes { IfOk result (λ n. Takes (⟦<StdoutSink<W> as Sink>⟧.taken self.old) (⟦<StdoutSink<W> as Sink>⟧.taken self.new) (take n piece.now)) }
-        ensures none { OnErr result (Takes (⟦<StdoutSink<W> as Sink>⟧.taken self.old) (⟦<StdoutSink<W> as Sink>⟧.taken self.new) []) }
-        ensures cause { OnErr result (Rose (⟦<StdoutSink<W> as Sink>⟧.faults self.old) (⟦<StdoutSink<W> as Sink>⟧.faults self.new)) }
-        ensures uncounted { OnOk result (⟦<StdoutSink<W> as Sink>⟧.faults self.new ≡ ⟦<StdoutSink<W> as Sink>⟧.faults self.old) }
-        ensures later { ⟦<StdoutSink<W> as Sink>⟧.faults self.old ≤ ⟦<StdoutSink<W> as Sink>⟧.faults self.new }
+        ensures bytes { IfOk result
+            (λ n. Takes (⟦<StdoutSink<W> as Sink>⟧.taken self.old)
+            (⟦<StdoutSink<W> as Sink>⟧.taken self.new) (take n piece.now)) }
+        ensures none { OnErr result
+            (Takes (⟦<StdoutSink<W> as Sink>⟧.taken self.old)
+            (⟦<StdoutSink<W> as Sink>⟧.taken self.new) []) }
+        ensures cause { OnErr result
+            (Rose (⟦<StdoutSink<W> as Sink>⟧.faults self.old)
+            (⟦<StdoutSink<W> as Sink>⟧.faults self.new)) }
+        ensures uncounted { OnOk result
+            (⟦<StdoutSink<W> as Sink>⟧.faults self.new
+            ≡ ⟦<StdoutSink<W> as Sink>⟧.faults self.old) }
+        ensures later { ⟦<StdoutSink<W> as Sink>⟧.faults self.old
+            ≤ ⟦<StdoutSink<W> as Sink>⟧.faults self.new }
 
-        // The piece is passed on to the writer once: what the writer took of it is what is answered, and after a failed call it took none.
-        ensures passed { WriteAppends (W.contents (writer_of self.old)) (W.contents (writer_of self.new)) result piece.now }
+        // The piece is passed on to the writer once: what the writer took of it is what is
+        // answered, and after a failed call it took none.
+        ensures passed { WriteAppends (W.contents (writer_of self.old))
+            (W.contents (writer_of self.new)) result piece.now }
 
         // Each failure is counted.
-        ensures counted { OnErr result (⟦<StdoutSink<W> as Sink>⟧.faults self.new ≡ raised (⟦<StdoutSink<W> as Sink>⟧.faults self.old)) }
+        ensures counted { OnErr result
+            (⟦<StdoutSink<W> as Sink>⟧.faults self.new
+            ≡ raised (⟦<StdoutSink<W> as Sink>⟧.faults self.old)) }
     {
         match self.writer.write(piece) {
             Ok(count) if count > 0 => Ok(count),

@@ -22,8 +22,8 @@ enum Begun {
     Empty,
 }
 
-/// A shelf of files in memory that never fails: a name that is no file's stands for the empty text. Of two files of
-/// one name the first counts.
+/// A shelf of files in memory that never fails: a name that is no file's stands for the empty text.
+/// Of two files of one name the first counts.
 #[derive(Drop)]
 pub struct SureShelf {
     files: Vec<(String, Vec<u8>)>,
@@ -67,15 +67,21 @@ impl Shelf for SureShelf {
         ensures text { OnOk result (Begins (held_by self.old) name.now (rest_of self.new)) }
         ensures serves { OnOk result (IsTrue (serves_of self.new name.now)) }
         ensures none { OnErr result (has_begun self.new ≡ false) }
-        ensures opens { OnOk result (Changes (⟦<SureShelf as Shelf>⟧.openings self.old) (⟦<SureShelf as Shelf>⟧.openings self.new) (with_begun name.now)) }
-        ensures opens_none { OnErr result (Changes (⟦<SureShelf as Shelf>⟧.openings self.old) (⟦<SureShelf as Shelf>⟧.openings self.new) as_before) }
+        ensures opens { OnOk result
+            (Changes (⟦<SureShelf as Shelf>⟧.openings self.old)
+            (⟦<SureShelf as Shelf>⟧.openings self.new) (with_begun name.now)) }
+        ensures opens_none { OnErr result
+            (Changes (⟦<SureShelf as Shelf>⟧.openings self.old)
+            (⟦<SureShelf as Shelf>⟧.openings self.new) as_before) }
         ensures cause { OnErr result (Rose 0 0) }
-        ensures uncounted { OnOk result (⟦<SureShelf as Shelf>⟧.faults self.new ≡ ⟦<SureShelf as Shelf>⟧.faults self.old) }
+        ensures uncounted { OnOk result
+            (⟦<SureShelf as Shelf>⟧.faults self.new ≡ ⟦<SureShelf as Shelf>⟧.faults self.old) }
         ensures later { List ℕ → 0 ≤ 0 }
 
         // It never fails, and serves the name of the begun text alone.
         ensures sure { IsOk result }
-        ensures alone { (other : List ℕ) → serves_of self.new other ≡ has_place_of (files_of self.old) name.now other }
+        ensures alone { (other : List ℕ)
+            → serves_of self.new other ≡ has_place_of (files_of self.old) name.now other }
         ensures files { files_of self.new ≡ files_of self.old }
     {
         let Some(file) = find(&self.files, name) else {
@@ -94,12 +100,22 @@ impl Shelf for SureShelf {
         ensures begun { IsTrue (has_begun self.new) }
         ensures bound { IfOk result (λ n. n ≤ length room.new) }
         ensures bytes { ReadConsumes (rest_of self.old) (rest_of self.new) result room.new }
-        ensures ends { IfOk result (λ n. n ≡ 0 → Changes (⟦<SureShelf as Shelf>⟧.openings self.old) (⟦<SureShelf as Shelf>⟧.openings self.new) with_end) }
-        ensures goes_on { IfOk result (λ n. 0 < n → Changes (⟦<SureShelf as Shelf>⟧.openings self.old) (⟦<SureShelf as Shelf>⟧.openings self.new) as_before) }
-        ensures stays { OnErr result (Changes (⟦<SureShelf as Shelf>⟧.openings self.old) (⟦<SureShelf as Shelf>⟧.openings self.new) as_before) }
+        ensures ends { IfOk result
+            (λ n. n ≡ 0
+            → Changes (⟦<SureShelf as Shelf>⟧.openings self.old)
+            (⟦<SureShelf as Shelf>⟧.openings self.new) with_end) }
+        ensures goes_on { IfOk result
+            (λ n. 0 < n
+            → Changes (⟦<SureShelf as Shelf>⟧.openings self.old)
+            (⟦<SureShelf as Shelf>⟧.openings self.new) as_before) }
+        ensures stays { OnErr result
+            (Changes (⟦<SureShelf as Shelf>⟧.openings self.old)
+            (⟦<SureShelf as Shelf>⟧.openings self.new) as_before) }
         ensures serves { (other : List ℕ) → serves_of self.new other ≡ serves_of self.old other }
-        ensures cause { OnErr result ((other : List ℕ) → IsTrue (serves_of self.old other) → Rose 0 0) }
-        ensures uncounted { OnOk result (⟦<SureShelf as Shelf>⟧.faults self.new ≡ ⟦<SureShelf as Shelf>⟧.faults self.old) }
+        ensures cause { OnErr result
+            ((other : List ℕ) → IsTrue (serves_of self.old other) → Rose 0 0) }
+        ensures uncounted { OnOk result
+            (⟦<SureShelf as Shelf>⟧.faults self.new ≡ ⟦<SureShelf as Shelf>⟧.faults self.old) }
         ensures later { List ℕ → 0 ≤ 0 }
 
         // It never fails.

@@ -62,17 +62,21 @@ impl Sink for SureSink {
 
         ensures some { IfOk result (λ n. 0 < n) }
         ensures bound { IfOk result (λ n. n ≤ length piece.now) }
-        ensures bytes { IfOk result (λ n. Takes (told_bytes self.old) (told_bytes self.new) (take n piece.now)) }
+        ensures bytes { IfOk result
+            (λ n. Takes (told_bytes self.old) (told_bytes self.new) (take n piece.now)) }
         ensures none { OnErr result (Takes (told_bytes self.old) (told_bytes self.new) []) }
         ensures cause { OnErr result (Rose 0 0) }
-        ensures uncounted { OnOk result (⟦<SureSink as Sink>⟧.faults self.new ≡ ⟦<SureSink as Sink>⟧.faults self.old) }
+        ensures uncounted { OnOk result
+            (⟦<SureSink as Sink>⟧.faults self.new ≡ ⟦<SureSink as Sink>⟧.faults self.old) }
         ensures later { 0 ≤ 0 }
 
         // It never fails, and takes the whole piece.
         ensures sure { IsOk result }
         ensures whole { IfOk result (λ n. n ≡ length piece.now) }
-        ensures told { told_bytes self.new ≡ told_within (size_of self.old) (told_bytes self.old) piece.now }
-        ensures count { count_of self.new ≡ min (count_of self.old + length piece.now) (2 ^ 64 - 1) }
+        ensures told { told_bytes self.new
+            ≡ told_within (size_of self.old) (told_bytes self.old) piece.now }
+        ensures count { count_of self.new
+            ≡ min (count_of self.old + length piece.now) (2 ^ 64 - 1) }
         ensures size { size_of self.new ≡ size_of self.old }
     {
         self.count = self.count.saturating_add(piece.len());

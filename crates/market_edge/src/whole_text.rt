@@ -56,20 +56,27 @@ pub fn read_whole<H: Shelf>(
     ensures whole { IfOk result (λ text. IsTextOf (H.holds shelf.old) name.now text.items) }
     ensures end { OnOk result (IsReadOut (H.holds shelf.old) (H.left shelf.new)) }
     // The text is begun and read to its end, or begun at most; nothing else is begun.
-    ensures read_out { OnOk result (Changes (H.openings shelf.old) (H.openings shelf.new) (with_read_out (name.now ∷ []))) }
+    ensures read_out { OnOk result
+        (Changes (H.openings shelf.old) (H.openings shelf.new) (with_read_out (name.now ∷ []))) }
     ensures begun { ¬ IsErrOf result Taking.ShelfFault → IsTrue (H.is_begun shelf.new) }
-    ensures begun_at_most { OnErr result (BeginsAtMost (H.openings shelf.old) (H.openings shelf.new) name.now (H.is_begun shelf.new)) }
+    ensures begun_at_most { OnErr result
+        (BeginsAtMost (H.openings shelf.old) (H.openings shelf.new) name.now
+        (H.is_begun shelf.new)) }
 
     ensures served { OnOk result (IsTrue (H.serves shelf.new name.now)) }
     ensures within { IfOk result (λ text. length text.items ≤ limit) }
 
     // It is too long exactly where one byte more than the limit was taken.
-    ensures too_long { IsErrOf result Taking.TooLong → TakesExactly (limit + 1) (H.holds shelf.old) name.now (H.left shelf.new) }
-    ensures at_most { ¬ IsErrOf result Taking.TooLong → IsTrue (H.is_begun shelf.new) → TakesAtMost limit (H.holds shelf.old) name.now (H.left shelf.new) }
+    ensures too_long { IsErrOf result Taking.TooLong
+        → TakesExactly (limit + 1) (H.holds shelf.old) name.now (H.left shelf.new) }
+    ensures at_most { ¬ IsErrOf result Taking.TooLong → IsTrue (H.is_begun shelf.new)
+        → TakesAtMost limit (H.holds shelf.old) name.now (H.left shelf.new) }
 
     // A fault is counted exactly where the shelf is at fault.
-    ensures shelf_fault { IsErrOf result Taking.ShelfFault → Rose (H.faults shelf.old name.now) (H.faults shelf.new name.now) }
-    ensures uncounted { ¬ IsErrOf result Taking.ShelfFault → H.faults shelf.new ≡ H.faults shelf.old }
+    ensures shelf_fault { IsErrOf result Taking.ShelfFault
+        → Rose (H.faults shelf.old name.now) (H.faults shelf.new name.now) }
+    ensures uncounted { ¬ IsErrOf result Taking.ShelfFault
+        → H.faults shelf.new ≡ H.faults shelf.old }
 
     ensures holds { H.holds shelf.new ≡ H.holds shelf.old }
     ensures later { (other : List ℕ) → H.faults shelf.old other ≤ H.faults shelf.new other }

@@ -45,16 +45,23 @@ length-audit words workers has =
     (omega arith, omega arith)
 
 -- its inputs are the words behind the workers
-pub inputs-audit : (words : List (String Global)) (workers : ℕ) (a b c d : String Global) → 7 ≤ length words → a ≡ get_or words 2 a → b ≡ get_or words 3 b → c ≡ get_or words 4 c → d ≡ get_or words 5 d
-    → inputs_of (Audit workers) (map string_bytes words) ≡ string_bytes a ∷ string_bytes b ∷ string_bytes c ∷ string_bytes d ∷ map string_bytes (take (length words - 6) (drop 6 words))
+pub inputs-audit : (words : List (String Global)) (workers : ℕ) (a b c d : String Global) → 7 ≤ length words → a ≡ get_or words 2 a → b ≡ get_or words 3 b
+    → c ≡ get_or words 4 c → d ≡ get_or words 5 d
+    → inputs_of (Audit workers) (map string_bytes words)
+    ≡ string_bytes a ∷ string_bytes b ∷ string_bytes c ∷ string_bytes d ∷ map string_bytes (take (length words - 6) (drop 6 words))
 inputs-audit words workers a b c d some p q r s =
     three_words words a b c (omega arith) p q r
-    ∙ ap (λ (more : List (List ℕ)). string_bytes a ∷ string_bytes b ∷ string_bytes c ∷ more) (word_at words 5 d (omega arith) s ∙ ap (λ (more : List (List ℕ)). string_bytes d ∷ more) (words_behind words 6))
+    ∙ ap (λ (more : List (List ℕ)). string_bytes a ∷ string_bytes b ∷ string_bytes c ∷ more)
+    (word_at words 5 d (omega arith) s ∙ ap (λ (more : List (List ℕ)). string_bytes d ∷ more) (words_behind words 6))
 
 -- the words of `audit`, what is seen of the shelf, and inputs that were read
-module _ (words : List (List ℕ)) (workers : ℕ) (seen : Sight) (a b c d : List ℕ) (names sessions : List (List ℕ)) (room : ℕ) (offered : CatalogData) (enrolled : RollData) (rules : SettingsData) (text : List ℕ) (streams : List (Vec Command Global))
-    (has : HasForm words (Audit workers)) (inputs : inputs_of (Audit workers) words ≡ a ∷ b ∷ c ∷ d ∷ names) (some : 1 ≤ length names) (first : IsRead Catalog seen.held a (λ bytes. catalog_of bytes ≡ Ok offered))
-    (second : IsRead Roll seen.held b (λ bytes. roll_of bytes ≡ Ok enrolled)) (third : IsRead Settings seen.held c (λ bytes. settings_of (without_mark bytes) ≡ Ok rules)) (fourth : IsRead Published seen.held d (λ bytes. bytes ≡ text))
+module _ (words : List (List ℕ)) (workers : ℕ) (seen : Sight) (a b c d : List ℕ) (names sessions : List (List ℕ)) (room : ℕ) (offered : CatalogData)
+    (enrolled : RollData) (rules : SettingsData) (text : List ℕ) (streams : List (Vec Command Global))
+    (has : HasForm words (Audit workers)) (inputs : inputs_of (Audit workers) words ≡ a ∷ b ∷ c ∷ d ∷ names) (some : 1 ≤ length names)
+    (first : IsRead Catalog seen.held a (λ bytes. catalog_of bytes ≡ Ok offered))
+    (second : IsRead Roll seen.held b (λ bytes. roll_of bytes ≡ Ok enrolled))
+    (third : IsRead Settings seen.held c (λ bytes. settings_of (without_mark bytes) ≡ Ok rules))
+    (fourth : IsRead Published seen.held d (λ bytes. bytes ≡ text))
     (are : AreReadSessions seen.held names sessions streams room) (ended : IsLastAtEnd seen names) where
   worked_out : (P : Form → List (List ℕ) → Type 0) → P (Audit workers) (first.0 ∷ second.0 ∷ third.0 ∷ fourth.0 ∷ sessions) → IsWorkedOut words seen P
   worked_out P holds = (
@@ -62,7 +69,8 @@ module _ (words : List (List ℕ)) (workers : ℕ) (seen : Sight) (a b c d : Lis
     has,
     first.0 ∷ second.0 ∷ third.0 ∷ fourth.0 ∷ sessions,
     subst (λ given. AreRead (Audit workers) seen.held given (first.0 ∷ second.0 ∷ third.0 ∷ fourth.0 ∷ sessions)) (sym inputs)
-        (published_read (Audit workers) (opens_audit workers) seen.held a b c d names sessions room offered enrolled rules text streams first second third fourth are),
+        (published_read (Audit workers) (opens_audit workers) seen.held a b c d names sessions room offered enrolled rules text streams first second third
+        fourth are),
     behind_at_end seen (inputs_of (Audit workers) words) (a ∷ b ∷ c ∷ d ∷ []) names inputs some ended,
     holds,
   )
@@ -73,11 +81,16 @@ module _ (words : List (List ℕ)) (workers : ℕ) (seen : Sight) (a b c d : Lis
   -- the text that was read is accepted, and its audit was written
   pub audit_done : (written : List ℕ) → IsAuditOf (market_of offered enrolled rules) (command_lists streams) text written → IsOutcome words seen Done written
   audit_done written audited =
-      worked_out (λ form texts. Prints form texts written)
-      (market_of offered enrolled rules, command_lists streams, market_read, subst (λ bytes. IsAuditOf (market_of offered enrolled rules) (command_lists streams) bytes written) (sym fourth.3) audited)
+      worked_out (λ form texts. Prints form texts written) (
+        market_of offered enrolled rules,
+        command_lists streams,
+        market_read,
+        subst (λ bytes. IsAuditOf (market_of offered enrolled rules) (command_lists streams) bytes written) (sym fourth.3) audited,
+      )
 
   -- the first finding on it was told
-  pub audit_found : (finding : Finding) (line : List ℕ) → ¬ IsAccepted (market_of offered enrolled rules) (command_lists streams) text → IsFirstFinding (market_of offered enrolled rules) (command_lists streams) text finding
+  pub audit_found : (finding : Finding) (line : List ℕ) → ¬ IsAccepted (market_of offered enrolled rules) (command_lists streams) text
+      → IsFirstFinding (market_of offered enrolled rules) (command_lists streams) text finding
       → line ≡ finding_line (tables_in (market_of offered enrolled rules)) finding → IsOutcome words seen (Found finding) line
   audit_found finding line refused found is =
       worked_out (λ form texts. TellsFinding form texts finding line) (

@@ -44,7 +44,8 @@ length-check words has =
     let few : length has.4 ≤ 64 = has.6.1 in
     (omega arith, omega arith)
 
-four_words : (words : List (String Global)) (a b c d : String Global) → 6 ≤ length words → a ≡ get_or words 1 a → b ≡ get_or words 2 b → c ≡ get_or words 3 c → d ≡ get_or words 4 d
+four_words : (words : List (String Global)) (a b c d : String Global) → 6 ≤ length words → a ≡ get_or words 1 a → b ≡ get_or words 2 b → c ≡ get_or words 3 c
+    → d ≡ get_or words 4 d
     → drop 1 (map string_bytes words) ≡ string_bytes a ∷ string_bytes b ∷ string_bytes c ∷ string_bytes d ∷ drop 5 (map string_bytes words)
 four_words (u ∷ v ∷ w ∷ x ∷ y ∷ more) a b c d some p q r s = cc
 four_words (u ∷ v ∷ w ∷ x ∷ []) a b c d some p q r s = absurd (omega arith)
@@ -54,22 +55,30 @@ four_words (u ∷ []) a b c d some p q r s = absurd (omega arith)
 four_words [] a b c d some p q r s = absurd (omega arith)
 
 -- its inputs are the words behind the verb
-pub inputs-check : (words : List (String Global)) (a b c d : String Global) → 6 ≤ length words → a ≡ get_or words 1 a → b ≡ get_or words 2 b → c ≡ get_or words 3 c → d ≡ get_or words 4 d
-    → inputs_of Check (map string_bytes words) ≡ string_bytes a ∷ string_bytes b ∷ string_bytes c ∷ string_bytes d ∷ map string_bytes (take (length words - 5) (drop 5 words))
+pub inputs-check : (words : List (String Global)) (a b c d : String Global) → 6 ≤ length words → a ≡ get_or words 1 a → b ≡ get_or words 2 b
+    → c ≡ get_or words 3 c → d ≡ get_or words 4 d
+    → inputs_of Check (map string_bytes words)
+    ≡ string_bytes a ∷ string_bytes b ∷ string_bytes c ∷ string_bytes d ∷ map string_bytes (take (length words - 5) (drop 5 words))
 inputs-check words a b c d some p q r s =
-    four_words words a b c d some p q r s ∙ ap (λ (more : List (List ℕ)). string_bytes a ∷ string_bytes b ∷ string_bytes c ∷ string_bytes d ∷ more) (words_behind words 5)
+    four_words words a b c d some p q r s
+    ∙ ap (λ (more : List (List ℕ)). string_bytes a ∷ string_bytes b ∷ string_bytes c ∷ string_bytes d ∷ more) (words_behind words 5)
 
 -- the words of `check`, what is seen of the shelf, and inputs that were read
-module _ (words : List (List ℕ)) (seen : Sight) (a b c d : List ℕ) (names sessions : List (List ℕ)) (room : ℕ) (offered : CatalogData) (enrolled : RollData) (rules : SettingsData) (text : List ℕ) (streams : List (Vec Command Global))
-    (has : HasForm words Check) (inputs : inputs_of Check words ≡ a ∷ b ∷ c ∷ d ∷ names) (some : 1 ≤ length names) (first : IsRead Catalog seen.held a (λ bytes. catalog_of bytes ≡ Ok offered))
-    (second : IsRead Roll seen.held b (λ bytes. roll_of bytes ≡ Ok enrolled)) (third : IsRead Settings seen.held c (λ bytes. settings_of (without_mark bytes) ≡ Ok rules)) (fourth : IsRead Published seen.held d (λ bytes. bytes ≡ text))
+module _ (words : List (List ℕ)) (seen : Sight) (a b c d : List ℕ) (names sessions : List (List ℕ)) (room : ℕ) (offered : CatalogData) (enrolled : RollData)
+    (rules : SettingsData) (text : List ℕ) (streams : List (Vec Command Global))
+    (has : HasForm words Check) (inputs : inputs_of Check words ≡ a ∷ b ∷ c ∷ d ∷ names) (some : 1 ≤ length names)
+    (first : IsRead Catalog seen.held a (λ bytes. catalog_of bytes ≡ Ok offered))
+    (second : IsRead Roll seen.held b (λ bytes. roll_of bytes ≡ Ok enrolled))
+    (third : IsRead Settings seen.held c (λ bytes. settings_of (without_mark bytes) ≡ Ok rules))
+    (fourth : IsRead Published seen.held d (λ bytes. bytes ≡ text))
     (are : AreReadSessions seen.held names sessions streams room) (ended : IsLastAtEnd seen names) where
   worked_out : (P : Form → List (List ℕ) → Type 0) → P Check (first.0 ∷ second.0 ∷ third.0 ∷ fourth.0 ∷ sessions) → IsWorkedOut words seen P
   worked_out P holds = (
     Check,
     has,
     first.0 ∷ second.0 ∷ third.0 ∷ fourth.0 ∷ sessions,
-    subst (λ given. AreRead Check seen.held given (first.0 ∷ second.0 ∷ third.0 ∷ fourth.0 ∷ sessions)) (sym inputs) (published_read Check opens_check seen.held a b c d names sessions room offered enrolled rules text streams first second third fourth are),
+    subst (λ given. AreRead Check seen.held given (first.0 ∷ second.0 ∷ third.0 ∷ fourth.0 ∷ sessions)) (sym inputs)
+        (published_read Check opens_check seen.held a b c d names sessions room offered enrolled rules text streams first second third fourth are),
     behind_at_end seen (inputs_of Check words) (a ∷ b ∷ c ∷ d ∷ []) names inputs some ended,
     holds,
   )
@@ -78,13 +87,22 @@ module _ (words : List (List ℕ)) (seen : Sight) (a b c d : List ℕ) (names se
   market_read = record { catalog_says = first.3; roll_says = second.3; settings_say = third.3; sessions_say = are.items }
 
   -- the text that was read is accepted
-  pub check_done : (line : List ℕ) → IsAccepted (market_of offered enrolled rules) (command_lists streams) text → line ≡ accepted_line → IsOutcome words seen Done line
+  pub check_done : (line : List ℕ) → IsAccepted (market_of offered enrolled rules) (command_lists streams) text → line ≡ accepted_line
+      → IsOutcome words seen Done line
   check_done line accepted is =
-      worked_out (λ form texts. Prints form texts line)
-      ((market_of offered enrolled rules, command_lists streams, market_read, subst (IsAccepted (market_of offered enrolled rules) (command_lists streams)) (sym fourth.3) accepted), is)
+      worked_out (λ form texts. Prints form texts line) (
+        (
+          market_of offered enrolled rules,
+          command_lists streams,
+          market_read,
+          subst (IsAccepted (market_of offered enrolled rules) (command_lists streams)) (sym fourth.3) accepted,
+        ),
+        is,
+      )
 
   -- the first finding on it was told
-  pub check_found : (finding : Finding) (line : List ℕ) → ¬ IsAccepted (market_of offered enrolled rules) (command_lists streams) text → IsFirstFinding (market_of offered enrolled rules) (command_lists streams) text finding
+  pub check_found : (finding : Finding) (line : List ℕ) → ¬ IsAccepted (market_of offered enrolled rules) (command_lists streams) text
+      → IsFirstFinding (market_of offered enrolled rules) (command_lists streams) text finding
       → line ≡ finding_line (tables_in (market_of offered enrolled rules)) finding → IsOutcome words seen (Found finding) line
   check_found finding line refused found is =
       worked_out (λ form texts. TellsFinding form texts finding line) (

@@ -38,8 +38,10 @@ same_text None name told text is whole = cc
 same_text (Some holding) name told text is whole = cc
 
 -- an input among those that are told and in order has a told text, which is in order behind the texts of the earlier ones
-in_order_at : (form : Form) (held : Option Holding) (front earlier later told texts : List (List ℕ)) (name : List ℕ) → AreTold held (earlier ++ name ∷ later) told
-    → AreInOrder form front told → AllZip (IsTextOf held) earlier texts → (text : List ℕ) × (told_text held name ≡ Some text) × IsInOrder form (front ++ texts) text
+in_order_at : (form : Form) (held : Option Holding) (front earlier later told texts : List (List ℕ)) (name : List ℕ)
+    → AreTold held (earlier ++ name ∷ later) told
+    → AreInOrder form front told → AllZip (IsTextOf held) earlier texts
+    → (text : List ℕ) × (told_text held name ≡ Some text) × IsInOrder form (front ++ texts) text
 in_order_at form held front [] later [] texts name are order each = absurd are
 in_order_at form held front [] later (t ∷ told) [] name are order each = (t, are.0, rw (append-nil front) order.0)
 in_order_at form held front [] later (t ∷ told) (s ∷ texts) name are order each = absurd each
@@ -57,7 +59,8 @@ one_catalog [] one other is same = absurd is
 one_catalog (text ∷ texts) one other is same = cc
 
 -- a text of its grammar has no fault
-no_fault : (kind : Kind) (earlier : List (List ℕ)) (row : ℕ) (cause : Cause) (text : List ℕ) → IsOfGrammar kind earlier text → HasFault kind earlier row cause text → ⊥
+no_fault : (kind : Kind) (earlier : List (List ℕ)) (row : ℕ) (cause : Cause) (text : List ℕ) → IsOfGrammar kind earlier text
+    → HasFault kind earlier row cause text → ⊥
 no_fault Catalog earlier row cause text good fault = subst (λ read. MatchResult read (λ _. ⊤) (λ _. ⊥)) (sym good.1 ∙ fault.1) tt
 no_fault Roll earlier row cause text good fault = subst (λ read. MatchResult read (λ _. ⊤) (λ _. ⊥)) (sym good.1 ∙ fault.1) tt
 no_fault Settings earlier row cause text good fault = subst (λ read. MatchResult read (λ _. ⊤) (λ _. ⊥)) (sym good.1 ∙ fault.1) tt
@@ -73,19 +76,22 @@ left_is_short count text (Some bytes) None is left = absurd left
 left_is_short count text None left is taken = absurd taken
 
 -- a told text of which so many bytes were taken has as many
-taken_of_told : (count : ℕ) (held : Option Holding) (name text : List ℕ) (left : Option (List ℕ)) → told_text held name ≡ Some text → TakesExactly count held name left → count ≤ length text
+taken_of_told : (count : ℕ) (held : Option Holding) (name text : List ℕ) (left : Option (List ℕ)) → told_text held name ≡ Some text
+    → TakesExactly count held name left → count ≤ length text
 taken_of_told count None name text left is taken = absurd cc
 taken_of_told count (Some holding) name text left is taken = left_is_short count text (text_of holding name) left is taken
 
 -- a form, what is seen of the shelf, and the names of inputs whose told texts are in order
 module _ (form : Form) (seen : Sight) (inputs told : List (List ℕ)) (are : AreTold seen.held inputs told) (order : AreInOrder form [] told) where
-  module _ (earlier later texts : List (List ℕ)) (name : List ℕ) (split : inputs ≡ earlier ++ name ∷ later) (each : AllZip (IsTextOf seen.held) earlier texts) where
+  module _ (earlier later texts : List (List ℕ)) (name : List ℕ) (split : inputs ≡ earlier ++ name ∷ later)
+      (each : AllZip (IsTextOf seen.held) earlier texts) where
     found : (text : List ℕ) × (told_text seen.held name ≡ Some text) × IsInOrder form texts text
     found = in_order_at form seen.held [] earlier later told texts name (subst (λ names. AreTold seen.held names told) split are) order each
 
     -- the input is not too long
     pub no_excess : (IsPastLimit form seen texts name ⊎ HasSurplus form seen texts name) → ⊥
-    no_excess (inl past) = absurd (omega (arith, taken_of_told (limit_of (kind_of form (length texts)) + 1) seen.held name found.0 seen.left found.1 past, found.2.within))
+    no_excess (inl past) =
+        absurd (omega (arith, taken_of_told (limit_of (kind_of form (length texts)) + 1) seen.held name found.0 seen.left found.1 past, found.2.within))
     no_excess (inr (ended, text, whole, within, more)) =
         let good : IsInOrder form texts text = subst (IsInOrder form texts) (same_text seen.held name found.0 text found.1 whole) found.2 in
         absurd (omega (arith, good.room, more))
@@ -97,15 +103,21 @@ module _ (form : Form) (seen : Sight) (inputs told : List (List ℕ)) (are : Are
         no_fault (kind_of form (length texts)) texts row cause text good.grammar fault
 
   -- they have no trouble but want of memory, where no fault was counted
-  no_trouble : All (λ name. ¬ Rose (seen.before name) (seen.after name)) inputs → (stop : Trouble) → HasTrouble form seen inputs stop → EndsWork (status_of stop)
+  no_trouble : All (λ name. ¬ Rose (seen.before name) (seen.after name)) inputs → (stop : Trouble) → HasTrouble form seen inputs stop
+      → EndsWork (status_of stop)
   no_trouble sound (trouble.ShelfFault n) (earlier, name, later, texts, split, number, read, failed) =
-      absurd (holds_at_seam (λ input. ¬ Rose (seen.before input) (seen.after input)) earlier later name (subst (All (λ input. ¬ Rose (seen.before input) (seen.after input))) split sound) failed.0)
-  no_trouble sound (trouble.Refused n row cause) (earlier, name, later, texts, split, number, read, faulty) = absurd (not_faulty earlier later texts name split read.each row cause faulty)
-  no_trouble sound (trouble.TooLong n) (earlier, name, later, texts, split, number, read, excess) = absurd (no_excess earlier later texts name split read.each excess)
+      absurd
+      (holds_at_seam (λ input. ¬ Rose (seen.before input) (seen.after input)) earlier later name
+      (subst (All (λ input. ¬ Rose (seen.before input) (seen.after input))) split sound) failed.0)
+  no_trouble sound (trouble.Refused n row cause) (earlier, name, later, texts, split, number, read, faulty) =
+      absurd (not_faulty earlier later texts name split read.each row cause faulty)
+  no_trouble sound (trouble.TooLong n) (earlier, name, later, texts, split, number, read, excess) =
+      absurd (no_excess earlier later texts name split read.each excess)
   no_trouble sound trouble.OutOfMemory has = tt
 
 -- what stops a call that can be done is want of memory, since words have one form
-memory_alone : (words : List (List ℕ)) (seen : Sight) (stop : Trouble) (text : List ℕ) → CanBeDone words seen → IsStopped words seen stop text → EndsWork (status_of stop)
+memory_alone : (words : List (List ℕ)) (seen : Sight) (stop : Trouble) (text : List ℕ) → CanBeDone words seen → IsStopped words seen stop text
+    → EndsWork (status_of stop)
 memory_alone words seen stop text can stopped =
     no_trouble can.0 seen (inputs_of can.0 words) can.2 can.3 can.4 can.5 stop
     (subst (λ form. HasTrouble form seen (inputs_of form words) stop) (one_form words stopped.0 can.0 stopped.1 can.1) stopped.2)
@@ -124,6 +136,8 @@ completes words seen OutOfMemory text can outcome = tt
 completes words seen SinkFault text can outcome = absurd outcome
 
 -- the same where a write may have failed, and no failure was counted
-pub completes_unless : (words : List (List ℕ)) (seen : Sight) (R : Type 0) (result status : Status) (text : List ℕ) → (result ≢ SinkFault → result ≡ status) → (result ≡ SinkFault → R)
+pub completes_unless : (words : List (List ℕ)) (seen : Sight) (R : Type 0) (result status : Status) (text : List ℕ) → (result ≢ SinkFault → result ≡ status)
+    → (result ≡ SinkFault → R)
     → IsOutcome words seen status text → CanBeDone words seen → ¬ R → EndsWork result
-completes_unless words seen R result status text same fault outcome can none = answered EndsWork result status (λ is. absurd (none (fault is))) same (completes words seen status text can outcome)
+completes_unless words seen R result status text same fault outcome can none =
+    answered EndsWork result status (λ is. absurd (none (fault is))) same (completes words seen status text can outcome)

@@ -41,7 +41,8 @@ length-hall words has =
     (omega arith, omega arith)
 
 -- its first input is the word behind the verb
-pub first-hall : (words : List (String Global)) (a : String Global) → 5 ≤ length words → a ≡ get_or words 1 a → inputs_of Hall (map string_bytes words) ≡ string_bytes a ∷ drop 2 (map string_bytes words)
+pub first-hall : (words : List (String Global)) (a : String Global) → 5 ≤ length words → a ≡ get_or words 1 a
+    → inputs_of Hall (map string_bytes words) ≡ string_bytes a ∷ drop 2 (map string_bytes words)
 first-hall words a some p = word_at words 1 a (omega arith) p
 
 -- its first two inputs
@@ -54,18 +55,25 @@ pub inputs-hall : (words : List (String Global)) (a b c : String Global) → 5 �
     → inputs_of Hall (map string_bytes words) ≡ string_bytes a ∷ string_bytes b ∷ string_bytes c ∷ map string_bytes (take (length words - 4) (drop 4 words))
 inputs-hall words a b c some p q r =
     second-hall words a b some p q
-    ∙ ap (λ (more : List (List ℕ)). string_bytes a ∷ string_bytes b ∷ more) (word_at words 3 c (omega arith) r ∙ ap (λ (more : List (List ℕ)). string_bytes c ∷ more) (words_behind words 4))
+    ∙ ap (λ (more : List (List ℕ)). string_bytes a ∷ string_bytes b ∷ more)
+    (word_at words 3 c (omega arith) r ∙ ap (λ (more : List (List ℕ)). string_bytes c ∷ more) (words_behind words 4))
 
 -- the published text was read behind a catalogue and a roll
-pub published_third : (held : Option Holding) (a b c : List ℕ) (offered : CatalogData) (enrolled : RollData) (published : List ℕ) → (first : IsRead Catalog held a (λ bytes. catalog_of bytes ≡ Ok offered))
-    (second : IsRead Roll held b (λ bytes. roll_of bytes ≡ Ok enrolled)) (third : IsRead Published held c (λ bytes. bytes ≡ published)) → AreRead Hall held (a ∷ b ∷ c ∷ []) (first.0 ∷ second.0 ∷ third.0 ∷ [])
+pub published_third : (held : Option Holding) (a b c : List ℕ) (offered : CatalogData) (enrolled : RollData) (published : List ℕ)
+    → (first : IsRead Catalog held a (λ bytes. catalog_of bytes ≡ Ok offered))
+    (second : IsRead Roll held b (λ bytes. roll_of bytes ≡ Ok enrolled)) (third : IsRead Published held c (λ bytes. bytes ≡ published))
+    → AreRead Hall held (a ∷ b ∷ c ∷ []) (first.0 ∷ second.0 ∷ third.0 ∷ [])
 published_third held a b c offered enrolled published first second third =
-    front_read Hall held (a ∷ b ∷ []) (first.0 ∷ second.0 ∷ []) c third.0 Published (roll_second Hall held a b offered enrolled refl (omega arith) refl first second) refl (omega arith) third.1 third.2 tt
+    front_read Hall held (a ∷ b ∷ []) (first.0 ∷ second.0 ∷ []) c third.0 Published
+    (roll_second Hall held a b offered enrolled refl (omega arith) refl first second) refl (omega arith) third.1 third.2 tt
 
 -- the words of `hall`, what is seen of the shelf, and inputs that were read
-module _ (words : List (List ℕ)) (before : List ℕ → ℕ) (seen : Sight) (held : Option Holding) (a b c : List ℕ) (names sessions : List (List ℕ)) (room : ℕ) (offered : CatalogData) (enrolled : RollData) (published : List ℕ)
-    (streams : List (Vec HallCommand Global)) (has : HasForm words Hall) (inputs : inputs_of Hall words ≡ a ∷ b ∷ c ∷ names) (some : 1 ≤ length names) (first : IsRead Catalog held a (λ bytes. catalog_of bytes ≡ Ok offered))
-    (second : IsRead Roll held b (λ bytes. roll_of bytes ≡ Ok enrolled)) (third : IsRead Published held c (λ bytes. bytes ≡ published)) (same : seen.held ≡ held) (are : AreReadRequests held names sessions streams room)
+module _ (words : List (List ℕ)) (before : List ℕ → ℕ) (seen : Sight) (held : Option Holding) (a b c : List ℕ) (names sessions : List (List ℕ)) (room : ℕ)
+    (offered : CatalogData) (enrolled : RollData) (published : List ℕ)
+    (streams : List (Vec HallCommand Global)) (has : HasForm words Hall) (inputs : inputs_of Hall words ≡ a ∷ b ∷ c ∷ names) (some : 1 ≤ length names)
+    (first : IsRead Catalog held a (λ bytes. catalog_of bytes ≡ Ok offered))
+    (second : IsRead Roll held b (λ bytes. roll_of bytes ≡ Ok enrolled)) (third : IsRead Published held c (λ bytes. bytes ≡ published))
+    (same : seen.held ≡ held) (are : AreReadRequests held names sessions streams room)
     (ended : IsLastAtEnd seen names) where
   abbrev market : Market
   market = record { catalog = offered; roll = enrolled }
@@ -73,7 +81,8 @@ module _ (words : List (List ℕ)) (before : List ℕ → ℕ) (seen : Sight) (h
   all_read : AreRead Hall held (a ∷ b ∷ c ∷ names) (first.0 ∷ second.0 ∷ third.0 ∷ sessions)
   all_read =
       let none = no_commands Hall (first.0 ∷ second.0 ∷ third.0 ∷ []) refl in
-      sessions_read Hall held (a ∷ b ∷ c ∷ []) (first.0 ∷ second.0 ∷ third.0 ∷ []) names sessions (published_third held a b c offered enrolled published first second third) refl (omega arith) are.each (omega (arith, are.count, none))
+      sessions_read Hall held (a ∷ b ∷ c ∷ []) (first.0 ∷ second.0 ∷ third.0 ∷ []) names sessions
+      (published_third held a b c offered enrolled published first second third) refl (omega arith) are.each (omega (arith, are.count, none))
 
   worked_out : (P : Form → List (List ℕ) → Type 0) → P Hall (first.0 ∷ second.0 ∷ third.0 ∷ sessions) → IsWorkedOut words (seen_from held before seen) P
   worked_out P holds = (
@@ -81,7 +90,8 @@ module _ (words : List (List ℕ)) (before : List ℕ → ℕ) (seen : Sight) (h
     has,
     first.0 ∷ second.0 ∷ third.0 ∷ sessions,
     subst (λ given. AreRead Hall held given (first.0 ∷ second.0 ∷ third.0 ∷ sessions)) (sym inputs) all_read,
-    behind_at_end (seen_from held before seen) (inputs_of Hall words) (a ∷ b ∷ c ∷ []) names inputs some (subst (λ h. IsLastAtEnd (seen_from h before seen) names) same ended),
+    behind_at_end (seen_from held before seen) (inputs_of Hall words) (a ∷ b ∷ c ∷ []) names inputs some
+        (subst (λ h. IsLastAtEnd (seen_from h before seen) names) same ended),
     holds,
   )
 
@@ -91,11 +101,18 @@ module _ (words : List (List ℕ)) (before : List ℕ → ℕ) (seen : Sight) (h
   -- the hall was told that opens with the text that was read
   pub hall_done : (text : List ℕ) → IsToldHall market (request_lists streams) published text → IsOutcome words (seen_from held before seen) Done text
   hall_done text told =
-      worked_out (λ form texts. Prints form texts text) (market, request_lists streams, market_read, are.items, subst (λ bytes. IsToldHall market (request_lists streams) bytes text) (sym third.3) told)
+      worked_out (λ form texts. Prints form texts text)
+      (market, request_lists streams, market_read, are.items, subst (λ bytes. IsToldHall market (request_lists streams) bytes text) (sym third.3) told)
 
   -- the first finding on it was told
-  pub hall_found : (finding : Finding) (line : List ℕ) → ¬ CanOpen market published → IsOpeningFinding market published finding → line ≡ finding_line (tables_in market) finding
+  pub hall_found : (finding : Finding) (line : List ℕ) → ¬ CanOpen market published → IsOpeningFinding market published finding
+      → line ≡ finding_line (tables_in market) finding
       → IsOutcome words (seen_from held before seen) (Found finding) line
   hall_found finding line refused found is =
-      worked_out (λ form texts. TellsFinding form texts finding line)
-      (market, market_read, subst (λ bytes. ¬ CanOpen market bytes) (sym third.3) refused, subst (λ bytes. IsOpeningFinding market bytes finding) (sym third.3) found, is)
+      worked_out (λ form texts. TellsFinding form texts finding line) (
+        market,
+        market_read,
+        subst (λ bytes. ¬ CanOpen market bytes) (sym third.3) refused,
+        subst (λ bytes. IsOpeningFinding market bytes finding) (sym third.3) found,
+        is,
+      )

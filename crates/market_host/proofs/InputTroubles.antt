@@ -23,13 +23,18 @@ use Rattle.market_host.specs.Troubles.{AtInput, HasSurplus, HasTrouble, IsAtEnd,
 use Rattle.market_host.proofs.Shelves.{seen_from}
 
 -- texts in order, and one more behind them
-in_order_more : (form : Form) (earlier texts : List (List ℕ)) (text : List ℕ) → AreInOrder form earlier texts → IsInOrder form (earlier ++ texts) text → AreInOrder form earlier (texts ++ text ∷ [])
+in_order_more : (form : Form) (earlier texts : List (List ℕ)) (text : List ℕ) → AreInOrder form earlier texts → IsInOrder form (earlier ++ texts) text
+    → AreInOrder form earlier (texts ++ text ∷ [])
 in_order_more form earlier [] text order next = (subst (λ all. IsInOrder form all text) (append-nil earlier) next, tt)
-in_order_more form earlier (first ∷ more) text order next =
-    (order.0, in_order_more form (earlier ++ first ∷ []) more text order.1 (subst (λ all. IsInOrder form all text) (sym (append_assoc earlier (first ∷ []) more)) next))
+in_order_more form earlier (first ∷ more) text order next = (
+  order.0,
+  in_order_more form (earlier ++ first ∷ []) more text order.1
+      (subst (λ all. IsInOrder form all text) (sym (append_assoc earlier (first ∷ []) more)) next),
+)
 
 -- one input more was read
-pub read_more : (form : Form) (held : Option Holding) (names texts : List (List ℕ)) (name text : List ℕ) → AreRead form held names texts → IsTextOf held name text → IsInOrder form texts text
+pub read_more : (form : Form) (held : Option Holding) (names texts : List (List ℕ)) (name text : List ℕ) → AreRead form held names texts
+    → IsTextOf held name text → IsInOrder form texts text
     → AreRead form held (names ++ name ∷ []) (texts ++ text ∷ [])
 read_more form held names texts name text read is order =
     record { each = AllZip-push (IsTextOf held) names texts name text read.each is; order = in_order_more form [] texts text read.order order }
@@ -39,12 +44,15 @@ pub texts_long : (form : Form) (held : Option Holding) (names texts : List (List
 texts_long form held names texts read = AllZip-long (IsTextOf held) names texts read.each
 
 -- the kind of an input, by the texts before it
-pub kind_at : (form : Form) (held : Option Holding) (names texts : List (List ℕ)) (kind : Kind) → AreRead form held names texts → kind_of form (length names) ≡ kind → kind_of form (length texts) ≡ kind
+pub kind_at : (form : Form) (held : Option Holding) (names texts : List (List ℕ)) (kind : Kind) → AreRead form held names texts
+    → kind_of form (length names) ≡ kind → kind_of form (length texts) ≡ kind
 kind_at form held names texts kind read is = ap (kind_of form) (texts_long form held names texts read) ∙ is
 
 -- an input in front of the streams was read: it is within its limit of bytes and of its grammar
-pub front_read : (form : Form) (held : Option Holding) (names texts : List (List ℕ)) (name text : List ℕ) (kind : Kind) → AreRead form held names texts → kind_of form (length names) ≡ kind
-    → length names < length (front_of form) → IsTextOf held name text → length text ≤ limit_of kind → IsOfGrammar kind texts text → AreRead form held (names ++ name ∷ []) (texts ++ text ∷ [])
+pub front_read : (form : Form) (held : Option Holding) (names texts : List (List ℕ)) (name text : List ℕ) (kind : Kind) → AreRead form held names texts
+    → kind_of form (length names) ≡ kind
+    → length names < length (front_of form) → IsTextOf held name text → length text ≤ limit_of kind → IsOfGrammar kind texts text
+    → AreRead form held (names ++ name ∷ []) (texts ++ text ∷ [])
 front_read form held names texts name text kind read is front whole within grammar =
     let of = sym (kind_at form held names texts kind read is) in
     let none : drop (length (front_of form)) (texts ++ text ∷ []) ≡ [] =
@@ -66,21 +74,26 @@ pub catalog_first : (form : Form) (held : Option Holding) (a : List ℕ) (catalo
 catalog_first form held a catalog of front read = front_read form held [] [] a read.0 Catalog (none_read form held) of front read.1 read.2 (catalog, read.3)
 
 -- and the roll, which is the second
-pub roll_second : (form : Form) (held : Option Holding) (a b : List ℕ) (catalog : CatalogData) (roll : RollData) → kind_of form 0 ≡ Catalog → 1 < length (front_of form) → kind_of form 1 ≡ Roll
+pub roll_second : (form : Form) (held : Option Holding) (a b : List ℕ) (catalog : CatalogData) (roll : RollData) → kind_of form 0 ≡ Catalog
+    → 1 < length (front_of form) → kind_of form 1 ≡ Roll
     → (first : IsRead Catalog held a (λ bytes. catalog_of bytes ≡ Ok catalog)) (second : IsRead Roll held b (λ bytes. roll_of bytes ≡ Ok roll))
     → AreRead form held (a ∷ b ∷ []) (first.0 ∷ second.0 ∷ [])
 roll_second form held a b catalog roll of front next first second =
-    front_read form held (a ∷ []) (first.0 ∷ []) b second.0 Roll (catalog_first form held a catalog of (omega arith) first) next front second.1 second.2 (roll, second.3)
+    front_read form held (a ∷ []) (first.0 ∷ []) b second.0 Roll (catalog_first form held a catalog of (omega arith) first) next front second.1 second.2
+    (roll, second.3)
 
 -- a form, what is seen of the shelf, and an input with those before and behind it
-module _ (form : Form) (seen : Sight) (earlier texts later : List (List ℕ)) (name : List ℕ) (number : ℕ) (read : AreRead form seen.held earlier texts) (is : number ≡ length earlier + 1) where
+module _ (form : Form) (seen : Sight) (earlier texts later : List (List ℕ)) (name : List ℕ) (number : ℕ) (read : AreRead form seen.held earlier texts)
+    (is : number ≡ length earlier + 1) where
   pub at_input : (n : ℕ) (P : List (List ℕ) → List ℕ → Type 0) → n ≡ number → P texts name → AtInput form seen (earlier ++ name ∷ later) n P
   at_input n P same p = (earlier, name, later, texts, refl, same ∙ is, read, p)
 
   -- an input of this kind that was not read
-  pub trouble_of_unread : (kind : Kind) (trouble : Trouble) → kind_of form (length earlier) ≡ kind → IsUnread (limit_of kind) seen name number trouble → HasTrouble form seen (earlier ++ name ∷ later) trouble
+  pub trouble_of_unread : (kind : Kind) (trouble : Trouble) → kind_of form (length earlier) ≡ kind → IsUnread (limit_of kind) seen name number trouble
+      → HasTrouble form seen (earlier ++ name ∷ later) trouble
   trouble_of_unread kind (ShelfFault n) of unread =
-      at_input n (λ all. IsFailed (limit_of (kind_of form (length all))) seen) unread.0 (subst (λ k. IsFailed (limit_of k) seen name) (sym (kind_at form seen.held earlier texts kind read of)) unread.1)
+      at_input n (λ all. IsFailed (limit_of (kind_of form (length all))) seen) unread.0
+      (subst (λ k. IsFailed (limit_of k) seen name) (sym (kind_at form seen.held earlier texts kind read of)) unread.1)
   trouble_of_unread kind (TooLong n) of unread =
       at_input n (λ all input. IsPastLimit form seen all input ⊎ HasSurplus form seen all input) unread.0
       (inl (subst (λ k. TakesExactly (limit_of k + 1) seen.held name seen.left) (sym (kind_at form seen.held earlier texts kind read of)) unread.1))
@@ -88,22 +101,36 @@ module _ (form : Form) (seen : Sight) (earlier texts later : List (List ℕ)) (n
   trouble_of_unread kind (Refused n row cause) of unread = absurd unread
 
   -- an input of this kind that was read to its end and is refused
-  pub trouble_of_refusal : (kind : Kind) (IsSo : ℕ → Cause → Type 0) (text : List ℕ) (trouble : Trouble) → kind_of form (length earlier) ≡ kind → IsAtEnd seen name → IsTextOf seen.held name text
-      → length text ≤ limit_of kind → ((row : ℕ) (cause : Cause) → IsSo row cause → HasFault kind texts row cause text) → IsRefusal IsSo number trouble → HasTrouble form seen (earlier ++ name ∷ later) trouble
+  pub trouble_of_refusal : (kind : Kind) (IsSo : ℕ → Cause → Type 0) (text : List ℕ) (trouble : Trouble) → kind_of form (length earlier) ≡ kind
+      → IsAtEnd seen name → IsTextOf seen.held name text
+      → length text ≤ limit_of kind → ((row : ℕ) (cause : Cause) → IsSo row cause → HasFault kind texts row cause text) → IsRefusal IsSo number trouble
+      → HasTrouble form seen (earlier ++ name ∷ later) trouble
   trouble_of_refusal kind IsSo text (Refused n row cause) of ended whole within fault refusal =
-      let faulty = subst (λ k. (length text ≤ limit_of k) × HasFault k texts row cause text) (sym (kind_at form seen.held earlier texts kind read of)) (within, fault row cause refusal.1) in
+      let faulty =
+      subst (λ k. (length text ≤ limit_of k) × HasFault k texts row cause text) (sym (kind_at form seen.held earlier texts kind read of))
+      (within, fault row cause refusal.1) in
       at_input n (IsFaulty form seen row cause) refusal.0 (ended, text, whole, faulty.0, faulty.1)
   trouble_of_refusal kind IsSo text OutOfMemory of ended whole within fault refusal = tt
   trouble_of_refusal kind IsSo text (ShelfFault n) of ended whole within fault refusal = absurd refusal
   trouble_of_refusal kind IsSo text (TooLong n) of ended whole within fault refusal = absurd refusal
 
-failed_before : (limit : ℕ) (seen : Sight) (before : List ℕ → ℕ) (name : List ℕ) → ((other : List ℕ) → before other ≤ seen.before other) → IsFailed limit seen name → IsFailed limit (seen_from seen.held before seen) name
+failed_before : (limit : ℕ) (seen : Sight) (before : List ℕ → ℕ) (name : List ℕ) → ((other : List ℕ) → before other ≤ seen.before other)
+    → IsFailed limit seen name → IsFailed limit (seen_from seen.held before seen) name
 failed_before limit seen before name later failed = (omega (arith, later name, failed.0), failed.1)
 
-same_held : (form : Form) (before : List ℕ → ℕ) (seen : Sight) (inputs : List (List ℕ)) (trouble : Trouble) → ((other : List ℕ) → before other ≤ seen.before other)
+same_held : (form : Form) (before : List ℕ → ℕ) (seen : Sight) (inputs : List (List ℕ)) (trouble : Trouble)
+    → ((other : List ℕ) → before other ≤ seen.before other)
     → HasTrouble form seen inputs trouble → HasTrouble form (seen_from seen.held before seen) inputs trouble
-same_held form before seen inputs (ShelfFault n) later trouble =
-    (trouble.0, trouble.1, trouble.2, trouble.3, trouble.4, trouble.5, trouble.6, failed_before (limit_of (kind_of form (length trouble.3))) seen before trouble.1 later trouble.7)
+same_held form before seen inputs (ShelfFault n) later trouble = (
+  trouble.0,
+  trouble.1,
+  trouble.2,
+  trouble.3,
+  trouble.4,
+  trouble.5,
+  trouble.6,
+  failed_before (limit_of (kind_of form (length trouble.3))) seen before trouble.1 later trouble.7,
+)
 same_held form before seen inputs (Refused n row cause) later trouble = trouble
 same_held form before seen inputs (TooLong n) later trouble = trouble
 same_held form before seen inputs OutOfMemory later trouble = tt

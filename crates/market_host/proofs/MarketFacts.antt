@@ -37,23 +37,32 @@ module _ (form : Form) (opens : OpensMarket form) where
   third_is_settings = kind_at 2
 
   -- the catalogue was read
-  pub market_first : (held : Option Holding) (a : List ℕ) (catalog : CatalogData) → (first : IsRead Catalog held a (λ text. catalog_of text ≡ Ok catalog)) → AreRead form held (a ∷ []) (first.0 ∷ [])
+  pub market_first : (held : Option Holding) (a : List ℕ) (catalog : CatalogData) → (first : IsRead Catalog held a (λ text. catalog_of text ≡ Ok catalog))
+      → AreRead form held (a ∷ []) (first.0 ∷ [])
   market_first held a catalog first = catalog_first form held a catalog first_is_catalog (omega (arith, three)) first
 
   -- and the roll
-  pub market_second : (held : Option Holding) (a b : List ℕ) (catalog : CatalogData) (roll : RollData) → (first : IsRead Catalog held a (λ text. catalog_of text ≡ Ok catalog)) (second : IsRead Roll held b (λ text. roll_of text ≡ Ok roll))
+  pub market_second : (held : Option Holding) (a b : List ℕ) (catalog : CatalogData) (roll : RollData)
+      → (first : IsRead Catalog held a (λ text. catalog_of text ≡ Ok catalog)) (second : IsRead Roll held b (λ text. roll_of text ≡ Ok roll))
       → AreRead form held (a ∷ b ∷ []) (first.0 ∷ second.0 ∷ [])
   market_second held a b catalog roll first second = roll_second form held a b catalog roll first_is_catalog (omega (arith, three)) second_is_roll first second
 
   -- and the settings
-  pub market_third : (held : Option Holding) (a b c : List ℕ) (catalog : CatalogData) (roll : RollData) (settings : SettingsData) → (first : IsRead Catalog held a (λ text. catalog_of text ≡ Ok catalog))
-      (second : IsRead Roll held b (λ text. roll_of text ≡ Ok roll)) (third : IsRead Settings held c (λ text. settings_of (without_mark text) ≡ Ok settings)) → AreRead form held (a ∷ b ∷ c ∷ []) (first.0 ∷ second.0 ∷ third.0 ∷ [])
+  pub market_third : (held : Option Holding) (a b c : List ℕ) (catalog : CatalogData) (roll : RollData) (settings : SettingsData)
+      → (first : IsRead Catalog held a (λ text. catalog_of text ≡ Ok catalog))
+      (second : IsRead Roll held b (λ text. roll_of text ≡ Ok roll)) (third : IsRead Settings held c (λ text. settings_of (without_mark text) ≡ Ok settings))
+      → AreRead form held (a ∷ b ∷ c ∷ []) (first.0 ∷ second.0 ∷ third.0 ∷ [])
   market_third held a b c catalog roll settings first second third =
-      front_read form held (a ∷ b ∷ []) (first.0 ∷ second.0 ∷ []) c third.0 Settings (market_second held a b catalog roll first second) third_is_settings three third.1 third.2 (settings, third.3)
+      front_read form held (a ∷ b ∷ []) (first.0 ∷ second.0 ∷ []) c third.0 Settings (market_second held a b catalog roll first second) third_is_settings three
+      third.1 third.2 (settings, third.3)
 
 -- a later input stopped the reading
-pub trouble_later : (form : Form) (held : Option Holding) (before : List ℕ → ℕ) (seen : Sight) (earlier texts later : List (List ℕ)) (kind : Kind) (name : List ℕ) (number : ℕ) (trouble : Trouble) → seen.held ≡ held
-    → ((other : List ℕ) → before other ≤ seen.before other) → AreRead form held earlier texts → kind_of form (length earlier) ≡ kind → number ≡ length earlier + 1 → IsTroubleOf seen kind name number trouble
+pub trouble_later : (form : Form) (held : Option Holding) (before : List ℕ → ℕ) (seen : Sight) (earlier texts later : List (List ℕ)) (kind : Kind)
+    (name : List ℕ) (number : ℕ) (trouble : Trouble)
+    → seen.held ≡ held
+    → ((other : List ℕ) → before other ≤ seen.before other) → AreRead form held earlier texts → kind_of form (length earlier) ≡ kind
+    → number ≡ length earlier + 1 → IsTroubleOf seen kind name number trouble
     → HasTrouble form (seen_from held before seen) (earlier ++ name ∷ later) trouble
 trouble_later form held before seen earlier texts later kind name number trouble same fell read of is stops =
-    trouble_before form held before seen (earlier ++ name ∷ later) trouble same fell (stops form earlier texts later (subst (λ h. AreRead form h earlier texts) (sym same) read) of is)
+    trouble_before form held before seen (earlier ++ name ∷ later) trouble same fell
+    (stops form earlier texts later (subst (λ h. AreRead form h earlier texts) (sym same) read) of is)

@@ -38,27 +38,43 @@ length-prefer words (catalog, roll, sessions, is, count) =
     (omega arith, omega arith)
 
 -- its first input is the word behind the verb
-pub first-prefer : (words : List (String Global)) (a : String Global) → 4 ≤ length words → a ≡ get_or words 1 a → inputs_of Prefer (map string_bytes words) ≡ string_bytes a ∷ drop 2 (map string_bytes words)
+pub first-prefer : (words : List (String Global)) (a : String Global) → 4 ≤ length words → a ≡ get_or words 1 a
+    → inputs_of Prefer (map string_bytes words) ≡ string_bytes a ∷ drop 2 (map string_bytes words)
 first-prefer words a some p = word_at words 1 a (omega arith) p
 
 -- its inputs are the words behind the verb
 pub inputs-prefer : (words : List (String Global)) (a b : String Global) → 4 ≤ length words → a ≡ get_or words 1 a → b ≡ get_or words 2 b
     → inputs_of Prefer (map string_bytes words) ≡ string_bytes a ∷ string_bytes b ∷ map string_bytes (take (length words - 3) (drop 3 words))
 inputs-prefer words a b some p q =
-    first-prefer words a some p ∙ ap (λ (more : List (List ℕ)). string_bytes a ∷ more) (word_at words 2 b (omega arith) q ∙ ap (λ (more : List (List ℕ)). string_bytes b ∷ more) (words_behind words 3))
+    first-prefer words a some p
+    ∙ ap (λ (more : List (List ℕ)). string_bytes a ∷ more)
+    (word_at words 2 b (omega arith) q ∙ ap (λ (more : List (List ℕ)). string_bytes b ∷ more) (words_behind words 3))
 
 -- the journal and the preferences of what was read were printed
-pub prefer_done : (words : List (List ℕ)) (before : List ℕ → ℕ) (seen : Sight) (held : Option Holding) (a b : List ℕ) (names sessions : List (List ℕ)) (room : ℕ) (offered : CatalogData) (enrolled : RollData)
+pub prefer_done : (words : List (List ℕ)) (before : List ℕ → ℕ) (seen : Sight) (held : Option Holding) (a b : List ℕ) (names sessions : List (List ℕ))
+    (room : ℕ) (offered : CatalogData) (enrolled : RollData)
     (streams : List (Vec Command Global)) (text : List ℕ) → HasForm words Prefer → inputs_of Prefer words ≡ a ∷ b ∷ names → 1 ≤ length names
-    → IsRead Catalog held a (λ bytes. catalog_of bytes ≡ Ok offered) → IsRead Roll held b (λ bytes. roll_of bytes ≡ Ok enrolled) → seen.held ≡ held → AreReadSessions held names sessions streams room
+    → IsRead Catalog held a (λ bytes. catalog_of bytes ≡ Ok offered) → IsRead Roll held b (λ bytes. roll_of bytes ≡ Ok enrolled) → seen.held ≡ held
+    → AreReadSessions held names sessions streams room
     → IsLastAtEnd seen names
-    → ((journal : List Entry) × IsLegalJournal (market_names offered.sections enrolled.students) journal × MergesStreams (command_lists streams) journal × (text ≡ preferences_text offered.sections enrolled.students journal))
+    →
+    ((journal : List Entry) × IsLegalJournal (market_names offered.sections enrolled.students) journal × MergesStreams (command_lists streams) journal
+    × (text ≡ preferences_text offered.sections enrolled.students journal))
     → IsOutcome words (seen_from held before seen) Done text
 prefer_done words before seen held a b names sessions room offered enrolled streams text has inputs some first second same are ended (journal, legal, merges, printed) =
-    let front : AreRead Prefer held (a ∷ b ∷ []) (first.0 ∷ second.0 ∷ []) = roll_second Prefer held a b offered enrolled refl (omega arith) refl first second in
+    let front : AreRead Prefer held (a ∷ b ∷ []) (first.0 ∷ second.0 ∷ []) =
+    roll_second Prefer held a b offered enrolled refl (omega arith) refl first second in
     let all : AreRead Prefer held (a ∷ b ∷ names) (first.0 ∷ second.0 ∷ sessions) =
     sessions_read Prefer held (a ∷ b ∷ []) (first.0 ∷ second.0 ∷ []) names sessions front refl (omega arith) are.each (omega (arith, are.count)) in
-    let market : IsHeld first.0 second.0 sessions offered enrolled journal = record { catalog_says = first.3; roll_says = second.3; legal = legal; merged = (command_lists streams, are.items, merges) } in
-    let read : AreRead Prefer held (inputs_of Prefer words) (first.0 ∷ second.0 ∷ sessions) = subst (λ names. AreRead Prefer held names (first.0 ∷ second.0 ∷ sessions)) (sym inputs) all in
-    let last : IsLastAtEnd (seen_from held before seen) names = subst (λ h. IsLastAtEnd (seen_from h before seen) names) same ended in
-    (Prefer, has, first.0 ∷ second.0 ∷ sessions, read, behind_at_end (seen_from held before seen) (inputs_of Prefer words) (a ∷ b ∷ []) names inputs some last, (offered, enrolled, journal, market, printed))
+    let market : IsHeld first.0 second.0 sessions offered enrolled journal =
+    record { catalog_says = first.3; roll_says = second.3; legal = legal; merged = (command_lists streams, are.items, merges) } in
+    let read : AreRead Prefer held (inputs_of Prefer words) (first.0 ∷ second.0 ∷ sessions) =
+    subst (λ names. AreRead Prefer held names (first.0 ∷ second.0 ∷ sessions)) (sym inputs) all in
+    let last : IsLastAtEnd (seen_from held before seen) names = subst (λ h. IsLastAtEnd (seen_from h before seen) names) same ended in (
+      Prefer,
+      has,
+      first.0 ∷ second.0 ∷ sessions,
+      read,
+      behind_at_end (seen_from held before seen) (inputs_of Prefer words) (a ∷ b ∷ []) names inputs some last,
+      (offered, enrolled, journal, market, printed),
+    )

@@ -21,46 +21,58 @@ one_more names state (first ∷ more) command = one_more names (state_after name
 -- the state after one more command
 pub said_more : (names : DeskNames) (state : DeskState) (commands : List Command) (n : ℕ) (d : Command) → n < length commands
     → state_after_commands names state (take (n + 1) commands) ≡ state_after names (state_after_commands names state (take n commands)) (get_or commands n d)
-said_more names state commands n d below = ap (state_after_commands names state) (take_more commands n d below) ∙ one_more names state (take n commands) (get_or commands n d)
+said_more names state commands n d below =
+    ap (state_after_commands names state) (take_more commands n d below) ∙ one_more names state (take n commands) (get_or commands n d)
 
 -- the state after one more command, in the desk's words
-pub said_next : (names mine : DeskNames) (start old new : DeskState) (commands : List Command) (n : ℕ) (command : Command) → n < length commands → command ≡ get_or commands n command → mine ≡ names
-    → old ≡ state_after_commands names start (take n commands) → new ≡ state_after mine old command → new ≡ state_after_commands names start (take (n + 1) commands)
+pub said_next : (names mine : DeskNames) (start old new : DeskState) (commands : List Command) (n : ℕ) (command : Command) → n < length commands
+    → command ≡ get_or commands n command → mine ≡ names
+    → old ≡ state_after_commands names start (take n commands) → new ≡ state_after mine old command
+    → new ≡ state_after_commands names start (take (n + 1) commands)
 said_next names mine start old new commands n command below at same before after =
     after ∙ ap (λ all. state_after all old command) same ∙ ap (λ state. state_after names state command) before
     ∙ ap (state_after names (state_after_commands names start (take n commands))) at ∙ sym (said_more names start commands n command below)
 
 -- an only student has a menu
-pub has_menu : (catalog : List Section) (student : Student) (preferences : List StudentPreferences) (menus : List MenuData) → AreMenusOf catalog (student ∷ []) preferences menus → 0 < length menus
+pub has_menu : (catalog : List Section) (student : Student) (preferences : List StudentPreferences) (menus : List MenuData)
+    → AreMenusOf catalog (student ∷ []) preferences menus → 0 < length menus
 has_menu catalog student (wanted ∷ more) (menu ∷ menus) are = omega arith
 has_menu catalog student [] menus are = absurd are
 has_menu catalog student (wanted ∷ more) [] are = absurd are
 
 -- it is the first one
-pub first_menu : (catalog : List Section) (student : Student) (preferences : List StudentPreferences) (menus : List MenuData) (d : MenuData) → AreMenusOf catalog (student ∷ []) preferences menus
+pub first_menu : (catalog : List Section) (student : Student) (preferences : List StudentPreferences) (menus : List MenuData) (d : MenuData)
+    → AreMenusOf catalog (student ∷ []) preferences menus
     → IsMenuOf catalog student (slice_index_or preferences 0 no_preferences) (get_or menus 0 d)
 first_menu catalog student (wanted ∷ more) (menu ∷ menus) d are = are.0
 first_menu catalog student [] menus d are = absurd are
 first_menu catalog student (wanted ∷ more) [] d are = absurd are
 
 -- it is a menu of what the student wants after the commands
-pub menu_after : (catalog : List Section) (student : Student) (roll : List Student) (preferences : List StudentPreferences) (menus : List MenuData) (state : DeskState) (commands : List Command) (menu : MenuData)
-    → roll ≡ student ∷ [] → preferences ≡ state.preferences → state ≡ state_of_new_desk catalog roll commands → AreMenusOf catalog roll preferences menus → menu ≡ get_or menus 0 menu
+pub menu_after : (catalog : List Section) (student : Student) (roll : List Student) (preferences : List StudentPreferences) (menus : List MenuData)
+    (state : DeskState) (commands : List Command) (menu : MenuData)
+    → roll ≡ student ∷ [] → preferences ≡ state.preferences → state ≡ state_of_new_desk catalog roll commands → AreMenusOf catalog roll preferences menus
+    → menu ≡ get_or menus 0 menu
     → IsMenuOf catalog student (wanted_after catalog student commands) menu
 menu_after catalog student roll preferences menus state commands menu one same after are at =
-    let first : IsMenuOf catalog student (slice_index_or preferences 0 no_preferences) (get_or menus 0 menu) = first_menu catalog student preferences menus menu (subst (λ all. AreMenusOf catalog all preferences menus) one are) in
+    let first : IsMenuOf catalog student (slice_index_or preferences 0 no_preferences) (get_or menus 0 menu) =
+    first_menu catalog student preferences menus menu (subst (λ all. AreMenusOf catalog all preferences menus) one are) in
     let end : state ≡ state_of_new_desk catalog (student ∷ []) commands = after ∙ ap (λ all. state_of_new_desk catalog all commands) one in
     let wanted : slice_index_or preferences 0 no_preferences ≡ wanted_after catalog student commands =
     ap (λ all. slice_index_or all 0 no_preferences) same ∙ ap (λ (s : DeskState). slice_index_or s.preferences 0 no_preferences) end in
     subst (λ w. IsMenuOf catalog student w menu) wanted (subst (IsMenuOf catalog student (slice_index_or preferences 0 no_preferences)) (sym at) first)
 
 -- the sections of preferences are those of the catalogue whose names the desk knows
-pub sections_listed : (names : DeskNames) (catalog : List Section) (roll : List Student) (preferences : List StudentPreferences) → names ≡ market_names catalog roll
+pub sections_listed : (names : DeskNames) (catalog : List Section) (roll : List Student) (preferences : List StudentPreferences)
+    → names ≡ market_names catalog roll
     → All (SectionsBelow (length names.sections)) preferences → All (SectionsBelow (length catalog)) preferences
 sections_listed names catalog roll preferences same below =
-    let long : length names.sections ≡ length catalog = ap (λ (all : DeskNames). length all.sections) same ∙ length-map catalog (λ (section : Section). section.name) in
+    let long : length names.sections ≡ length catalog =
+    ap (λ (all : DeskNames). length all.sections) same ∙ length-map catalog (λ (section : Section). section.name) in
     subst (λ n. All (SectionsBelow n) preferences) long below
 
 -- the same text, by the bundle and its utility
-pub same_text : (catalog : List Section) (name text bundle told : List ℕ) (worth said : ℤ) → told ≡ bundle → said ≡ worth → text ≡ quoted_text catalog name told said → text ≡ quoted_text catalog name bundle worth
-same_text catalog name text bundle told worth said one other is = is ∙ ap (λ list. quoted_text catalog name list said) one ∙ ap (λ n. quoted_text catalog name bundle n) other
+pub same_text : (catalog : List Section) (name text bundle told : List ℕ) (worth said : ℤ) → told ≡ bundle → said ≡ worth
+    → text ≡ quoted_text catalog name told said → text ≡ quoted_text catalog name bundle worth
+same_text catalog name text bundle told worth said one other is =
+    is ∙ ap (λ list. quoted_text catalog name list said) one ∙ ap (λ n. quoted_text catalog name bundle n) other

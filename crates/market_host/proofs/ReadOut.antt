@@ -25,10 +25,13 @@ one_name (f ∷ front) more (e ∷ earlier) later a name split place =
     one_name front more earlier later a name rest (omega arith)
 
 -- behind other names, the last of all is the last of these
-last_behind : (front names earlier : List (List ℕ)) (last : List ℕ) → 1 ≤ length names → front ++ names ≡ earlier ++ last ∷ [] → (rest : List (List ℕ)) × (names ≡ rest ++ last ∷ [])
+last_behind : (front names earlier : List (List ℕ)) (last : List ℕ) → 1 ≤ length names → front ++ names ≡ earlier ++ last ∷ []
+    → (rest : List (List ℕ)) × (names ≡ rest ++ last ∷ [])
 last_behind [] names earlier last some split = (earlier, split)
-last_behind (f ∷ front) names [] last some split = let long : length (f ∷ front ++ names) ≡ 1 = ap length split in absurd (omega (arith, length-append front names))
-last_behind (f ∷ front) names (e ∷ earlier) last some split = let rest : front ++ names ≡ earlier ++ last ∷ [] = cc in last_behind front names earlier last some rest
+last_behind (f ∷ front) names [] last some split =
+    let long : length (f ∷ front ++ names) ≡ 1 = ap length split in absurd (omega (arith, length-append front names))
+last_behind (f ∷ front) names (e ∷ earlier) last some split =
+    let rest : front ++ names ≡ earlier ++ last ∷ [] = cc in last_behind front names earlier last some rest
 
 -- the last of several names is the one that was added
 pub one_last : (names earlier : List (List ℕ)) (name last : List ℕ) → names ++ name ∷ [] ≡ earlier ++ last ∷ [] → last ≡ name
@@ -54,7 +57,8 @@ behind_at_end seen all front names is some ended earlier last split =
 
 -- where the work was ended, all inputs were read to their ends
 wholly_read : (words : List (List ℕ)) (seen : Sight) (P : Form → List (List ℕ) → Type 0) → IsWorkedOut words seen P → IsWhollyRead words seen
-wholly_read words seen P (form, has, texts, read, ended, holds) = λ other have. subst (λ f. IsLastAtEnd seen (inputs_of f words)) (one_form words form other has have) ended
+wholly_read words seen P (form, has, texts, read, ended, holds) =
+    λ other have. subst (λ f. IsLastAtEnd seen (inputs_of f words)) (one_form words form other has have) ended
 
 -- the outcome of a call says what was read to its end
 read_out : (words : List (List ℕ)) (seen : Sight) (status : Status) (text : List ℕ) → IsOutcome words seen status text → IsReadOutAt words seen status
@@ -62,7 +66,8 @@ read_out words seen Done text outcome = wholly_read words seen (λ form texts. P
 read_out words seen (NoPrices least) text outcome = wholly_read words seen (λ form texts. TellsNoPrices form texts least text) outcome
 read_out words seen (Found finding) text outcome = wholly_read words seen (λ form texts. TellsFinding form texts finding text) outcome
 read_out words seen (Unknown word) text outcome = wholly_read words seen (λ form texts. TellsNoName form texts word text) outcome
-read_out words seen (Refused n row cause) text (form, has, (earlier, name, later, texts, split, number, read, faulty), line) = λ other have earlier' name' later' split' number'.
+read_out words seen (Refused n row cause) text (form, has, (earlier, name, later, texts, split, number, read, faulty), line) =
+    λ other have earlier' name' later' split' number'.
     let names : earlier ++ name ∷ later ≡ earlier' ++ name' ∷ later' = sym split ∙ ap (λ f. inputs_of f words) (one_form words form other has have) ∙ split' in
     let same : name' ≡ name = one_name earlier later earlier' later' name name' names (omega arith) in
     subst (IsAtEnd seen) (sym same) faulty.0
@@ -94,7 +99,8 @@ sink_fault_or_not (Found finding) = inr (apart (Found finding) (λ is. is))
 sink_fault_or_not (Unknown word) = inr (apart (Unknown word) (λ is. is))
 sink_fault_or_not OutOfMemory = inr (apart OutOfMemory (λ is. is))
 
-settled : (P : Status → Type 0) (result status : Status) → (result ≡ SinkFault) ⊎ (result ≢ SinkFault) → (result ≡ SinkFault → P result) → (result ≢ SinkFault → result ≡ status) → P status → P result
+settled : (P : Status → Type 0) (result status : Status) → (result ≡ SinkFault) ⊎ (result ≢ SinkFault) → (result ≡ SinkFault → P result)
+    → (result ≢ SinkFault → result ≡ status) → P status → P result
 settled P result status (inl is) fault same holds = fault is
 settled P result status (inr other) fault same holds = subst P (sym (same other)) holds
 
@@ -103,12 +109,14 @@ pub answered : (P : Status → Type 0) (result status : Status) → (result ≡ 
 answered P result status fault same holds = settled P result status (sink_fault_or_not result) fault same holds
 
 -- what was read to its end, also where a write failed
-pub read_out_unless : (words : List (List ℕ)) (seen : Sight) (result status : Status) (text : List ℕ) → (result ≢ SinkFault → result ≡ status) → IsOutcome words seen status text → IsReadOutAt words seen result
+pub read_out_unless : (words : List (List ℕ)) (seen : Sight) (result status : Status) (text : List ℕ) → (result ≢ SinkFault → result ≡ status)
+    → IsOutcome words seen status text → IsReadOutAt words seen result
 read_out_unless words seen result status text same outcome =
     answered (IsReadOutAt words seen) result status (λ fault. subst (IsReadOutAt words seen) (sym fault) tt) same (read_out words seen status text outcome)
 
 -- what stops a call is an outcome
-pub stopped_outcome : (words : List (List ℕ)) (seen : Sight) (stop : Trouble) (text : List ℕ) → IsStopped words seen stop text → IsOutcome words seen (status_of stop) text
+pub stopped_outcome : (words : List (List ℕ)) (seen : Sight) (stop : Trouble) (text : List ℕ) → IsStopped words seen stop text
+    → IsOutcome words seen (status_of stop) text
 stopped_outcome words seen (trouble.ShelfFault n) text stopped = stopped
 stopped_outcome words seen (trouble.Refused n row cause) text stopped = stopped
 stopped_outcome words seen (trouble.TooLong n) text stopped = stopped

@@ -8,7 +8,9 @@ use Rattle.market_host.specs.Explains.{IsReasonEnd}
 use Rattle.market_host.specs.Traces.{AreAllRead, AreUsed, Trace}
 
 -- how `explain` ends, once all inputs are read
-pub reason_used : (market : Market) (streams : List (List Command)) (published student section text : List ℕ) (words : List (List ℕ)) (seen : Trace) (status : Status) → IsReasonEnd market streams published student section status text
+pub reason_used : (market : Market) (streams : List (List Command)) (published student section text : List ℕ) (words : List (List ℕ)) (seen : Trace)
+    (status : Status)
+    → IsReasonEnd market streams published student section status text
     → AreAllRead words seen → AreUsed words seen status
 reason_used market streams published student section text words seen Done is all = all
 reason_used market streams published student section text words seen (Found finding) is all = all

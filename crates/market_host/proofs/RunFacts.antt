@@ -46,27 +46,34 @@ length-run words workers has =
     (omega arith, omega arith)
 
 -- its first inputs are the words behind the workers
-pub market-run : (words : List (String Global)) (workers : ℕ) (a b c : String Global) → 6 ≤ length words → a ≡ get_or words 2 a → b ≡ get_or words 3 b → c ≡ get_or words 4 c
+pub market-run : (words : List (String Global)) (workers : ℕ) (a b c : String Global) → 6 ≤ length words → a ≡ get_or words 2 a → b ≡ get_or words 3 b
+    → c ≡ get_or words 4 c
     → inputs_of (Run workers) (map string_bytes words) ≡ string_bytes a ∷ string_bytes b ∷ string_bytes c ∷ drop 5 (map string_bytes words)
 market-run words workers a b c some p q r = three_words words a b c (omega arith) p q r
 
 -- its inputs are the words behind the workers
-pub inputs-run : (words : List (String Global)) (workers : ℕ) (a b c : String Global) → 6 ≤ length words → a ≡ get_or words 2 a → b ≡ get_or words 3 b → c ≡ get_or words 4 c
-    → inputs_of (Run workers) (map string_bytes words) ≡ string_bytes a ∷ string_bytes b ∷ string_bytes c ∷ map string_bytes (take (length words - 5) (drop 5 words))
+pub inputs-run : (words : List (String Global)) (workers : ℕ) (a b c : String Global) → 6 ≤ length words → a ≡ get_or words 2 a → b ≡ get_or words 3 b
+    → c ≡ get_or words 4 c
+    → inputs_of (Run workers) (map string_bytes words)
+    ≡ string_bytes a ∷ string_bytes b ∷ string_bytes c ∷ map string_bytes (take (length words - 5) (drop 5 words))
 inputs-run words workers a b c some p q r =
     market-run words workers a b c some p q r ∙ ap (λ (more : List (List ℕ)). string_bytes a ∷ string_bytes b ∷ string_bytes c ∷ more) (words_behind words 5)
 
 -- the words of `run`, what the shelf held and its counts of faults before the call, what is seen of it at the end, and inputs that were read
-module _ (words : List (List ℕ)) (workers : ℕ) (before : List ℕ → ℕ) (seen : Sight) (held : Option Holding) (a b c : List ℕ) (names sessions : List (List ℕ)) (room : ℕ) (offered : CatalogData) (enrolled : RollData)
-    (rules : SettingsData) (streams : List (Vec Command Global)) (has : HasForm words (Run workers)) (inputs : inputs_of (Run workers) words ≡ a ∷ b ∷ c ∷ names) (some : 1 ≤ length names)
+module _ (words : List (List ℕ)) (workers : ℕ) (before : List ℕ → ℕ) (seen : Sight) (held : Option Holding) (a b c : List ℕ) (names sessions : List (List ℕ))
+    (room : ℕ) (offered : CatalogData) (enrolled : RollData)
+    (rules : SettingsData) (streams : List (Vec Command Global)) (has : HasForm words (Run workers))
+    (inputs : inputs_of (Run workers) words ≡ a ∷ b ∷ c ∷ names) (some : 1 ≤ length names)
     (first : IsRead Catalog held a (λ bytes. catalog_of bytes ≡ Ok offered)) (second : IsRead Roll held b (λ bytes. roll_of bytes ≡ Ok enrolled))
     (third : IsRead Settings held c (λ bytes. settings_of (without_mark bytes) ≡ Ok rules)) (same : seen.held ≡ held) (are : AreReadSessions held names sessions streams room) (ended : IsLastAtEnd seen names) where
   all_read : AreRead (Run workers) held (a ∷ b ∷ c ∷ names) (first.0 ∷ second.0 ∷ third.0 ∷ sessions)
   all_read =
-      sessions_read (Run workers) held (a ∷ b ∷ c ∷ []) (first.0 ∷ second.0 ∷ third.0 ∷ []) names sessions (market_third (Run workers) (opens_run workers) held a b c offered enrolled rules first second third) refl (omega arith) are.each
+      sessions_read (Run workers) held (a ∷ b ∷ c ∷ []) (first.0 ∷ second.0 ∷ third.0 ∷ []) names sessions
+      (market_third (Run workers) (opens_run workers) held a b c offered enrolled rules first second third) refl (omega arith) are.each
       (omega (arith, are.count))
 
-  worked_out : (P : Form → List (List ℕ) → Type 0) → P (Run workers) (first.0 ∷ second.0 ∷ third.0 ∷ sessions) → IsWorkedOut words (seen_from held before seen) P
+  worked_out : (P : Form → List (List ℕ) → Type 0) → P (Run workers) (first.0 ∷ second.0 ∷ third.0 ∷ sessions)
+      → IsWorkedOut words (seen_from held before seen) P
   worked_out P holds =
       let last : IsLastAtEnd (seen_from held before seen) names = subst (λ h. IsLastAtEnd (seen_from h before seen) names) same ended in (
         Run workers,
@@ -81,11 +88,16 @@ module _ (words : List (List ℕ)) (workers : ℕ) (before : List ℕ → ℕ) (
   market_read = record { catalog_says = first.3; roll_says = second.3; settings_say = third.3; sessions_say = are.items }
 
   -- what is published of the market that was read was printed
-  pub run_done : (text : List ℕ) → ((order : List ℕ) × IsPublishedText (market_of offered enrolled rules) (command_lists streams) order text) → IsOutcome words (seen_from held before seen) Done text
-  run_done text published = worked_out (λ form texts. Prints form texts text) (market_of offered enrolled rules, command_lists streams, market_read, published.0, published.1)
+  pub run_done : (text : List ℕ) → ((order : List ℕ) × IsPublishedText (market_of offered enrolled rules) (command_lists streams) order text)
+      → IsOutcome words (seen_from held before seen) Done text
+  run_done text published =
+      worked_out (λ form texts. Prints form texts text) (market_of offered enrolled rules, command_lists streams, market_read, published.0, published.1)
 
   -- the order and the least error were written of the market that was read
-  pub run_unpriced : (least : ℕ) (line text : List ℕ) → ((order : List ℕ) × IsUnpriced (market_of offered enrolled rules) (command_lists streams) order least × (line ≡ order_line order ++ 10 ∷ [])) → text ≡ line ++ no_prices_line least
+  pub run_unpriced : (least : ℕ) (line text : List ℕ)
+      → ((order : List ℕ) × IsUnpriced (market_of offered enrolled rules) (command_lists streams) order least × (line ≡ order_line order ++ 10 ∷ []))
+      → text ≡ line ++ no_prices_line least
       → IsOutcome words (seen_from held before seen) (NoPrices least) text
   run_unpriced least line text (order, unpriced, is) whole =
-      worked_out (λ form texts. TellsNoPrices form texts least text) (market_of offered enrolled rules, command_lists streams, market_read, order, unpriced, whole ∙ ap (λ front. front ++ no_prices_line least) is)
+      worked_out (λ form texts. TellsNoPrices form texts least text)
+      (market_of offered enrolled rules, command_lists streams, market_read, order, unpriced, whole ∙ ap (λ front. front ++ no_prices_line least) is)

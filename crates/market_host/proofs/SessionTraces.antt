@@ -9,8 +9,11 @@ use Rattle.market_host.proofs.SessionsRead.{names_split}
 use Rattle.market_host.proofs.TraceFacts.{until_before, until_behind}
 
 -- one of the sessions stops the call, once those before it are read
-pub session_until : {H : Type 0} (shelf : Shelf.Ghosts H) (a b c : H) (names : List (String Global)) (k : ℕ) (name : String Global) (first input : ℕ) (stop : Trouble) → k < length names → name ≡ get_or names k name → input ≡ first + k
-    → AreReadOut (trace shelf a b) (map string_bytes (take k names)) → AreReadUntil (trace shelf b c) (string_bytes name ∷ []) input stop → AreReadUntil (trace shelf a c) (map string_bytes names) first stop
+pub session_until : {H : Type 0} (shelf : Shelf.Ghosts H) (a b c : H) (names : List (String Global)) (k : ℕ) (name : String Global) (first input : ℕ)
+    (stop : Trouble)
+    → k < length names → name ≡ get_or names k name → input ≡ first + k
+    → AreReadOut (trace shelf a b) (map string_bytes (take k names)) → AreReadUntil (trace shelf b c) (string_bytes name ∷ []) input stop
+    → AreReadUntil (trace shelf a c) (map string_bytes names) first stop
 session_until shelf a b c names k name first input stop below is number front until =
     let rest = map string_bytes (drop (suc k) names) in
     let done = map string_bytes (take k names) in

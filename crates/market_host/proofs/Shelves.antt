@@ -10,5 +10,6 @@ abbrev pub seen_from : Option Holding → (List ℕ → ℕ) → Sight → Sight
 seen_from held before seen = record { held = held; before = before; after = seen.after; begun = seen.begun; serves = seen.serves; left = seen.left }
 
 -- what was read to its end was so from there on
-pub end_from : (held : Option Holding) (before : List ℕ → ℕ) (seen : Sight) (name : List ℕ) → seen.held ≡ held → IsAtEnd seen name → IsAtEnd (seen_from held before seen) name
+pub end_from : (held : Option Holding) (before : List ℕ → ℕ) (seen : Sight) (name : List ℕ) → seen.held ≡ held → IsAtEnd seen name
+    → IsAtEnd (seen_from held before seen) name
 end_from held before seen name same ended = subst (λ h. IsAtEnd (seen_from h before seen) name) same ended

@@ -13,24 +13,31 @@ use Rattle.market_words.specs.Forms.{HasForm, inputs_of}
 use Rattle.market_host.specs.Reading.{IsRefusal, IsSurplus}
 use Rattle.market_host.specs.Traces.{AreAllRead, AreReadOut, AreReadTo, AreReadUntil, AreUsed, CountsStand, IsLastBegun, Trace, Uses, only_begun, trace, with_begun_too}
 
-changes_by : (old new : Option (List Opening)) (change other : List Opening → List Opening) → ((openings : List Opening) → change openings ≡ other openings) → Changes old new change → Changes old new other
+changes_by : (old new : Option (List Opening)) (change other : List Opening → List Opening) → ((openings : List Opening) → change openings ≡ other openings)
+    → Changes old new change → Changes old new other
 changes_by old None change other same is = tt
 changes_by None (Some new) change other same is = absurd is
 changes_by (Some old) (Some new) change other same is = is ∙ same old
 
-changes_then : (old mid new : Option (List Opening)) (first next : List Opening → List Opening) → Changes old mid first → Changes mid new next → Changes old new (λ openings. next (first openings))
+changes_then : (old mid new : Option (List Opening)) (first next : List Opening → List Opening) → Changes old mid first → Changes mid new next
+    → Changes old new (λ openings. next (first openings))
 changes_then old mid None first next p q = tt
 changes_then old None (Some z) first next p q = absurd q
 changes_then None (Some y) (Some z) first next p q = absurd p
 changes_then (Some x) (Some y) (Some z) first next p q = q ∙ ap next p
 
-read_out_too : (front names : List (List ℕ)) (openings : List Opening) → with_read_out names (with_read_out front openings) ≡ with_read_out (front ++ names) openings
-read_out_too front names openings = append_assoc openings (map read_out front) (map read_out names) ∙ ap (λ more. openings ++ more) (sym (map-append read_out front names))
+read_out_too : (front names : List (List ℕ)) (openings : List Opening)
+    → with_read_out names (with_read_out front openings) ≡ with_read_out (front ++ names) openings
+read_out_too front names openings =
+    append_assoc openings (map read_out front) (map read_out names) ∙ ap (λ more. openings ++ more) (sym (map-append read_out front names))
 
-begun_too : (front ended begun : List (List ℕ)) (openings : List Opening) → with_begun_too ended begun (with_read_out front openings) ≡ with_begun_too (front ++ ended) begun openings
+begun_too : (front ended begun : List (List ℕ)) (openings : List Opening)
+    → with_begun_too ended begun (with_read_out front openings) ≡ with_begun_too (front ++ ended) begun openings
 begun_too front ended begun openings =
     append_assoc openings (map read_out front) (map read_out ended ++ map only_begun begun)
-    ∙ ap (λ more. openings ++ more) (sym (append_assoc (map read_out front) (map read_out ended) (map only_begun begun)) ∙ ap (λ more. more ++ map only_begun begun) (sym (map-append read_out front ended)))
+    ∙ ap (λ more. openings ++ more)
+    (sym (append_assoc (map read_out front) (map read_out ended) (map only_begun begun))
+    ∙ ap (λ more. more ++ map only_begun begun) (sym (map-append read_out front ended)))
 
 begun_none : (names : List (List ℕ)) (openings : List Opening) → with_read_out names openings ≡ with_begun_too names [] openings
 begun_none names openings = ap (λ more. openings ++ more) (sym (append-nil (map read_out names)))
@@ -60,12 +67,17 @@ module _ {H : Type 0} (shelf : Shelf.Ghosts H) where
     unchanged (Some openings) = sym (append-nil openings)
 
   -- these inputs are read to their ends, and then those
-  pub read_behind : (a b c : H) (front names : List (List ℕ)) → AreReadOut (trace shelf a b) front → AreReadOut (trace shelf b c) names → AreReadOut (trace shelf a c) (front ++ names)
-  read_behind a b c front names p q =
-      (q.0 ∙ p.0, changes_by (shelf.openings a) (shelf.openings c) _ _ (read_out_too front names) (changes_then (shelf.openings a) (shelf.openings b) (shelf.openings c) (with_read_out front) (with_read_out names) p.1 q.1))
+  pub read_behind : (a b c : H) (front names : List (List ℕ)) → AreReadOut (trace shelf a b) front → AreReadOut (trace shelf b c) names
+      → AreReadOut (trace shelf a c) (front ++ names)
+  read_behind a b c front names p q = (
+    q.0 ∙ p.0,
+    changes_by (shelf.openings a) (shelf.openings c) _ _ (read_out_too front names)
+        (changes_then (shelf.openings a) (shelf.openings b) (shelf.openings c) (with_read_out front) (with_read_out names) p.1 q.1),
+  )
 
   -- these inputs are read to their ends, and one of those stops the call
-  pub until_behind : (a b c : H) (front names : List (List ℕ)) (first : ℕ) (stop : Trouble) → AreReadOut (trace shelf a b) front → AreReadUntil (trace shelf b c) names (first + length front) stop
+  pub until_behind : (a b c : H) (front names : List (List ℕ)) (first : ℕ) (stop : Trouble) → AreReadOut (trace shelf a b) front
+      → AreReadUntil (trace shelf b c) names (first + length front) stop
       → AreReadUntil (trace shelf a c) (front ++ names) first stop
   until_behind a b c front names first stop p (stand, ended, begun, later, split, last, q) = (
     stand_from stop (shelf.faults a) (shelf.faults b) (shelf.faults c) p.0 stand,
@@ -74,43 +86,65 @@ module _ {H : Type 0} (shelf : Shelf.Ghosts H) where
     later,
     ap (λ rest. front ++ rest) split ∙ sym (append_assoc front ended (begun ++ later)),
     rw (length-append front ended) (further stop first (length front) (length ended) (length begun) last),
-    changes_by (shelf.openings a) (shelf.openings c) _ _ (begun_too front ended begun) (changes_then (shelf.openings a) (shelf.openings b) (shelf.openings c) (with_read_out front) (with_begun_too ended begun) p.1 q),
+    changes_by (shelf.openings a) (shelf.openings c) _ _ (begun_too front ended begun)
+        (changes_then (shelf.openings a) (shelf.openings b) (shelf.openings c) (with_read_out front) (with_begun_too ended begun) p.1 q),
   )
 
   -- one of these inputs stops the call, before any behind them
-  pub until_before : (a b : H) (names more : List (List ℕ)) (first : ℕ) (stop : Trouble) → AreReadUntil (trace shelf a b) names first stop → AreReadUntil (trace shelf a b) (names ++ more) first stop
-  until_before a b names more first stop (stand, ended, begun, later, split, last, q) =
-      (stand, ended, begun, later ++ more, ap (λ rest. rest ++ more) split ∙ append_assoc ended (begun ++ later) more ∙ ap (λ rest. ended ++ rest) (append_assoc begun later more), last, q)
+  pub until_before : (a b : H) (names more : List (List ℕ)) (first : ℕ) (stop : Trouble) → AreReadUntil (trace shelf a b) names first stop
+      → AreReadUntil (trace shelf a b) (names ++ more) first stop
+  until_before a b names more first stop (stand, ended, begun, later, split, last, q) = (
+    stand,
+    ended,
+    begun,
+    later ++ more,
+    ap (λ rest. rest ++ more) split ∙ append_assoc ended (begun ++ later) more ∙ ap (λ rest. ended ++ rest) (append_assoc begun later more),
+    last,
+    q,
+  )
 
   -- these inputs are read to their ends, and memory is wanted
   pub until_memory : (a b : H) (names : List (List ℕ)) (first : ℕ) → AreReadOut (trace shelf a b) names → AreReadUntil (trace shelf a b) names first OutOfMemory
-  until_memory a b names first p = (p.0, names, [], [], sym (append-nil names), omega arith, changes_by (shelf.openings a) (shelf.openings b) _ _ (begun_none names) p.1)
+  until_memory a b names first p =
+      (p.0, names, [], [], sym (append-nil names), omega arith, changes_by (shelf.openings a) (shelf.openings b) _ _ (begun_none names) p.1)
 
   -- an input is begun at most, and this stops the call
-  pub until_begun : (a b : H) (name : List ℕ) (number : ℕ) (begun : Bool) (stop : Trouble) → CountsStand stop (shelf.faults a) (shelf.faults b) → IsLastBegun stop number (cond begun 1 0)
+  pub until_begun : (a b : H) (name : List ℕ) (number : ℕ) (begun : Bool) (stop : Trouble) → CountsStand stop (shelf.faults a) (shelf.faults b)
+      → IsLastBegun stop number (cond begun 1 0)
       → BeginsAtMost (shelf.openings a) (shelf.openings b) name begun → AreReadUntil (trace shelf a b) (name ∷ []) number stop
   until_begun a b name number true stop stand last begins = (stand, [], name ∷ [], [], refl, rw (add_zero number) last, begins)
-  until_begun a b name number false stop stand last begins =
-      (stand, [], [], name ∷ [], refl, rw (add_zero number) last, changes_by (shelf.openings a) (shelf.openings b) _ _ (λ openings. sym (append-nil openings)) begins)
+  until_begun a b name number false stop stand last begins = (
+    stand,
+    [],
+    [],
+    name ∷ [],
+    refl,
+    rw (add_zero number) last,
+    changes_by (shelf.openings a) (shelf.openings b) _ _ (λ openings. sym (append-nil openings)) begins,
+  )
 
   -- the shelf is at fault
-  pub until_fault : (a b : H) (name : List ℕ) (number : ℕ) (begun : Bool) → BeginsAtMost (shelf.openings a) (shelf.openings b) name begun → AreReadUntil (trace shelf a b) (name ∷ []) number (ShelfFault number)
+  pub until_fault : (a b : H) (name : List ℕ) (number : ℕ) (begun : Bool) → BeginsAtMost (shelf.openings a) (shelf.openings b) name begun
+      → AreReadUntil (trace shelf a b) (name ∷ []) number (ShelfFault number)
   until_fault a b name number true begins = until_begun a b name number true (ShelfFault number) tt (refl, omega arith) begins
   until_fault a b name number false begins = until_begun a b name number false (ShelfFault number) tt (refl, omega arith) begins
 
   -- an input has more bytes than its limit
-  pub until_too_long : (a b : H) (name : List ℕ) (number : ℕ) (begun : Bool) → shelf.faults b ≡ shelf.faults a → IsTrue begun → BeginsAtMost (shelf.openings a) (shelf.openings b) name begun
+  pub until_too_long : (a b : H) (name : List ℕ) (number : ℕ) (begun : Bool) → shelf.faults b ≡ shelf.faults a → IsTrue begun
+      → BeginsAtMost (shelf.openings a) (shelf.openings b) name begun
       → AreReadUntil (trace shelf a b) (name ∷ []) number (TooLong number)
   until_too_long a b name number true same is begins = until_begun a b name number true (TooLong number) same (refl, omega arith) begins
   until_too_long a b name number false same is begins = absurd cc
 
   -- there is no memory for an input
-  pub until_no_room : (a b : H) (name : List ℕ) (number : ℕ) (begun : Bool) → shelf.faults b ≡ shelf.faults a → BeginsAtMost (shelf.openings a) (shelf.openings b) name begun → AreReadUntil (trace shelf a b) (name ∷ []) number OutOfMemory
+  pub until_no_room : (a b : H) (name : List ℕ) (number : ℕ) (begun : Bool) → shelf.faults b ≡ shelf.faults a
+      → BeginsAtMost (shelf.openings a) (shelf.openings b) name begun → AreReadUntil (trace shelf a b) (name ∷ []) number OutOfMemory
   until_no_room a b name number true same begins = until_begun a b name number true OutOfMemory same (omega arith) begins
   until_no_room a b name number false same begins = until_begun a b name number false OutOfMemory same (omega arith) begins
 
   -- an input is read to its end, and refused
-  pub until_refused : (a b : H) (name : List ℕ) (number : ℕ) (IsSo : ℕ → Cause → Type 0) (stop : Trouble) → AreReadOut (trace shelf a b) (name ∷ []) → IsRefusal IsSo number stop → AreReadUntil (trace shelf a b) (name ∷ []) number stop
+  pub until_refused : (a b : H) (name : List ℕ) (number : ℕ) (IsSo : ℕ → Cause → Type 0) (stop : Trouble) → AreReadOut (trace shelf a b) (name ∷ [])
+      → IsRefusal IsSo number stop → AreReadUntil (trace shelf a b) (name ∷ []) number stop
   until_refused a b name number IsSo (Refused n row cause) p refusal =
       (p.0, name ∷ [], [], [], refl, (omega (arith, refusal.0), refl), changes_by (shelf.openings a) (shelf.openings b) _ _ (begun_none (name ∷ [])) p.1)
   until_refused a b name number IsSo OutOfMemory p refusal = until_memory a b (name ∷ []) number p
@@ -118,7 +152,8 @@ module _ {H : Type 0} (shelf : Shelf.Ghosts H) where
   until_refused a b name number IsSo (TooLong n) p refusal = absurd refusal
 
   -- a session is read to its end, and has too many commands
-  pub until_surplus : (a b : H) (name text : List ℕ) (room number : ℕ) (stop : Trouble) → AreReadOut (trace shelf a b) (name ∷ []) → IsSurplus text room number stop → AreReadUntil (trace shelf a b) (name ∷ []) number stop
+  pub until_surplus : (a b : H) (name text : List ℕ) (room number : ℕ) (stop : Trouble) → AreReadOut (trace shelf a b) (name ∷ [])
+      → IsSurplus text room number stop → AreReadUntil (trace shelf a b) (name ∷ []) number stop
   until_surplus a b name text room number (TooLong n) p surplus =
       (p.0, name ∷ [], [], [], refl, (omega (arith, surplus.0), omega arith), changes_by (shelf.openings a) (shelf.openings b) _ _ (begun_none (name ∷ [])) p.1)
   until_surplus a b name text room number OutOfMemory p surplus = until_memory a b (name ∷ []) number p
@@ -126,25 +161,34 @@ module _ {H : Type 0} (shelf : Shelf.Ghosts H) where
   until_surplus a b name text room number (Refused n row cause) p surplus = absurd surplus
 
   -- the same, by what is made of the text
-  pub uses_refused : {A : Type 0} (a b : H) (name : List ℕ) (number : ℕ) (IsSo : ℕ → Cause → Type 0) (result : Result A Trouble) → AreReadOut (trace shelf a b) (name ∷ []) → IfErr result (IsRefusal IsSo number) → Uses (trace shelf a b) (name ∷ []) number result
+  pub uses_refused : {A : Type 0} (a b : H) (name : List ℕ) (number : ℕ) (IsSo : ℕ → Cause → Type 0) (result : Result A Trouble)
+      → AreReadOut (trace shelf a b) (name ∷ []) → IfErr result (IsRefusal IsSo number) → Uses (trace shelf a b) (name ∷ []) number result
   uses_refused a b name number IsSo (Ok x) p refused = p
   uses_refused a b name number IsSo (Err stop) p refused = until_refused a b name number IsSo stop p refused
 
-  pub uses_surplus : {A : Type 0} (a b : H) (name text : List ℕ) (room number : ℕ) (result : Result A Trouble) → AreReadOut (trace shelf a b) (name ∷ []) → IfErr result (IsSurplus text room number) → Uses (trace shelf a b) (name ∷ []) number result
+  pub uses_surplus : {A : Type 0} (a b : H) (name text : List ℕ) (room number : ℕ) (result : Result A Trouble) → AreReadOut (trace shelf a b) (name ∷ [])
+      → IfErr result (IsSurplus text room number) → Uses (trace shelf a b) (name ∷ []) number result
   uses_surplus a b name text room number (Ok x) p surplus = p
   uses_surplus a b name text room number (Err stop) p surplus = until_surplus a b name text room number stop p surplus
 
 -- words of a form
 module _ {H : Type 0} (shelf : Shelf.Ghosts H) (words : List (List ℕ)) (form : Form) (has : HasForm words form) where
   -- one of its first inputs stops the call
-  pub front_stops : (a b : H) (names more : List (List ℕ)) (stop : Trouble) → inputs_of form words ≡ names ++ more → AreReadUntil (trace shelf a b) names 1 stop → AreReadTo words (trace shelf a b) stop
-  front_stops a b names more stop named until = (form, has, subst (λ all. AreReadUntil (trace shelf a b) all 1 stop) (sym named) (until_before shelf a b names more 1 stop until))
+  pub front_stops : (a b : H) (names more : List (List ℕ)) (stop : Trouble) → inputs_of form words ≡ names ++ more → AreReadUntil (trace shelf a b) names 1 stop
+      → AreReadTo words (trace shelf a b) stop
+  front_stops a b names more stop named until =
+      (form, has, subst (λ all. AreReadUntil (trace shelf a b) all 1 stop) (sym named) (until_before shelf a b names more 1 stop until))
 
   -- one of its next inputs stops the call
-  pub next_stops : (a b c : H) (front names more : List (List ℕ)) (stop : Trouble) → inputs_of form words ≡ front ++ (names ++ more) → AreReadOut (trace shelf a b) front
+  pub next_stops : (a b c : H) (front names more : List (List ℕ)) (stop : Trouble) → inputs_of form words ≡ front ++ (names ++ more)
+      → AreReadOut (trace shelf a b) front
       → AreReadUntil (trace shelf b c) names (1 + length front) stop → AreReadTo words (trace shelf a c) stop
-  next_stops a b c front names more stop named p until =
-      (form, has, subst (λ all. AreReadUntil (trace shelf a c) all 1 stop) (sym named) (until_behind shelf a b c front (names ++ more) 1 stop p (until_before shelf b c names more (1 + length front) stop until)))
+  next_stops a b c front names more stop named p until = (
+    form,
+    has,
+    subst (λ all. AreReadUntil (trace shelf a c) all 1 stop) (sym named)
+        (until_behind shelf a b c front (names ++ more) 1 stop p (until_before shelf b c names more (1 + length front) stop until)),
+  )
 
   -- one of its last inputs stops the call
   pub last_stops : (a b c : H) (front names : List (List ℕ)) (stop : Trouble) → inputs_of form words ≡ front ++ names → AreReadOut (trace shelf a b) front
@@ -152,18 +196,21 @@ module _ {H : Type 0} (shelf : Shelf.Ghosts H) (words : List (List ℕ)) (form :
   last_stops a b c front names stop named p until =
       (form, has, subst (λ all. AreReadUntil (trace shelf a c) all 1 stop) (sym named) (until_behind shelf a b c front names 1 stop p until))
 
-  pub last_stops_once : (a b : H) (names : List (List ℕ)) (stop : Trouble) → inputs_of form words ≡ names → AreReadUntil (trace shelf a b) names 1 stop → AreReadTo words (trace shelf a b) stop
+  pub last_stops_once : (a b : H) (names : List (List ℕ)) (stop : Trouble) → inputs_of form words ≡ names → AreReadUntil (trace shelf a b) names 1 stop
+      → AreReadTo words (trace shelf a b) stop
   last_stops_once a b names stop named until = (form, has, subst (λ all. AreReadUntil (trace shelf a b) all 1 stop) (sym named) until)
 
   -- all its inputs are read
-  pub all_read : (a b c : H) (front names : List (List ℕ)) → inputs_of form words ≡ front ++ names → AreReadOut (trace shelf a b) front → AreReadOut (trace shelf b c) names → AreAllRead words (trace shelf a c)
+  pub all_read : (a b c : H) (front names : List (List ℕ)) → inputs_of form words ≡ front ++ names → AreReadOut (trace shelf a b) front
+      → AreReadOut (trace shelf b c) names → AreAllRead words (trace shelf a c)
   all_read a b c front names named p q = (form, has, subst (AreReadOut (trace shelf a c)) (sym named) (read_behind shelf a b c front names p q))
 
   pub all_read_once : (a b : H) (names : List (List ℕ)) → inputs_of form words ≡ names → AreReadOut (trace shelf a b) names → AreAllRead words (trace shelf a b)
   all_read_once a b names named p = (form, has, subst (AreReadOut (trace shelf a b)) (sym named) p)
 
 -- all inputs are read, and memory is wanted
-pub memory_wanted : {H : Type 0} (shelf : Shelf.Ghosts H) (words : List (List ℕ)) (a b : H) → AreAllRead words (trace shelf a b) → AreReadTo words (trace shelf a b) OutOfMemory
+pub memory_wanted : {H : Type 0} (shelf : Shelf.Ghosts H) (words : List (List ℕ)) (a b : H) → AreAllRead words (trace shelf a b)
+    → AreReadTo words (trace shelf a b) OutOfMemory
 memory_wanted shelf words a b (form, has, p) = (form, has, until_memory shelf a b (inputs_of form words) 1 p)
 
 -- what stops a call, by its status

@@ -6,7 +6,8 @@ use Rattle.std.proofs.Math.Seq.{drop-cons}
 use Rattle.std.proofs.lemmas.List.{drop-map, length-drop, length-map, length-take-le, take_all}
 
 -- how many words there are from this place on
-pub length-words : (words : List (String Global)) (n : ℕ) → n ≤ length words → length (map string_bytes (take (length words - n) (drop n words))) ≡ length words - n
+pub length-words : (words : List (String Global)) (n : ℕ) → n ≤ length words
+    → length (map string_bytes (take (length words - n) (drop n words))) ≡ length words - n
 length-words words n within =
     let rest : length (drop n words) ≡ length words - n = length-drop n words in
     length-map (take (length words - n) (drop n words)) string_bytes ∙ length-take-le (length words - n) (drop n words) (omega arith)
@@ -18,7 +19,8 @@ words_behind words n =
     drop-map string_bytes n words ∙ ap (map string_bytes) (sym (take_all (length words - n) (drop n words) (omega arith)))
 
 -- the word at this place comes first of those from it on
-pub word_at : (words : List (String Global)) (n : ℕ) (word : String Global) → n < length words → word ≡ get_or words n word → drop n (map string_bytes words) ≡ string_bytes word ∷ drop (suc n) (map string_bytes words)
+pub word_at : (words : List (String Global)) (n : ℕ) (word : String Global) → n < length words → word ≡ get_or words n word
+    → drop n (map string_bytes words) ≡ string_bytes word ∷ drop (suc n) (map string_bytes words)
 word_at words n word below is =
     drop-map string_bytes n words ∙ ap (map string_bytes) (drop-cons words n word below)
     ∙ ap (λ (w : String Global). string_bytes w ∷ map string_bytes (drop (suc n) words)) (sym is)
@@ -29,4 +31,5 @@ pub three_words : (words : List (String Global)) (a b c : String Global) → 5 �
     → drop 2 (map string_bytes words) ≡ string_bytes a ∷ string_bytes b ∷ string_bytes c ∷ drop 5 (map string_bytes words)
 three_words words a b c some p q r =
     word_at words 2 a (omega arith) p
-    ∙ ap (λ (more : List (List ℕ)). string_bytes a ∷ more) (word_at words 3 b (omega arith) q ∙ ap (λ (more : List (List ℕ)). string_bytes b ∷ more) (word_at words 4 c (omega arith) r))
+    ∙ ap (λ (more : List (List ℕ)). string_bytes a ∷ more)
+    (word_at words 3 b (omega arith) q ∙ ap (λ (more : List (List ℕ)). string_bytes b ∷ more) (word_at words 4 c (omega arith) r))

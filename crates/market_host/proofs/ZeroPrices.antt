@@ -10,7 +10,8 @@ abbrev pub no_price : Tokens
 no_price = record { 0 = 0 }
 
 -- they serve each menu
-pub has_prices : (menu : MenuData) (prices : List Tokens) (count : ℕ) → IsMenu menu → prices ≡ replicate count (record { 0 = 0 }) → count ≡ 400 → HasPrices menu prices
+pub has_prices : (menu : MenuData) (prices : List Tokens) (count : ℕ) → IsMenu menu → prices ≡ replicate count (record { 0 = 0 }) → count ≡ 400
+    → HasPrices menu prices
 has_prices menu prices count sound is long place other low =
     let section : ℕ = (get_or menu.places place other).section.0 in
     let high : section < 400 = (sound.places.each place other low).section in
@@ -26,7 +27,8 @@ free (suc count) zero = refl
 free (suc count) (suc s) = free count s
 
 -- the best bundle at these prices, where these sections are allowed, in the words that name no list
-pub best_of_all : (menu : MenuData) (prices : List Tokens) (count : ℕ) (allowed : ℕ → Bool) (bundle : List ℕ) → prices ≡ replicate count no_price → ((s : ℕ) → allowed s ≡ nat_lt s 400)
+pub best_of_all : (menu : MenuData) (prices : List Tokens) (count : ℕ) (allowed : ℕ → Bool) (bundle : List ℕ) → prices ≡ replicate count no_price
+    → ((s : ℕ) → allowed s ≡ nat_lt s 400)
     → IsBest (wishes_of menu) (price_in prices) 0 allowed bundle → IsBest (wishes_of menu) (λ _. 0) 0 (λ s. nat_lt s 400) bundle
 best_of_all menu prices count allowed bundle is all best =
     let e : price_in prices ≡ (λ (s : ℕ). 0) = λ i s. (ap (λ (list : List Tokens). price_in list s) is ∙ free count s) i in

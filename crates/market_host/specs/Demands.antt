@@ -15,9 +15,11 @@ use Rattle.student_roll.specs.Students.{RollData}
 use Rattle.market_host.specs.Markets.{IsHeld}
 use Rattle.market_host.specs.Marks.{without_mark}
 
--- The text tells one journal of a market that was held on these inputs, and what the crowd of its students takes at the prices, as they were
--- read: the bundles, the counts, and the error for the seats of the catalogue.
-pub record IsDemandOf (catalog roll settings prices : List ℕ) (sessions : List (List ℕ)) (text : List ℕ) : Type 0 where
+-- The text tells one journal of a market that was held on these inputs, and what the crowd of its
+-- students takes at the prices, as they were read: the bundles, the counts, and the error for the
+-- seats of the catalogue.
+pub record IsDemandOf (catalog roll settings prices : List ℕ) (sessions : List (List ℕ))
+    (text : List ℕ) : Type 0 where
   pub offered : CatalogData
   pub enrolled : RollData
   pub journal : List Entry
@@ -28,9 +30,12 @@ pub record IsDemandOf (catalog roll settings prices : List ℕ) (sessions : List
   pub prices_say : prices_of offered.sections prices ≡ Ok (map (λ price. price.0) listed)
   pub crowd : CrowdData
   pub closing : IsCrowdIn (market_of offered enrolled rules) journal crowd
-  pub told : text ≡ demand_text offered.sections enrolled.students journal (taken_at crowd (map (λ section. section.seats) offered.sections) listed)
+  pub told : text
+      ≡ demand_text offered.sections enrolled.students journal
+      (taken_at crowd (map (λ section. section.seats) offered.sections) listed)
 
 -- what is printed for the texts of a catalogue, a roll, settings, prices and sessions
 abbrev pub PrintsDemand : List (List ℕ) → List ℕ → Type 0
-PrintsDemand (catalog ∷ roll ∷ settings ∷ prices ∷ sessions) text = IsDemandOf catalog roll settings prices sessions text
+PrintsDemand (catalog ∷ roll ∷ settings ∷ prices ∷ sessions) text =
+    IsDemandOf catalog roll settings prices sessions text
 PrintsDemand texts text = ⊥

@@ -28,34 +28,41 @@ commands_in Session text = command_count text
 
 -- how many commands the streams among the texts of a form's first inputs have together
 abbrev pub commands_among : Form → List (List ℕ) → ℕ
-commands_among form texts = total (commands_in (streams_of form)) (drop (length (front_of form)) texts)
+commands_among form texts =
+    total (commands_in (streams_of form)) (drop (length (front_of form)) texts)
 
 -- the first of these texts is this catalogue
 abbrev pub BeginWithCatalog : List (List ℕ) → CatalogData → Type 0
 BeginWithCatalog [] catalog = ⊥
 BeginWithCatalog (text ∷ more) catalog = catalog_of text ≡ Ok catalog
 
--- a text of this kind, behind these others, is of its grammar; prices are those of the catalogue's sections, and a published text and a
--- session always are
+-- a text of this kind, behind these others, is of its grammar; prices are those of the catalogue's
+-- sections, and a published text and a session always are
 abbrev pub IsOfGrammar : Kind → List (List ℕ) → List ℕ → Type 0
 IsOfGrammar Catalog earlier text = (catalog : CatalogData) × (catalog_of text ≡ Ok catalog)
 IsOfGrammar Roll earlier text = (roll : RollData) × (roll_of text ≡ Ok roll)
-IsOfGrammar Settings earlier text = (settings : SettingsData) × (settings_of (without_mark text) ≡ Ok settings)
-IsOfGrammar Prices earlier text = (catalog : CatalogData) × (prices : List ℕ) × BeginWithCatalog earlier catalog × (prices_of catalog.sections text ≡ Ok prices)
+IsOfGrammar Settings earlier text =
+    (settings : SettingsData) × (settings_of (without_mark text) ≡ Ok settings)
+IsOfGrammar Prices earlier text =
+    (catalog : CatalogData) × (prices : List ℕ) × BeginWithCatalog earlier catalog
+    × (prices_of catalog.sections text ≡ Ok prices)
 IsOfGrammar Published earlier text = ⊤
 IsOfGrammar Session earlier text = ⊤
 
--- a text of this kind, behind these others, is not of its grammar, and its first fault has this row and this cause; a published text and a session have none
+-- a text of this kind, behind these others, is not of its grammar, and its first fault has this row
+-- and this cause; a published text and a session have none
 abbrev pub HasFault : Kind → List (List ℕ) → ℕ → Cause → List ℕ → Type 0
 HasFault Catalog earlier row cause text = IsNoCatalog text row cause
 HasFault Roll earlier row cause text = IsNoRoll text row cause
 HasFault Settings earlier row cause text = AreNoSettings text row cause
-HasFault Prices earlier row cause text = (catalog : CatalogData) × BeginWithCatalog earlier catalog × AreNoPrices catalog.sections text row cause
+HasFault Prices earlier row cause text =
+    (catalog : CatalogData) × BeginWithCatalog earlier catalog
+    × AreNoPrices catalog.sections text row cause
 HasFault Published earlier row cause text = ⊥
 HasFault Session earlier row cause text = ⊥
 
--- The text of a form's next input, behind these others, is within its limits and of its grammar: its bytes, the commands of all streams up
--- to and with it, and what it says.
+-- The text of a form's next input, behind these others, is within its limits and of its grammar:
+-- its bytes, the commands of all streams up to and with it, and what it says.
 pub record IsInOrder (form : Form) (earlier : List (List ℕ)) (text : List ℕ) : Type 0 where
   pub within : length text ≤ limit_of (kind_of form (length earlier))
   pub room : commands_among form (earlier ++ text ∷ []) ≤ 200000
@@ -64,10 +71,13 @@ pub record IsInOrder (form : Form) (earlier : List (List ℕ)) (text : List ℕ)
 -- each of the texts of a form's next inputs, behind these others, is in order
 abbrev pub AreInOrder : Form → List (List ℕ) → List (List ℕ) → Type 0
 AreInOrder form earlier [] = ⊤
-AreInOrder form earlier (text ∷ more) = IsInOrder form earlier text × AreInOrder form (earlier ++ text ∷ []) more
+AreInOrder form earlier (text ∷ more) =
+    IsInOrder form earlier text × AreInOrder form (earlier ++ text ∷ []) more
 
--- these may be the texts of a form's first inputs, which have these names, and they are in order; where the shelf tells, they are their texts
-pub record AreRead (form : Form) (held : Option Holding) (names texts : List (List ℕ)) : Type 0 where
+-- these may be the texts of a form's first inputs, which have these names, and they are in order;
+-- where the shelf tells, they are their texts
+pub record AreRead (form : Form) (held : Option Holding)
+    (names texts : List (List ℕ)) : Type 0 where
   pub each : AllZip (IsTextOf held) names texts
   pub order : AreInOrder form [] texts
 

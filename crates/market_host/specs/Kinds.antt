@@ -1,4 +1,5 @@
--- The kinds of inputs. Limits, grammars and faults go by kind; a form says which kinds its inputs have.
+-- The kinds of inputs. Limits, grammars and faults go by kind; a form says which kinds its inputs
+-- have.
 use Rattle.std.specs.Prelude.{ℕ, ◌≡◌, zero, suc, List, [], ◌∷◌}
 use Rattle.market_words.specs.declared.words.Form.{Form}
 use Rattle.market_words.specs.declared.words.Form.TheVariants.{Audit, Check, Demand, Explain, Hall, Make, Prefer, Quote, Run}
@@ -41,9 +42,11 @@ streams_of (Audit workers) = Session
 
 -- the inputs of a form are a catalogue, a roll, settings, a published text, and sessions
 abbrev pub OpensPublished : Form → Type 0
-OpensPublished form = (front_of form ≡ Catalog ∷ Roll ∷ Settings ∷ Published ∷ []) × (streams_of form ≡ Session)
+OpensPublished form =
+    (front_of form ≡ Catalog ∷ Roll ∷ Settings ∷ Published ∷ []) × (streams_of form ≡ Session)
 
--- the kind of the input that stands behind so many others, where these kinds stand in front of streams of that kind
+-- the kind of the input that stands behind so many others, where these kinds stand in front of
+-- streams of that kind
 abbrev pub kind_behind : List Kind → Kind → ℕ → Kind
 kind_behind [] streams count = streams
 kind_behind (kind ∷ kinds) streams zero = kind

@@ -6,11 +6,13 @@ use Rattle.preference_desk.specs.declared.entry.Entry.{Entry}
 use Rattle.preference_text.specs.Texts.{preferences_text}
 use Rattle.market_host.specs.Markets.{IsHeld}
 
--- the text tells the journal of a market that was held on these inputs, and the preferences that it ends with
+-- the text tells the journal of a market that was held on these inputs, and the preferences that it
+-- ends with
 abbrev pub IsPreferencesOf : List ℕ → List ℕ → List (List ℕ) → List ℕ → Type 0
 IsPreferencesOf catalog roll sessions text =
     (offered : CatalogData) × (enrolled : RollData) × (journal : List Entry)
-    × IsHeld catalog roll sessions offered enrolled journal × (text ≡ preferences_text offered.sections enrolled.students journal)
+    × IsHeld catalog roll sessions offered enrolled journal
+    × (text ≡ preferences_text offered.sections enrolled.students journal)
 
 -- what is printed for the texts of a catalogue, a roll and sessions
 abbrev pub PrintsPreferences : List (List ℕ) → List ℕ → Type 0

@@ -17,7 +17,8 @@ use Rattle.market_host.specs.declared.cause.Cause.{Cause}
 use Rattle.market_host.specs.declared.cause.Cause.TheVariants as cause
 use Rattle.market_host.specs.Marks.{without_mark}
 
--- The row and the cause of a refused catalogue. The header is row 1, and the section too many is the record of row 402.
+-- The row and the cause of a refused catalogue. The header is row 1, and the section too many is
+-- the record of row 402.
 abbrev pub IsTold : CatalogRefusal → ℕ → Cause → Type 0
 IsTold of_catalog.Header row told = (row ≡ 1) × (told ≡ cause.Header)
 IsTold (of_catalog.Fields at) row told = (row ≡ at) × (told ≡ cause.Fields)
@@ -29,7 +30,8 @@ IsTold (of_catalog.Parts at) row told = (row ≡ at) × (told ≡ cause.Parts)
 IsTold of_catalog.TooMany row told = (row ≡ 402) × (told ≡ cause.TooMany)
 IsTold of_catalog.NoMemory row told = ⊥
 
--- The row and the cause of a refused roll. The header is row 1, and the student too many is the record of row 2002.
+-- The row and the cause of a refused roll. The header is row 1, and the student too many is the
+-- record of row 2002.
 abbrev pub IsToldOfRoll : RollRefusal → ℕ → Cause → Type 0
 IsToldOfRoll of_roll.Header row told = (row ≡ 1) × (told ≡ cause.Header)
 IsToldOfRoll (of_roll.Fields at) row told = (row ≡ at) × (told ≡ cause.Fields)
@@ -39,7 +41,8 @@ IsToldOfRoll (of_roll.Number at column) row told = (row ≡ at) × (told ≡ cau
 IsToldOfRoll of_roll.TooMany row told = (row ≡ 2002) × (told ≡ cause.TooMany)
 IsToldOfRoll of_roll.NoMemory row told = ⊥
 
--- The row and the cause of refused settings. No fault of settings has a row, which is told as row 0.
+-- The row and the cause of refused settings. No fault of settings has a row, which is told as row
+-- 0.
 abbrev pub IsToldOfSettings : SettingsRefusal → ℕ → Cause → Type 0
 IsToldOfSettings of_settings.NotJson row told = (row ≡ 0) × (told ≡ cause.NotJson)
 IsToldOfSettings of_settings.NotObject row told = (row ≡ 0) × (told ≡ cause.NotObject)
@@ -53,22 +56,28 @@ abbrev pub IsToldOfPrices : PriceRefusal → ℕ → Cause → Type 0
 IsToldOfPrices of_prices.Header row told = (row ≡ 1) × (told ≡ cause.Header)
 IsToldOfPrices (of_prices.Fields at) row told = (row ≡ at) × (told ≡ cause.Fields)
 IsToldOfPrices (of_prices.Name at column) row told = (row ≡ at) × (told ≡ cause.Name column)
-IsToldOfPrices (of_prices.Repeated at earlier) row told = (row ≡ at) × (told ≡ cause.Repeated earlier)
+IsToldOfPrices (of_prices.Repeated at earlier) row told =
+    (row ≡ at) × (told ≡ cause.Repeated earlier)
 IsToldOfPrices (of_prices.Number at column) row told = (row ≡ at) × (told ≡ cause.Number column)
 IsToldOfPrices of_prices.NoMemory row told = ⊥
 
 -- the text is no catalogue, and its first fault has this row and this cause
 abbrev pub IsNoCatalog : List ℕ → ℕ → Cause → Type 0
-IsNoCatalog text row told = (why : CatalogRefusal) × (catalog_of text ≡ Err why) × IsTold why row told
+IsNoCatalog text row told =
+    (why : CatalogRefusal) × (catalog_of text ≡ Err why) × IsTold why row told
 
 -- the text is no roll, and its first fault has this row and this cause
 abbrev pub IsNoRoll : List ℕ → ℕ → Cause → Type 0
 IsNoRoll text row told = (why : RollRefusal) × (roll_of text ≡ Err why) × IsToldOfRoll why row told
 
--- the text, without one leading byte order mark, is no settings, and its first fault has this row and this cause
+-- the text, without one leading byte order mark, is no settings, and its first fault has this row
+-- and this cause
 abbrev pub AreNoSettings : List ℕ → ℕ → Cause → Type 0
-AreNoSettings text row told = (why : SettingsRefusal) × (settings_of (without_mark text) ≡ Err why) × IsToldOfSettings why row told
+AreNoSettings text row told =
+    (why : SettingsRefusal) × (settings_of (without_mark text) ≡ Err why)
+    × IsToldOfSettings why row told
 
 -- the text has no prices of these sections, and its first fault has this row and this cause
 abbrev pub AreNoPrices : List Section → List ℕ → ℕ → Cause → Type 0
-AreNoPrices sections text row told = (why : PriceRefusal) × (prices_of sections text ≡ Err why) × IsToldOfPrices why row told
+AreNoPrices sections text row told =
+    (why : PriceRefusal) × (prices_of sections text ≡ Err why) × IsToldOfPrices why row told

@@ -10,8 +10,11 @@ use Rattle.market_host.specs.Sessions.{session_text}
 
 -- the requests of each session
 abbrev pub AreRequestStreams : List (List ℕ) → List (List HallCommand) → Type 0
-AreRequestStreams sessions streams = AllZip (λ session requests. AreRequests (session_text session) requests) sessions streams
+AreRequestStreams sessions streams =
+    AllZip (λ session requests. AreRequests (session_text session) requests) sessions streams
 
 -- sessions whose items are requests were read
-abbrev pub AreReadRequests : Option Holding → List (List ℕ) → List (List ℕ) → List (Vec HallCommand Global) → ℕ → Type 0
-AreReadRequests held names texts streams room = AreReadStreams IsRequestOf held names texts streams room
+abbrev pub AreReadRequests : Option Holding → List (List ℕ) → List (List ℕ)
+    → List (Vec HallCommand Global) → ℕ → Type 0
+AreReadRequests held names texts streams room =
+    AreReadStreams IsRequestOf held names texts streams room

@@ -14,9 +14,13 @@ abbrev pub command_count : List ℕ → ℕ
 command_count bytes = length (command_lines (session_text bytes))
 
 -- what each session says, line by line, where the words of a line are such an item
-abbrev pub AreItems : {A : Type 0} → (List (List ℕ) → A → Type 0) → List (List ℕ) → List (List A) → Type 0
-AreItems IsItemOf sessions streams = AllZip (λ session items. AllZip IsItemOf (command_lines (session_text session)) items) sessions streams
+abbrev pub AreItems : {A : Type 0} → (List (List ℕ) → A → Type 0) → List (List ℕ) → List (List A)
+    → Type 0
+AreItems IsItemOf sessions streams =
+    AllZip (λ session items. AllZip IsItemOf (command_lines (session_text session)) items) sessions
+    streams
 
 -- the commands of each session
 abbrev pub AreStreams : List (List ℕ) → List (List Command) → Type 0
-AreStreams sessions streams = AllZip (λ session commands. AreCommands (session_text session) commands) sessions streams
+AreStreams sessions streams =
+    AllZip (λ session commands. AreCommands (session_text session) commands) sessions streams

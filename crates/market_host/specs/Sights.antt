@@ -3,8 +3,9 @@ use Rattle.std.specs.Prelude.{ℕ, Bool, List, Option}
 use Rattle.market_edge.specs.declared.shelf.Shelf as Shelf
 use Rattle.market_edge.specs.Holdings.{Holding}
 
--- What a shelf holds, where it tells, and its counts of faults before and after a call; and after it whether a text is begun, which names are
--- served, and what is left of the begun text, where the shelf tells.
+-- What a shelf holds, where it tells, and its counts of faults before and after a call; and after
+-- it whether a text is begun, which names are served, and what is left of the begun text, where the
+-- shelf tells.
 pub record Sight : Type 0 where
   pub held : Option Holding
   pub before : List ℕ → ℕ

@@ -19,8 +19,8 @@ use std::alloc::Global;
 use std::sync::Wait;
 use std::thread::Threads;
 
-/// The text of an audit of the text which `audit` names, where that is accepted for the market and the sessions that it
-/// names, or the first finding on it, or why there is neither.
+/// The text of an audit of the text which `audit` names, where that is accepted for the market and
+/// the sessions that it names, or the first finding on it, or why there is neither.
 pub fn audit<R: Threads + Wait + Sync, H: Shelf>(
     rt: &R,
     alloc: Global,
@@ -34,7 +34,10 @@ pub fn audit<R: Threads + Wait + Sync, H: Shelf>(
         (λ stop. IsStopped (map string_bytes words.now) (sight H.Shelf shelf.old shelf.new) stop (line_of stop)) }
     ensures holds { H.holds shelf.new ≡ H.holds shelf.old }
     ensures later { (other : List ℕ) → H.faults shelf.old other ≤ H.faults shelf.new other }
-    ensures used { MatchResult result (λ ended. AreUsed (map string_bytes words.now) (trace H.Shelf shelf.old shelf.new) ended.status) (AreReadTo (map string_bytes words.now) (trace H.Shelf shelf.old shelf.new)) }
+    ensures used { MatchResult result
+        (λ ended. AreUsed (map string_bytes words.now) (trace H.Shelf shelf.old shelf.new)
+        ended.status)
+        (AreReadTo (map string_bytes words.now) (trace H.Shelf shelf.old shelf.new)) }
 {
     let published = take_published(
         alloc,

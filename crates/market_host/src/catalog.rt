@@ -28,8 +28,11 @@ pub fn take_catalog<H: Shelf>(
     name: &str,
     input: u16,
 ) -> Result<Catalog, Trouble>
-    ensures read { IfOk result (λ catalog. IsRead kind.Catalog (H.holds shelf.old) name.now (λ text. catalog_of text ≡ Ok catalog)) }
-    ensures trouble { IfErr result (IsTroubleOf (sight H.Shelf shelf.old shelf.new) kind.Catalog name.now input) }
+    ensures read { IfOk result
+        (λ catalog. IsRead kind.Catalog (H.holds shelf.old) name.now
+        (λ text. catalog_of text ≡ Ok catalog)) }
+    ensures trouble { IfErr result
+        (IsTroubleOf (sight H.Shelf shelf.old shelf.new) kind.Catalog name.now input) }
     ensures holds { H.holds shelf.new ≡ H.holds shelf.old }
     ensures later { (other : List ℕ) → H.faults shelf.old other ≤ H.faults shelf.new other }
     ensures used { Uses (trace H.Shelf shelf.old shelf.new) (name.now ∷ []) input result }

@@ -1,8 +1,8 @@
 // Why an input is refused.
 use market_settings::Key;
 
-/// Why an input is refused, at the row that the status names. Rows and columns are numbered from 1; a cause that has
-/// no row has row 0.
+/// Why an input is refused, at the row that the status names. Rows and columns are numbered from 1;
+/// a cause that has no row has row 0.
 #[derive(Clone, Copy, Debug, PartialEq, Eq)]
 pub enum Cause {
     /// The first record of a table is not its header.

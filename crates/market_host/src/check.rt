@@ -17,15 +17,18 @@ use market_edge::Shelf;
 use market_words::Form;
 use std::alloc::Global;
 
-/// That the text which `check` names is accepted for the market and the sessions that it names, or the first finding on
-/// it, or why there is neither.
+/// That the text which `check` names is accepted for the market and the sessions that it names, or
+/// the first finding on it, or why there is neither.
 pub fn check<H: Shelf>(alloc: Global, words: &[String], shelf: &mut H) -> Result<Ended, Trouble>
     requires { HasForm (map string_bytes words.now) Form.Check }
     ensures answer { MatchResult result (IsEnded (map string_bytes words.now) (sight H.Shelf shelf.old shelf.new))
         (λ stop. IsStopped (map string_bytes words.now) (sight H.Shelf shelf.old shelf.new) stop (line_of stop)) }
     ensures holds { H.holds shelf.new ≡ H.holds shelf.old }
     ensures later { (other : List ℕ) → H.faults shelf.old other ≤ H.faults shelf.new other }
-    ensures used { MatchResult result (λ ended. AreUsed (map string_bytes words.now) (trace H.Shelf shelf.old shelf.new) ended.status) (AreReadTo (map string_bytes words.now) (trace H.Shelf shelf.old shelf.new)) }
+    ensures used { MatchResult result
+        (λ ended. AreUsed (map string_bytes words.now) (trace H.Shelf shelf.old shelf.new)
+        ended.status)
+        (AreReadTo (map string_bytes words.now) (trace H.Shelf shelf.old shelf.new)) }
 {
     let published = take_published(
         alloc,

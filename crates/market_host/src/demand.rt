@@ -51,7 +51,10 @@ pub fn demand<R: Threads + Wait + Sync, H: Shelf>(
         (λ stop. IsStopped (map string_bytes words.now) (sight H.Shelf shelf.old shelf.new) stop (line_of stop)) }
     ensures holds { H.holds shelf.new ≡ H.holds shelf.old }
     ensures later { (other : List ℕ) → H.faults shelf.old other ≤ H.faults shelf.new other }
-    ensures used { MatchResult result (λ ended. AreUsed (map string_bytes words.now) (trace H.Shelf shelf.old shelf.new) ended.status) (AreReadTo (map string_bytes words.now) (trace H.Shelf shelf.old shelf.new)) }
+    ensures used { MatchResult result
+        (λ ended. AreUsed (map string_bytes words.now) (trace H.Shelf shelf.old shelf.new)
+        ended.status)
+        (AreReadTo (map string_bytes words.now) (trace H.Shelf shelf.old shelf.new)) }
 {
     let market = take_market(
         alloc,
@@ -69,7 +72,8 @@ pub fn demand<R: Threads + Wait + Sync, H: Shelf>(
     })
 }
 
-// The text of the order in which a desk for this market takes these streams, and of what its crowd then takes at these prices.
+// The text of the order in which a desk for this market takes these streams, and of what its crowd
+// then takes at these prices.
 fn text_of<R: Threads + Wait + Sync>(
     rt: &R,
     alloc: Global,
@@ -124,8 +128,14 @@ fn taken_by<R: Threads + Wait + Sync>(
     requires crowd { MakeCrowd crowd.menus.items crowd.budgets.items crowd.sections }
     requires seats { length seats.now ≡ crowd.sections }
     requires prices { length prices.now ≡ crowd.sections }
-    ensures value { IfOk result (λ taken. taken ≡ taken_at (crowd_of crowd.menus.items crowd.budgets.items crowd.sections) seats.now prices.now) }
-    ensures by { IfOk result (λ taken. IsTakenBy (length (crowd_of crowd.menus.items crowd.budgets.items crowd.sections).students) crowd.sections taken) }
+    ensures value { IfOk result
+        (λ taken. taken
+        ≡ taken_at (crowd_of crowd.menus.items crowd.budgets.items crowd.sections) seats.now
+        prices.now) }
+    ensures by { IfOk result
+        (λ taken. IsTakenBy
+        (length (crowd_of crowd.menus.items crowd.budgets.items crowd.sections).students)
+        crowd.sections taken) }
 {
     let crowd = Arc::new(alloc, crowd)?;
     let bench = Bench::reserve(alloc, workers)?;

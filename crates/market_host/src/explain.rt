@@ -25,8 +25,9 @@ use market_units::{Name, NoMemory};
 use market_words::Form;
 use std::alloc::Global;
 
-/// Why the student that `explain` names does not have the section, by the published text that it names, or that one of
-/// the two is not known, or the first finding on the text, or why there is none of these.
+/// Why the student that `explain` names does not have the section, by the published text that it
+/// names, or that one of the two is not known, or the first finding on the text, or why there is
+/// none of these.
 pub fn explain<H: Shelf>(
     alloc: Global,
     words: &[String],
@@ -39,7 +40,10 @@ pub fn explain<H: Shelf>(
         (λ stop. IsStopped (map string_bytes words.now) (sight H.Shelf shelf.old shelf.new) stop (line_of stop)) }
     ensures holds { H.holds shelf.new ≡ H.holds shelf.old }
     ensures later { (other : List ℕ) → H.faults shelf.old other ≤ H.faults shelf.new other }
-    ensures used { MatchResult result (λ ended. AreUsed (map string_bytes words.now) (trace H.Shelf shelf.old shelf.new) ended.status) (AreReadTo (map string_bytes words.now) (trace H.Shelf shelf.old shelf.new)) }
+    ensures used { MatchResult result
+        (λ ended. AreUsed (map string_bytes words.now) (trace H.Shelf shelf.old shelf.new)
+        ended.status)
+        (AreReadTo (map string_bytes words.now) (trace H.Shelf shelf.old shelf.new)) }
 {
     let published = take_published(
         alloc,

@@ -31,9 +31,9 @@ use std::alloc::Global;
 use std::sync::Wait;
 use std::thread::Threads;
 
-/// Does what the words of the command line ask for, and answers how it went. The words are those behind the program's
-/// name. The whole text is made before its first byte is written; a text that the sink does not take whole is a sink
-/// fault, in place of whatever status was to be answered.
+/// Does what the words of the command line ask for, and answers how it went. The words are those
+/// behind the program's name. The whole text is made before its first byte is written; a text that
+/// the sink does not take whole is a sink fault, in place of whatever status was to be answered.
 pub fn course_match<R: Threads + Wait + Sync, H: Shelf, K: Sink>(
     rt: &R,
     alloc: Global,
@@ -42,7 +42,8 @@ pub fn course_match<R: Threads + Wait + Sync, H: Shelf, K: Sink>(
     sink: &mut K,
     gate: &(dyn Gate + Sync),
 ) -> Status
-    // The status and its text are the outcome of the call, and the sink took that text, all of it unless it fails.
+    // The status and its text are the outcome of the call, and the sink took that text, all of it
+    // unless it fails.
     ensures written { result ≢ Status.SinkFault → (text : List ℕ)
         × IsOutcome (map string_bytes words.now) (sight H.Shelf shelf.old shelf.new) result text × Takes (K.taken sink.old) (K.taken sink.new) text }
 
@@ -52,15 +53,21 @@ pub fn course_match<R: Threads + Wait + Sync, H: Shelf, K: Sink>(
         × IsOutcome (map string_bytes words.now) (sight H.Shelf shelf.old shelf.new) instead text
         × AreUsed (map string_bytes words.now) (trace H.Shelf shelf.old shelf.new) instead × TakesFront (K.taken sink.old) (K.taken sink.new) text }
 
-    // Where every input is held and in order and no fault is counted, the work is ended, or memory is wanted.
-    ensures complete { CanBeDone (map string_bytes words.now) (sight H.Shelf shelf.old shelf.new) → ¬ Rose (K.faults sink.old) (K.faults sink.new) → EndsWork result }
+    // Where every input is held and in order and no fault is counted, the work is ended, or memory
+    // is wanted.
+    ensures complete { CanBeDone (map string_bytes words.now) (sight H.Shelf shelf.old shelf.new)
+        → ¬ Rose (K.faults sink.old) (K.faults sink.new) → EndsWork result }
 
-    // Where the work is ended, the last input was read to its end, and where an input is refused, that one.
-    ensures read_out { IsReadOutAt (map string_bytes words.now) (sight H.Shelf shelf.old shelf.new) result }
+    // Where the work is ended, the last input was read to its end, and where an input is refused,
+    // that one.
+    ensures read_out { IsReadOutAt (map string_bytes words.now) (sight H.Shelf shelf.old shelf.new)
+        result }
 
-    // Where the shelf tells what was begun: each input is begun in its turn and read to its end, and so is each before the one that stops the call.
-    // Where neither the shelf nor the sink is at fault, no count of theirs rose.
-    ensures used { result ≢ Status.SinkFault → AreUsed (map string_bytes words.now) (trace H.Shelf shelf.old shelf.new) result }
+    // Where the shelf tells what was begun: each input is begun in its turn and read to its end,
+    // and so is each before the one that stops the call. Where neither the shelf nor the sink is at
+    // fault, no count of theirs rose.
+    ensures used { result ≢ Status.SinkFault
+        → AreUsed (map string_bytes words.now) (trace H.Shelf shelf.old shelf.new) result }
     ensures uncounted { result ≢ Status.SinkFault → K.faults sink.new ≡ K.faults sink.old }
 
     // What the shelf holds stays, and no count of faults falls.
@@ -77,11 +84,15 @@ pub fn course_match<R: Threads + Wait + Sync, H: Shelf, K: Sink>(
     }
 }
 
-/// What is answered where there is no memory for the words themselves: that memory is wanted, unless the sink fails.
+/// What is answered where there is no memory for the words themselves: that memory is wanted,
+/// unless the sink fails.
 pub fn no_memory_for_words<K: Sink>(sink: &mut K) -> Status
-    ensures written { result ≢ Status.SinkFault → (result ≡ Status.OutOfMemory) × Takes (K.taken sink.old) (K.taken sink.new) (line_of trouble.OutOfMemory) }
+    ensures written { result ≢ Status.SinkFault
+        → (result ≡ Status.OutOfMemory)
+        × Takes (K.taken sink.old) (K.taken sink.new) (line_of trouble.OutOfMemory) }
     ensures sink_fault { result ≡ Status.SinkFault → Rose (K.faults sink.old) (K.faults sink.new) }
-    ensures replaced { result ≡ Status.SinkFault → TakesFront (K.taken sink.old) (K.taken sink.new) (line_of trouble.OutOfMemory) }
+    ensures replaced { result ≡ Status.SinkFault
+        → TakesFront (K.taken sink.old) (K.taken sink.new) (line_of trouble.OutOfMemory) }
     ensures uncounted { result ≢ Status.SinkFault → K.faults sink.new ≡ K.faults sink.old }
     ensures sink_later { K.faults sink.old ≤ K.faults sink.new }
 {
@@ -96,9 +107,11 @@ pub fn no_memory_for_words<K: Sink>(sink: &mut K) -> Status
 fn finish<K: Sink>(sink: &mut K, text: &[u8], status: Status) -> Status
     requires { status ≢ Status.SinkFault }
     ensures status { result ≢ Status.SinkFault → result ≡ status }
-    ensures written { result ≢ Status.SinkFault → Takes (K.taken sink.old) (K.taken sink.new) text.now }
+    ensures written { result ≢ Status.SinkFault
+        → Takes (K.taken sink.old) (K.taken sink.new) text.now }
     ensures cause { result ≡ Status.SinkFault → Rose (K.faults sink.old) (K.faults sink.new) }
-    ensures front { result ≡ Status.SinkFault → TakesFront (K.taken sink.old) (K.taken sink.new) text.now }
+    ensures front { result ≡ Status.SinkFault
+        → TakesFront (K.taken sink.old) (K.taken sink.new) text.now }
     ensures uncounted { result ≢ Status.SinkFault → K.faults sink.new ≡ K.faults sink.old }
     ensures later { K.faults sink.old ≤ K.faults sink.new }
 {
@@ -120,7 +133,10 @@ fn answer<R: Threads + Wait + Sync, H: Shelf>(
     requires { HasForm (map string_bytes words.now) form }
     ensures answer { MatchResult result (IsEnded (map string_bytes words.now) (sight H.Shelf shelf.old shelf.new))
         (λ stop. IsStopped (map string_bytes words.now) (sight H.Shelf shelf.old shelf.new) stop (line_of stop)) }
-    ensures used { MatchResult result (λ ended. AreUsed (map string_bytes words.now) (trace H.Shelf shelf.old shelf.new) ended.status) (AreReadTo (map string_bytes words.now) (trace H.Shelf shelf.old shelf.new)) }
+    ensures used { MatchResult result
+        (λ ended. AreUsed (map string_bytes words.now) (trace H.Shelf shelf.old shelf.new)
+        ended.status)
+        (AreReadTo (map string_bytes words.now) (trace H.Shelf shelf.old shelf.new)) }
     ensures holds { H.holds shelf.new ≡ H.holds shelf.old }
     ensures later { (other : List ℕ) → H.faults shelf.old other ≤ H.faults shelf.new other }
 {

@@ -24,7 +24,8 @@ pub fn read_input<H: Shelf>(
     ensures whole { IfOk result (λ text. IsTextOf (H.holds shelf.old) name.now text.items) }
     ensures within { IfOk result (λ text. length text.items ≤ limit) }
     ensures end { OnOk result (IsAtEnd (sight H.Shelf shelf.old shelf.new) name.now) }
-    ensures unread { IfErr result (IsUnread limit (sight H.Shelf shelf.old shelf.new) name.now input) }
+    ensures unread { IfErr result
+        (IsUnread limit (sight H.Shelf shelf.old shelf.new) name.now input) }
     ensures holds { H.holds shelf.new ≡ H.holds shelf.old }
     ensures later { (other : List ℕ) → H.faults shelf.old other ≤ H.faults shelf.new other }
     ensures used { Uses (trace H.Shelf shelf.old shelf.new) (name.now ∷ []) input result }

@@ -1,5 +1,5 @@
-//! The whole program, over whatever shelf, sink and gate it is given: from the words of the command line to the
-//! status, and from the bytes of the inputs to the bytes of the output.
+//! The whole program, over whatever shelf, sink and gate it is given: from the words of the command
+//! line to the status, and from the bytes of the inputs to the bytes of the output.
 // Neither: that the whole text is made before its first byte is written. In the code no form is
 // given the sink.
 #![tactic(auto)]

@@ -17,8 +17,8 @@ use std::alloc::Global;
 use std::sync::Wait;
 use std::thread::Threads;
 
-/// The summary of the market that `make` makes of these numbers and runs, or the least error where no prices are found.
-/// It reads no input, so that nothing but memory can be wanted.
+/// The summary of the market that `make` makes of these numbers and runs, or the least error where
+/// no prices are found. It reads no input, so that nothing but memory can be wanted.
 pub fn make<R: Threads + Wait + Sync>(
     rt: &R,
     alloc: Global,
@@ -29,9 +29,16 @@ pub fn make<R: Threads + Wait + Sync>(
     accept: u64,
     gate: &(dyn Gate + Sync),
 ) -> Result<Ended, NoMemory>
-    requires { (words : List (List ℕ)) × HasForm words (Form.Make workers seed students sections accept) }
-    ensures ended { IfOk result (λ ended. (words : List (List ℕ)) (seen : Sight) → HasForm words (Form.Make workers seed students sections accept) → IsEnded words seen ended) }
-    ensures used { IfOk result (λ ended. (words : List (List ℕ)) (seen : Trace) → HasForm words (Form.Make workers seed students sections accept) → AreReadOut seen [] → AreUsed words seen ended.status) }
+    requires { (words : List (List ℕ))
+        × HasForm words (Form.Make workers seed students sections accept) }
+    ensures ended { IfOk result
+        (λ ended. (words : List (List ℕ)) (seen : Sight)
+        → HasForm words (Form.Make workers seed students sections accept)
+        → IsEnded words seen ended) }
+    ensures used { IfOk result
+        (λ ended. (words : List (List ℕ)) (seen : Trace)
+        → HasForm words (Form.Make workers seed students sections accept) → AreReadOut seen []
+        → AreUsed words seen ended.status) }
 {
     match made_summary(rt, alloc, workers, seed, students, sections, accept, gate) {
         Ok(text) => Ok(Ended {

@@ -35,14 +35,22 @@ pub fn take_market<H: Shelf>(
     roll: &str,
     settings: &str,
 ) -> Result<Market, Trouble>
-    ensures catalog { IfOk result (λ market. IsRead kind.Catalog (H.holds shelf.old) catalog.now (λ text. catalog_of text ≡ Ok market.catalog)) }
-    ensures roll { IfOk result (λ market. IsRead kind.Roll (H.holds shelf.old) roll.now (λ text. roll_of text ≡ Ok market.roll)) }
-    ensures settings { IfOk result (λ market. IsRead kind.Settings (H.holds shelf.old) settings.now (λ text. settings_of (without_mark text) ≡ Ok market.settings)) }
+    ensures catalog { IfOk result
+        (λ market. IsRead kind.Catalog (H.holds shelf.old) catalog.now
+        (λ text. catalog_of text ≡ Ok market.catalog)) }
+    ensures roll { IfOk result
+        (λ market. IsRead kind.Roll (H.holds shelf.old) roll.now
+        (λ text. roll_of text ≡ Ok market.roll)) }
+    ensures settings { IfOk result
+        (λ market. IsRead kind.Settings (H.holds shelf.old) settings.now
+        (λ text. settings_of (without_mark text) ≡ Ok market.settings)) }
     ensures in_range { IfOk result (λ market. AreInRange market.settings) }
-    ensures trouble { IfErr result (IsTroubleOfMarket (sight H.Shelf shelf.old shelf.new) catalog.now roll.now settings.now) }
+    ensures trouble { IfErr result
+        (IsTroubleOfMarket (sight H.Shelf shelf.old shelf.new) catalog.now roll.now settings.now) }
     ensures holds { H.holds shelf.new ≡ H.holds shelf.old }
     ensures later { (other : List ℕ) → H.faults shelf.old other ≤ H.faults shelf.new other }
-    ensures used { Uses (trace H.Shelf shelf.old shelf.new) (catalog.now ∷ roll.now ∷ settings.now ∷ []) 1 result }
+    ensures used { Uses (trace H.Shelf shelf.old shelf.new)
+        (catalog.now ∷ roll.now ∷ settings.now ∷ []) 1 result }
 {
     let catalog = take_catalog(alloc, shelf, catalog, 1)?;
     let roll = take_roll(alloc, shelf, roll, 2)?;

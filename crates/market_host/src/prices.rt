@@ -19,7 +19,8 @@ use std::alloc::Global;
 // The header is row 1.
 const HEADER_ROW: u32 = 1;
 
-/// The prices of this catalogue's sections that the input of this name and number is, or why there are none.
+/// The prices of this catalogue's sections that the input of this name and number is, or why there
+/// are none.
 pub fn take_prices<H: Shelf>(
     alloc: Global,
     shelf: &mut H,
@@ -27,8 +28,12 @@ pub fn take_prices<H: Shelf>(
     input: u16,
     catalog: &Catalog,
 ) -> Result<Vec<Tokens>, Trouble>
-    ensures read { IfOk result (λ prices. IsRead kind.Prices (H.holds shelf.old) name.now (λ text. prices_of catalog.now.sections text ≡ Ok (map (λ price. price.0) prices.items))) }
-    ensures trouble { IfErr result (IsTroubleOfPrices (sight H.Shelf shelf.old shelf.new) catalog.now name.now input) }
+    ensures read { IfOk result
+        (λ prices. IsRead kind.Prices (H.holds shelf.old) name.now
+        (λ text. prices_of catalog.now.sections text
+        ≡ Ok (map (λ price. price.0) prices.items))) }
+    ensures trouble { IfErr result
+        (IsTroubleOfPrices (sight H.Shelf shelf.old shelf.new) catalog.now name.now input) }
     ensures holds { H.holds shelf.new ≡ H.holds shelf.old }
     ensures later { (other : List ℕ) → H.faults shelf.old other ≤ H.faults shelf.new other }
     ensures used { Uses (trace H.Shelf shelf.old shelf.new) (name.now ∷ []) input result }
@@ -45,7 +50,9 @@ fn prices_in(
     input: u16,
 ) -> Result<Vec<Tokens>, Trouble>
     requires { length bytes.now < 2 ^ 32 - 1 }
-    ensures read { IfOk result (λ prices. prices_of catalog.now.sections bytes.now ≡ Ok (map (λ price. price.0) prices.items)) }
+    ensures read { IfOk result
+        (λ prices. prices_of catalog.now.sections bytes.now
+        ≡ Ok (map (λ price. price.0) prices.items)) }
     ensures refused { IfErr result (IsRefusal (AreNoPrices catalog.now.sections bytes.now) input) }
 {
     match read_prices(alloc, catalog, bytes) {
@@ -56,7 +63,8 @@ fn prices_in(
 
 // What is told of a refusal of these bytes.
 fn trouble_of(_catalog: &Catalog, _bytes: &[u8], input: u16, refusal: PriceRefusal) -> Trouble
-    requires { refusal ≢ PriceRefusal.NoMemory → prices_of _catalog.now.sections _bytes.now ≡ Err refusal }
+    requires { refusal ≢ PriceRefusal.NoMemory
+        → prices_of _catalog.now.sections _bytes.now ≡ Err refusal }
     ensures { IsRefusal (AreNoPrices _catalog.now.sections _bytes.now) input result }
 {
     let (row, cause) = match refusal {

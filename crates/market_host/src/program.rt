@@ -19,9 +19,9 @@ use std::process::ExitCode;
 use std::sync::Wait;
 use std::thread::Threads;
 
-/// Does what the arguments of the process ask for, the first of which is the program's name, and answers the number of
-/// how it went. Where an argument is not UTF-8, the call is answered as one without words: status 1, or 6 where the sink
-/// is at fault.
+/// Does what the arguments of the process ask for, the first of which is the program's name, and
+/// answers the number of how it went. Where an argument is not UTF-8, the call is answered as one
+/// without words: status 1, or 6 where the sink is at fault.
 pub fn exit_code<R: Threads + Wait + Sync, H: Shelf, K: Sink>(
     rt: &R,
     alloc: Global,
@@ -30,8 +30,8 @@ pub fn exit_code<R: Threads + Wait + Sync, H: Shelf, K: Sink>(
     sink: &mut K,
     gate: &(dyn Gate + Sync),
 ) -> ExitCode
-    // The process ends with the number of a status. It is that of the answer, whose text the sink took, or that of a sink fault, which stands for
-    // an answer some of whose text was not taken.
+    // The process ends with the number of a status. It is that of the answer, whose text the sink
+    // took, or that of a sink fault, which stands for an answer some of whose text was not taken.
     ensures written { (status : Status) × (exit_status result ≡ number_of status)
         × (status ≢ Status.SinkFault → (text : List ℕ) × IsAnswer (words_given args) (sight H.Shelf shelf.old shelf.new) status text × Takes (K.taken sink.old) (K.taken sink.new) text)
         × (status ≡ Status.SinkFault → Rose (K.faults sink.old) (K.faults sink.new) × (instead : Status) × (text : List ℕ)

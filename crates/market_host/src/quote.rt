@@ -47,7 +47,10 @@ pub fn quote<H: Shelf>(
         (λ stop. IsStopped (map string_bytes words.now) (sight H.Shelf shelf.old shelf.new) stop (line_of stop)) }
     ensures holds { H.holds shelf.new ≡ H.holds shelf.old }
     ensures later { (other : List ℕ) → H.faults shelf.old other ≤ H.faults shelf.new other }
-    ensures used { MatchResult result (λ ended. AreUsed (map string_bytes words.now) (trace H.Shelf shelf.old shelf.new) ended.status) (AreReadTo (map string_bytes words.now) (trace H.Shelf shelf.old shelf.new)) }
+    ensures used { MatchResult result
+        (λ ended. AreUsed (map string_bytes words.now) (trace H.Shelf shelf.old shelf.new)
+        ended.status)
+        (AreReadTo (map string_bytes words.now) (trace H.Shelf shelf.old shelf.new)) }
 {
     let catalog = take_catalog(alloc, shelf, words[1].as_str(), 1)?;
     let commands = take_session(alloc, shelf, words[2].as_str(), 2, MAX_COMMANDS)?;
@@ -70,7 +73,9 @@ fn best_text(
     requires few { length commands.now ≤ 200000 }
     requires credits { credits ≤ 800 }
     requires courses { courses ≤ 8 }
-    ensures { IfOk result (λ text. IsQuote catalog.now.sections (single_student (name_bytes name) credits courses) commands.now text.items) }
+    ensures { IfOk result
+        (λ text. IsQuote catalog.now.sections (single_student (name_bytes name) credits courses)
+        commands.now text.items) }
 {
     let roll = Roll::single(alloc, name, credits, courses)?;
     let desk = desk_after(alloc, catalog, &roll, commands)?;
@@ -83,7 +88,9 @@ fn best_text(
 
 // The best bundle of the menu where nothing has a price and every section is allowed.
 fn best_of(alloc: Global, menu: &Menu) -> Result<Bundle, NoMemory>
-    ensures { IfOk result (λ bundle. IsBest (wishes_of menu.now) (λ _. 0) 0 (λ s. nat_lt s 400) (sections_of bundle)) }
+    ensures { IfOk result
+        (λ bundle. IsBest (wishes_of menu.now) (λ _. 0) 0 (λ s. nat_lt s 400)
+        (sections_of bundle)) }
 {
     let mut workspace = Workspace::reserve(alloc)?;
     let _few_places = menu.len();
@@ -100,8 +107,11 @@ fn desk_after(
     commands: &[Command],
 ) -> Result<Desk, NoMemory>
     requires { length commands.now ≤ 200000 }
-    ensures names { IfOk result (λ desk. names_of desk ≡ market_names catalog.now.sections roll.now.students) }
-    ensures state { IfOk result (λ desk. state_of desk ≡ state_of_new_desk catalog.now.sections roll.now.students commands.now) }
+    ensures names { IfOk result
+        (λ desk. names_of desk ≡ market_names catalog.now.sections roll.now.students) }
+    ensures state { IfOk result
+        (λ desk. state_of desk
+        ≡ state_of_new_desk catalog.now.sections roll.now.students commands.now) }
 {
     let mut desk = Desk::prepare(alloc, catalog, roll, commands.len() as u32)?;
     'commands: for command in commands {

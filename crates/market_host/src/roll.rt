@@ -27,8 +27,10 @@ pub fn take_roll<H: Shelf>(
     name: &str,
     input: u16,
 ) -> Result<Roll, Trouble>
-    ensures read { IfOk result (λ roll. IsRead kind.Roll (H.holds shelf.old) name.now (λ text. roll_of text ≡ Ok roll)) }
-    ensures trouble { IfErr result (IsTroubleOf (sight H.Shelf shelf.old shelf.new) kind.Roll name.now input) }
+    ensures read { IfOk result
+        (λ roll. IsRead kind.Roll (H.holds shelf.old) name.now (λ text. roll_of text ≡ Ok roll)) }
+    ensures trouble { IfErr result
+        (IsTroubleOf (sight H.Shelf shelf.old shelf.new) kind.Roll name.now input) }
     ensures holds { H.holds shelf.new ≡ H.holds shelf.old }
     ensures later { (other : List ℕ) → H.faults shelf.old other ≤ H.faults shelf.new other }
     ensures used { Uses (trace H.Shelf shelf.old shelf.new) (name.now ∷ []) input result }

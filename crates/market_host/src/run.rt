@@ -21,8 +21,8 @@ use std::alloc::Global;
 use std::sync::Wait;
 use std::thread::Threads;
 
-/// The published text of the market that `run` names, or the order in which its sessions' commands were taken and the
-/// least error where no prices are found, or why there is neither.
+/// The published text of the market that `run` names, or the order in which its sessions' commands
+/// were taken and the least error where no prices are found, or why there is neither.
 pub fn run<R: Threads + Wait + Sync, H: Shelf>(
     rt: &R,
     alloc: Global,
@@ -36,7 +36,10 @@ pub fn run<R: Threads + Wait + Sync, H: Shelf>(
         (λ stop. IsStopped (map string_bytes words.now) (sight H.Shelf shelf.old shelf.new) stop (line_of stop)) }
     ensures holds { H.holds shelf.new ≡ H.holds shelf.old }
     ensures later { (other : List ℕ) → H.faults shelf.old other ≤ H.faults shelf.new other }
-    ensures used { MatchResult result (λ ended. AreUsed (map string_bytes words.now) (trace H.Shelf shelf.old shelf.new) ended.status) (AreReadTo (map string_bytes words.now) (trace H.Shelf shelf.old shelf.new)) }
+    ensures used { MatchResult result
+        (λ ended. AreUsed (map string_bytes words.now) (trace H.Shelf shelf.old shelf.new)
+        ended.status)
+        (AreReadTo (map string_bytes words.now) (trace H.Shelf shelf.old shelf.new)) }
 {
     let market = take_market(
         alloc,

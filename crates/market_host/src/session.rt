@@ -17,8 +17,8 @@ use market_units::MAX_INPUT_BYTES;
 use std::alloc::Global;
 use utility_language::StreamEnd;
 
-/// What the session of this name says, which is the input of this number, where there is room for it, or why it can not be had.
-/// The session's text is not kept.
+/// What the session of this name says, which is the input of this number, where there is room for
+/// it, or why it can not be had. The session's text is not kept.
 pub fn take_session<H: Shelf, S: StreamItem>(
     alloc: Global,
     shelf: &mut H,
@@ -26,8 +26,12 @@ pub fn take_session<H: Shelf, S: StreamItem>(
     input: u16,
     room: u32,
 ) -> Result<Vec<S>, Trouble>
-    ensures read { IfOk result (λ items. IsRead Session (H.holds shelf.old) name.now (λ text. AllZip S.is_item_of (command_lines (session_text text)) items.items × (command_count text ≤ room))) }
-    ensures trouble { IfErr result (IsTroubleOfSession (sight H.Shelf shelf.old shelf.new) room name.now input) }
+    ensures read { IfOk result
+        (λ items. IsRead Session (H.holds shelf.old) name.now
+        (λ text. AllZip S.is_item_of (command_lines (session_text text)) items.items
+        × (command_count text ≤ room))) }
+    ensures trouble { IfErr result
+        (IsTroubleOfSession (sight H.Shelf shelf.old shelf.new) room name.now input) }
     ensures end { OnOk result (IsAtEnd (sight H.Shelf shelf.old shelf.new) name.now) }
     ensures holds { H.holds shelf.new ≡ H.holds shelf.old }
     ensures later { (other : List ℕ) → H.faults shelf.old other ≤ H.faults shelf.new other }
@@ -44,7 +48,9 @@ fn items_in<S: StreamItem>(
     input: u16,
     room: u32,
 ) -> Result<Vec<S>, Trouble>
-    ensures items { IfOk result (λ items. AllZip S.is_item_of (command_lines (session_text bytes.now)) items.items × (command_count bytes.now ≤ room)) }
+    ensures items { IfOk result
+        (λ items. AllZip S.is_item_of (command_lines (session_text bytes.now)) items.items
+        × (command_count bytes.now ≤ room)) }
     ensures surplus { IfErr result (IsSurplus bytes.now room input) }
 {
     match S::read_items(alloc, without_mark(bytes), room) {

@@ -13,8 +13,8 @@ use market_edge::Shelf;
 use market_units::MAX_COMMANDS;
 use std::alloc::Global;
 
-/// What the sessions of these names say, which are numbered from `first` on: a stream for each, at most 200,000 items
-/// together, or what the first session has that stops the reading.
+/// What the sessions of these names say, which are numbered from `first` on: a stream for each, at
+/// most 200,000 items together, or what the first session has that stops the reading.
 pub fn take_sessions<H: Shelf, S: StreamItem>(
     alloc: Global,
     shelf: &mut H,
@@ -23,12 +23,19 @@ pub fn take_sessions<H: Shelf, S: StreamItem>(
 ) -> Result<Vec<Vec<S>>, Trouble>
     requires count { (1 ≤ length names.now) × (length names.now ≤ 64) }
     requires first { first ≤ 100 }
-    ensures read { IfOk result (λ streams. (texts : List (List ℕ)) × (room : ℕ) × AreReadStreams S.is_item_of (H.holds shelf.old) (map string_bytes names.now) texts streams.items room) }
-    ensures trouble { IfErr result (IsTroubleOfSessions (sight H.Shelf shelf.old shelf.new) (map string_bytes names.now) first) }
-    ensures end { OnOk result (IsLastAtEnd (sight H.Shelf shelf.old shelf.new) (map string_bytes names.now)) }
+    ensures read { IfOk result
+        (λ streams. (texts : List (List ℕ)) × (room : ℕ)
+        × AreReadStreams S.is_item_of (H.holds shelf.old) (map string_bytes names.now) texts
+        streams.items room) }
+    ensures trouble { IfErr result
+        (IsTroubleOfSessions (sight H.Shelf shelf.old shelf.new) (map string_bytes names.now)
+        first) }
+    ensures end { OnOk result
+        (IsLastAtEnd (sight H.Shelf shelf.old shelf.new) (map string_bytes names.now)) }
     ensures holds { H.holds shelf.new ≡ H.holds shelf.old }
     ensures later { (other : List ℕ) → H.faults shelf.old other ≤ H.faults shelf.new other }
-    ensures used { Uses (trace H.Shelf shelf.old shelf.new) (map string_bytes names.now) first result }
+    ensures used { Uses (trace H.Shelf shelf.old shelf.new) (map string_bytes names.now) first
+        result }
 {
     let mut streams = Vec::new(alloc);
     let mut room = MAX_COMMANDS;

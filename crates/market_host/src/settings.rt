@@ -26,9 +26,12 @@ pub fn take_settings<H: Shelf>(
     name: &str,
     input: u16,
 ) -> Result<Settings, Trouble>
-    ensures read { IfOk result (λ settings. IsRead kind.Settings (H.holds shelf.old) name.now (λ text. settings_of (without_mark text) ≡ Ok settings)) }
+    ensures read { IfOk result
+        (λ settings. IsRead kind.Settings (H.holds shelf.old) name.now
+        (λ text. settings_of (without_mark text) ≡ Ok settings)) }
     ensures in_range { IfOk result AreInRange }
-    ensures trouble { IfErr result (IsTroubleOf (sight H.Shelf shelf.old shelf.new) kind.Settings name.now input) }
+    ensures trouble { IfErr result
+        (IsTroubleOf (sight H.Shelf shelf.old shelf.new) kind.Settings name.now input) }
     ensures holds { H.holds shelf.new ≡ H.holds shelf.old }
     ensures later { (other : List ℕ) → H.faults shelf.old other ≤ H.faults shelf.new other }
     ensures used { Uses (trace H.Shelf shelf.old shelf.new) (name.now ∷ []) input result }
@@ -51,7 +54,8 @@ fn settings_in(alloc: Global, bytes: &[u8], input: u16) -> Result<Settings, Trou
 
 // What is told of a refusal of these bytes.
 fn trouble_of(_bytes: &[u8], input: u16, refusal: SettingsRefusal) -> Trouble
-    requires { refusal ≢ SettingsRefusal.NoMemory → settings_of (without_mark _bytes.now) ≡ Err refusal }
+    requires { refusal ≢ SettingsRefusal.NoMemory
+        → settings_of (without_mark _bytes.now) ≡ Err refusal }
     ensures { IsRefusal (AreNoSettings _bytes.now) input result }
 {
     let cause = match refusal {

@@ -16,7 +16,8 @@ pub enum Status {
     ShelfFault { input: u16 },
     /// This input, the first such one, is not of its grammar, at its first bad row.
     Refused { input: u16, row: u32, cause: Cause },
-    /// This input has more bytes than its limit, or brings the commands of all sessions above 200,000.
+    /// This input has more bytes than its limit, or brings the commands of all sessions above
+    /// 200,000.
     TooLong { input: u16 },
     /// No prices are found: this least error exceeds what the settings accept.
     NoPrices { least: u64 },
@@ -24,10 +25,11 @@ pub enum Status {
     SinkFault,
     /// There was not enough memory.
     OutOfMemory,
-    /// `check`, `explain`, `audit`: the text is not accepted; `hall`: no desk can open with it. This is the first finding.
+    /// `check`, `explain`, `audit`: the text is not accepted; `hall`: no desk can open with it.
+    /// This is the first finding.
     Found { finding: Finding },
-    /// This word of the command line, the first such one, names no student or no section. Words are counted from 1, the
-    /// form's own word being the first.
+    /// This word of the command line, the first such one, names no student or no section. Words are
+    /// counted from 1, the form's own word being the first.
     Unknown { word: u16 },
 }
 

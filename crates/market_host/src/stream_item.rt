@@ -10,14 +10,16 @@ use dropadd_hall::read_requests;
 use std::alloc::Global;
 use utility_language::{Command, StreamEnd, read_stream};
 
-/// What a session says, line by line: commands to the desk of preferences, or requests to that of drop and add.
+/// What a session says, line by line: commands to the desk of preferences, or requests to that of
+/// drop and add.
 pub trait StreamItem: Drop {
     /// Which item the words of a line are.
     ghost is_item_of: { List (List ℕ) → Self → Type 0 };
 
     /// The items of the text, line by line. `TooMany` comes where there are more than `room`.
     fn read_items(alloc: Global, bytes: &[u8], room: u32) -> Result<Vec<Self>, StreamEnd>
-        ensures items { IfOk result (λ items. AllZip is_item_of (command_lines bytes.now) items.items) }
+        ensures items { IfOk result
+            (λ items. AllZip is_item_of (command_lines bytes.now) items.items) }
         ensures fits { OnOk result (length (command_lines bytes.now) ≤ room) }
         ensures too_many { result ≡ Err TooMany → room < length (command_lines bytes.now) };
 }

@@ -11,8 +11,9 @@ use std::alloc::Global;
 use std::sync::Wait;
 use std::thread::Threads;
 
-/// Over a shelf and a sink that never fail, no words are answered by a fault of either: no input is one that can't be
-/// read, and each text is taken whole. Where every input is held and in order, the work is ended, or memory is wanted.
+/// Over a shelf and a sink that never fail, no words are answered by a fault of either: no input is
+/// one that can't be read, and each text is taken whole. Where every input is held and in order,
+/// the work is ended, or memory is wanted.
 pub fn sure_match<R: Threads + Wait + Sync>(
     rt: &R,
     alloc: Global,
@@ -23,7 +24,9 @@ pub fn sure_match<R: Threads + Wait + Sync>(
 ) -> Status
     ensures read { (input : ℕ) → result ≢ Status.ShelfFault input }
     ensures taken { result ≢ Status.SinkFault }
-    ensures complete { CanBeDone (map string_bytes words.now) (sight ⟦<SureShelf as Shelf>⟧ shelf.old shelf.new) → EndsWork result }
+    ensures complete { CanBeDone (map string_bytes words.now)
+        (sight ⟦<SureShelf as Shelf>⟧ shelf.old shelf.new)
+        → EndsWork result }
 {
     course_match(rt, alloc, words, shelf, sink, gate)
 }

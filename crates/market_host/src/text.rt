@@ -19,7 +19,9 @@ pub fn text_of(
     worth: i32,
 ) -> Result<Vec<u8>, AllocError>
     requires { All (λ section. section.0 < length catalog.now.sections) bundle.now }
-    ensures { IfOk result (λ text. text.items ≡ quoted_text catalog.now.sections (name_bytes name.now) (ordinals bundle.now) worth) }
+    ensures { IfOk result
+        (λ text. text.items
+        ≡ quoted_text catalog.now.sections (name_bytes name.now) (ordinals bundle.now) worth) }
 {
     let mut text = Vec::new(alloc);
     text.extend_from_slice(b"bundle ")?;
@@ -39,7 +41,9 @@ fn put_names(
     sections: &[SectionNo],
 ) -> Result<(), AllocError>
     requires { All (λ section. section.0 < length catalog.now.sections) sections.now }
-    ensures { OnOk result (text.new.items ≡ text.old.items ++ names_with_commas catalog.now.sections (ordinals sections.now)) }
+    ensures { OnOk result
+        (text.new.items
+        ≡ text.old.items ++ names_with_commas catalog.now.sections (ordinals sections.now)) }
 {
     match sections {
         [] => Ok(()),
@@ -56,7 +60,8 @@ fn put_names(
 // Puts the name of the section behind the text.
 fn put_name(text: &mut Vec<u8>, catalog: &Catalog, section: SectionNo) -> Result<(), AllocError>
     requires { section.0 < length catalog.now.sections }
-    ensures { OnOk result (text.new.items ≡ text.old.items ++ (section_at catalog.now.sections section.0).name) }
+    ensures { OnOk result
+        (text.new.items ≡ text.old.items ++ (section_at catalog.now.sections section.0).name) }
 {
     text.extend_from_slice(catalog.name(section).bytes())
 }

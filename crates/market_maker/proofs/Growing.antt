@@ -8,7 +8,8 @@ use Rattle.std.proofs.lemmas.List.FromFn.{map-range_with_len_more}
 use Rattle.market_maker.specs.Lines.{ended, numbers_to, text_of}
 
 -- a text with the line of one number more
-pub line_more : (line : ℕ → List ℕ) (from n number : ℕ) (begun text new : List ℕ) → from + n ≡ number → text ≡ begun ++ text_of (map line (range_with_len from n)) → new ≡ text ++ ended (line number)
+pub line_more : (line : ℕ → List ℕ) (from n number : ℕ) (begun text new : List ℕ) → from + n ≡ number
+    → text ≡ begun ++ text_of (map line (range_with_len from n)) → new ≡ text ++ ended (line number)
     → new ≡ begun ++ text_of (map line (range_with_len from (n + 1)))
 line_more line from n number begun text new e so is =
     is
@@ -21,7 +22,8 @@ one_more n number e =
     sym (map-id (numbers_to (n + 1))) ∙ map-range_with_len_more (λ x. x) 1 n number e ∙ ap (λ ns. ns ++ number ∷ []) (map-id (numbers_to n))
 
 -- a text with the lines of one number more, where it is among those that are asked for
-pub lines_more : (is_in : ℕ → Bool) (lines : ℕ → List (List ℕ)) (n number : ℕ) (text new : List ℕ) → 1 + n ≡ number → is_in number ≡ true → text ≡ text_of (flat_map lines (filter is_in (numbers_to n))) → new ≡ text ++ text_of (lines number)
+pub lines_more : (is_in : ℕ → Bool) (lines : ℕ → List (List ℕ)) (n number : ℕ) (text new : List ℕ) → 1 + n ≡ number → is_in number ≡ true
+    → text ≡ text_of (flat_map lines (filter is_in (numbers_to n))) → new ≡ text ++ text_of (lines number)
     → new ≡ text_of (flat_map lines (filter is_in (numbers_to (n + 1))))
 lines_more is_in lines n number text new e among so is =
     let front = filter is_in (numbers_to n) in
@@ -36,10 +38,12 @@ lines_more is_in lines n number text new e among so is =
     )
 
 -- the same text, where it is not
-pub lines_same : (is_in : ℕ → Bool) (lines : ℕ → List (List ℕ)) (n number : ℕ) (text : List ℕ) → 1 + n ≡ number → is_in number ≡ false → text ≡ text_of (flat_map lines (filter is_in (numbers_to n)))
+pub lines_same : (is_in : ℕ → Bool) (lines : ℕ → List (List ℕ)) (n number : ℕ) (text : List ℕ) → 1 + n ≡ number → is_in number ≡ false
+    → text ≡ text_of (flat_map lines (filter is_in (numbers_to n)))
     → text ≡ text_of (flat_map lines (filter is_in (numbers_to (n + 1))))
 lines_same is_in lines n number text e out so =
     let front = filter is_in (numbers_to n) in
     let more : filter is_in (numbers_to (n + 1)) ≡ front =
-    ap (filter is_in) (one_more n number e) ∙ filter-append is_in (numbers_to n) (number ∷ []) ∙ ap (λ b. front ++ cond b (number ∷ []) []) out ∙ append-nil front in
+    ap (filter is_in) (one_more n number e) ∙ filter-append is_in (numbers_to n) (number ∷ []) ∙ ap (λ b. front ++ cond b (number ∷ []) []) out
+    ∙ append-nil front in
     so ∙ ap (λ ns. text_of (flat_map lines ns)) (sym more)

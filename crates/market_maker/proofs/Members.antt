@@ -23,7 +23,8 @@ settings_parts seed accept =
     sym (in_a_row settings_begin (decimal seed) settings_middle (decimal accept) (codes ",\"turns\":25,\"tabu\":20,\"patience\":10,\"steps\":[1,10,100],\"raise\":10") (125 ∷ []) (10 ∷ []))
 
 -- the texts after each part, of which the last is the settings
-pub settings_written : (seed accept : ℕ) (begun seeded kept accepted whole : List ℕ) → begun ≡ settings_begin → seeded ≡ begun ++ decimal seed → kept ≡ seeded ++ settings_middle → accepted ≡ kept ++ decimal accept → whole ≡ accepted ++ settings_end
+pub settings_written : (seed accept : ℕ) (begun seeded kept accepted whole : List ℕ) → begun ≡ settings_begin → seeded ≡ begun ++ decimal seed
+    → kept ≡ seeded ++ settings_middle → accepted ≡ kept ++ decimal accept → whole ≡ accepted ++ settings_end
     → whole ≡ settings_text seed accept
 settings_written seed accept begun seeded kept accepted whole e1 e2 e3 e4 e5 =
     e5

@@ -28,7 +28,8 @@ signed_short (negsuc n) a b e small small' = omega (arith, decimal_short (suc n)
 four_fields : (s : ℕ) (a b c d : List ℕ) → length ((a ++ s ∷ (b ++ s ∷ (c ++ s ∷ d))) ++ 10 ∷ []) ≡ length a + length b + length c + length d + 4
 four_fields s a b c d = grind (arith, length-append)
 
-five_fields : (s : ℕ) (a b c d e : List ℕ) → length ((a ++ s ∷ (b ++ s ∷ (c ++ s ∷ (d ++ s ∷ e)))) ++ 10 ∷ []) ≡ length a + length b + length c + length d + length e + 5
+five_fields : (s : ℕ) (a b c d e : List ℕ)
+    → length ((a ++ s ∷ (b ++ s ∷ (c ++ s ∷ (d ++ s ∷ e)))) ++ 10 ∷ []) ≡ length a + length b + length c + length d + length e + 5
 five_fields s a b c d e = grind (arith, length-append)
 
 five_parts : (a b c d e : List ℕ) → length ((((a ++ b) ++ c) ++ d) ++ e) ≡ length a + length b + length c + length d + length e
@@ -48,12 +49,15 @@ each_number P n each k d inside =
 text_short : (m : ℕ) (lines : List (List ℕ)) → All (λ line. length (ended line) ≤ m) lines → length (text_of lines) ≤ length lines * m
 text_short m lines each = subst (λ (n : ℕ). n ≤ length lines * m) (sym (length-flat_map ended lines)) (sum_by-le (λ line. length (ended line)) m lines each)
 
-mapped_short : (f : ℕ → List ℕ) (m from n : ℕ) → ((j : ℕ) → from ≤ j → j < from + n → length (ended (f j)) ≤ m) → length (text_of (map f (range_with_len from n))) ≤ n * m
+mapped_short : (f : ℕ → List ℕ) (m from n : ℕ) → ((j : ℕ) → from ≤ j → j < from + n → length (ended (f j)) ≤ m)
+    → length (text_of (map f (range_with_len from n))) ≤ n * m
 mapped_short f m from n each =
     let rows = map f (range_with_len from n) in
-    subst (λ (k : ℕ). length (text_of rows) ≤ k * m) (length-map-range_with_len f from n) (text_short m rows (each_mapped f (λ line. length (ended line) ≤ m) from n each))
+    subst (λ (k : ℕ). length (text_of rows) ≤ k * m) (length-map-range_with_len f from n)
+    (text_short m rows (each_mapped f (λ line. length (ended line) ≤ m) from n each))
 
-table_short : (header : List ℕ) (f : ℕ → List ℕ) (m n : ℕ) → length (ended header) ≤ m → ((j : ℕ) → 1 ≤ j → j < 1 + n → length (ended (f j)) ≤ m) → length (text_of (header ∷ map f (numbers_to n))) ≤ m + n * m
+table_short : (header : List ℕ) (f : ℕ → List ℕ) (m n : ℕ) → length (ended header) ≤ m → ((j : ℕ) → 1 ≤ j → j < 1 + n → length (ended (f j)) ≤ m)
+    → length (text_of (header ∷ map f (numbers_to n))) ≤ m + n * m
 table_short header f m n h each = omega (arith, length-append (ended header) (text_of (map f (numbers_to n))), mapped_short f m 1 n each)
 
 section_short : (students j : ℕ) → students ≤ 2000 → j ≤ 400 → length (ended (section_row students j)) ≤ 120
@@ -136,7 +140,9 @@ student_few seed sections i =
 student_text_short : (seed sections i : ℕ) → i ≤ 2000 → 1 ≤ sections → sections ≤ 400 → length (text_of (student_lines seed sections i)) ≤ 3000
 student_text_short seed sections i small some few =
     let ratings = map (rating_behind seed sections i) (range_with_len 0 (rated_count sections)) in
-    let short = mapped_short (rating_behind seed sections i) 120 0 (rated_count sections) (λ t least most. rating_short seed i (rated_section sections i t) small (rated_small sections i t some few)) in
+    let short =
+    mapped_short (rating_behind seed sections i) 120 0 (rated_count sections)
+    (λ t least most. rating_short seed i (rated_section sections i t) small (rated_small sections i t some few)) in
     let last = one_short 120 (nat_lt (rated_count sections) 2) (adjustment_line seed sections i) (adjustment_short seed sections i small some few) in
     omega (
       arith,
@@ -153,7 +159,8 @@ flat_text g (x ∷ xs) = flat_map-append ended (g x) (flat_map g xs) ∙ ap (λ 
 some_of : (is_in : ℕ → Bool) (n : ℕ) → length (filter is_in (numbers_to n)) ≤ n
 some_of is_in n = omega (arith, length-filter_both is_in (λ i. not (is_in i)) (λ i. refl) (numbers_to n), length-range_with_len 1 n)
 
-flat_few : {A : Type 0} (g : ℕ → List A) (m : ℕ) (is_in : ℕ → Bool) (n : ℕ) → ((i : ℕ) → 1 ≤ i → i < 1 + n → length (g i) ≤ m) → length (flat_map g (filter is_in (numbers_to n))) ≤ length (filter is_in (numbers_to n)) * m
+flat_few : {A : Type 0} (g : ℕ → List A) (m : ℕ) (is_in : ℕ → Bool) (n : ℕ) → ((i : ℕ) → 1 ≤ i → i < 1 + n → length (g i) ≤ m)
+    → length (flat_map g (filter is_in (numbers_to n))) ≤ length (filter is_in (numbers_to n)) * m
 flat_few g m is_in n each =
     let among = filter is_in (numbers_to n) in
     subst (λ (k : ℕ). k ≤ length among * m) (sym (length-flat_map g among))
@@ -163,7 +170,8 @@ pub lines_few : (is_in : ℕ → Bool) (seed students sections : ℕ) → studen
 lines_few is_in seed students sections few =
     omega (arith, flat_few (student_lines seed sections) 21 is_in students (λ i least most. student_few seed sections i), some_of is_in students)
 
-pub session_short : (is_in : ℕ → Bool) (seed students sections : ℕ) → students ≤ 2000 → 1 ≤ sections → sections ≤ 400 → length (text_of (lines_of is_in seed students sections)) ≤ 16777216
+pub session_short : (is_in : ℕ → Bool) (seed students sections : ℕ) → students ≤ 2000 → 1 ≤ sections → sections ≤ 400
+    → length (text_of (lines_of is_in seed students sections)) ≤ 16777216
 session_short is_in seed students sections few some small =
     let among = filter is_in (numbers_to students) in
     omega (

@@ -33,11 +33,15 @@ meeting_of j = day_of j ∷ (clock (start_of j) ++ 45 ∷ clock (start_of j + 80
 
 -- a section's row, where there are so many students: section, course, seats, credits, meetings
 abbrev pub section_row : ℕ → ℕ → List ℕ
-section_row students j = row_of (section_name j ∷ course_name j ∷ decimal (1 + students / 4) ∷ decimal (1 + j % 3) ∷ meeting_of j ∷ [])
+section_row students j =
+    row_of
+    (section_name j ∷ course_name j ∷ decimal (1 + students / 4) ∷ decimal (1 + j % 3)
+    ∷ meeting_of j ∷ [])
 
 abbrev pub catalog_header : List ℕ
 catalog_header = row_of (codes "section" ∷ codes "course" ∷ codes "seats" ∷ codes "credits" ∷ codes "meetings" ∷ [])
 
 -- the header, and a row for each section
 abbrev pub catalog_text : ℕ → ℕ → List ℕ
-catalog_text students sections = text_of (catalog_header ∷ map (section_row students) (numbers_to sections))
+catalog_text students sections =
+    text_of (catalog_header ∷ map (section_row students) (numbers_to sections))

@@ -10,7 +10,8 @@ use Rattle.market_maker.specs.Rolls.{student_name}
 abbrev pub rated_count : ℕ → ℕ
 rated_count sections = min sections 20
 
--- the sections that student i rates, one after another and round the catalogue: this one behind t others
+-- the sections that student i rates, one after another and round the catalogue: this one behind t
+-- others
 abbrev pub rated_section : ℕ → ℕ → ℕ → ℕ
 rated_section sections i t = (7 * i + t) % sections + 1
 
@@ -35,15 +36,19 @@ adjustment_line seed sections i =
 
 -- the adjustment, where at least two sections are rated
 abbrev pub adjustment_lines : ℕ → ℕ → ℕ → List (List ℕ)
-adjustment_lines seed sections i = if nat_lt (rated_count sections) 2 then [] else (adjustment_line seed sections i ∷ [])
+adjustment_lines seed sections i =
+    if nat_lt (rated_count sections) 2 then [] else (adjustment_line seed sections i ∷ [])
 
 -- the lines of student i: the ratings, and behind them the adjustment
 abbrev pub student_lines : ℕ → ℕ → ℕ → List (List ℕ)
-student_lines seed sections i = map (rating_behind seed sections i) (range_with_len 0 (rated_count sections)) ++ adjustment_lines seed sections i
+student_lines seed sections i =
+    map (rating_behind seed sections i) (range_with_len 0 (rated_count sections))
+    ++ adjustment_lines seed sections i
 
 -- the lines of the students of such a number, in the order of their numbers
 abbrev pub lines_of : (ℕ → Bool) → ℕ → ℕ → ℕ → List (List ℕ)
-lines_of is_in seed students sections = flat_map (student_lines seed sections) (filter is_in (numbers_to students))
+lines_of is_in seed students sections =
+    flat_map (student_lines seed sections) (filter is_in (numbers_to students))
 
 abbrev pub is_odd : ℕ → Bool
 is_odd i = i % 2 == 1

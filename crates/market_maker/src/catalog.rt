@@ -23,7 +23,8 @@ pub(crate) fn catalog_text(alloc: Global, students: u16, sections: u16) -> Resul
 // Puts the row of the section behind the text.
 fn put_section(text: &mut Vec<u8>, students: u16, section: u16) -> Result<(), NoMemory>
     requires { section < 65535 }
-    ensures { OnOk result (text.new.items ≡ text.old.items ++ ended (section_row students section)) }
+    ensures { OnOk result
+        (text.new.items ≡ text.old.items ++ ended (section_row students section)) }
 {
     put_name_field(text, b'C', section)?;
     put_name_field(text, b'K', (section + 1) / 2)?;

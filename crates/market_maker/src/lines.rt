@@ -44,7 +44,8 @@ pub(crate) fn put_name_word(text: &mut Vec<u8>, letter: u8, number: u16) -> Resu
 
 // Puts the name and a comma behind the text.
 pub(crate) fn put_name_field(text: &mut Vec<u8>, letter: u8, number: u16) -> Result<(), NoMemory>
-    ensures { OnOk result (text.new.items ≡ text.old.items ++ (letter ∷ decimal number) ++ 44 ∷ []) }
+    ensures { OnOk result
+        (text.new.items ≡ text.old.items ++ (letter ∷ decimal number) ++ 44 ∷ []) }
 {
     put_name(text, letter, number)?;
     text.push(b',')?;

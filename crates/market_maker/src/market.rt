@@ -27,8 +27,9 @@ pub struct Made {
     pub second: Vec<u8>,
 }
 
-/// The market of these numbers: 1 to 2,000 students, 1 to 400 sections, and a clearing error of at most 10^12 that its
-/// settings accept. The seed is that of the settings, and the ratings depend on it. `NoMemory` is the only error.
+/// The market of these numbers: 1 to 2,000 students, 1 to 400 sections, and a clearing error of at
+/// most 10^12 that its settings accept. The seed is that of the settings, and the ratings depend on
+/// it. `NoMemory` is the only error.
 pub fn make(
     alloc: Global,
     seed: u64,

@@ -42,7 +42,8 @@ fn session_text(
     rest: u16,
 ) -> Result<Vec<u8>, NoMemory>
     requires { 1 ≤ sections }
-    ensures { IfOk result (λ text. text.items ≡ text_of (lines_of (λ i. i % 2 == rest) seed students sections)) }
+    ensures { IfOk result
+        (λ text. text.items ≡ text_of (lines_of (λ i. i % 2 == rest) seed students sections)) }
 {
     let mut text = Vec::new(alloc);
     'students: for earlier in 0..students {
@@ -58,7 +59,8 @@ fn session_text(
 // Puts the lines of the student behind the text.
 fn put_student(text: &mut Vec<u8>, seed: u64, sections: u16, student: u16) -> Result<(), NoMemory>
     requires { 1 ≤ sections }
-    ensures { OnOk result (text.new.items ≡ text.old.items ++ text_of (student_lines seed sections student)) }
+    ensures { OnOk result
+        (text.new.items ≡ text.old.items ++ text_of (student_lines seed sections student)) }
 {
     put_ratings(text, seed, sections, student)?;
     put_adjustment(text, seed, sections, student)

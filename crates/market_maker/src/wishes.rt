@@ -20,7 +20,12 @@ pub(crate) fn put_ratings(
     student: u16,
 ) -> Result<(), NoMemory>
     requires { 1 ≤ sections }
-    ensures { OnOk result (text.new.items ≡ text.old.items ++ text_of (map (rating_behind seed sections student) (range_with_len 0 (rated_count sections)))) }
+    ensures { OnOk result
+        (text.new.items
+        ≡ text.old.items
+        ++ text_of
+        (map (rating_behind seed sections student)
+        (range_with_len 0 (rated_count sections)))) }
 {
     'ratings: for others in 0..sections.min(MOST_RATED) {
         put_rating(
@@ -41,7 +46,8 @@ pub(crate) fn put_adjustment(
     student: u16,
 ) -> Result<(), NoMemory>
     requires { 1 ≤ sections }
-    ensures { OnOk result (text.new.items ≡ text.old.items ++ text_of (adjustment_lines seed sections student)) }
+    ensures { OnOk result
+        (text.new.items ≡ text.old.items ++ text_of (adjustment_lines seed sections student)) }
 {
     if sections.min(MOST_RATED) < 2 {
         return Ok(());
@@ -51,7 +57,8 @@ pub(crate) fn put_adjustment(
 
 // Puts the line of the student's rating of the section behind the text.
 fn put_rating(text: &mut Vec<u8>, seed: u64, student: u16, section: u16) -> Result<(), NoMemory>
-    ensures { OnOk result (text.new.items ≡ text.old.items ++ ended (rating_line seed student section)) }
+    ensures { OnOk result
+        (text.new.items ≡ text.old.items ++ ended (rating_line seed student section)) }
 {
     text.extend_from_slice(b"rate")?;
     put_name_word(text, b'S', student)?;
@@ -70,7 +77,8 @@ fn put_adjustment_line(
     student: u16,
 ) -> Result<(), NoMemory>
     requires { 1 ≤ sections }
-    ensures { OnOk result (text.new.items ≡ text.old.items ++ ended (adjustment_line seed sections student)) }
+    ensures { OnOk result
+        (text.new.items ≡ text.old.items ++ ended (adjustment_line seed sections student)) }
 {
     let first = section_behind(sections, student, 0);
     let second = section_behind(sections, student, 1);
@@ -83,7 +91,12 @@ fn put_adjustment_line(
 
 // Puts the words of the student's adjustment of these sections behind the text, without its number.
 fn put_pair(text: &mut Vec<u8>, student: u16, first: u16, second: u16) -> Result<(), NoMemory>
-    ensures { OnOk result (text.new.items ≡ text.old.items ++ command_of (codes "pair" ∷ student_name student ∷ section_name first ∷ section_name second ∷ [])) }
+    ensures { OnOk result
+        (text.new.items
+        ≡ text.old.items
+        ++ command_of
+        (codes "pair" ∷ student_name student ∷ section_name first ∷ section_name second
+        ∷ [])) }
 {
     text.extend_from_slice(b"pair")?;
     put_name_word(text, b'S', student)?;

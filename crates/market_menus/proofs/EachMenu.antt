@@ -50,8 +50,10 @@ pairs_back (e ∷ es) = ap (λ rest. e ∷ rest) (pairs_back es)
 word_for : (test : ℕ → Bool) (n : ℕ) → n ≤ 64 → (word : ℕ) × IsWordTo test word n
 word_for test zero low = (0, word_at_start test)
 word_for test (suc n) low =
-    let before = word_for test n (omega arith) in
-    (word_with before.0 n (test n), subst (IsWordTo test (word_with before.0 n (test n))) (add-one n) (word_more test before.0 n (test n) (omega arith) before.1 refl))
+    let before = word_for test n (omega arith) in (
+      word_with before.0 n (test n),
+      subst (IsWordTo test (word_with before.0 n (test n))) (add-one n) (word_more test before.0 n (test n) (omega arith) before.1 refl),
+    )
 
 -- the word of a section
 clash_word : (catalog : List Section) (places : List Rated) (section : ℕ) → length places ≤ 60 → (word : ℕ) × IsClashWord catalog places section word
@@ -60,7 +62,8 @@ clash_word catalog places section few =
     (word.0, word_at_end catalog places section word.0 (length places) refl word.1)
 
 -- the words of the first places
-words_for : (catalog : List Section) (places : List Rated) (n : ℕ) → length places ≤ 60 → n ≤ length places → (words : List ℕ) × (length words ≡ n) × AreWordsTo catalog places words n
+words_for : (catalog : List Section) (places : List Rated) (n : ℕ) → length places ≤ 60 → n ≤ length places
+    → (words : List ℕ) × (length words ≡ n) × AreWordsTo catalog places words n
 words_for catalog places zero few low = ([], refl, λ a b less. absurd (omega arith))
 words_for catalog places (suc n) few low =
     let before = words_for catalog places n few (omega arith) in
@@ -68,13 +71,15 @@ words_for catalog places (suc n) few low =
     let long = before.1 in (
       before.0 ++ word.0 ∷ [],
       (let e : length (before.0 ++ word.0 ∷ []) ≡ suc n = omega (arith, length-append before.0 (word.0 ∷ []), long) in e),
-      subst (AreWordsTo catalog places (before.0 ++ word.0 ∷ [])) (add-one n) (words_more catalog places before.0 word.0 n (section_at places n) before.1 before.2 refl word.1),
+      subst (AreWordsTo catalog places (before.0 ++ word.0 ∷ [])) (add-one n)
+          (words_more catalog places before.0 word.0 n (section_at places n) before.1 before.2 refl word.1),
     )
 
 clash_words : (catalog : List Section) (places : List Rated) → length places ≤ 60 → (words : List ℕ) × AreClashWords catalog places words
 clash_words catalog places few = let words = words_for catalog places (length places) few (omega arith) in (words.0, record { whole = words.1; each = words.2 })
 
-module _ (catalog : CatalogData) (student : Student) (wanted : StudentPreferences) (listed : IsCatalog catalog) (enrolled : IsStudent student) (may : MayBeHad (length catalog.sections) wanted) where
+module _ (catalog : CatalogData) (student : Student) (wanted : StudentPreferences) (listed : IsCatalog catalog) (enrolled : IsStudent student)
+    (may : MayBeHad (length catalog.sections) wanted) where
   abbrev ratings : List (SectionNo × ℕ)
   ratings = map rating_row (entries wanted.ratings)
 
@@ -95,9 +100,12 @@ module _ (catalog : CatalogData) (student : Student) (wanted : StudentPreference
   are_rows : ArePairs pairs
   unfolding pair_row
   are_rows = record {
-    sorted = subst (λ (es : List ((ℕ × ℕ) × ℤ)). is_sorted pair_cmp es ≡ true) (sym (pairs_back (entries wanted.pairs))) (is_so _ (entries_sorted wanted.pairs));
+    sorted =
+        subst (λ (es : List ((ℕ × ℕ) × ℤ)). is_sorted pair_cmp es ≡ true) (sym (pairs_back (entries wanted.pairs))) (is_so _ (entries_sorted wanted.pairs));
     few = omega (arith, length-map (entries wanted.pairs) pair_row, may.limits.few_pairs);
-    each = All-map IsAdjustment pair_row (entries wanted.pairs) (λ k d inside. (may.lower_first k d inside, (may.limits.adjustments k d inside).0, (may.limits.adjustments k d inside).1));
+    each =
+        All-map IsAdjustment pair_row (entries wanted.pairs)
+        (λ k d inside. (may.lower_first k d inside, (may.limits.adjustments k d inside).0, (may.limits.adjustments k d inside).1));
   }
 
   good : AreGoodPlaces catalog.sections places
@@ -120,18 +128,24 @@ module _ (catalog : CatalogData) (student : Student) (wanted : StudentPreference
   menu_of : (menu : MenuData) × IsMenuOf catalog.sections student wanted menu
   menu_of = (
     menu_data places kept words.0 student.credits student.courses,
-    is_menu catalog.sections student wanted ratings pairs places kept words.0 student.credits student.courses refl (ratings_back (entries wanted.ratings)) refl (pairs_back (entries wanted.pairs)) words.1 refl refl limits,
+    is_menu catalog.sections student wanted ratings pairs places kept words.0 student.credits student.courses refl (ratings_back (entries wanted.ratings)) refl
+        (pairs_back (entries wanted.pairs)) words.1 refl refl limits,
   )
 
 -- and so has each student of a list
-menus_of : (catalog : CatalogData) (version : ℕ) (students : List Student) (preferences : List StudentPreferences) → IsCatalog catalog → All (IsListed version) students → length preferences ≡ length students → All (MayBeHad (length catalog.sections)) preferences
+menus_of : (catalog : CatalogData) (version : ℕ) (students : List Student) (preferences : List StudentPreferences) → IsCatalog catalog
+    → All (IsListed version) students → length preferences ≡ length students → All (MayBeHad (length catalog.sections)) preferences
     → (menus : List MenuData) × AreMenusOf catalog.sections students preferences menus
 menus_of catalog version [] [] listed each long may = ([], tt)
 menus_of catalog version [] (wanted ∷ preferences) listed each long may = absurd (omega arith)
 menus_of catalog version (student ∷ students) [] listed each long may = absurd (omega arith)
 menus_of catalog version (student ∷ students) (wanted ∷ preferences) listed each long may =
-    let one = menu_of catalog student wanted listed (All-head (IsListed version) student students each).is_student (All-head (MayBeHad (length catalog.sections)) wanted preferences may) in
-    let rest = menus_of catalog version students preferences listed (All-tail (IsListed version) student students each) (omega arith) (All-tail (MayBeHad (length catalog.sections)) wanted preferences may) in
+    let one =
+    menu_of catalog student wanted listed (All-head (IsListed version) student students each).is_student
+    (All-head (MayBeHad (length catalog.sections)) wanted preferences may) in
+    let rest =
+    menus_of catalog version students preferences listed (All-tail (IsListed version) student students each) (omega arith)
+    (All-tail (MayBeHad (length catalog.sections)) wanted preferences may) in
     (one.0 ∷ rest.0, (one.1, rest.1))
 
 pub each_has_a_menu : EachHasAMenu

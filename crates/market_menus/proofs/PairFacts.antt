@@ -36,18 +36,22 @@ pub filter_map-same : {A B : Type 0} (g h : A → Option B) (xs : List A) → ((
 filter_map-same g h [] same = refl
 filter_map-same g h (x ∷ xs) same = ap (λ o. cons_option o (filter_map g xs)) (same x) ∙ ap (cons_option (h x)) (filter_map-same g h xs same)
 
-both_places : (a b : Bool) (p q : ℕ) (n : ℤ) → option_and_then {U = ℕ × ℕ × ℤ} (λ (first : ℕ). option_map (λ (second : ℕ). (first, second, n)) (cond b (Some q) None)) (cond a (Some p) None) ≡ cond (a && b) (Some (p, q, n)) None
+both_places : (a b : Bool) (p q : ℕ) (n : ℤ)
+    → option_and_then {U = ℕ × ℕ × ℤ} (λ (first : ℕ). option_map (λ (second : ℕ). (first, second, n)) (cond b (Some q) None)) (cond a (Some p) None)
+    ≡ cond (a && b) (Some (p, q, n)) None
 both_places true true p q n = refl
 both_places true false p q n = refl
 both_places false b p q n = refl
 
 -- a pair has places where both sections are rated
-pub pair_by_ratings : (catalog : List Section) (wanted : StudentPreferences) (adjusted : (ℕ × ℕ) × ℤ) → pair_among (places_of catalog wanted) adjusted ≡ pair_on_menu catalog wanted adjusted
+pub pair_by_ratings : (catalog : List Section) (wanted : StudentPreferences) (adjusted : (ℕ × ℕ) × ℤ)
+    → pair_among (places_of catalog wanted) adjusted ≡ pair_on_menu catalog wanted adjusted
 pair_by_ratings catalog wanted adjusted =
     rw (has_place catalog wanted.ratings adjusted.0.0, has_place catalog wanted.ratings adjusted.0.1)
     (both_places _ _ (place_in (places_of catalog wanted) adjusted.0.0) (place_in (places_of catalog wanted) adjusted.0.1) adjusted.1)
 
-pub pairs_by_ratings : (catalog : List Section) (wanted : StudentPreferences) → filter_map (pair_among (places_of catalog wanted)) (entries wanted.pairs) ≡ filter_map (pair_on_menu catalog wanted) (entries wanted.pairs)
+pub pairs_by_ratings : (catalog : List Section) (wanted : StudentPreferences)
+    → filter_map (pair_among (places_of catalog wanted)) (entries wanted.pairs) ≡ filter_map (pair_on_menu catalog wanted) (entries wanted.pairs)
 pairs_by_ratings catalog wanted = filter_map-same _ _ (entries wanted.pairs) (pair_by_ratings catalog wanted)
 
 -- what a section below all places has for a place
@@ -59,7 +63,8 @@ no_place s t (rated ∷ more) above low =
     rw other (omega (arith, no_place s t more above.1 low))
 
 -- places are in the order of their sections
-pub places_in_order : (places : List Rated) (a b : ℕ) → IsAscending (sections places) → a < b → place_in places a < length places → place_in places b < length places → place_in places a < place_in places b
+pub places_in_order : (places : List Rated) (a b : ℕ) → IsAscending (sections places) → a < b → place_in places a < length places
+    → place_in places b < length places → place_in places a < place_in places b
 places_in_order [] a b up less = λ first second. absurd (omega arith)
 places_in_order (rated ∷ more) a b up less =
     elim (nat_eq rated.section.0 a) as (λ t. nat_eq rated.section.0 a ≡ t → cond t 0 (suc (place_in more a)) < suc (length more) → place_in (rated ∷ more) b < suc (length more) → cond t 0 (suc (place_in more a)) < place_in (rated ∷ more) b) [
@@ -93,11 +98,16 @@ inside_is p n e = grind (arith, nat_tests)
 
 -- what holds of a pair with places, holds of it where it has places
 if_among : (places : List Rated) (adjusted : (ℕ × ℕ) × ℤ) (P : ℕ × ℕ × ℤ → Type 0)
-    → (place_in places adjusted.0.0 < length places → place_in places adjusted.0.1 < length places → P (place_in places adjusted.0.0, place_in places adjusted.0.1, adjusted.1))
+    →
+    (place_in places adjusted.0.0 < length places → place_in places adjusted.0.1 < length places
+    → P (place_in places adjusted.0.0, place_in places adjusted.0.1, adjusted.1))
     → IfSome (pair_among places adjusted) P
 if_among places adjusted P holds =
     elim (nat_lt (place_in places adjusted.0.0) (length places)) as (λ t. nat_lt (place_in places adjusted.0.0) (length places) ≡ t
-    → IfSome (option_and_then (λ (first : ℕ). option_map (λ (second : ℕ). (first, second, adjusted.1)) (place_among places adjusted.0.1)) (cond t (Some (place_in places adjusted.0.0)) None)) P) [
+    → IfSome
+    (option_and_then (λ (first : ℕ). option_map (λ (second : ℕ). (first, second, adjusted.1)) (place_among places adjusted.0.1))
+    (cond t (Some (place_in places adjusted.0.0)) None))
+    P) [
       | true ↦ λ e.
           elim (nat_lt (place_in places adjusted.0.1) (length places)) as (λ t. nat_lt (place_in places adjusted.0.1) (length places) ≡ t
           → IfSome (option_map (λ (second : ℕ). (place_in places adjusted.0.0, second, adjusted.1)) (cond t (Some (place_in places adjusted.0.1)) None)) P) [
@@ -131,7 +141,8 @@ abs_high : (n : ℤ) → unsigned_abs n ≤ 200 → n ≤ℤ pos 200
 abs_high (pos m) small = omega (arith, ints)
 abs_high (negsuc m) small = omega (arith, ints)
 
-each_is_pair : (places : List Rated) (es : List ((ℕ × ℕ) × ℤ)) → IsAscending (sections places) → All IsAdjusted es → All (IsPair (length places)) (filter_map (pair_among places) es)
+each_is_pair : (places : List Rated) (es : List ((ℕ × ℕ) × ℤ)) → IsAscending (sections places) → All IsAdjusted es
+    → All (IsPair (length places)) (filter_map (pair_among places) es)
 each_is_pair places [] up each = All-nil (IsPair (length places))
 each_is_pair places (e ∷ es) up each =
     let here = All-head IsAdjusted e es each in
@@ -155,7 +166,8 @@ abbrev IsOther : ℕ → ℕ → ℕ × ℕ × ℤ → Type 0
 IsOther p q other = p ≡ other.0 → q ≢ other.1
 
 -- another pair than each later one
-apart_from : (places : List Rated) (k : ℕ × ℕ) (es : List ((ℕ × ℕ) × ℤ)) → place_in places k.0 < length places → place_in places k.1 < length places → below_all pair_cmp k es ≡ true
+apart_from : (places : List Rated) (k : ℕ × ℕ) (es : List ((ℕ × ℕ) × ℤ)) → place_in places k.0 < length places → place_in places k.1 < length places
+    → below_all pair_cmp k es ≡ true
     → All (IsOther (place_in places k.0) (place_in places k.1)) (filter_map (pair_among places) es)
 apart_from places k [] first second below = All-nil (IsOther (place_in places k.0) (place_in places k.1))
 apart_from places k (e ∷ es) first second below =
@@ -168,7 +180,8 @@ apart_from places k (e ∷ es) first second below =
     true≢false (sym less ∙ ap (λ x. is_lt (pair_cmp k x)) (sym whole) ∙ not_below_itself k) in
     All-cons_option P (pair_among places e) _ (if_among places e P (λ _ _. here)) (apart_from places k es first second (and_second _ _ below))
 
-AreDifferent-cons_option : (o : Option (ℕ × ℕ × ℤ)) (pairs : List (ℕ × ℕ × ℤ)) → IfSome o (λ pair. All (λ (other : ℕ × ℕ × ℤ). pair.0 ≡ other.0 → pair.1 ≢ other.1) pairs) → AreDifferent pairs → AreDifferent (cons_option o pairs)
+AreDifferent-cons_option : (o : Option (ℕ × ℕ × ℤ)) (pairs : List (ℕ × ℕ × ℤ))
+    → IfSome o (λ pair. All (λ (other : ℕ × ℕ × ℤ). pair.0 ≡ other.0 → pair.1 ≢ other.1) pairs) → AreDifferent pairs → AreDifferent (cons_option o pairs)
 AreDifferent-cons_option (Some pair) pairs here more = (here, more)
 AreDifferent-cons_option None pairs here more = more
 
@@ -180,7 +193,8 @@ are_different places (e ∷ es) sorted =
     (are_different places es (and_second _ _ sorted))
 
 -- the pairs of a desk, by places, are such as a menu has
-pub are_pairs : (places : List Rated) (items : List (SectionNo × SectionNo × ℤ)) → IsAscending (sections places) → AreDeskPairs items → ArePairs (length places) (filter_map (λ pair. pair_among places (pair_entry pair)) items)
+pub are_pairs : (places : List Rated) (items : List (SectionNo × SectionNo × ℤ)) → IsAscending (sections places) → AreDeskPairs items
+    → ArePairs (length places) (filter_map (λ pair. pair_among places (pair_entry pair)) items)
 are_pairs places items up pairs =
     let es = map pair_entry items in
     let adjusted : All IsAdjusted es = All-map IsAdjusted pair_entry items (λ k d below. let here = pairs.each k d below in (here.0, here.2)) in
@@ -191,7 +205,8 @@ are_pairs places items up pairs =
     })
 
 -- one more pair of the row
-pub one_kept : {A B : Type 0} (g : A → Option B) (items : List A) (n : ℕ) (d : A) (y : B) (kept : List B) → n < length items → kept ≡ filter_map g (take n items) → g (get_or items n d) ≡ Some y
+pub one_kept : {A B : Type 0} (g : A → Option B) (items : List A) (n : ℕ) (d : A) (y : B) (kept : List B) → n < length items
+    → kept ≡ filter_map g (take n items) → g (get_or items n d) ≡ Some y
     → kept ++ y ∷ [] ≡ filter_map g (take (n + 1) items)
 one_kept g items n d y kept inside so is =
     ap (λ front. front ++ y ∷ []) so
@@ -200,7 +215,8 @@ one_kept g items n d y kept inside so is =
     ∙ ap (filter_map g) (sym (take_more items n d inside))
 
 -- a pair that has no places
-pub one_left_out : {A B : Type 0} (g : A → Option B) (items : List A) (n : ℕ) (d : A) (kept : List B) → n < length items → kept ≡ filter_map g (take n items) → g (get_or items n d) ≡ None → kept ≡ filter_map g (take (n + 1) items)
+pub one_left_out : {A B : Type 0} (g : A → Option B) (items : List A) (n : ℕ) (d : A) (kept : List B) → n < length items → kept ≡ filter_map g (take n items)
+    → g (get_or items n d) ≡ None → kept ≡ filter_map g (take (n + 1) items)
 one_left_out g items n d kept inside so is =
     so ∙ sym (append-nil (filter_map g (take n items)))
     ∙ ap (λ o. filter_map g (take n items) ++ cons_option o []) (sym is)

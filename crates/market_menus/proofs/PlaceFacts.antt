@@ -30,7 +30,8 @@ pub place_sections : (catalog : List Section) (es : List (ℕ × ℕ)) → map (
 place_sections catalog [] = refl
 place_sections catalog (e ∷ es) = ap (λ rest. e.0 ∷ rest) (place_sections catalog es)
 
-is_rated : (catalog : CatalogData) (rating : ℕ × ℕ) → IsCatalog catalog → rating.0 < length catalog.sections → (1 ≤ rating.1) × (rating.1 ≤ 100) → IsRated (rated_of catalog.sections rating)
+is_rated : (catalog : CatalogData) (rating : ℕ × ℕ) → IsCatalog catalog → rating.0 < length catalog.sections → (1 ≤ rating.1) × (rating.1 ≤ 100)
+    → IsRated (rated_of catalog.sections rating)
 is_rated catalog rating is inside range = record {
   section = omega (arith, is.few);
   rating_low = range.0;
@@ -39,15 +40,20 @@ is_rated catalog rating is inside range = record {
 }
 
 -- the places of ratings are such as a menu has
-pub are_places : (catalog : CatalogData) (items : List (SectionNo × ℕ)) → IsCatalog catalog → AreRatings items → All (λ (rating : SectionNo × ℕ). rating.0.0 < length catalog.sections) items
+pub are_places : (catalog : CatalogData) (items : List (SectionNo × ℕ)) → IsCatalog catalog → AreRatings items
+    → All (λ (rating : SectionNo × ℕ). rating.0.0 < length catalog.sections) items
     → ArePlaces (map (λ rating. rated_of catalog.sections (rating_entry rating)) items)
 are_places catalog items is ratings inside = record {
   few = omega (arith, ratings.few, length-map items (λ rating. rated_of catalog.sections (rating_entry rating)));
   ascending =
-      let e : map (λ (rated : Rated). rated.section.0) (map (λ rating. rated_of catalog.sections (rating_entry rating)) items) ≡ map (λ e. e.0) (map rating_entry items) =
-      ap (map (λ (rated : Rated). rated.section.0)) (map_twice (rated_of catalog.sections) rating_entry items) ∙ place_sections catalog.sections (map rating_entry items) in
+      let e : map (λ (rated : Rated). rated.section.0) (map (λ rating. rated_of catalog.sections (rating_entry rating)) items)
+      ≡ map (λ e. e.0) (map rating_entry items) =
+      ap (map (λ (rated : Rated). rated.section.0)) (map_twice (rated_of catalog.sections) rating_entry items)
+      ∙ place_sections catalog.sections (map rating_entry items) in
       subst IsAscending (sym e) (ascending_keys (map rating_entry items) ratings.sorted);
-  each = All-map IsRated (λ rating. rated_of catalog.sections (rating_entry rating)) items (λ k d below. is_rated catalog (rating_entry (get_or items k d)) is (inside k d below) (ratings.each k d below));
+  each =
+      All-map IsRated (λ rating. rated_of catalog.sections (rating_entry rating)) items
+      (λ k d below. is_rated catalog (rating_entry (get_or items k d)) is (inside k d below) (ratings.each k d below));
 }
 
 by_test : (b : Bool) (p n : ℕ) (found : Bool) → nat_lt p n ≡ found → nat_lt (cond b 0 (suc p)) (suc n) ≡ (b || found)
@@ -55,7 +61,8 @@ by_test true p n found e = grind (arith, nat_tests)
 by_test false p n found e = let step : nat_lt (suc p) (suc n) ≡ nat_lt p n = grind (arith, nat_tests) in step ∙ e
 
 -- a section has a place where it is a key
-place_by_keys : (catalog : List Section) (s : ℕ) (es : List (ℕ × ℕ)) → nat_lt (place_in (map (rated_of catalog) es) s) (length (map (rated_of catalog) es)) ≡ list_any (eq_by_cmp nat_cmp s) (map (λ e. e.0) es)
+place_by_keys : (catalog : List Section) (s : ℕ) (es : List (ℕ × ℕ))
+    → nat_lt (place_in (map (rated_of catalog) es) s) (length (map (rated_of catalog) es)) ≡ list_any (eq_by_cmp nat_cmp s) (map (λ e. e.0) es)
 place_by_keys catalog s [] = refl
 place_by_keys catalog s (e ∷ es) =
     let more = map (rated_of catalog) es in
@@ -83,23 +90,31 @@ pub record AreGoodPlaces (catalog : List Section) (places : List Rated) : Type 0
   pub courses : (k : ℕ) → k < length places → course_at places k ≡ course_number catalog (listed catalog (section_at places k)).course
   pub sections : (k : ℕ) → k < length places → section_at places k < length catalog
 
-section_below : (n : ℕ) (places : List Rated) (d : Rated) → All (λ (rated : Rated). rated.section.0 < n) places → (k : ℕ) → k < length places → section_at places k < n
+section_below : (n : ℕ) (places : List Rated) (d : Rated) → All (λ (rated : Rated). rated.section.0 < n) places → (k : ℕ) → k < length places
+    → section_at places k < n
 section_below n places d each k inside = rw (section_at-get_or places k d inside) (each k d inside)
 
-made_places : (catalog : CatalogData) (items : List (SectionNo × ℕ)) → IsCatalog catalog → AreRatings items → All (λ (rating : SectionNo × ℕ). rating.0.0 < length catalog.sections) items
+made_places : (catalog : CatalogData) (items : List (SectionNo × ℕ)) → IsCatalog catalog → AreRatings items
+    → All (λ (rating : SectionNo × ℕ). rating.0.0 < length catalog.sections) items
     → AreGoodPlaces catalog.sections (map (λ rating. rated_of catalog.sections (rating_entry rating)) items)
 made_places catalog items is ratings inside =
     let made = map (λ rating. rated_of catalog.sections (rating_entry rating)) items in
-    let each : All (λ (rated : Rated). rated.section.0 < length catalog.sections) made = All-map (λ (rated : Rated). rated.section.0 < length catalog.sections) (λ rating. rated_of catalog.sections (rating_entry rating)) items inside in
+    let each : All (λ (rated : Rated). rated.section.0 < length catalog.sections) made =
+    All-map (λ (rated : Rated). rated.section.0 < length catalog.sections) (λ rating. rated_of catalog.sections (rating_entry rating)) items inside in
     record {
       places_are = are_places catalog items is ratings inside;
       below = each;
-      courses = subst (λ (places : List Rated). (k : ℕ) → k < length places → course_at places k ≡ course_number catalog.sections (listed catalog.sections (section_at places k)).course) (sym (map_twice (rated_of catalog.sections) rating_entry items)) (course_of_place catalog.sections (map rating_entry items));
+      courses =
+          subst
+          (λ (places : List Rated). (k : ℕ) → k < length places
+          → course_at places k ≡ course_number catalog.sections (listed catalog.sections (section_at places k)).course)
+          (sym (map_twice (rated_of catalog.sections) rating_entry items)) (course_of_place catalog.sections (map rating_entry items));
       sections = section_below (length catalog.sections) made (rated_of catalog.sections (0, 0)) each;
     }
 
 -- places made of a student's ratings are good
-pub good_places : (catalog : CatalogData) (wanted : StudentPreferences) (items : List (SectionNo × ℕ)) (places : List Rated) → IsCatalog catalog → AreRatings items → SectionsBelow (length catalog.sections) wanted → map rating_entry items ≡ entries wanted.ratings
+pub good_places : (catalog : CatalogData) (wanted : StudentPreferences) (items : List (SectionNo × ℕ)) (places : List Rated) → IsCatalog catalog
+    → AreRatings items → SectionsBelow (length catalog.sections) wanted → map rating_entry items ≡ entries wanted.ratings
     → places ≡ map (λ rating. rated_of catalog.sections (rating_entry rating)) items → AreGoodPlaces catalog.sections places
 good_places catalog wanted items places is ratings below entries made =
     subst (AreGoodPlaces catalog.sections) (sym made) (made_places catalog items is ratings (rated_below (length catalog.sections) wanted items below entries))

@@ -8,12 +8,15 @@ use Rattle.student_roll.specs.Students.{IsRoll, RollData}
 use Rattle.market_menus.specs.MenusOf.{AreMenusOf}
 use Rattle.market_menus.specs.Wanted.{HasLowerFirst}
 
--- at most 60 ratings, each from 1 to 100, and at most 200 adjustments, each from -200 to 200 and not 0
+-- at most 60 ratings, each from 1 to 100, and at most 200 adjustments, each from -200 to 200 and
+-- not 0
 pub record IsLimited (wanted : StudentPreferences) : Type 0 where
   pub few_ratings : length (entries wanted.ratings) ≤ 60
   pub ratings : All (λ (rated : ℕ × ℕ). (1 ≤ rated.1) × (rated.1 ≤ 100)) (entries wanted.ratings)
   pub few_pairs : length (entries wanted.pairs) ≤ 200
-  pub adjustments : All (λ (adjusted : (ℕ × ℕ) × ℤ). (1 ≤ unsigned_abs adjusted.1) × (unsigned_abs adjusted.1 ≤ 200)) (entries wanted.pairs)
+  pub adjustments : All
+      (λ (adjusted : (ℕ × ℕ) × ℤ). (1 ≤ unsigned_abs adjusted.1) × (unsigned_abs adjusted.1 ≤ 200))
+      (entries wanted.pairs)
 
 -- within these limits, of sections below this number, and with the lower section of each pair first
 pub record MayBeHad (sections : ℕ) (wanted : StudentPreferences) : Type 0 where
@@ -23,5 +26,8 @@ pub record MayBeHad (sections : ℕ) (wanted : StudentPreferences) : Type 0 wher
 
 -- the students of a roll have menus, where each has such preferences
 abbrev pub EachHasAMenu : Type 0
-EachHasAMenu = (catalog : CatalogData) (roll : RollData) (preferences : List StudentPreferences) → IsCatalog catalog → IsRoll roll → length preferences ≡ length roll.students → All (MayBeHad (length catalog.sections)) preferences
+EachHasAMenu =
+    (catalog : CatalogData) (roll : RollData) (preferences : List StudentPreferences)
+    → IsCatalog catalog → IsRoll roll → length preferences ≡ length roll.students
+    → All (MayBeHad (length catalog.sections)) preferences
     → (menus : List MenuData) × AreMenusOf catalog.sections roll.students preferences menus

@@ -6,8 +6,12 @@ use Rattle.bundle_rules.specs.declared.menu.Rated.{Rated}
 
 -- the place of a section, where it has one
 abbrev pub place_among : List Rated → ℕ → Option ℕ
-place_among places s = if nat_lt (place_in places s) (length places) then Some (place_in places s) else None
+place_among places s =
+    if nat_lt (place_in places s) (length places) then Some (place_in places s) else None
 
 -- the places of both sections, with the adjustment, where both have one
 abbrev pub pair_among : List Rated → ((ℕ × ℕ) × ℤ) → Option (ℕ × ℕ × ℤ)
-pair_among places adjusted = option_and_then (λ first. option_map (λ second. (first, second, adjusted.1)) (place_among places adjusted.0.1)) (place_among places adjusted.0.0)
+pair_among places adjusted =
+    option_and_then
+    (λ first. option_map (λ second. (first, second, adjusted.1)) (place_among places adjusted.0.1))
+    (place_among places adjusted.0.0)

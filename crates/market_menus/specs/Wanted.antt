@@ -9,7 +9,8 @@ use Rattle.preference_desk.specs.StudentPreferences.{StudentPreferences, pair_of
 use Rattle.student_roll.specs.Students.{Student}
 use Rattle.market_menus.specs.MenusOf.{IsMenuOf}
 
--- the ratings and adjustments of the preferences, the credits and clashes of the catalogue, and the caps of the roll
+-- the ratings and adjustments of the preferences, the credits and clashes of the catalogue, and the
+-- caps of the roll
 abbrev pub wishes_from : List Section → Student → StudentPreferences → Wishes
 wishes_from catalog student wanted = record {
   rating = λ s. unwrap_or (get wanted.ratings s) 0;
@@ -22,8 +23,12 @@ wishes_from catalog student wanted = record {
 
 -- each adjusted pair has the lower section first
 abbrev pub HasLowerFirst : StudentPreferences → Type 0
-HasLowerFirst wanted = All (λ (adjusted : (ℕ × ℕ) × ℤ). adjusted.0.0 < adjusted.0.1) (entries wanted.pairs)
+HasLowerFirst wanted =
+    All (λ (adjusted : (ℕ × ℕ) × ℤ). adjusted.0.0 < adjusted.0.1) (entries wanted.pairs)
 
 -- a student's menu says what the student wants and may take, of all sections that are rated
 abbrev pub MenuSaysWhatIsWanted : Type 0
-MenuSaysWhatIsWanted = (catalog : List Section) (student : Student) (wanted : StudentPreferences) (menu : MenuData) → HasLowerFirst wanted → IsMenuOf catalog student wanted menu → Agrees (wishes_of menu) (wishes_from catalog student wanted)
+MenuSaysWhatIsWanted =
+    (catalog : List Section) (student : Student) (wanted : StudentPreferences) (menu : MenuData)
+    → HasLowerFirst wanted → IsMenuOf catalog student wanted menu
+    → Agrees (wishes_of menu) (wishes_from catalog student wanted)

@@ -3,8 +3,9 @@ ghost use Rattle.market_menus.specs.Limits.{EachHasAMenu};
 ghost use Rattle.market_menus.specs.MenusOf.{OneListOfMenus, OneMenu};
 ghost use Rattle.market_menus.specs.Wanted.{MenuSaysWhatIsWanted};
 
-/// A student's menu says of each rated section what the preferences, the catalogue and the roll say: the same rating, credits,
-/// adjustments, clashes and caps. So the best bundle of the menu is the best bundle of what the student wants.
+/// A student's menu says of each rated section what the preferences, the catalogue and the roll
+/// say: the same rating, credits, adjustments, clashes and caps. So the best bundle of the menu is
+/// the best bundle of what the student wants.
 pub fn menu_says_what_is_wanted()
     ensures { MenuSaysWhatIsWanted }
 {}
@@ -19,7 +20,8 @@ pub fn one_list_of_menus()
     ensures { OneListOfMenus }
 {}
 
-/// The students of a roll have menus, where each has preferences such as a desk lets a student have.
+/// The students of a roll have menus, where each has preferences such as a desk lets a student
+/// have.
 pub fn each_has_a_menu()
     ensures { EachHasAMenu }
 {}

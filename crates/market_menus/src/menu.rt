@@ -15,8 +15,9 @@ use preference_desk::Preferences;
 use std::alloc::Global;
 use student_roll::Roll;
 
-/// The menu of each student of the roll, in file order: the sections that the student rates, with the catalogue's courses, credits and
-/// clashes, the adjustments of the pairs both of whose sections are rated, and the roll's caps.
+/// The menu of each student of the roll, in file order: the sections that the student rates, with
+/// the catalogue's courses, credits and clashes, the adjustments of the pairs both of whose
+/// sections are rated, and the roll's caps.
 pub fn menus(
     alloc: Global,
     catalog: &Catalog,
@@ -24,8 +25,11 @@ pub fn menus(
     preferences: &Preferences,
 ) -> Result<Vec<Menu>, NoMemory>
     requires students { length (preferences_of preferences.now) ≡ length roll.now.students }
-    requires sections { All (SectionsBelow (length catalog.now.sections)) (preferences_of preferences.now) }
-    ensures { IfOk result (λ menus. AreMenusOf catalog.now.sections roll.now.students (preferences_of preferences.now) menus.items) }
+    requires sections { All (SectionsBelow (length catalog.now.sections))
+        (preferences_of preferences.now) }
+    ensures { IfOk result
+        (λ menus. AreMenusOf catalog.now.sections roll.now.students (preferences_of preferences.now)
+        menus.items) }
 {
     let students = roll.len();
     let mut menus = Vec::with_capacity(alloc, usize::from(students))?;
@@ -45,8 +49,11 @@ fn menu_of(
 ) -> Result<Menu, NoMemory>
     requires student { student.0 < length roll.now.students }
     requires students { length (preferences_of preferences.now) ≡ length roll.now.students }
-    requires sections { All (SectionsBelow (length catalog.now.sections)) (preferences_of preferences.now) }
-    ensures { IfOk result (λ menu. IsMenuOf catalog.now.sections (student_at roll.now.students student.0) (wanted_by preferences.now student.0) menu) }
+    requires sections { All (SectionsBelow (length catalog.now.sections))
+        (preferences_of preferences.now) }
+    ensures { IfOk result
+        (λ menu. IsMenuOf catalog.now.sections (student_at roll.now.students student.0)
+        (wanted_by preferences.now student.0) menu) }
 {
     let _few_sections = catalog.len();
     let places = places_of(alloc, catalog, preferences.ratings(student))?;

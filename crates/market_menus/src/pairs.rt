@@ -15,7 +15,9 @@ pub(crate) fn pairs_of(
     pairs: &[(SectionNo, SectionNo, i16)],
 ) -> Result<Vec<(u8, u8, i16)>, NoMemory>
     requires { length places.now ≤ 60 }
-    ensures { IfOk result (λ kept. kept.items ≡ filter_map (λ pair. pair_among places.now (pair_entry pair)) pairs.now) }
+    ensures { IfOk result
+        (λ kept. kept.items
+        ≡ filter_map (λ pair. pair_among places.now (pair_entry pair)) pairs.now) }
 {
     let mut kept = Vec::with_capacity(alloc, pairs.len())?;
     'pairs: for pair in pairs {

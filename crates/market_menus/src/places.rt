@@ -8,14 +8,17 @@ use course_catalog::Catalog;
 use market_units::{NoMemory, SectionNo};
 use std::alloc::Global;
 
-// The places of a menu: the rated sections in their order, with the catalogue's courses and credits.
+// The places of a menu: the rated sections in their order, with the catalogue's courses and
+// credits.
 pub(crate) fn places_of(
     alloc: Global,
     catalog: &Catalog,
     ratings: &[(SectionNo, u8)],
 ) -> Result<Vec<Rated>, NoMemory>
     requires { All (λ rating. rating.0.0 < length catalog.now.sections) ratings.now }
-    ensures { IfOk result (λ places. places.items ≡ map (λ rating. rated_of catalog.now.sections (rating_entry rating)) ratings.now) }
+    ensures { IfOk result
+        (λ places. places.items
+        ≡ map (λ rating. rated_of catalog.now.sections (rating_entry rating)) ratings.now) }
 {
     let mut places = Vec::with_capacity(alloc, ratings.len())?;
     'ratings: for (section, rating) in ratings {

@@ -1,5 +1,5 @@
-//! The shipped command: real files in, standard output out, the status as the number of the process. Nothing is
-//! written to standard error.
+//! The shipped command: real files in, standard output out, the status as the number of the
+//! process. Nothing is written to standard error.
 // Neither: that `env::args` tells want of memory from words that are not UTF-8, since its two
 // errors are told apart by their kind; what the system refuses before `main`.
 #![tactic(auto)]

@@ -1,5 +1,5 @@
-// The program over texts in memory. The cases named for what they show are worked examples that were computed apart
-// from this program.
+// The program over texts in memory. The cases named for what they show are worked examples that
+// were computed apart from this program.
 use market_edge::{Gate, MemoryShelf, MemorySink, OpenGate};
 use market_host::{Cause, Finding, Status, course_match, exit_code, no_memory_for_words};
 use std::alloc::Global;
@@ -89,8 +89,8 @@ fn run<R: Threads + Wait + Sync + Abort>(
     run_held(rt, alloc, line, held, (0, 0), ROOM, &OpenGate)
 }
 
-// The same over the shelf alone, where its call and the sink's write of these numbers fail, 0 being none, the sink has so
-// much room, and the sessions and workers pass this gate.
+// The same over the shelf alone, where its call and the sink's write of these numbers fail, 0 being
+// none, the sink has so much room, and the sessions and workers pass this gate.
 fn run_by<R: Threads + Wait + Sync + Abort>(
     rt: &R,
     alloc: Global,
@@ -148,7 +148,8 @@ fn each_status_has_its_number(rt: HostRuntime) {
     }
 }
 
-// The words behind the program's name, or why there are none, the number with which the process ends, and what is written.
+// The words behind the program's name, or why there are none, the number with which the process
+// ends, and what is written.
 type End = (Result<&'static str, ErrorKind>, u8, &'static str);
 
 const ENDS: [End; 6] = [
@@ -172,8 +173,8 @@ const ENDS: [End; 6] = [
     (Err(ErrorKind::OutOfMemory), 7, "out of memory\n"),
 ];
 
-// The process ends with the number of the status: for words behind the program's name, for none, and where the system has
-// none that are text or no memory for them.
+// The process ends with the number of the status: for words behind the program's name, for none,
+// and where the system has none that are text or no memory for them.
 #[test]
 fn the_process_ends_with_the_number(rt: HostRuntime) -> Result<(), Fail> {
     for (given, number, text) in ENDS {

@@ -16,27 +16,36 @@ use Rattle.session_hall.specs.Streams.{command_lists}
 use Rattle.utility_language.specs.declared.commands.Command.{Command}
 use Rattle.market_run.specs.Held.{IsSummaryText}
 
-pub sessions_held : (streams : List (Vec Command Global)) (entries steps : List Entry) → entries ≡ steps → MergesStreams (command_lists streams) steps → length streams ≤ 64 → All (λ (entry : Entry). IsSession entry.session) entries
+pub sessions_held : (streams : List (Vec Command Global)) (entries steps : List Entry) → entries ≡ steps → MergesStreams (command_lists streams) steps
+    → length streams ≤ 64 → All (λ (entry : Entry). IsSession entry.session) entries
 sessions_held streams entries steps are merges few =
     let count : length (command_lists streams) ≡ length streams = length-map streams (λ (stream : Vec Command Global). stream.items) in
     let low : length (command_lists streams) ≤ 64 = omega arith in
     merged_sessions (command_lists streams) entries (subst (MergesStreams (command_lists streams)) (sym are) merges) low
 
-pub text_held : (market : Market) (streams : List (List Command)) (entries steps : List Entry) (text : List ℕ) → entries ≡ steps → IsLegalJournal (names_in market) steps → MergesStreams streams steps
-    → ((lengths : Lengths) × (p : Publication) × IsPublicationOf market entries lengths p × IsPublication (tables_in market) p × (text ≡ text_of (tables_in market) p)) → (order : List ℕ) × IsPublishedText market streams order text
+pub text_held : (market : Market) (streams : List (List Command)) (entries steps : List Entry) (text : List ℕ) → entries ≡ steps
+    → IsLegalJournal (names_in market) steps → MergesStreams streams steps
+    → ((lengths : Lengths) × (p : Publication) × IsPublicationOf market entries lengths p × IsPublication (tables_in market) p
+    × (text ≡ text_of (tables_in market) p))
+    → (order : List ℕ) × IsPublishedText market streams order text
 text_held market streams entries steps text are legal merges is = (
   sessions_of entries,
   subst (IsPublishedText market streams (sessions_of entries)) (sym is.4)
-      (text_published market streams entries is.0 is.1 (subst (IsLegalJournal (names_in market)) (sym are) legal) (subst (MergesStreams streams) (sym are) merges) is.2 is.3),
+      (text_published market streams entries is.0 is.1 (subst (IsLegalJournal (names_in market)) (sym are) legal)
+      (subst (MergesStreams streams) (sym are) merges) is.2 is.3),
 )
 
-pub unpriced_held : (market : Market) (streams : List (List Command)) (entries steps : List Entry) (least : ℕ) → entries ≡ steps → IsLegalJournal (names_in market) steps → MergesStreams streams steps
+pub unpriced_held : (market : Market) (streams : List (List Command)) (entries steps : List Entry) (least : ℕ) → entries ≡ steps
+    → IsLegalJournal (names_in market) steps → MergesStreams streams steps
     → HasNoPrices market entries least → IsUnpriced market streams (sessions_of entries) least
 unpriced_held market streams entries steps least are legal merges none =
     order_unpriced market streams entries least (subst (IsLegalJournal (names_in market)) (sym are) legal) (subst (MergesStreams streams) (sym are) merges) none
 
-pub summary_held : (market : Market) (streams : List (List Command)) (entries steps : List Entry) (text : List ℕ) → entries ≡ steps → IsLegalJournal (names_in market) steps → MergesStreams streams steps
-    → ((crowd : CrowdData) × (lengths : Lengths) × (p : Publication) × IsCrowdIn market entries crowd × IsPublicationOf market entries lengths p × (text ≡ summary_text crowd lengths p))
+pub summary_held : (market : Market) (streams : List (List Command)) (entries steps : List Entry) (text : List ℕ) → entries ≡ steps
+    → IsLegalJournal (names_in market) steps → MergesStreams streams steps
+    →
+    ((crowd : CrowdData) × (lengths : Lengths) × (p : Publication) × IsCrowdIn market entries crowd × IsPublicationOf market entries lengths p
+    × (text ≡ summary_text crowd lengths p))
     → (order : List ℕ) × IsSummaryText market streams order text
 summary_held market streams entries steps text are legal merges is = (
   sessions_of entries,

@@ -10,10 +10,13 @@ use Rattle.published_parts.proofs.OneCrowds.{one_crowd}
 use Rattle.published_market.specs.Publishing.{IsOutcome, IsPublicationOf, Lengths}
 use Rattle.market_run.specs.Summaries.{IsSomeOutcome}
 
-pub some_outcome : (market : Market) (journal : List Entry) (crowd : CrowdData) (lengths : Lengths) (p : Publication) → IsCrowdIn market journal crowd → IsPublicationOf market journal lengths p → IsSomeOutcome crowd lengths p
+pub some_outcome : (market : Market) (journal : List Entry) (crowd : CrowdData) (lengths : Lengths) (p : Publication) → IsCrowdIn market journal crowd
+    → IsPublicationOf market journal lengths p → IsSomeOutcome crowd lengths p
 some_outcome market journal crowd lengths p are is = (
   seats_in market,
   market.settings,
   subst (λ (c : CrowdData). IsOutcome c (seats_in market) market.settings lengths p)
-      (one_crowd market.catalog.sections market.roll.students (wanted_in market journal) market.settings.seed market.settings.spread is.crowd crowd is.is_crowd are) is.outcome,
+      (one_crowd market.catalog.sections market.roll.students (wanted_in market journal) market.settings.seed market.settings.spread is.crowd crowd is.is_crowd
+      are)
+      is.outcome,
 )

@@ -5,7 +5,8 @@ use Rattle.market_units.specs.Totals.{total}
 use Rattle.market_units.proofs.Sums.{total-append}
 
 -- one more item
-pub total_more : {A B : Type 0} (f : B → ℕ) (v : A → B) (xs : List A) (i : ℕ) (d : A) (sum more : ℕ) → i < length xs → sum ≡ total f (map v (take i xs)) → more ≡ f (v (get_or xs i d)) → sum + more ≡ total f (map v (take (i + 1) xs))
+pub total_more : {A B : Type 0} (f : B → ℕ) (v : A → B) (xs : List A) (i : ℕ) (d : A) (sum more : ℕ) → i < length xs → sum ≡ total f (map v (take i xs))
+    → more ≡ f (v (get_or xs i d)) → sum + more ≡ total f (map v (take (i + 1) xs))
 total_more f v xs i d sum more low so_far is =
     let one : total f (map v (take i xs ++ get_or xs i d ∷ [])) ≡ total f (map v (take i xs)) + total f (v (get_or xs i d) ∷ []) =
     ap (total f) (map-append v (take i xs) (get_or xs i d ∷ [])) ∙ total-append f (map v (take i xs)) (v (get_or xs i d) ∷ []) in

@@ -10,7 +10,8 @@ use Rattle.published_parts.specs.Journals.{IsJournalOf}
 use Rattle.published_parts.specs.Markets.{Market, names_in}
 use Rattle.utility_language.specs.declared.commands.Command.{Command}
 
--- the summary of what is published of a market where the sessions say these streams and their commands are taken in this order
+-- the summary of what is published of a market where the sessions say these streams and their
+-- commands are taken in this order
 abbrev pub IsSummaryText : Market → List (List Command) → List ℕ → List ℕ → Type 0
 IsSummaryText market streams order text =
     (journal : List Entry) × IsJournalOf (names_in market) streams order journal

@@ -20,14 +20,17 @@ worth_of students bundles = signed_total worth (zip students bundles)
 
 -- the bytes of all trees: those of the bundles and those of the turns
 abbrev pub tree_bytes : Publication → ℕ
-tree_bytes p = total (λ (proved : Proved). length proved.tree) p.bundles + total (λ (turn : ProvedTurn). length turn.tree) p.turns
+tree_bytes p =
+    total (λ (proved : Proved). length proved.tree) p.bundles
+    + total (λ (turn : ProvedTurn). length turn.tree) p.turns
 
 -- a word and a number behind it, as a line
 abbrev pub line : List ℕ → List ℕ → List ℕ
 line word number = word ++ 32 ∷ (number ++ 10 ∷ [])
 
--- The ten lines: how many students, sections and commands there are; the error of the first prices; the turns of the search, the rounds of
--- the elimination and the passes of the aftermarket; the used seats; what the students have of their last bundles; and the bytes of all trees.
+-- The ten lines: how many students, sections and commands there are; the error of the first prices;
+-- the turns of the search, the rounds of the elimination and the passes of the aftermarket; the
+-- used seats; what the students have of their last bundles; and the bytes of all trees.
 abbrev pub summary_text : CrowdData → Lengths → Publication → List ℕ
 summary_text crowd lengths p =
     line (codes "students") (decimal (length crowd.students))
@@ -43,4 +46,5 @@ summary_text crowd lengths p =
 
 -- the publication is the outcome of the crowd, whatever its seats and the settings
 abbrev pub IsSomeOutcome : CrowdData → Lengths → Publication → Type 0
-IsSomeOutcome crowd lengths p = (seats : List ℕ) × (settings : Settings) × IsOutcome crowd seats settings lengths p
+IsSomeOutcome crowd lengths p =
+    (seats : List ℕ) × (settings : Settings) × IsOutcome crowd seats settings lengths p

@@ -12,4 +12,5 @@ AreRatedBy menus bundles = AllZip (λ menu bundle. AllRated (wishes_of menu) bun
 abbrev pub worth_by_menus : List MenuData → List (List ℕ) → ℤ
 worth_by_menus [] bundles = pos 0
 worth_by_menus (menu ∷ menus) [] = pos 0
-worth_by_menus (menu ∷ menus) (bundle ∷ bundles) = utility (wishes_of menu) bundle +ℤ worth_by_menus menus bundles
+worth_by_menus (menu ∷ menus) (bundle ∷ bundles) =
+    utility (wishes_of menu) bundle +ℤ worth_by_menus menus bundles

@@ -52,16 +52,18 @@ impl From<NoMemory> for HeldEnd {
 
 // The line of the order in which the desk took its commands.
 fn order_text(alloc: Global, desk: &Desk) -> Result<Vec<u8>, NoMemory>
-    ensures { IfOk result (λ text. text.items ≡ order_line (sessions_of (entries_of desk.now)) ++ 10 ∷ []) }
+    ensures { IfOk result
+        (λ text. text.items ≡ order_line (sessions_of (entries_of desk.now)) ++ 10 ∷ []) }
 {
     let mut text = Vec::new(alloc);
     put_order(&mut text, desk.journal())?;
     Ok(text)
 }
 
-/// The published text of the market whose sessions say these streams: in some order the desk takes their commands, and
-/// this is what is published in that order. `NoPrices` comes exactly where the search's least error exceeds what the
-/// settings accept. Each session says its stream from a thread of its own, and 1 to 16 workers answer what is demanded.
+/// The published text of the market whose sessions say these streams: in some order the desk takes
+/// their commands, and this is what is published in that order. `NoPrices` comes exactly where the
+/// search's least error exceeds what the settings accept. Each session says its stream from a
+/// thread of its own, and 1 to 16 workers answer what is demanded.
 pub fn held_text<R: Threads + Wait + Sync>(
     rt: &R,
     alloc: Global,
@@ -76,7 +78,10 @@ pub fn held_text<R: Threads + Wait + Sync>(
     requires settings { AreInRange settings.now }
     requires sessions { (1 ≤ length streams.now) × (length streams.now ≤ MAX_SESSIONS) }
     requires commands { command_count streams.now ≤ MAX_COMMANDS }
-    ensures text { IfOk result (λ text. (order : List ℕ) × IsPublishedText (market_of catalog.now roll.now settings.now) (command_lists streams.now) order text.items) }
+    ensures text { IfOk result
+        (λ text. (order : List ℕ)
+        × IsPublishedText (market_of catalog.now roll.now settings.now)
+        (command_lists streams.now) order text.items) }
     ensures no_prices { (line : Vec ℕ Global) → (least : ℕ) → result ≡ Err (HeldEnd.NoPrices line least)
         → (order : List ℕ) × IsUnpriced (market_of catalog.now roll.now settings.now) (command_lists streams.now) order least × (line.items ≡ order_line order ++ 10 ∷ []) }
 {
@@ -101,8 +106,8 @@ pub fn held_text<R: Threads + Wait + Sync>(
     }
 }
 
-/// The summary of the market whose sessions say these streams, run by 1 to 16 workers; `NoPrices` comes exactly where
-/// the search's least error exceeds what the settings accept.
+/// The summary of the market whose sessions say these streams, run by 1 to 16 workers; `NoPrices`
+/// comes exactly where the search's least error exceeds what the settings accept.
 pub fn held_summary<R: Threads + Wait + Sync>(
     rt: &R,
     alloc: Global,
@@ -117,7 +122,10 @@ pub fn held_summary<R: Threads + Wait + Sync>(
     requires settings { AreInRange settings.now }
     requires sessions { (1 ≤ length streams.now) × (length streams.now ≤ MAX_SESSIONS) }
     requires commands { command_count streams.now ≤ MAX_COMMANDS }
-    ensures text { IfOk result (λ text. (order : List ℕ) × IsSummaryText (market_of catalog.now roll.now settings.now) (command_lists streams.now) order text.items) }
+    ensures text { IfOk result
+        (λ text. (order : List ℕ)
+        × IsSummaryText (market_of catalog.now roll.now settings.now)
+        (command_lists streams.now) order text.items) }
     ensures no_prices { (least : ℕ) → result ≡ Err (PublishEnd.NoPrices least)
         → (order : List ℕ) × IsUnpriced (market_of catalog.now roll.now settings.now) (command_lists streams.now) order least }
 {

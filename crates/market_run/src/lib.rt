@@ -1,5 +1,5 @@
-//! A market that workers run, from what its sessions say or from a closed desk: the text that it publishes, or its
-//! summary of ten lines.
+//! A market that workers run, from what its sessions say or from a closed desk: the text that it
+//! publishes, or its summary of ten lines.
 // Neither: how long it takes.
 #![tactic(auto)]
 

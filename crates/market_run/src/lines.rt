@@ -37,7 +37,8 @@ pub(crate) fn put_signed(
     word: &[u8],
     amount: i64,
 ) -> Result<(), NoMemory>
-    ensures { OnOk result (text.new.items ≡ text.old.items ++ line word.now (signed_decimal amount)) }
+    ensures { OnOk result
+        (text.new.items ≡ text.old.items ++ line word.now (signed_decimal amount)) }
 {
     let number = format!(in alloc; "{amount}")?;
     put_line(text, word, number.as_bytes())

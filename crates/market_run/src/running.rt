@@ -53,7 +53,9 @@ fn share(
     requires names { names_of desk.now ≡ names_in (market_of catalog.now roll.now settings.now) }
     requires settings { AreInRange settings.now }
     ensures same { IfOk result (λ shared. arc_value shared.asked ≡ arc_value shared.crowd) }
-    ensures crowd { IfOk result (λ shared. IsCrowdIn (market_of catalog.now roll.now settings.now) (entries_of desk.now) (data_of (arc_value shared.crowd))) }
+    ensures crowd { IfOk result
+        (λ shared. IsCrowdIn (market_of catalog.now roll.now settings.now) (entries_of desk.now)
+        (data_of (arc_value shared.crowd))) }
     ensures made { IfOk result (λ shared. IsMade (arc_value shared.crowd)) }
 {
     let crowd = crowd_after(alloc, catalog, roll, settings, desk)?;
@@ -82,12 +84,17 @@ pub(crate) fn run<R: Threads + Wait + Sync>(
     requires names { names_of desk.now ≡ names_in (market_of catalog.now roll.now settings.now) }
     requires sessions { All (λ entry. IsSession entry.session) (entries_of desk.now) }
     requires settings { AreInRange settings.now }
-    ensures crowd { IfOk result (λ ran. IsCrowdIn (market_of catalog.now roll.now settings.now) (entries_of desk.now) (data_of (arc_value ran.crowd))) }
+    ensures crowd { IfOk result
+        (λ ran. IsCrowdIn (market_of catalog.now roll.now settings.now) (entries_of desk.now)
+        (data_of (arc_value ran.crowd))) }
     ensures made { IfOk result (λ ran. IsMade (arc_value ran.crowd)) }
     ensures published { IfOk result (λ ran. IsPublicationOf (market_of catalog.now roll.now settings.now) (entries_of desk.now)
         (lengths_of ran.published.turns ran.published.rounds ran.published.passes) (publication_of ran.published.publication)) }
-    ensures in_range { IfOk result (λ ran. IsPublication (tables_of catalog.now roll.now) (publication_of ran.published.publication)) }
-    ensures no_prices { (least : ℕ) → result ≡ Err (PublishEnd.NoPrices least) → HasNoPrices (market_of catalog.now roll.now settings.now) (entries_of desk.now) least }
+    ensures in_range { IfOk result
+        (λ ran. IsPublication (tables_of catalog.now roll.now)
+        (publication_of ran.published.publication)) }
+    ensures no_prices { (least : ℕ) → result ≡ Err (PublishEnd.NoPrices least)
+        → HasNoPrices (market_of catalog.now roll.now settings.now) (entries_of desk.now) least }
 {
     let Shared {
         crowd,

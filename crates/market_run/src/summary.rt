@@ -12,10 +12,10 @@ use market_units::NoMemory;
 use published_market::Published;
 use std::alloc::Global;
 
-/// The summary of what was published of this crowd: the numbers of students, of sections and of commands; the error of
-/// the search's prices; the turns of the search, the rounds of the elimination and the passes of the aftermarket; the
-/// used seats; what the students have of their last bundles; and the bytes of all trees. The one error is the want of
-/// memory.
+/// The summary of what was published of this crowd: the numbers of students, of sections and of
+/// commands; the error of the search's prices; the turns of the search, the rounds of the
+/// elimination and the passes of the aftermarket; the used seats; what the students have of their
+/// last bundles; and the bytes of all trees. The one error is the want of memory.
 pub fn summary_text(
     alloc: Global,
     crowd: &Crowd,

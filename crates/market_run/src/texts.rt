@@ -24,8 +24,9 @@ use std::sync::Wait;
 use std::thread::Threads;
 use student_roll::Roll;
 
-/// The published text of the market after the desk's journal, found by 1 to 16 workers; `NoPrices` comes exactly where
-/// the search's least error exceeds what the settings accept. The number of workers changes no byte.
+/// The published text of the market after the desk's journal, found by 1 to 16 workers; `NoPrices`
+/// comes exactly where the search's least error exceeds what the settings accept. The number of
+/// workers changes no byte.
 pub fn published_text<R: Threads + Wait + Sync>(
     rt: &R,
     alloc: Global,
@@ -44,14 +45,15 @@ pub fn published_text<R: Threads + Wait + Sync>(
         × IsPublicationOf (market_of catalog.now roll.now settings.now) (entries_of desk.now) lengths p
         × IsPublication (tables_in (market_of catalog.now roll.now settings.now)) p
         × (text.items ≡ text_of (tables_in (market_of catalog.now roll.now settings.now)) p)) }
-    ensures no_prices { (least : ℕ) → result ≡ Err (PublishEnd.NoPrices least) → HasNoPrices (market_of catalog.now roll.now settings.now) (entries_of desk.now) least }
+    ensures no_prices { (least : ℕ) → result ≡ Err (PublishEnd.NoPrices least)
+        → HasNoPrices (market_of catalog.now roll.now settings.now) (entries_of desk.now) least }
 {
     let ran = run(rt, alloc, workers, catalog, roll, settings, desk, gate)?;
     Ok(put_publication(alloc, catalog, roll, &ran.published.publication)?)
 }
 
-/// The summary of the market after the desk's journal, run by 1 to 16 workers; `NoPrices` comes exactly where the
-/// search's least error exceeds what the settings accept.
+/// The summary of the market after the desk's journal, run by 1 to 16 workers; `NoPrices` comes
+/// exactly where the search's least error exceeds what the settings accept.
 pub fn made_summary<R: Threads + Wait + Sync>(
     rt: &R,
     alloc: Global,
@@ -70,7 +72,8 @@ pub fn made_summary<R: Threads + Wait + Sync>(
         × IsCrowdIn (market_of catalog.now roll.now settings.now) (entries_of desk.now) crowd
         × IsPublicationOf (market_of catalog.now roll.now settings.now) (entries_of desk.now) lengths p
         × (text.items ≡ summary_text crowd lengths p)) }
-    ensures no_prices { (least : ℕ) → result ≡ Err (PublishEnd.NoPrices least) → HasNoPrices (market_of catalog.now roll.now settings.now) (entries_of desk.now) least }
+    ensures no_prices { (least : ℕ) → result ≡ Err (PublishEnd.NoPrices least)
+        → HasNoPrices (market_of catalog.now roll.now settings.now) (entries_of desk.now) least }
 {
     let ran = run(rt, alloc, workers, catalog, roll, settings, desk, gate)?;
     Ok(summary_text(alloc, &ran.crowd, &ran.published)?)

@@ -37,7 +37,8 @@ out_of_range d = option_map Range (find (λ key. not (is_in_range d key)) keys)
 
 -- the first fault of a value
 abbrev pub fault_of : Data → Option SettingsRefusal
-fault_of d = option_or (no_object d) (option_or (missing d) (option_or (unknown d) (out_of_range d)))
+fault_of d =
+    option_or (no_object d) (option_or (missing d) (option_or (unknown d) (out_of_range d)))
 
 -- the settings of a value, where each is in its range
 abbrev pub values_of : Data → Settings
@@ -58,7 +59,8 @@ unless (Some fault) settings = Err fault
 
 -- the settings that bytes are, or why they are none
 abbrev pub settings_of : List ℕ → Result Settings SettingsRefusal
-settings_of bytes = elim (reading bytes) [ None ↦ Err NotJson | Some d ↦ unless (fault_of d) (values_of d) ]
+settings_of bytes =
+    elim (reading bytes) [ None ↦ Err NotJson | Some d ↦ unless (fault_of d) (values_of d) ]
 
 -- each setting is in its range
 pub record AreInRange (settings : Settings) : Type 0 where
@@ -67,6 +69,7 @@ pub record AreInRange (settings : Settings) : Type 0 where
   pub accept_in_range : settings.accept ≤ greatest_of Accept
   pub turns_in_range : settings.turns ≤ greatest_of Turns
   pub tabu_in_range : (least_of Tabu ≤ settings.tabu) × (settings.tabu ≤ greatest_of Tabu)
-  pub patience_in_range : (least_of Patience ≤ settings.patience) × (settings.patience ≤ greatest_of Patience)
+  pub patience_in_range : (least_of Patience ≤ settings.patience)
+      × (settings.patience ≤ greatest_of Patience)
   pub steps_in_range : AreStepSizes settings.steps
   pub raise_in_range : settings.raise ≤ greatest_of Raise

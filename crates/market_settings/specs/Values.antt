@@ -24,20 +24,26 @@ if_within least greatest n = if nat_le least n && nat_le n greatest then Some n 
 
 -- the whole number from the least to the greatest that a value is
 abbrev pub whole_within : ℕ → ℕ → Data → Option ℕ
-whole_within least greatest d = option_and_then (if_within least greatest) (option_and_then as_u64 (as_number d))
+whole_within least greatest d =
+    option_and_then (if_within least greatest) (option_and_then as_u64 (as_number d))
 
 -- the items as such numbers, if each is one
 abbrev pub numbers_within : ℕ → ℕ → Items → Option (List ℕ)
 numbers_within least greatest no_items = Some []
-numbers_within least greatest (item d ds) = option_and_then (λ n. option_map (λ ns. n ∷ ns) (numbers_within least greatest ds)) (whole_within least greatest d)
+numbers_within least greatest (item d ds) =
+    option_and_then (λ n. option_map (λ ns. n ∷ ns) (numbers_within least greatest ds))
+    (whole_within least greatest d)
 
 -- the number of a setting, if it is in its range
 abbrev pub number_at : Key → Data → Option ℕ
-number_at key d = option_and_then (whole_within (least_of key) (greatest_of key)) (get (key_name key) d)
+number_at key d =
+    option_and_then (whole_within (least_of key) (greatest_of key)) (get (key_name key) d)
 
 -- the step sizes that an array of 1 to 16 items is
 abbrev pub step_sizes_of : Items → Option (List ℕ)
-step_sizes_of items = if nat_le 1 (items_len items) && nat_le (items_len items) 16 then numbers_within (least_of Steps) (greatest_of Steps) items else None
+step_sizes_of items =
+    if nat_le 1 (items_len items) && nat_le (items_len items) 16
+    then numbers_within (least_of Steps) (greatest_of Steps) items else None
 
 -- the step sizes of the settings, if they are in range
 abbrev pub step_sizes_in : Data → Option (List ℕ)

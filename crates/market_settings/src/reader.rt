@@ -53,7 +53,8 @@ pub enum SettingsRefusal {
 /// twice the last value counts. Otherwise the first fault in the order of `SettingsRefusal`.
 pub fn read_settings(alloc: Global, bytes: &[u8]) -> Result<Settings, SettingsRefusal>
     ensures read { IfOk result (λ settings. settings_of bytes.now ≡ Ok settings) }
-    ensures refused { IfErr result (λ refusal. refusal ≢ SettingsRefusal.NoMemory → settings_of bytes.now ≡ Err refusal) }
+    ensures refused { IfErr result
+        (λ refusal. refusal ≢ SettingsRefusal.NoMemory → settings_of bytes.now ≡ Err refusal) }
     ensures in_range { IfOk result AreInRange }
 {
     let value = read_value(alloc, bytes)?;
@@ -80,8 +81,12 @@ fn first_missing(value: &Value) -> Option<Key>
 
 // The settings of a value that has them all.
 fn settings_in(alloc: Global, value: &Value) -> Result<Settings, SettingsRefusal>
-    ensures read { IfOk result (λ settings. (out_of_range (view value.now) ≡ None) × (settings ≡ values_of (view value.now))) }
-    ensures refused { IfErr result (λ refusal. refusal ≢ SettingsRefusal.NoMemory → out_of_range (view value.now) ≡ Some refusal) }
+    ensures read { IfOk result
+        (λ settings. (out_of_range (view value.now) ≡ None)
+        × (settings ≡ values_of (view value.now))) }
+    ensures refused { IfErr result
+        (λ refusal. refusal ≢ SettingsRefusal.NoMemory
+        → out_of_range (view value.now) ≡ Some refusal) }
     ensures in_range { IfOk result AreInRange }
 {
     let seed = number_at(value, Key::Seed)?;

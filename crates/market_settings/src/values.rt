@@ -15,7 +15,9 @@ use std::alloc::Global;
 // The value that the bytes read as.
 pub(crate) fn read_value(alloc: Global, bytes: &[u8]) -> Result<Value, SettingsRefusal>
     ensures value { IfOk result (λ value. reading bytes.now ≡ Some (view value)) }
-    ensures only { IfErr result (λ e. e ≢ SettingsRefusal.NoMemory → (e ≡ SettingsRefusal.NotJson) × (reading bytes.now ≡ None)) }
+    ensures only { IfErr result
+        (λ e. e ≢ SettingsRefusal.NoMemory
+        → (e ≡ SettingsRefusal.NotJson) × (reading bytes.now ≡ None)) }
 {
     match Value::from_slice(alloc, bytes) {
         Ok(value) => Ok(value),
@@ -55,7 +57,8 @@ fn whole_within(value: &Value, least: u64, greatest: u64) -> Option<u64>
 
 // The number of a setting, which is in its range.
 pub(crate) fn number_at(value: &Value, key: Key) -> Result<u64, SettingsRefusal>
-    ensures value { MatchResult result (λ n. number_at key (view value.now) ≡ Some n) (λ e. (e ≡ SettingsRefusal.Range key) × (number_at key (view value.now) ≡ None)) }
+    ensures value { MatchResult result (λ n. number_at key (view value.now) ≡ Some n)
+        (λ e. (e ≡ SettingsRefusal.Range key) × (number_at key (view value.now) ≡ None)) }
     ensures within { IfOk result (λ n. (least_of key ≤ n) × (n ≤ greatest_of key)) }
 {
     let Some(found) = value.get(key.name()) else {
@@ -71,7 +74,9 @@ pub(crate) fn number_at(value: &Value, key: Key) -> Result<u64, SettingsRefusal>
 pub(crate) fn step_sizes_at(alloc: Global, value: &Value) -> Result<StepSizes, SettingsRefusal>
     ensures sizes { IfOk result (λ sizes. step_sizes_in (view value.now) ≡ Some sizes) }
     ensures in_range { IfOk result AreStepSizes }
-    ensures only { IfErr result (λ e. e ≢ SettingsRefusal.NoMemory → (e ≡ SettingsRefusal.Range Key.Steps) × (step_sizes_in (view value.now) ≡ None)) }
+    ensures only { IfErr result
+        (λ e. e ≢ SettingsRefusal.NoMemory
+        → (e ≡ SettingsRefusal.Range Key.Steps) × (step_sizes_in (view value.now) ≡ None)) }
 {
     let Some(items) = step_items(value) else {
         return Err(SettingsRefusal::Range(Key::Steps));
@@ -85,17 +90,22 @@ pub(crate) fn step_sizes_at(alloc: Global, value: &Value) -> Result<StepSizes, S
 
 // The items of the steps, if these are an array.
 fn step_items(value: &Value) -> Option<&Vec<Value>>
-    ensures { option_map (λ items. items_view items.now.items) result ≡ option_and_then as_array (get (key_name Key.Steps) (view value.now)) }
+    ensures { option_map (λ items. items_view items.now.items) result
+        ≡ option_and_then as_array (get (key_name Key.Steps) (view value.now)) }
 {
     value.get(Key::Steps.name()).and_then(Value::as_array)
 }
 
 // The items as step sizes, if each is one.
 fn sizes_within(alloc: Global, items: &[Value]) -> Result<Vec<u32>, SettingsRefusal>
-    ensures sizes { IfOk result (λ sizes. numbers_within 1 100000 (items_view items.now) ≡ Some sizes.items) }
+    ensures sizes { IfOk result
+        (λ sizes. numbers_within 1 100000 (items_view items.now) ≡ Some sizes.items) }
     ensures count { IfOk result (λ sizes. length sizes.items ≡ length items.now) }
     ensures within { IfOk result (λ sizes. All (λ size. (1 ≤ size) × (size ≤ 100000)) sizes.items) }
-    ensures only { IfErr result (λ e. e ≢ SettingsRefusal.NoMemory → (e ≡ SettingsRefusal.Range Key.Steps) × (numbers_within 1 100000 (items_view items.now) ≡ None)) }
+    ensures only { IfErr result
+        (λ e. e ≢ SettingsRefusal.NoMemory
+        → (e ≡ SettingsRefusal.Range Key.Steps)
+        × (numbers_within 1 100000 (items_view items.now) ≡ None)) }
 {
     let mut sizes = Vec::new(alloc);
     for item in items {

@@ -20,21 +20,26 @@ any-map p f [] = refl
 any-map p f (x ∷ xs) = ap (λ b. p (f x) || b) (any-map p f xs)
 
 -- a name of a list without repeats is none of the names before it
-not_before : (names : List (List ℕ)) (n : ℕ) (d : List ℕ) → IsDistinct bytes_eq names → n < length names → list_any (bytes_eq (get_or names n d)) (take n names) ≡ false
+not_before : (names : List (List ℕ)) (n : ℕ) (d : List ℕ) → IsDistinct bytes_eq names → n < length names
+    → list_any (bytes_eq (get_or names n d)) (take n names) ≡ false
 unfolding IsDistinct
 not_before [] n d distinct inside = absurd (omega arith)
 not_before (name ∷ names) zero d distinct inside = refl
 not_before (name ∷ names) (suc n) d distinct inside =
-    or_from _ _ (nat_list_eq_equiv.symm (get_or names n d) name ∙ holds_at (λ other. bytes_eq name other ≡ false) names n d distinct.0 (omega arith)) (not_before names n d distinct.1 (omega arith))
+    or_from _ _ (nat_list_eq_equiv.symm (get_or names n d) name ∙ holds_at (λ other. bytes_eq name other ≡ false) names n d distinct.0 (omega arith))
+    (not_before names n d distinct.1 (omega arith))
 
 -- one name more
-pub one_name_more : (names : List (List ℕ)) (keys new : List Name) (n : ℕ) (name : Name) → IsDistinct bytes_eq names → n < length names → map name_bytes keys ≡ take n names → name_bytes name ≡ get_or names n []
+pub one_name_more : (names : List (List ℕ)) (keys new : List Name) (n : ℕ) (name : Name) → IsDistinct bytes_eq names → n < length names
+    → map name_bytes keys ≡ take n names → name_bytes name ≡ get_or names n []
     → new ≡ cond (list_any (λ key. bytes_eq (name_bytes name) (name_bytes key)) keys) keys (keys ++ name ∷ []) → map name_bytes new ≡ take (n + 1) names
 one_name_more names keys new n name distinct inside so is e =
     let fresh : list_any (λ key. bytes_eq (name_bytes name) (name_bytes key)) keys ≡ false =
-    sym (any-map (bytes_eq (name_bytes name)) name_bytes keys) ∙ ap (list_any (bytes_eq (name_bytes name))) so ∙ ap (λ bytes. list_any (bytes_eq bytes) (take n names)) is ∙ not_before names n [] distinct inside in
+    sym (any-map (bytes_eq (name_bytes name)) name_bytes keys) ∙ ap (list_any (bytes_eq (name_bytes name))) so
+    ∙ ap (λ bytes. list_any (bytes_eq bytes) (take n names)) is ∙ not_before names n [] distinct inside in
     let added : new ≡ keys ++ name ∷ [] = e ∙ ap (λ b. cond b keys (keys ++ name ∷ [])) fresh in
-    ap (map name_bytes) added ∙ map-append name_bytes keys (name ∷ []) ∙ ap (λ front. front ++ name_bytes name ∷ []) so ∙ ap (λ last. take n names ++ last ∷ []) is ∙ sym (take_more names n [] inside)
+    ap (map name_bytes) added ∙ map-append name_bytes keys (name ∷ []) ∙ ap (λ front. front ++ name_bytes name ∷ []) so
+    ∙ ap (λ last. take n names ++ last ∷ []) is ∙ sym (take_more names n [] inside)
 
 -- what stands at a place, in the two ways of saying it
 pub read_at : {A B : Type 0} (f : A → B) (xs : List A) (n : ℕ) (v : B) (d : A) → option_map f (slice_get xs n) ≡ Some v → v ≡ f (get_or xs n d)

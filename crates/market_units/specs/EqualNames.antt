@@ -19,5 +19,7 @@ same_name a b e =
     λ i. record {
       room = rooms i;
       len = lens i;
-      holds = is_prop→PathP (λ j. HoldsName (rooms j) (lens j)) (λ j. Prim.hlevel props) a.holds b.holds i;
+      holds =
+          is_prop→PathP (λ j. HoldsName (rooms j) (lens j)) (λ j. Prim.hlevel props) a.holds b.holds
+          i;
     }

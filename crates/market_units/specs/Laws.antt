@@ -15,7 +15,9 @@ OneNumberASpelling = (m n : ℕ) → m < 2 ^ 64 → n < 2 ^ 64 → decimal m ≡
 
 -- of two different subsets of the same places, one is earlier
 abbrev pub OneIsEarlier : Type 0
-OneIsEarlier = (as' bs : List Bool) → length as' ≡ length bs → as' ≢ bs → (earlier as' bs ≡ true) ⊎ (earlier bs as' ≡ true)
+OneIsEarlier =
+    (as' bs : List Bool) → length as' ≡ length bs → as' ≢ bs
+    → (earlier as' bs ≡ true) ⊎ (earlier bs as' ≡ true)
 
 -- of two subsets not both are earlier
 abbrev pub NotBothAreEarlier : Type 0
@@ -23,4 +25,5 @@ NotBothAreEarlier = (as' bs : List Bool) → earlier as' bs ≡ true → ¬ (ear
 
 -- what is earlier than an earlier subset is earlier than the last of them
 abbrev pub EarlierThanEarlier : Type 0
-EarlierThanEarlier = (as' bs cs : List Bool) → earlier as' bs ≡ true → earlier bs cs ≡ true → earlier as' cs ≡ true
+EarlierThanEarlier =
+    (as' bs cs : List Bool) → earlier as' bs ≡ true → earlier bs cs ≡ true → earlier as' cs ≡ true

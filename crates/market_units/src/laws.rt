@@ -1,4 +1,5 @@
-//! What holds of names, numbers and subsets: each call here does nothing, and its contract is a law.
+//! What holds of names, numbers and subsets: each call here does nothing, and its contract is a
+//! law.
 ghost use Rattle.market_units.specs.Laws.{EqualBytesEqualNames, OneNumberASpelling, OneIsEarlier, NotBothAreEarlier, EarlierThanEarlier};
 
 /// Two names of equal bytes are equal.

@@ -1,4 +1,5 @@
-//! The numbers, names, sets and lists that every part of the market speaks of, and the market's limits.
+//! The numbers, names, sets and lists that every part of the market speaks of, and the market's
+//! limits.
 // Neither: the texts that `Debug` prints.
 #![tactic(auto)]
 

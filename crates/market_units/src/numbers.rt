@@ -23,7 +23,8 @@ pub fn read_number(bytes: &[u8], max: u64) -> Option<u64>
 
 // The value of one digit or more, which may begin with zeros.
 fn read_digits(bytes: &[u8]) -> Option<u64>
-    ensures { SomeIff result (IsNumeral 10 bytes.now × (digits_value 10 bytes.now < 2 ^ 64)) (digits_value 10 bytes.now) }
+    ensures { SomeIff result (IsNumeral 10 bytes.now × (digits_value 10 bytes.now < 2 ^ 64))
+        (digits_value 10 bytes.now) }
 {
     if bytes.is_empty() {
         return None;
@@ -51,7 +52,8 @@ fn next_value(value: u64, digit: u8) -> Option<u64>
     value.checked_mul(10)?.checked_add(u64::from(digit))
 }
 
-/// Writes the number's one spelling at the front of the room, and gives its length. The rest of the room stays.
+/// Writes the number's one spelling at the front of the room, and gives its length. The rest of the
+/// room stays.
 pub fn put_number(n: u64, room: &mut [u8; 20]) -> usize
     ensures fits { result ≤ 20 }
     ensures spelling { take result room.new ≡ decimal n }

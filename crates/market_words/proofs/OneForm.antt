@@ -52,14 +52,21 @@ Spells word least most = (n : ℕ) × (least ≤ n) × (n ≤ most) × (word ≡
 
 -- where the words behind `make` have a form, they spell numbers in their ranges
 pub make_spells : (words : List (String Global)) (workers seed students sections accept : String Global) → length words ≡ 5
-    → workers ≡ get_or words 0 workers → seed ≡ get_or words 1 seed → students ≡ get_or words 2 students → sections ≡ get_or words 3 sections → accept ≡ get_or words 4 accept
+    → workers ≡ get_or words 0 workers → seed ≡ get_or words 1 seed → students ≡ get_or words 2 students → sections ≡ get_or words 3 sections
+    → accept ≡ get_or words 4 accept
     → (form : Form) → HasForm (codes "make" ∷ map string_bytes words) form
-    → Spells (string_bytes workers) 1 16 × Spells (string_bytes seed) 0 (2 ^ 64 - 1) × Spells (string_bytes students) 1 2000 × Spells (string_bytes sections) 1 400 × Spells (string_bytes accept) 0 (10 ^ 12)
+    → Spells (string_bytes workers) 1 16 × Spells (string_bytes seed) 0 (2 ^ 64 - 1) × Spells (string_bytes students) 1 2000
+    × Spells (string_bytes sections) 1 400 × Spells (string_bytes accept) 0 (10 ^ 12)
 unfolding byte_of first_byte
 make_spells words w d t s x is f g h i j (Make workers seed students sections accept) has =
     let five = make_words words w d t s x is f g h i j in
-    let same = has.0 in
-    ((workers, omega (arith, has.1), omega (arith, has.1), cc), (seed, omega arith, omega (arith, has.2), cc), (students, omega (arith, has.3), omega (arith, has.4), cc), (sections, omega (arith, has.5), omega (arith, has.6), cc), (accept, omega arith, omega (arith, has.7), cc))
+    let same = has.0 in (
+      (workers, omega (arith, has.1), omega (arith, has.1), cc),
+      (seed, omega arith, omega (arith, has.2), cc),
+      (students, omega (arith, has.3), omega (arith, has.4), cc),
+      (sections, omega (arith, has.5), omega (arith, has.6), cc),
+      (accept, omega arith, omega (arith, has.7), cc),
+    )
 make_spells words w d t s x is f g h i j form has = absurd (omega (arith, begins (codes "make" ∷ map string_bytes words) form has))
 
 -- words have one form at most

@@ -14,43 +14,50 @@ pub verb_first : (words : List (String Global)) (verb : String Global) → 1 ≤
     → map string_bytes words ≡ string_bytes verb ∷ map string_bytes (take (length words - 1) (drop 1 words))
 verb_first words verb some is = ap (λ ws. map string_bytes ws) (first_item words verb some) ∙ cc
 
-five_items : {X : Type 0} (xs : List X) (a b c d e : X) → length xs ≡ 5 → xs ≡ get_or xs 0 a ∷ get_or xs 1 b ∷ get_or xs 2 c ∷ get_or xs 3 d ∷ get_or xs 4 e ∷ []
+five_items : {X : Type 0} (xs : List X) (a b c d e : X) → length xs ≡ 5
+    → xs ≡ get_or xs 0 a ∷ get_or xs 1 b ∷ get_or xs 2 c ∷ get_or xs 3 d ∷ get_or xs 4 e ∷ []
 five_items (p ∷ q ∷ r ∷ s ∷ t ∷ []) a b c d e is = refl
 five_items xs a b c d e is = absurd (omega arith)
 
 -- the words behind `quote`
 pub quote_words : (words : List (String Global)) (name credits courses : String Global) → length words ≡ 5
     → name ≡ get_or words 2 name → credits ≡ get_or words 3 credits → courses ≡ get_or words 4 courses
-    → map string_bytes words ≡ string_bytes (get_or words 0 name) ∷ string_bytes (get_or words 1 name) ∷ string_bytes name ∷ string_bytes credits ∷ string_bytes courses ∷ []
+    → map string_bytes words
+    ≡ string_bytes (get_or words 0 name) ∷ string_bytes (get_or words 1 name) ∷ string_bytes name ∷ string_bytes credits ∷ string_bytes courses ∷ []
 quote_words words name credits courses is n c k = ap (λ ws. map string_bytes ws) (five_items words name name name credits courses is) ∙ cc
 
 -- the words behind `make`
 pub make_words : (words : List (String Global)) (workers seed students sections accept : String Global) → length words ≡ 5
-    → workers ≡ get_or words 0 workers → seed ≡ get_or words 1 seed → students ≡ get_or words 2 students → sections ≡ get_or words 3 sections → accept ≡ get_or words 4 accept
+    → workers ≡ get_or words 0 workers → seed ≡ get_or words 1 seed → students ≡ get_or words 2 students → sections ≡ get_or words 3 sections
+    → accept ≡ get_or words 4 accept
     → map string_bytes words ≡ string_bytes workers ∷ string_bytes seed ∷ string_bytes students ∷ string_bytes sections ∷ string_bytes accept ∷ []
 make_words words w d t s x is f g h i j = ap (λ ws. map string_bytes ws) (five_items words w d t s x is) ∙ cc
 
 -- words with an input and then sessions begin with that input
-one_named : (before : ℕ) (words : List (List ℕ)) → AreSessions (drop (suc before) words) → (name : List ℕ) × (more : List (List ℕ)) × (words ≡ name ∷ more) × AreSessions (drop before more)
+one_named : (before : ℕ) (words : List (List ℕ)) → AreSessions (drop (suc before) words)
+    → (name : List ℕ) × (more : List (List ℕ)) × (words ≡ name ∷ more) × AreSessions (drop before more)
 one_named before (name ∷ more) are = (name, more, refl, are)
 one_named before [] are = absurd (omega arith)
 
 -- two inputs and then sessions
-pub two_named : (words : List (List ℕ)) → AreSessions (drop 2 words) → (a b : List ℕ) × (sessions : List (List ℕ)) × (words ≡ a ∷ b ∷ sessions) × AreSessions sessions
+pub two_named : (words : List (List ℕ)) → AreSessions (drop 2 words)
+    → (a b : List ℕ) × (sessions : List (List ℕ)) × (words ≡ a ∷ b ∷ sessions) × AreSessions sessions
 two_named words are =
     let a = one_named 1 words are in
     let b = one_named 0 a.1 a.3 in
     (a.0, b.0, b.1, cc, b.3)
 
 -- three inputs and then sessions
-pub three_named : (words : List (List ℕ)) → AreSessions (drop 3 words) → (a b c : List ℕ) × (sessions : List (List ℕ)) × (words ≡ a ∷ b ∷ c ∷ sessions) × AreSessions sessions
+pub three_named : (words : List (List ℕ)) → AreSessions (drop 3 words)
+    → (a b c : List ℕ) × (sessions : List (List ℕ)) × (words ≡ a ∷ b ∷ c ∷ sessions) × AreSessions sessions
 three_named words are =
     let a = one_named 2 words are in
     let more = two_named a.1 a.3 in
     (a.0, more.0, more.1, more.2, cc, more.4)
 
 -- four inputs and then sessions
-pub four_named : (words : List (List ℕ)) → AreSessions (drop 4 words) → (a b c d : List ℕ) × (sessions : List (List ℕ)) × (words ≡ a ∷ b ∷ c ∷ d ∷ sessions) × AreSessions sessions
+pub four_named : (words : List (List ℕ)) → AreSessions (drop 4 words)
+    → (a b c d : List ℕ) × (sessions : List (List ℕ)) × (words ≡ a ∷ b ∷ c ∷ d ∷ sessions) × AreSessions sessions
 four_named words are =
     let a = one_named 3 words are in
     let more = three_named a.1 a.3 in
@@ -58,11 +65,15 @@ four_named words are =
 
 six_items : {X : Type 0} (xs : List X) (a b : X) → 6 ≤ length xs
     → xs ≡ get_or xs 0 a ∷ get_or xs 1 a ∷ get_or xs 2 a ∷ get_or xs 3 a ∷ get_or xs 4 a ∷ get_or xs 5 b ∷ take (length xs - 6) (drop 6 xs)
-six_items (p ∷ q ∷ r ∷ s ∷ t ∷ u ∷ xs) a b some = ap (λ more. p ∷ q ∷ r ∷ s ∷ t ∷ u ∷ more) (sym (take_all (length (p ∷ q ∷ r ∷ s ∷ t ∷ u ∷ xs) - 6) xs (omega arith)))
+six_items (p ∷ q ∷ r ∷ s ∷ t ∷ u ∷ xs) a b some =
+    ap (λ more. p ∷ q ∷ r ∷ s ∷ t ∷ u ∷ more) (sym (take_all (length (p ∷ q ∷ r ∷ s ∷ t ∷ u ∷ xs) - 6) xs (omega arith)))
 six_items xs a b some = absurd (omega arith)
 
 -- the words behind `explain`
-pub explain_words : (words : List (String Global)) (student section : String Global) → 6 ≤ length words → student ≡ get_or words 4 student → section ≡ get_or words 5 section
-    → map string_bytes words ≡ string_bytes (get_or words 0 student) ∷ string_bytes (get_or words 1 student) ∷ string_bytes (get_or words 2 student) ∷ string_bytes (get_or words 3 student)
+pub explain_words : (words : List (String Global)) (student section : String Global) → 6 ≤ length words → student ≡ get_or words 4 student
+    → section ≡ get_or words 5 section
+    → map string_bytes words
+    ≡ string_bytes (get_or words 0 student) ∷ string_bytes (get_or words 1 student) ∷ string_bytes (get_or words 2 student)
+    ∷ string_bytes (get_or words 3 student)
     ∷ string_bytes student ∷ string_bytes section ∷ map string_bytes (take (length words - 6) (drop 6 words))
 explain_words words student section some is also = ap (λ ws. map string_bytes ws) (six_items words student section some) ∙ cc

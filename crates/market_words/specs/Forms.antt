@@ -13,10 +13,10 @@ AreSessions sessions = (1 ≤ length sessions) × (length sessions ≤ 64)
 abbrev pub AreWorkers : ℕ → Type 0
 AreWorkers workers = (1 ≤ workers) × (workers ≤ 16)
 
--- these words ask for this: `quote CAT SES NAME CREDITS COURSES`, `prefer CAT STU SES..`, `demand W CAT STU SET PRICES SES..`,
--- `run W CAT STU SET SES..`, `make W SEED STUDENTS SECTIONS ACCEPT`, `check CAT STU SET TEXT SES..`,
--- `explain CAT STU SET TEXT STUDENT SECTION SES..`, `hall CAT STU TEXT REQ..`,
--- `audit W CAT STU SET TEXT SES..`
+-- these words ask for this: `quote CAT SES NAME CREDITS COURSES`, `prefer CAT STU SES..`, `demand W
+-- CAT STU SET PRICES SES..`, `run W CAT STU SET SES..`, `make W SEED STUDENTS SECTIONS ACCEPT`,
+-- `check CAT STU SET TEXT SES..`, `explain CAT STU SET TEXT STUDENT SECTION SES..`, `hall CAT STU
+-- TEXT REQ..`, `audit W CAT STU SET TEXT SES..`
 abbrev pub HasForm : List (List ℕ) → Form → Type 0
 HasForm words (Quote name credits courses) =
     (catalog : List ℕ) × (session : List ℕ)
@@ -26,25 +26,30 @@ HasForm words Prefer =
     (catalog : List ℕ) × (roll : List ℕ) × (sessions : List (List ℕ))
     × (words ≡ codes "prefer" ∷ catalog ∷ roll ∷ sessions) × AreSessions sessions
 HasForm words (Demand workers) =
-    (catalog : List ℕ) × (roll : List ℕ) × (settings : List ℕ) × (prices : List ℕ) × (sessions : List (List ℕ))
+    (catalog : List ℕ) × (roll : List ℕ) × (settings : List ℕ) × (prices : List ℕ)
+    × (sessions : List (List ℕ))
     × (words ≡ codes "demand" ∷ decimal workers ∷ catalog ∷ roll ∷ settings ∷ prices ∷ sessions) × AreWorkers workers × AreSessions sessions
 HasForm words (Run workers) =
     (catalog : List ℕ) × (roll : List ℕ) × (settings : List ℕ) × (sessions : List (List ℕ))
     × (words ≡ codes "run" ∷ decimal workers ∷ catalog ∷ roll ∷ settings ∷ sessions) × AreWorkers workers × AreSessions sessions
 HasForm words (Make workers seed students sections accept) =
     (words ≡ codes "make" ∷ decimal workers ∷ decimal seed ∷ decimal students ∷ decimal sections ∷ decimal accept ∷ [])
-    × AreWorkers workers × (seed < 2 ^ 64) × (1 ≤ students) × (students ≤ 2000) × (1 ≤ sections) × (sections ≤ 400) × (accept ≤ 10 ^ 12)
+    × AreWorkers workers × (seed < 2 ^ 64) × (1 ≤ students) × (students ≤ 2000) × (1 ≤ sections)
+    × (sections ≤ 400) × (accept ≤ 10 ^ 12)
 HasForm words Check =
-    (catalog : List ℕ) × (roll : List ℕ) × (settings : List ℕ) × (text : List ℕ) × (sessions : List (List ℕ))
+    (catalog : List ℕ) × (roll : List ℕ) × (settings : List ℕ) × (text : List ℕ)
+    × (sessions : List (List ℕ))
     × (words ≡ codes "check" ∷ catalog ∷ roll ∷ settings ∷ text ∷ sessions) × AreSessions sessions
 HasForm words (Explain student section) =
-    (catalog : List ℕ) × (roll : List ℕ) × (settings : List ℕ) × (text : List ℕ) × (sessions : List (List ℕ))
+    (catalog : List ℕ) × (roll : List ℕ) × (settings : List ℕ) × (text : List ℕ)
+    × (sessions : List (List ℕ))
     × (words ≡ codes "explain" ∷ catalog ∷ roll ∷ settings ∷ text ∷ name_bytes student ∷ name_bytes section ∷ sessions) × AreSessions sessions
 HasForm words Hall =
     (catalog : List ℕ) × (roll : List ℕ) × (text : List ℕ) × (requests : List (List ℕ))
     × (words ≡ codes "hall" ∷ catalog ∷ roll ∷ text ∷ requests) × AreSessions requests
 HasForm words (Audit workers) =
-    (catalog : List ℕ) × (roll : List ℕ) × (settings : List ℕ) × (text : List ℕ) × (sessions : List (List ℕ))
+    (catalog : List ℕ) × (roll : List ℕ) × (settings : List ℕ) × (text : List ℕ)
+    × (sessions : List (List ℕ))
     × (words ≡ codes "audit" ∷ decimal workers ∷ catalog ∷ roll ∷ settings ∷ text ∷ sessions) × AreWorkers workers × AreSessions sessions
 
 -- these words ask for nothing

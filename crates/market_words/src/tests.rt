@@ -1,5 +1,5 @@
-// Words that ask for something, and words that are no form: lines of worked examples that were computed apart from this
-// program.
+// Words that ask for something, and words that are no form: lines of worked examples that were
+// computed apart from this program.
 use super::*;
 use market_units::{Name, read_name};
 use std::alloc::Global;

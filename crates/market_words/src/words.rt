@@ -12,8 +12,8 @@ use market_units::{
 /// What the words of the command line ask for. The words that name inputs are not kept.
 #[derive(Clone, Copy)]
 pub enum Form {
-    /// `quote CAT SES NAME CREDITS COURSES`: the best bundle of one student at zero prices, within a credit cap of
-    /// 0 to 800 and a course cap of 0 to 8.
+    /// `quote CAT SES NAME CREDITS COURSES`: the best bundle of one student at zero prices, within
+    /// a credit cap of 0 to 800 and a course cap of 0 to 8.
     Quote {
         name: Name,
         credits: u16,
@@ -21,8 +21,8 @@ pub enum Form {
     },
     /// `prefer CAT STU SES..`: the journal of 1 to 64 sessions, and the closed preferences.
     Prefer,
-    /// `demand W CAT STU SET PRICES SES..`: what 1 to 16 workers find that the students of 1 to 64 sessions take at
-    /// these prices.
+    /// `demand W CAT STU SET PRICES SES..`: what 1 to 16 workers find that the students of 1 to 64
+    /// sessions take at these prices.
     Demand {
         workers: u16,
     },
@@ -30,8 +30,9 @@ pub enum Form {
     Run {
         workers: u16,
     },
-    /// `make W SEED STUDENTS SECTIONS ACCEPT`: the summary of a made market of 1 to 2,000 students and 1 to 400
-    /// sections, held by 1 to 16 workers, with a clearing error of at most `accept`, 0 to 10^12. The seed is any.
+    /// `make W SEED STUDENTS SECTIONS ACCEPT`: the summary of a made market of 1 to 2,000 students
+    /// and 1 to 400 sections, held by 1 to 16 workers, with a clearing error of at most `accept`, 0
+    /// to 10^12. The seed is any.
     Make {
         workers: u16,
         seed: u64,
@@ -39,18 +40,19 @@ pub enum Form {
         sections: u16,
         accept: u64,
     },
-    /// `check CAT STU SET TEXT SES..`: whether a published text is accepted for the market of 1 to 64 sessions.
+    /// `check CAT STU SET TEXT SES..`: whether a published text is accepted for the market of 1 to
+    /// 64 sessions.
     Check,
-    /// `explain CAT STU SET TEXT STUDENT SECTION SES..`: why this student has no seat in this section at the prices of a
-    /// published text of the market of 1 to 64 sessions.
+    /// `explain CAT STU SET TEXT STUDENT SECTION SES..`: why this student has no seat in this
+    /// section at the prices of a published text of the market of 1 to 64 sessions.
     Explain {
         student: Name,
         section: Name,
     },
     /// `hall CAT STU TEXT REQ..`: what 1 to 64 streams of requests change after a published text.
     Hall,
-    /// `audit W CAT STU SET TEXT SES..`: whom the students envy at a published text of the market of 1 to 64 sessions, as
-    /// 1 to 16 workers find it.
+    /// `audit W CAT STU SET TEXT SES..`: whom the students envy at a published text of the market
+    /// of 1 to 64 sessions, as 1 to 16 workers find it.
     Audit {
         workers: u16,
     },

@@ -18,7 +18,8 @@ pub record NextRound (crowd : CrowdData) (seats : List ℕ) (prices : List Token
   pub are : ArePricesFor crowd next
   pub less : left crowd next < left crowd prices
 
-next_round : (crowd : CrowdData) (seats : List ℕ) (prices : List Tokens) → ArePricesFor crowd prices → (s : ℕ) → IsMostOver crowd.sections (count crowd (price_in prices)) seats s → NextRound crowd seats prices
+next_round : (crowd : CrowdData) (seats : List ℕ) (prices : List Tokens) → ArePricesFor crowd prices → (s : ℕ)
+    → IsMostOver crowd.sections (count crowd (price_in prices)) seats s → NextRound crowd seats prices
 next_round crowd seats prices are s over =
     let least = find_least crowd (price_in prices) s (limit_after (count crowd (price_in prices) s) (slice_index seats s)) in
     let price : Tokens = record { 0 = least.0 } in
@@ -31,10 +32,12 @@ next_round crowd seats prices are s over =
     }
 
 -- it ends, since each round leaves less
-pub elimination_ends : (crowd : CrowdData) (seats : List ℕ) (start : List Tokens) → ArePricesFor crowd start → (vectors : List (List Tokens)) × IsElimination crowd seats start vectors
+pub elimination_ends : (crowd : CrowdData) (seats : List ℕ) (start : List Tokens) → ArePricesFor crowd start
+    → (vectors : List (List Tokens)) × IsElimination crowd seats start vectors
 elimination_ends crowd seats start are = from (left crowd start) start are (omega arith)
   where
-    from : (fuel : ℕ) (prices : List Tokens) → ArePricesFor crowd prices → left crowd prices ≤ fuel → (vectors : List (List Tokens)) × IsElimination crowd seats prices vectors
+    from : (fuel : ℕ) (prices : List Tokens) → ArePricesFor crowd prices → left crowd prices ≤ fuel
+        → (vectors : List (List Tokens)) × IsElimination crowd seats prices vectors
     from zero prices are few = elim (find_most (count crowd (price_in prices)) seats crowd.sections) [
       | inl over ↦ let step = next_round crowd seats prices are over.0 over.1 in let less = step.less in absurd (omega (arith, less, few))
       | inr within ↦ ([], record { rounds = tt; ends = within })
@@ -49,21 +52,25 @@ elimination_ends crowd seats start are = from (left crowd start) start are (omeg
     ]
 
 -- the next vector is one
-pub one_round : (crowd : CrowdData) (seats : List ℕ) (before one other : List Tokens) → IsRound crowd seats before one → IsRound crowd seats before other → one ≡ other
+pub one_round : (crowd : CrowdData) (seats : List ℕ) (before one other : List Tokens) → IsRound crowd seats before one → IsRound crowd seats before other
+    → one ≡ other
 one_round crowd seats before one other (s, price, is) (t, cost, is') =
     let same : t ≡ s = one_most crowd.sections (count crowd (price_in before)) seats t s is'.most is.most in
     let there : IsRoundAt crowd seats before other s cost = subst (λ k. IsRoundAt crowd seats before other k cost) same is' in
-    let equal : price.0 ≡ cost.0 = one_least_price crowd (price_in before) s (limit_after (count crowd (price_in before) s) (slice_index seats s)) price.0 cost.0 is.least there.least in
+    let equal : price.0 ≡ cost.0 =
+    one_least_price crowd (price_in before) s (limit_after (count crowd (price_in before) s) (slice_index seats s)) price.0 cost.0 is.least there.least in
     is.changed ∙ ap (λ p. slice_set before s (record { 0 = p })) equal ∙ sym there.changed
 
 -- no round begins where all are within their seats
-none_over : (crowd : CrowdData) (seats : List ℕ) (before after : List Tokens) → AreCountsWithin crowd.sections (count crowd (price_in before)) seats → ¬ IsRound crowd seats before after
+none_over : (crowd : CrowdData) (seats : List ℕ) (before after : List Tokens) → AreCountsWithin crowd.sections (count crowd (price_in before)) seats
+    → ¬ IsRound crowd seats before after
 none_over crowd seats before after within (s, price, is) =
     let few : count crowd (price_in before) s ≤ slice_index seats s = within s is.most.in_range in
     let more : slice_index seats s < count crowd (price_in before) s = is.most.over in
     omega arith
 
-pub one_elimination : (crowd : CrowdData) (seats : List ℕ) (start : List Tokens) (one other : List (List Tokens)) → IsElimination crowd seats start one → IsElimination crowd seats start other → one ≡ other
+pub one_elimination : (crowd : CrowdData) (seats : List ℕ) (start : List Tokens) (one other : List (List Tokens)) → IsElimination crowd seats start one
+    → IsElimination crowd seats start other → one ≡ other
 one_elimination crowd seats start [] [] is is' = refl
 one_elimination crowd seats start [] (y ∷ ys) is is' = absurd (none_over crowd seats start y is.ends is'.rounds.0)
 one_elimination crowd seats start (x ∷ xs) [] is is' = absurd (none_over crowd seats start x is'.ends is.rounds.0)
@@ -73,11 +80,14 @@ one_elimination crowd seats start (x ∷ xs) (y ∷ ys) is is' =
     let rest : xs ≡ ys = one_elimination crowd seats x xs ys (record { rounds = is.rounds.1; ends = is.ends }) there in
     ap (λ v. v ∷ xs) same ∙ ap (λ vs. y ∷ vs) rest
 
-pub settled_within_seats : (crowd : CrowdData) (seats : List ℕ) (start prices : List Tokens) (rounds : ℕ) → IsSettled crowd seats start prices rounds → AreCountsWithin crowd.sections (count crowd (price_in prices)) seats
-settled_within_seats crowd seats start prices rounds (vectors, is, at, number) = subst (λ ps. AreCountsWithin crowd.sections (count crowd (price_in ps)) seats) at is.ends
+pub settled_within_seats : (crowd : CrowdData) (seats : List ℕ) (start prices : List Tokens) (rounds : ℕ) → IsSettled crowd seats start prices rounds
+    → AreCountsWithin crowd.sections (count crowd (price_in prices)) seats
+settled_within_seats crowd seats start prices rounds (vectors, is, at, number) =
+    subst (λ ps. AreCountsWithin crowd.sections (count crowd (price_in ps)) seats) at is.ends
 
 -- one round more
-rounds_more : (crowd : CrowdData) (seats : List ℕ) (start current next : List Tokens) (vectors : List (List Tokens)) → AreRounds crowd seats start vectors → last start vectors ≡ current → IsRound crowd seats current next → AreRounds crowd seats start (vectors ++ next ∷ [])
+rounds_more : (crowd : CrowdData) (seats : List ℕ) (start current next : List Tokens) (vectors : List (List Tokens)) → AreRounds crowd seats start vectors
+    → last start vectors ≡ current → IsRound crowd seats current next → AreRounds crowd seats start (vectors ++ next ∷ [])
 rounds_more crowd seats start current next [] so_far at round = (subst (λ ps. IsRound crowd seats ps next) (sym at) round, tt)
 rounds_more crowd seats start current next (x ∷ xs) so_far at round = (so_far.0, rounds_more crowd seats x current next xs so_far.1 at round)
 
@@ -99,7 +109,8 @@ pub record IsUnderWay (crowd : CrowdData) (seats : List ℕ) (start : List Token
   pub holds : Holds crowd held
   pub left : number + left crowd held.prices ≤ 400000400
 
-pub under_way_begins : (crowd : CrowdData) (seats : List ℕ) (start : List Tokens) (held : HeldData) → IsCrowd crowd → held.prices ≡ start → Holds crowd held → IsUnderWay crowd seats start held 0
+pub under_way_begins : (crowd : CrowdData) (seats : List ℕ) (start : List Tokens) (held : HeldData) → IsCrowd crowd → held.prices ≡ start → Holds crowd held
+    → IsUnderWay crowd seats start held 0
 under_way_begins crowd seats start held known same holds = record {
   known = known;
   vectors = [];
@@ -111,10 +122,12 @@ under_way_begins crowd seats start held known same holds = record {
 }
 
 -- the measure falls
-pub round_left_falls : (crowd : CrowdData) (seats : List ℕ) (before after : List Tokens) → ArePricesFor crowd before → IsRound crowd seats before after → left crowd after < left crowd before
+pub round_left_falls : (crowd : CrowdData) (seats : List ℕ) (before after : List Tokens) → ArePricesFor crowd before → IsRound crowd seats before after
+    → left crowd after < left crowd before
 round_left_falls crowd seats before after are (s, price, round) = left_after crowd seats before after s price are round
 
-pub under_way_more : (crowd : CrowdData) (seats : List ℕ) (start : List Tokens) (held next : HeldData) (number : ℕ) → IsUnderWay crowd seats start held number → IsRound crowd seats held.prices next.prices → Holds crowd next → IsUnderWay crowd seats start next (number + 1)
+pub under_way_more : (crowd : CrowdData) (seats : List ℕ) (start : List Tokens) (held next : HeldData) (number : ℕ) → IsUnderWay crowd seats start held number
+    → IsRound crowd seats held.prices next.prices → Holds crowd next → IsUnderWay crowd seats start next (number + 1)
 under_way_more crowd seats start held next number is round holds = record {
   known = is.known;
   vectors = is.vectors ++ next.prices ∷ [];
@@ -129,10 +142,16 @@ under_way_more crowd seats start held next number is round holds = record {
 }
 
 -- all counts are within their seats: the elimination is done
-pub settled : (crowd : CrowdData) (seats : List ℕ) (start : List Tokens) (held : HeldData) (number : ℕ) → IsUnderWay crowd seats start held number → AreCountsWithin crowd.sections (count crowd (price_in held.prices)) seats → IsSettled crowd seats start held.prices number
-settled crowd seats start held number is within =
-    (is.vectors, record { rounds = is.rounds; ends = subst (λ ps. AreCountsWithin crowd.sections (count crowd (price_in ps)) seats) (sym is.at) within }, is.at, is.counted)
+pub settled : (crowd : CrowdData) (seats : List ℕ) (start : List Tokens) (held : HeldData) (number : ℕ) → IsUnderWay crowd seats start held number
+    → AreCountsWithin crowd.sections (count crowd (price_in held.prices)) seats → IsSettled crowd seats start held.prices number
+settled crowd seats start held number is within = (
+  is.vectors,
+  record { rounds = is.rounds; ends = subst (λ ps. AreCountsWithin crowd.sections (count crowd (price_in ps)) seats) (sym is.at) within },
+  is.at,
+  is.counted,
+)
 
 -- what is told of the held bundles holds of the counts
-pub within_held : (crowd : CrowdData) (seats : List ℕ) (held : HeldData) → Holds crowd held → length seats ≡ crowd.sections → AreCountsWithin (length seats) (λ s. holders s held.bundles) seats → AreCountsWithin crowd.sections (count crowd (price_in held.prices)) seats
+pub within_held : (crowd : CrowdData) (seats : List ℕ) (held : HeldData) → Holds crowd held → length seats ≡ crowd.sections
+    → AreCountsWithin (length seats) (λ s. holders s held.bundles) seats → AreCountsWithin crowd.sections (count crowd (price_in held.prices)) seats
 within_held crowd seats held holds same within = λ s low. subst (λ bundles. holders s bundles ≤ slice_index seats s) holds.bundles (within s (rw same low))

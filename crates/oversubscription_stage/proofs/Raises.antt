@@ -18,13 +18,15 @@ use Rattle.oversubscription_stage.specs.Rounds.{IsMostOver, limit_after, IsRound
 use Rattle.oversubscription_stage.specs.Laws.{RaisesWithinTop}
 
 -- the least price from the present one up is the least of all, where too many take the section at the present one
-pub least_of_all : (crowd : CrowdData) (price : ℕ → ℕ) (s limit least : ℕ) → limit < count crowd price s → IsLeastFrom (price s) crowd price s limit least → IsLeastPrice crowd price s limit least
+pub least_of_all : (crowd : CrowdData) (price : ℕ → ℕ) (s limit least : ℕ) → limit < count crowd price s → IsLeastFrom (price s) crowd price s limit least
+    → IsLeastPrice crowd price s limit least
 least_of_all crowd price s limit least over is = record {
   within = is.within;
   lower = λ p below. elim (cases_lt p (price s)) [
     | inl cheaper ↦
         let present : count crowd (with_price price s (price s)) s ≡ count crowd price s = count_present crowd price s in
-        let more : count crowd (with_price price s (price s)) s ≤ count crowd (with_price price s p) s = count_falls_with crowd price s p (price s) (omega arith) in
+        let more : count crowd (with_price price s (price s)) s ≤ count crowd (with_price price s p) s =
+        count_falls_with crowd price s p (price s) (omega arith) in
         omega arith
     | inr dearer ↦ is.lower p dearer below
   ];
@@ -35,18 +37,21 @@ pub least_capped : (crowd : CrowdData) (price : ℕ → ℕ) (s limit least : �
 least_capped crowd price s limit least is = elim (cases_lt (top crowd) least) [
   | inl above ↦
       let more : limit < count crowd (with_price price s (top crowd)) s = is.lower (top crowd) above in
-      let none : count crowd (with_price price s (top crowd)) s ≡ 0 = none_at_top crowd s (with_price price s (top crowd)) (rw (with_here price s (top crowd)) (omega arith)) in
+      let none : count crowd (with_price price s (top crowd)) s ≡ 0 =
+      none_at_top crowd s (with_price price s (top crowd)) (rw (with_here price s (top crowd)) (omega arith)) in
       absurd (omega arith)
   | inr capped ↦ capped
 ]
 
 -- and it is above the present price
-pub least_above : (crowd : CrowdData) (price : ℕ → ℕ) (s limit least : ℕ) → limit < count crowd price s → IsLeastPrice crowd price s limit least → price s < least
+pub least_above : (crowd : CrowdData) (price : ℕ → ℕ) (s limit least : ℕ) → limit < count crowd price s → IsLeastPrice crowd price s limit least
+    → price s < least
 least_above crowd price s limit least over is = elim (cases_lt (price s) least) [
   | inl above ↦ above
   | inr below ↦
       let present : count crowd (with_price price s (price s)) s ≡ count crowd price s = count_present crowd price s in
-      let more : count crowd (with_price price s (price s)) s ≤ count crowd (with_price price s least) s = count_falls_with crowd price s least (price s) below in
+      let more : count crowd (with_price price s (price s)) s ≤ count crowd (with_price price s least) s =
+      count_falls_with crowd price s least (price s) below in
       let few : count crowd (with_price price s least) s ≤ limit = is.within in
       absurd (omega arith)
 ]
@@ -55,13 +60,17 @@ least_above crowd price s limit least over is = elim (cases_lt (price s) least) 
 pub limit_below : (count seats : ℕ) → seats < count → limit_after count seats < count
 limit_below count seats over = omega arith
 
-pub round_raises : (crowd : CrowdData) (seats : List ℕ) (before after : List Tokens) (s : ℕ) (price : Tokens) → ArePricesFor crowd before → IsRoundAt crowd seats before after s price → RaisesWithinTop crowd before after s
+pub round_raises : (crowd : CrowdData) (seats : List ℕ) (before after : List Tokens) (s : ℕ) (price : Tokens) → ArePricesFor crowd before
+    → IsRoundAt crowd seats before after s price → RaisesWithinTop crowd before after s
 round_raises crowd seats before after s price are is =
     let size : length before ≡ crowd.sections = are.same in
     let low : s < crowd.sections = is.most.in_range in
-    let below : limit_after (count crowd (price_in before) s) (slice_index seats s) < count crowd (price_in before) s = limit_below (count crowd (price_in before) s) (slice_index seats s) is.most.over in
-    let above : price_in before s < price.0 = least_above crowd (price_in before) s (limit_after (count crowd (price_in before) s) (slice_index seats s)) price.0 below is.least in
-    let capped : price.0 ≤ top crowd = least_capped crowd (price_in before) s (limit_after (count crowd (price_in before) s) (slice_index seats s)) price.0 is.least in
+    let below : limit_after (count crowd (price_in before) s) (slice_index seats s) < count crowd (price_in before) s =
+    limit_below (count crowd (price_in before) s) (slice_index seats s) is.most.over in
+    let above : price_in before s < price.0 =
+    least_above crowd (price_in before) s (limit_after (count crowd (price_in before) s) (slice_index seats s)) price.0 below is.least in
+    let capped : price.0 ≤ top crowd =
+    least_capped crowd (price_in before) s (limit_after (count crowd (price_in before) s) (slice_index seats s)) price.0 is.least in
     let written : price_in (slice_set before s price) s ≡ price.0 = price_written before s price.0 (omega arith) in
     subst (λ prices. RaisesWithinTop crowd before prices s) (sym is.changed) (record {
       raised = omega arith;
@@ -72,23 +81,28 @@ round_raises crowd seats before after s price are is =
 abbrev pub left : CrowdData → List Tokens → ℕ
 left crowd prices = total (λ price. top crowd - price.0) prices
 
-total_set : (f : Tokens → ℕ) (xs : List Tokens) (i : ℕ) (x d : Tokens) → i < length xs → total f (slice_set xs i x) + f (slice_index_or xs i d) ≡ total f xs + f x
+total_set : (f : Tokens → ℕ) (xs : List Tokens) (i : ℕ) (x d : Tokens) → i < length xs
+    → total f (slice_set xs i x) + f (slice_index_or xs i d) ≡ total f xs + f x
 total_set f [] i x d low = absurd (omega arith)
 total_set f (y ∷ ys) zero x d low = omega arith
-total_set f (y ∷ ys) (suc i) x d low = let rest : total f (slice_set ys i x) + f (slice_index_or ys i d) ≡ total f ys + f x = total_set f ys i x d (omega arith) in omega (arith, rest)
+total_set f (y ∷ ys) (suc i) x d low =
+    let rest : total f (slice_set ys i x) + f (slice_index_or ys i d) ≡ total f ys + f x = total_set f ys i x d (omega arith) in omega (arith, rest)
 
 -- a higher price leaves less
-pub left_falls : (crowd : CrowdData) (prices : List Tokens) (s : ℕ) (price : Tokens) → s < length prices → price_in prices s < price.0 → price.0 ≤ top crowd → left crowd (slice_set prices s price) < left crowd prices
+pub left_falls : (crowd : CrowdData) (prices : List Tokens) (s : ℕ) (price : Tokens) → s < length prices → price_in prices s < price.0 → price.0 ≤ top crowd
+    → left crowd (slice_set prices s price) < left crowd prices
 left_falls crowd prices s price low up capped =
     let set = total_set (λ p. top crowd - p.0) prices s price (record { 0 = 0 }) low in
     let here : price_in prices s ≡ (slice_index_or prices s (record { 0 = 0 })).0 = price_at prices s (record { 0 = 0 }) low in
     omega (arith, set, here, up, capped)
 
-pub left_after : (crowd : CrowdData) (seats : List ℕ) (before after : List Tokens) (s : ℕ) (price : Tokens) → ArePricesFor crowd before → IsRoundAt crowd seats before after s price → left crowd after < left crowd before
+pub left_after : (crowd : CrowdData) (seats : List ℕ) (before after : List Tokens) (s : ℕ) (price : Tokens) → ArePricesFor crowd before
+    → IsRoundAt crowd seats before after s price → left crowd after < left crowd before
 left_after crowd seats before after s price are is =
     let size : length before ≡ crowd.sections = are.same in
     let low : s < crowd.sections = is.most.in_range in
-    let below : limit_after (count crowd (price_in before) s) (slice_index seats s) < count crowd (price_in before) s = limit_below (count crowd (price_in before) s) (slice_index seats s) is.most.over in
+    let below : limit_after (count crowd (price_in before) s) (slice_index seats s) < count crowd (price_in before) s =
+    limit_below (count crowd (price_in before) s) (slice_index seats s) is.most.over in
     subst (λ prices. left crowd prices < left crowd before) (sym is.changed)
     (left_falls crowd before s price (omega arith) (least_above crowd (price_in before) s (limit_after (count crowd (price_in before) s) (slice_index seats s)) price.0 below is.least)
     (least_capped crowd (price_in before) s (limit_after (count crowd (price_in before) s) (slice_index seats s)) price.0 is.least))
@@ -121,7 +135,8 @@ left_high crowd prices is size =
 pub find_least : (crowd : CrowdData) (price : ℕ → ℕ) (s limit : ℕ) → (least : ℕ) × IsLeastPrice crowd price s limit least
 find_least crowd price s limit = from (top crowd) 0 (omega arith) (λ p below. absurd (omega arith))
   where
-    from : (fuel k : ℕ) → top crowd ≤ k + fuel → ((p : ℕ) → p < k → limit < count crowd (with_price price s p) s) → (least : ℕ) × IsLeastPrice crowd price s limit least
+    from : (fuel k : ℕ) → top crowd ≤ k + fuel → ((p : ℕ) → p < k → limit < count crowd (with_price price s p) s)
+        → (least : ℕ) × IsLeastPrice crowd price s limit least
     from zero k reached lower =
         let none : count crowd (with_price price s k) s ≡ 0 = none_at_top crowd s (with_price price s k) (rw (with_here price s k) (omega arith)) in
         (k, record { within = omega arith; lower = lower })
@@ -139,20 +154,34 @@ pub record RoundFound (crowd : CrowdData) (seats : List ℕ) (held : HeldData) (
   pub up : price_in held.prices section.0 ≤ price.0
   pub capped : price.0 ≤ top crowd
 
-pub round_found : (crowd : CrowdData) (seats : List ℕ) (held : HeldData) (section : SectionNo) (prices found : List Tokens) (n k : ℕ) (price : Tokens) → Holds crowd held → IsMostOver crowd.sections (count crowd (price_in held.prices)) seats section.0
-    → prices ≡ held.prices → n ≡ holders section.0 held.bundles → k ≡ slice_index seats section.0 → price ≡ slice_index_or found 0 price → AreLeastPrices crowd (price_in prices) ((section, limit_after n k) ∷ []) found → RoundFound crowd seats held section price
+pub round_found : (crowd : CrowdData) (seats : List ℕ) (held : HeldData) (section : SectionNo) (prices found : List Tokens) (n k : ℕ) (price : Tokens)
+    → Holds crowd held → IsMostOver crowd.sections (count crowd (price_in held.prices)) seats section.0
+    → prices ≡ held.prices → n ≡ holders section.0 held.bundles → k ≡ slice_index seats section.0 → price ≡ slice_index_or found 0 price
+    → AreLeastPrices crowd (price_in prices) ((section, limit_after n k) ∷ []) found → RoundFound crowd seats held section price
 round_found crowd seats held section prices [] n k price holds over same many some read found = absurd found
 round_found crowd seats held section prices (least ∷ more) n k price holds over same many some read found =
     let counted : n ≡ count crowd (price_in held.prices) section.0 = many ∙ ap (holders section.0) holds.bundles in
-    let limit : limit_after n k ≡ limit_after (count crowd (price_in held.prices) section.0) (slice_index seats section.0) = ap (λ m. limit_after m k) counted ∙ ap (limit_after (count crowd (price_in held.prices) section.0)) some in
-    let here : IsLeastFrom (price_in held.prices section.0) crowd (price_in held.prices) section.0 (limit_after n k) least.0 = subst (λ ps. IsLeastFrom (price_in ps section.0) crowd (price_in ps) section.0 (limit_after n k) least.0) same found.0 in
-    let from : IsLeastFrom (price_in held.prices section.0) crowd (price_in held.prices) section.0 (limit_after (count crowd (price_in held.prices) section.0) (slice_index seats section.0)) price.0 =
-    subst (λ p. IsLeastFrom (price_in held.prices section.0) crowd (price_in held.prices) section.0 (limit_after (count crowd (price_in held.prices) section.0) (slice_index seats section.0)) p.0) (sym read)
+    let limit : limit_after n k ≡ limit_after (count crowd (price_in held.prices) section.0) (slice_index seats section.0) =
+    ap (λ m. limit_after m k) counted ∙ ap (limit_after (count crowd (price_in held.prices) section.0)) some in
+    let here : IsLeastFrom (price_in held.prices section.0) crowd (price_in held.prices) section.0 (limit_after n k) least.0 =
+    subst (λ ps. IsLeastFrom (price_in ps section.0) crowd (price_in ps) section.0 (limit_after n k) least.0) same found.0 in
+    let from : IsLeastFrom (price_in held.prices section.0) crowd (price_in held.prices) section.0
+    (limit_after (count crowd (price_in held.prices) section.0) (slice_index seats section.0)) price.0 =
+    subst
+    (λ p. IsLeastFrom (price_in held.prices section.0) crowd (price_in held.prices) section.0
+    (limit_after (count crowd (price_in held.prices) section.0) (slice_index seats section.0)) p.0)
+    (sym read)
     (subst (λ m. IsLeastFrom (price_in held.prices section.0) crowd (price_in held.prices) section.0 m least.0) limit here) in
-    let below : limit_after (count crowd (price_in held.prices) section.0) (slice_index seats section.0) < count crowd (price_in held.prices) section.0 = limit_below (count crowd (price_in held.prices) section.0) (slice_index seats section.0) over.over in
-    let is : IsLeastPrice crowd (price_in held.prices) section.0 (limit_after (count crowd (price_in held.prices) section.0) (slice_index seats section.0)) price.0 = least_of_all crowd (price_in held.prices) section.0 (limit_after (count crowd (price_in held.prices) section.0) (slice_index seats section.0)) price.0 below from in
+    let below : limit_after (count crowd (price_in held.prices) section.0) (slice_index seats section.0) < count crowd (price_in held.prices) section.0 =
+    limit_below (count crowd (price_in held.prices) section.0) (slice_index seats section.0) over.over in
+    let is : IsLeastPrice crowd (price_in held.prices) section.0 (limit_after (count crowd (price_in held.prices) section.0) (slice_index seats section.0))
+    price.0 =
+    least_of_all crowd (price_in held.prices) section.0 (limit_after (count crowd (price_in held.prices) section.0) (slice_index seats section.0)) price.0
+    below from in
     record {
       round = record { most = over; least = is; changed = refl };
       up = from.from;
-      capped = least_capped crowd (price_in held.prices) section.0 (limit_after (count crowd (price_in held.prices) section.0) (slice_index seats section.0)) price.0 is;
+      capped =
+          least_capped crowd (price_in held.prices) section.0 (limit_after (count crowd (price_in held.prices) section.0) (slice_index seats section.0)) price.0
+          is;
     }

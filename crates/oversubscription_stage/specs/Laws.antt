@@ -13,16 +13,26 @@ pub record RaisesWithinTop (crowd : CrowdData) (before after : List Tokens) (s :
 
 -- a round raises one price by at least 1, and no price passes the top
 abbrev pub RoundsRaise : Type 0
-RoundsRaise = (crowd : CrowdData) (seats : List ℕ) (before after : List Tokens) (s : ℕ) (price : Tokens) → ArePricesFor crowd before → IsRoundAt crowd seats before after s price → RaisesWithinTop crowd before after s
+RoundsRaise =
+    (crowd : CrowdData) (seats : List ℕ) (before after : List Tokens) (s : ℕ) (price : Tokens)
+    → ArePricesFor crowd before → IsRoundAt crowd seats before after s price
+    → RaisesWithinTop crowd before after s
 
 -- so the elimination ends, from each start
 abbrev pub EliminationEnds : Type 0
-EliminationEnds = (crowd : CrowdData) (seats : List ℕ) (start : List Tokens) → ArePricesFor crowd start → (vectors : List (List Tokens)) × IsElimination crowd seats start vectors
+EliminationEnds =
+    (crowd : CrowdData) (seats : List ℕ) (start : List Tokens) → ArePricesFor crowd start
+    → (vectors : List (List Tokens)) × IsElimination crowd seats start vectors
 
 -- with no section over its seats
 abbrev pub SettledWithinSeats : Type 0
-SettledWithinSeats = (crowd : CrowdData) (seats : List ℕ) (start prices : List Tokens) (rounds : ℕ) → IsSettled crowd seats start prices rounds → AreCountsWithin crowd.sections (count crowd (price_in prices)) seats
+SettledWithinSeats =
+    (crowd : CrowdData) (seats : List ℕ) (start prices : List Tokens) (rounds : ℕ)
+    → IsSettled crowd seats start prices rounds
+    → AreCountsWithin crowd.sections (count crowd (price_in prices)) seats
 
 -- and it is one
 abbrev pub OneElimination : Type 0
-OneElimination = (crowd : CrowdData) (seats : List ℕ) (start : List Tokens) (one other : List (List Tokens)) → IsElimination crowd seats start one → IsElimination crowd seats start other → one ≡ other
+OneElimination =
+    (crowd : CrowdData) (seats : List ℕ) (start : List Tokens) (one other : List (List Tokens))
+    → IsElimination crowd seats start one → IsElimination crowd seats start other → one ≡ other

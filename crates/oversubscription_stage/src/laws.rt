@@ -1,4 +1,5 @@
-//! What holds of the elimination of oversubscription: each call here does nothing, and its contract is a law.
+//! What holds of the elimination of oversubscription: each call here does nothing, and its contract
+//! is a law.
 ghost use Rattle.oversubscription_stage.specs.Laws.{RoundsRaise, EliminationEnds, SettledWithinSeats, OneElimination};
 
 /// A round raises one price by at least 1, and no price passes the top.

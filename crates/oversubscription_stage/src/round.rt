@@ -12,12 +12,16 @@ use std::alloc::Global;
 use std::sync::Wait;
 use std::thread::Threads;
 
-// The section of greatest excess, the lowest ordinal among equals, or `None` where no count exceeds its seats.
+// The section of greatest excess, the lowest ordinal among equals, or `None` where no count exceeds
+// its seats.
 pub(crate) fn most_over(held: &Held, seats: &[u16]) -> Option<SectionNo>
     requires seats { length seats.now ≡ length held.now.prices }
     requires few { length seats.now ≤ 400 }
-    ensures some { IfSome result (λ section. IsMostOver (length seats.now) (λ s. holders s held.now.bundles) seats.now section.0) }
-    ensures none { IfNone result (AreCountsWithin (length seats.now) (λ s. holders s held.now.bundles) seats.now) }
+    ensures some { IfSome result
+        (λ section. IsMostOver (length seats.now) (λ s. holders s held.now.bundles) seats.now
+        section.0) }
+    ensures none { IfNone result
+        (AreCountsWithin (length seats.now) (λ s. holders s held.now.bundles) seats.now) }
 {
     let mut most = None;
     let mut greatest = 0;
@@ -32,7 +36,8 @@ pub(crate) fn most_over(held: &Held, seats: &[u16]) -> Option<SectionNo>
     most
 }
 
-// Raises the price of a section to the least at which at most its seats and half of those who are too many take it.
+// Raises the price of a section to the least at which at most its seats and half of those who are
+// too many take it.
 pub(crate) fn raise_most<R: Threads + Wait + Sync, D: Demands>(
     rt: &R,
     alloc: Global,
@@ -43,9 +48,11 @@ pub(crate) fn raise_most<R: Threads + Wait + Sync, D: Demands>(
 ) -> Result<(), NoMemory>
     requires seats { length seats.now ≡ (D.crowd demands.old).sections }
     requires held { Holds (D.crowd demands.old) held.old }
-    requires section { IsMostOver (D.crowd demands.old).sections (count (D.crowd demands.old) (price_in held.old.prices)) seats.now section.0 }
+    requires section { IsMostOver (D.crowd demands.old).sections
+        (count (D.crowd demands.old) (price_in held.old.prices)) seats.now section.0 }
     ensures crowd { D.crowd demands.new ≡ D.crowd demands.old }
-    ensures round { IfOk result (λ done. IsRound (D.crowd demands.old) seats.now held.old.prices held.new.prices) }
+    ensures round { IfOk result
+        (λ done. IsRound (D.crowd demands.old) seats.now held.old.prices held.new.prices) }
     ensures held { IfOk result (λ done. Holds (D.crowd demands.old) held.new) }
 {
     let seats = u32::from(seats[usize::from(section.0)]);

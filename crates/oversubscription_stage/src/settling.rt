@@ -12,7 +12,8 @@ use std::alloc::Global;
 use std::sync::Wait;
 use std::thread::Threads;
 
-/// The last prices of the elimination, what each student takes at them in file order, and the number of rounds.
+/// The last prices of the elimination, what each student takes at them in file order, and the
+/// number of rounds.
 #[derive(Drop)]
 pub struct Settled {
     /// The price of each section.
@@ -23,11 +24,11 @@ pub struct Settled {
     pub rounds: u32,
 }
 
-/// Raises prices until no section has more students than seats. While some count exceeds its seats, the section of
-/// greatest excess, the lowest ordinal among equals, gets the least price at which at most its seats and half of those
-/// who are too many take it, rounded down. There are one seat number and one price for each section, each price at
-/// most the top. There is no limit of rounds: each raises a price, and none passes the top. The one error is the want
-/// of memory.
+/// Raises prices until no section has more students than seats. While some count exceeds its seats,
+/// the section of greatest excess, the lowest ordinal among equals, gets the least price at which
+/// at most its seats and half of those who are too many take it, rounded down. There are one seat
+/// number and one price for each section, each price at most the top. There is no limit of rounds:
+/// each raises a price, and none passes the top. The one error is the want of memory.
 pub fn settle<R: Threads + Wait + Sync, D: Demands>(
     rt: &R,
     alloc: Global,
@@ -38,8 +39,11 @@ pub fn settle<R: Threads + Wait + Sync, D: Demands>(
     requires seats { length seats.now ≡ (D.crowd demands.old).sections }
     requires prices { ArePricesFor (D.crowd demands.old) prices.now }
     ensures crowd { D.crowd demands.new ≡ D.crowd demands.old }
-    ensures value { IfOk result (λ settled. IsSettled (D.crowd demands.old) seats.now prices.now settled.prices.items settled.rounds) }
-    ensures bundles { IfOk result (λ settled. AreTaken (D.crowd demands.old) settled.prices.items settled.bundles.items) }
+    ensures value { IfOk result
+        (λ settled. IsSettled (D.crowd demands.old) seats.now prices.now settled.prices.items
+        settled.rounds) }
+    ensures bundles { IfOk result
+        (λ settled. AreTaken (D.crowd demands.old) settled.prices.items settled.bundles.items) }
 {
     let mut held = Held::take(rt, alloc, demands, prices)?;
     let mut rounds = 0;

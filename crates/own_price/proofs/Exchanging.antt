@@ -11,8 +11,10 @@ use Rattle.bundle_rules.specs.Bundles.{sections_of}
 use Rattle.bundle_rules.specs.Sets.{has}
 use Rattle.own_price.specs.Exchanges.{exchanged, IsListed, AreHolders}
 
-pub exchanged_more : (bundles : List Bundle) (students : List StudentNo) (others : List Bundle) (i : ℕ) (d : StudentNo) (e : Bundle) → i < length students → length others ≡ length students
-    → exchanged bundles (take (i + 1) students) (take (i + 1) others) ≡ slice_set (exchanged bundles (take i students) (take i others)) (slice_index_or students i d).0 (slice_index_or others i e)
+pub exchanged_more : (bundles : List Bundle) (students : List StudentNo) (others : List Bundle) (i : ℕ) (d : StudentNo) (e : Bundle) → i < length students
+    → length others ≡ length students
+    → exchanged bundles (take (i + 1) students) (take (i + 1) others)
+    ≡ slice_set (exchanged bundles (take i students) (take i others)) (slice_index_or students i d).0 (slice_index_or others i e)
 exchanged_more bundles [] others i d e low same = absurd (omega arith)
 exchanged_more bundles (x ∷ xs) [] i d e low same = absurd (omega arith)
 exchanged_more bundles (x ∷ xs) (y ∷ ys) zero d e low same = refl
@@ -25,7 +27,8 @@ exchanged_length bundles [] others = refl
 exchanged_length bundles (x ∷ xs) [] = refl
 exchanged_length bundles (x ∷ xs) (y ∷ ys) = exchanged_length (slice_set bundles x.0 y) xs ys ∙ length-set bundles x.0 y
 
-pub exchanged_all : (bundles : List Bundle) (students : List StudentNo) (others : List Bundle) (i : ℕ) → length students ≤ i → length others ≡ length students → exchanged bundles (take i students) (take i others) ≡ exchanged bundles students others
+pub exchanged_all : (bundles : List Bundle) (students : List StudentNo) (others : List Bundle) (i : ℕ) → length students ≤ i → length others ≡ length students
+    → exchanged bundles (take i students) (take i others) ≡ exchanged bundles students others
 exchanged_all bundles students others i past same = rw (take_all i students past, take_all i others (rw same past)) refl
 
 -- lists of one length with the same items are the same
@@ -39,25 +42,34 @@ lists_same (x ∷ xs) (y ∷ ys) same each =
     ap (λ z. z ∷ xs) here ∙ ap (λ zs. y ∷ zs) rest
 
 -- where each bundle is what is wanted or is exchanged for it, all are what is wanted
-pub exchanged_wanted : (wanted : List (List ℕ)) (bundles : List Bundle) (students : List StudentNo) (others : List Bundle) → length (map sections_of bundles) ≡ length wanted
+pub exchanged_wanted : (wanted : List (List ℕ)) (bundles : List Bundle) (students : List StudentNo) (others : List Bundle)
+    → length (map sections_of bundles) ≡ length wanted
     → map sections_of others ≡ map (λ student. slice_index_or wanted student.0 []) students
-    → ((i : ℕ) → i < length wanted → (slice_index_or (map sections_of bundles) i [] ≡ slice_index_or wanted i []) ⊎ IsListed i students) → map sections_of (exchanged bundles students others) ≡ wanted
-exchanged_wanted wanted bundles [] others long told each = lists_same (map sections_of bundles) wanted long (λ i low. elim (each i low) [ inl same ↦ same | inr none ↦ absurd none ])
+    → ((i : ℕ) → i < length wanted → (slice_index_or (map sections_of bundles) i [] ≡ slice_index_or wanted i []) ⊎ IsListed i students)
+    → map sections_of (exchanged bundles students others) ≡ wanted
+exchanged_wanted wanted bundles [] others long told each =
+    lists_same (map sections_of bundles) wanted long (λ i low. elim (each i low) [ inl same ↦ same | inr none ↦ absurd none ])
 exchanged_wanted wanted bundles (x ∷ xs) [] long told each = absurd cc
 exchanged_wanted wanted bundles (x ∷ xs) (y ∷ ys) long told each =
     let first : sections_of y ≡ slice_index_or wanted x.0 [] = cc in
     let rest : map sections_of ys ≡ map (λ student. slice_index_or wanted student.0 []) xs = cc in
-    exchanged_wanted wanted (slice_set bundles x.0 y) xs ys (length-map (slice_set bundles x.0 y) sections_of ∙ length-set bundles x.0 y ∙ sym (length-map bundles sections_of) ∙ long) rest (λ i low. then i low first)
+    exchanged_wanted wanted (slice_set bundles x.0 y) xs ys
+    (length-map (slice_set bundles x.0 y) sections_of ∙ length-set bundles x.0 y ∙ sym (length-map bundles sections_of) ∙ long) rest
+    (λ i low. then i low first)
   where
-    moved : (i : ℕ) → slice_index_or (map sections_of (slice_set bundles x.0 y)) i [] ≡ slice_index_or (slice_set (map sections_of bundles) x.0 (sections_of y)) i []
+    moved : (i : ℕ)
+        → slice_index_or (map sections_of (slice_set bundles x.0 y)) i [] ≡ slice_index_or (slice_set (map sections_of bundles) x.0 (sections_of y)) i []
     moved i = ap (λ bs. slice_index_or bs i []) (map-set sections_of bundles x.0 y)
 
-    then : (i : ℕ) → i < length wanted → sections_of y ≡ slice_index_or wanted x.0 [] → (slice_index_or (map sections_of (slice_set bundles x.0 y)) i [] ≡ slice_index_or wanted i []) ⊎ IsListed i xs
+    then : (i : ℕ) → i < length wanted → sections_of y ≡ slice_index_or wanted x.0 []
+        → (slice_index_or (map sections_of (slice_set bundles x.0 y)) i [] ≡ slice_index_or wanted i []) ⊎ IsListed i xs
     then i low first = elim (cases_Bool (i == x.0)) [
       | inl here ↦
           let e : i ≡ x.0 = grind (arith, nat_tests) in
           let low_map : x.0 < length (map sections_of bundles) = rw (long, ← e) low in
-          inl (moved i ∙ ap (λ k. slice_index_or (slice_set (map sections_of bundles) x.0 (sections_of y)) k []) e ∙ get_or-set_same (map sections_of bundles) x.0 (sections_of y) [] low_map ∙ first ∙ ap (λ k. slice_index_or wanted k []) (sym e))
+          inl
+          (moved i ∙ ap (λ k. slice_index_or (slice_set (map sections_of bundles) x.0 (sections_of y)) k []) e
+          ∙ get_or-set_same (map sections_of bundles) x.0 (sections_of y) [] low_map ∙ first ∙ ap (λ k. slice_index_or wanted k []) (sym e))
       | inr there ↦
           let apart : i ≢ x.0 = λ e. grind (arith, nat_tests) in
           elim (each i low) [
@@ -91,19 +103,22 @@ listed_last : (i : ℕ) (students : List StudentNo) (last : StudentNo) → last.
 listed_last i [] last is = inl is
 listed_last i (x ∷ xs) last is = inr (listed_last i xs last is)
 
-pub holder_more : (s : ℕ) (bundles : List (List ℕ)) (place : ℕ) (students later : List StudentNo) (last : StudentNo) → AreHoldersBelow s bundles place students → place < length bundles → last.0 ≡ place → has (slice_index_or bundles place []) s ≡ true → later ≡ students ++ last ∷ []
+pub holder_more : (s : ℕ) (bundles : List (List ℕ)) (place : ℕ) (students later : List StudentNo) (last : StudentNo) → AreHoldersBelow s bundles place students
+    → place < length bundles → last.0 ≡ place → has (slice_index_or bundles place []) s ≡ true → later ≡ students ++ last ∷ []
     → AreHoldersBelow s bundles (place + 1) later
 holder_more s bundles place students later last are low at has_it more = rw more record {
   few = let few : length students ≤ place = are.few in let long = length-append students (last ∷ []) in omega (arith, few, long);
   range = all_last (λ student. student.0 < length bundles) students last are.range (rw at low);
   all = λ i below is. elim (cases_Bool (i == place)) [
     | inl here ↦ listed_last i students last (let e : i ≡ place = grind (arith, nat_tests) in at ∙ sym e)
-    | inr there ↦ listed_before i students last (are.all i (let apart : i ≢ place = λ e. grind (arith, nat_tests) in let less : i < place + 1 = below in grind arith) is)
+    | inr there ↦
+        listed_before i students last (are.all i (let apart : i ≢ place = λ e. grind (arith, nat_tests) in let less : i < place + 1 = below in grind arith) is)
   ];
   only = all_last (λ student. has (slice_index_or bundles student.0 []) s ≡ true) students last are.only (rw at has_it);
 }
 
-pub holder_none : (s : ℕ) (bundles : List (List ℕ)) (place : ℕ) (students : List StudentNo) → AreHoldersBelow s bundles place students → has (slice_index_or bundles place []) s ≡ false → AreHoldersBelow s bundles (place + 1) students
+pub holder_none : (s : ℕ) (bundles : List (List ℕ)) (place : ℕ) (students : List StudentNo) → AreHoldersBelow s bundles place students
+    → has (slice_index_or bundles place []) s ≡ false → AreHoldersBelow s bundles (place + 1) students
 holder_none s bundles place students are lacks = record {
   few = let few : length students ≤ place = are.few in omega arith;
   range = are.range;
@@ -114,7 +129,8 @@ holder_none s bundles place students are lacks = record {
   only = are.only;
 }
 
-pub holders_found : (s : ℕ) (bundles : List (List ℕ)) (place n : ℕ) (students : List StudentNo) → n ≡ length bundles → place ≡ n → AreHoldersBelow s bundles place students → AreHolders s bundles students
+pub holders_found : (s : ℕ) (bundles : List (List ℕ)) (place n : ℕ) (students : List StudentNo) → n ≡ length bundles → place ≡ n
+    → AreHoldersBelow s bundles place students → AreHolders s bundles students
 holders_found s bundles place n students long past are =
     let e : place ≡ length bundles = past ∙ long in
     record { few = subst (λ m. length students ≤ m) e are.few; range = are.range; all = λ i low is. are.all i (rw e low) is; only = are.only }

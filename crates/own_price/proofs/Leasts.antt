@@ -14,23 +14,32 @@ use Rattle.demand_api.specs.Asking.{ArePricesFor}
 use Rattle.demand_api.proofs.Halving.{count_same, with_here, with_there, price_kept, price_written}
 use Rattle.own_price.specs.Least.{IsLeastPrice}
 
-pub one_least_price : (crowd : CrowdData) (price : ℕ → ℕ) (s limit one other : ℕ) → IsLeastPrice crowd price s limit one → IsLeastPrice crowd price s limit other → one ≡ other
+pub one_least_price : (crowd : CrowdData) (price : ℕ → ℕ) (s limit one other : ℕ) → IsLeastPrice crowd price s limit one
+    → IsLeastPrice crowd price s limit other → one ≡ other
 one_least_price crowd price s limit one other is is' = elim (cases_order one other) [
   | inl same ↦ same
-  | inr (inl low) ↦ let more : limit < count crowd (with_price price s one) s = is'.lower one low in let few : count crowd (with_price price s one) s ≤ limit = is.within in absurd (omega arith)
-  | inr (inr high) ↦ let more : limit < count crowd (with_price price s other) s = is.lower other high in let few : count crowd (with_price price s other) s ≤ limit = is'.within in absurd (omega arith)
+  | inr (inl low) ↦
+      let more : limit < count crowd (with_price price s one) s = is'.lower one low in
+      let few : count crowd (with_price price s one) s ≤ limit = is.within in absurd (omega arith)
+  | inr (inr high) ↦
+      let more : limit < count crowd (with_price price s other) s = is.lower other high in
+      let few : count crowd (with_price price s other) s ≤ limit = is'.within in absurd (omega arith)
 ]
 
 -- the price that is put in stands there, whatever stood there
 put_in : (prices : List Tokens) (s q p t : ℕ) → with_price (price_in (slice_set prices s (record { 0 = q }))) s p t ≡ with_price (price_in prices) s p t
 put_in prices s q p t = elim (cases_Bool (t == s)) [
-  | inl here ↦ let e : t ≡ s = grind (arith, nat_tests) in rw e (with_here (price_in (slice_set prices s (record { 0 = q }))) s p ∙ sym (with_here (price_in prices) s p))
+  | inl here ↦
+      let e : t ≡ s = grind (arith, nat_tests) in
+      rw e (with_here (price_in (slice_set prices s (record { 0 = q }))) s p ∙ sym (with_here (price_in prices) s p))
   | inr there ↦ let other : t ≢ s = λ e. grind (arith, nat_tests) in
       with_there (price_in (slice_set prices s (record { 0 = q }))) s p t other ∙ price_kept prices s q t other ∙ sym (with_there (price_in prices) s p t other)
 ]
 
-count_put : (crowd : CrowdData) (prices : List Tokens) (s q p : ℕ) → count crowd (with_price (price_in (slice_set prices s (record { 0 = q }))) s p) s ≡ count crowd (with_price (price_in prices) s p) s
-count_put crowd prices s q p = count_same crowd (with_price (price_in (slice_set prices s (record { 0 = q }))) s p) (with_price (price_in prices) s p) s (put_in prices s q p)
+count_put : (crowd : CrowdData) (prices : List Tokens) (s q p : ℕ)
+    → count crowd (with_price (price_in (slice_set prices s (record { 0 = q }))) s p) s ≡ count crowd (with_price (price_in prices) s p) s
+count_put crowd prices s q p =
+    count_same crowd (with_price (price_in (slice_set prices s (record { 0 = q }))) s p) (with_price (price_in prices) s p) s (put_in prices s q p)
 
 -- the prices from which the least is sought
 pub from_zero : (crowd : CrowdData) (prices : List Tokens) (s : ℕ) → ArePricesFor crowd prices → ArePricesFor crowd (slice_set prices s (record { 0 = 0 }))
@@ -40,8 +49,10 @@ from_zero crowd prices s are = record {
 }
 
 -- the least from 0 up is the least
-pub least_found : (crowd : CrowdData) (prices : List Tokens) (section : SectionNo) (limit index : ℕ) (found : List Tokens) (d : Tokens) → index ≡ section.0 → section.0 < length prices
-    → AreLeastPrices crowd (price_in (slice_set prices index (record { 0 = 0 }))) ((section, limit) ∷ []) found → IsLeastPrice crowd (price_in prices) section.0 limit (slice_index_or found 0 d).0
+pub least_found : (crowd : CrowdData) (prices : List Tokens) (section : SectionNo) (limit index : ℕ) (found : List Tokens) (d : Tokens) → index ≡ section.0
+    → section.0 < length prices
+    → AreLeastPrices crowd (price_in (slice_set prices index (record { 0 = 0 }))) ((section, limit) ∷ []) found
+    → IsLeastPrice crowd (price_in prices) section.0 limit (slice_index_or found 0 d).0
 least_found crowd prices section limit index [] d at low all = absurd all
 least_found crowd prices section limit index (least ∷ more) d at low all =
     let is = rw at at all.0 in

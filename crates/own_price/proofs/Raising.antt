@@ -25,7 +25,8 @@ use Rattle.own_price.specs.Exchanges.{exchanged, IsListed, AreHolders}
 use Rattle.own_price.proofs.Exchanging.{exchanged_wanted}
 
 -- a student that lacks the section takes the same at a higher price of it
-demand_kept : (crowd : CrowdData) (before after : ℕ → ℕ) (s i : ℕ) → IsRaised s before after → has (demand_of crowd before i) s ≡ false → demand_of crowd before i ≡ demand_of crowd after i
+demand_kept : (crowd : CrowdData) (before after : ℕ → ℕ) (s i : ℕ) → IsRaised s before after → has (demand_of crowd before i) s ≡ false
+    → demand_of crowd before i ≡ demand_of crowd after i
 unfolding demands
 demand_kept crowd before after s i is lacks = kept crowd.students i lacks
   where
@@ -33,7 +34,8 @@ demand_kept crowd before after s i is lacks = kept crowd.students i lacks
         → slice_index_or (map (demand crowd.sections before) students) k [] ≡ slice_index_or (map (demand crowd.sections after) students) k []
     kept [] k none = refl
     kept (x ∷ xs) zero none = best-only x.menu after x.budget (λ t. nat_lt t crowd.sections) (demand crowd.sections before x)
-        (best_without_stays (wishes_of x.menu) s before after x.budget (λ t. nat_lt t crowd.sections) (demand crowd.sections before x) is none (best-is x.menu before x.budget (λ t. nat_lt t crowd.sections)))
+        (best_without_stays (wishes_of x.menu) s before after x.budget (λ t. nat_lt t crowd.sections) (demand crowd.sections before x) is none
+        (best-is x.menu before x.budget (λ t. nat_lt t crowd.sections)))
     kept (x ∷ xs) (suc k) none = kept xs k none
 
 pub students_demands : (crowd : CrowdData) (price : ℕ → ℕ) → length (demands crowd price) ≡ length crowd.students
@@ -41,21 +43,25 @@ unfolding demands
 students_demands crowd price = length-map crowd.students (demand crowd.sections price)
 
 -- one price is higher
-pub one_raised : (prices : List Tokens) (s : ℕ) (price : Tokens) → s < length prices → price_in prices s ≤ price.0 → IsRaised s (price_in prices) (price_in (slice_set prices s price))
+pub one_raised : (prices : List Tokens) (s : ℕ) (price : Tokens) → s < length prices → price_in prices s ≤ price.0
+    → IsRaised s (price_in prices) (price_in (slice_set prices s price))
 one_raised prices s price low up = record {
   others = λ t other. price_kept prices s price.0 t other;
   raised = let here : price_in (slice_set prices s price) s ≡ price.0 = price_written prices s price.0 low in omega arith;
 }
 
-pub raised_prices : (crowd : CrowdData) (prices : List Tokens) (s : ℕ) (price : Tokens) → ArePricesFor crowd prices → price.0 ≤ top crowd → ArePricesFor crowd (slice_set prices s price)
+pub raised_prices : (crowd : CrowdData) (prices : List Tokens) (s : ℕ) (price : Tokens) → ArePricesFor crowd prices → price.0 ≤ top crowd
+    → ArePricesFor crowd (slice_set prices s price)
 raised_prices crowd prices s price are capped = record {
   same = length-set prices s price ∙ are.same;
   high = All-set (λ p. p.0 ≤ top crowd) prices s price capped are.high;
 }
 
 -- what is held after the holders were asked
-pub raised_holds : (crowd : CrowdData) (prices : List Tokens) (bundles others : List Bundle) (students : List StudentNo) (s : ℕ) (price : Tokens) → ArePricesFor crowd prices → map sections_of bundles ≡ demands crowd (price_in prices) → s < crowd.sections
-    → price_in prices s ≤ price.0 → price.0 ≤ top crowd → AreHolders s (map sections_of bundles) students → map sections_of others ≡ map (λ student. demand_of crowd (price_in (slice_set prices s price)) student.0) students
+pub raised_holds : (crowd : CrowdData) (prices : List Tokens) (bundles others : List Bundle) (students : List StudentNo) (s : ℕ) (price : Tokens)
+    → ArePricesFor crowd prices → map sections_of bundles ≡ demands crowd (price_in prices) → s < crowd.sections
+    → price_in prices s ≤ price.0 → price.0 ≤ top crowd → AreHolders s (map sections_of bundles) students
+    → map sections_of others ≡ map (λ student. demand_of crowd (price_in (slice_set prices s price)) student.0) students
     → Holds crowd (record { prices = slice_set prices s price; bundles = map sections_of (exchanged bundles students others) })
 raised_holds crowd prices bundles others students s price are held in_range up capped holders told = record {
   prices = raised_prices crowd prices s price are capped;
@@ -68,16 +74,21 @@ raised_holds crowd prices bundles others students s price are held in_range up c
     long : length (map sections_of bundles) ≡ length (demands crowd (price_in (slice_set prices s price)))
     long = ap length held ∙ students_demands crowd (price_in prices) ∙ sym (students_demands crowd (price_in (slice_set prices s price)))
 
-    each : (i : ℕ) → i < length (demands crowd (price_in (slice_set prices s price))) → (slice_index_or (map sections_of bundles) i [] ≡ slice_index_or (demands crowd (price_in (slice_set prices s price))) i []) ⊎ IsListed i students
+    each : (i : ℕ) → i < length (demands crowd (price_in (slice_set prices s price)))
+        → (slice_index_or (map sections_of bundles) i [] ≡ slice_index_or (demands crowd (price_in (slice_set prices s price))) i []) ⊎ IsListed i students
     each i below = elim (cases_Bool (has (slice_index_or (map sections_of bundles) i []) s)) [
       | inl has_it ↦ inr (holders.all i (rw long below) has_it)
       | inr lacks ↦
           let before : slice_index_or (map sections_of bundles) i [] ≡ demand_of crowd (price_in prices) i = ap (λ bs. slice_index_or bs i []) held in
-          inl (before ∙ demand_kept crowd (price_in prices) (price_in (slice_set prices s price)) s i (one_raised prices s price low up) (ap (λ b. has b s) (sym before) ∙ lacks))
+          inl
+          (before
+          ∙ demand_kept crowd (price_in prices) (price_in (slice_set prices s price)) s i (one_raised prices s price low up)
+          (ap (λ b. has b s) (sym before) ∙ lacks))
     ]
 
 -- what asked students take are sections of the crowd
-pub others_within : (crowd : CrowdData) (price : ℕ → ℕ) (students : List StudentNo) (others : List Bundle) (n : ℕ) → map sections_of others ≡ map (λ student. demand_of crowd price student.0) students → n ≡ crowd.sections → AreWithin n (map sections_of others)
+pub others_within : (crowd : CrowdData) (price : ℕ → ℕ) (students : List StudentNo) (others : List Bundle) (n : ℕ)
+    → map sections_of others ≡ map (λ student. demand_of crowd price student.0) students → n ≡ crowd.sections → AreWithin n (map sections_of others)
 others_within crowd price students others n told same i s has_it = rw same (among students i (ap (λ bs. has (slice_index_or bs i []) s) (sym told) ∙ has_it))
   where
     among : (ss : List StudentNo) (k : ℕ) → has (slice_index_or (map (λ student. demand_of crowd price student.0) ss) k []) s ≡ true → s < crowd.sections
@@ -85,27 +96,35 @@ others_within crowd price students others n told same i s has_it = rw same (amon
     among (x ∷ xs) zero is = demand_within crowd price x.0 s is
     among (x ∷ xs) (suc k) is = among xs k is
 
-pub others_length : (crowd : CrowdData) (price : ℕ → ℕ) (students : List StudentNo) (others : List Bundle) → map sections_of others ≡ map (λ student. demand_of crowd price student.0) students → length others ≡ length students
-others_length crowd price students others told = sym (length-map others sections_of) ∙ ap length told ∙ length-map students (λ student. demand_of crowd price student.0)
+pub others_length : (crowd : CrowdData) (price : ℕ → ℕ) (students : List StudentNo) (others : List Bundle)
+    → map sections_of others ≡ map (λ student. demand_of crowd price student.0) students → length others ≡ length students
+others_length crowd price students others told =
+    sym (length-map others sections_of) ∙ ap length told ∙ length-map students (λ student. demand_of crowd price student.0)
 
 -- all students, asked in file order
-pub all_asked : (crowd : CrowdData) (price : ℕ → ℕ) (students : List StudentNo) (others : List Bundle) (n : ℕ) → n ≡ length crowd.students → map (λ student. student.0) students ≡ places_from 0 n → map sections_of others ≡ map (λ student. demand_of crowd price student.0) students
+pub all_asked : (crowd : CrowdData) (price : ℕ → ℕ) (students : List StudentNo) (others : List Bundle) (n : ℕ) → n ≡ length crowd.students
+    → map (λ student. student.0) students ≡ places_from 0 n → map sections_of others ≡ map (λ student. demand_of crowd price student.0) students
     → map sections_of others ≡ demands crowd price
 all_asked crowd price students others n count are told =
     told
     ∙ by_number students
     ∙ ap (map (λ i. slice_index_or (demands crowd price) i [])) (are ∙ ap (places_from 0) (count ∙ sym (students_demands crowd price)))
-    ∙ by_place (λ i. slice_index_or (demands crowd price) i []) (demands crowd price) 0 (λ i low. ap (λ k. slice_index_or (demands crowd price) k []) (let e : 0 + i ≡ i = omega arith in e))
+    ∙ by_place (λ i. slice_index_or (demands crowd price) i []) (demands crowd price) 0
+    (λ i low. ap (λ k. slice_index_or (demands crowd price) k []) (let e : 0 + i ≡ i = omega arith in e))
   where
-    by_number : (ss : List StudentNo) → map (λ student. demand_of crowd price student.0) ss ≡ map (λ i. slice_index_or (demands crowd price) i []) (map (λ student. student.0) ss)
+    by_number : (ss : List StudentNo)
+        → map (λ student. demand_of crowd price student.0) ss ≡ map (λ i. slice_index_or (demands crowd price) i []) (map (λ student. student.0) ss)
     by_number [] = refl
     by_number (x ∷ xs) = ap (λ ys. demand_of crowd price x.0 ∷ ys) (by_number xs)
 
-    by_place : (f : ℕ → List ℕ) (xs : List (List ℕ)) (first : ℕ) → ((i : ℕ) → i < length xs → f (first + i) ≡ slice_index_or xs i []) → map f (places_from first (length xs)) ≡ xs
+    by_place : (f : ℕ → List ℕ) (xs : List (List ℕ)) (first : ℕ) → ((i : ℕ) → i < length xs → f (first + i) ≡ slice_index_or xs i [])
+        → map f (places_from first (length xs)) ≡ xs
     by_place f [] first each = refl
     by_place f (x ∷ xs) first each =
         let here : f first ≡ x = ap f (let e : first ≡ first + 0 = omega arith in e) ∙ each 0 (omega arith) in
-        let rest : map f (places_from (suc first) (length xs)) ≡ xs = by_place f xs (suc first) (λ i low. ap f (let e : suc first + i ≡ first + suc i = omega arith in e) ∙ each (suc i) (let h : suc i < suc (length xs) = omega arith in h)) in
+        let rest : map f (places_from (suc first) (length xs)) ≡ xs =
+        by_place f xs (suc first)
+        (λ i low. ap f (let e : suc first + i ≡ first + suc i = omega arith in e) ∙ each (suc i) (let h : suc i < suc (length xs) = omega arith in h)) in
         ap (λ y. y ∷ map f (places_from (suc first) (length xs))) here ∙ ap (λ ys. x ∷ ys) rest
 
 pub all_count : (students : List StudentNo) (n : ℕ) → map (λ student. student.0) students ≡ places_from 0 n → length students ≡ n
@@ -132,11 +151,16 @@ pub places_more : (first n : ℕ) → places_from first (n + 1) ≡ places_from 
 places_more first zero = ap (λ k. k ∷ []) (let e : first ≡ first + 0 = omega arith in e)
 places_more first (suc n) =
     let one_more : suc n + 1 ≡ suc (n + 1) = omega arith in
-    rw one_more (ap (λ ks. first ∷ ks) (places_more (suc first) n ∙ ap (λ k. places_from (suc first) n ++ k ∷ []) (let e : suc first + n ≡ first + suc n = omega arith in e)))
+    rw one_more
+    (ap (λ ks. first ∷ ks)
+    (places_more (suc first) n ∙ ap (λ k. places_from (suc first) n ++ k ∷ []) (let e : suc first + n ≡ first + suc n = omega arith in e)))
 
-pub students_more : (students later : List StudentNo) (n : ℕ) (last : StudentNo) → map (λ student. student.0) students ≡ places_from 0 n → later ≡ students ++ last ∷ [] → last.0 ≡ n → map (λ student. student.0) later ≡ places_from 0 (n + 1)
+pub students_more : (students later : List StudentNo) (n : ℕ) (last : StudentNo) → map (λ student. student.0) students ≡ places_from 0 n
+    → later ≡ students ++ last ∷ [] → last.0 ≡ n → map (λ student. student.0) later ≡ places_from 0 (n + 1)
 students_more students later n last are more is =
-    rw more (map-append (λ student. student.0) students (last ∷ []) ∙ ap (λ ks. ks ++ last.0 ∷ []) are ∙ ap (λ k. places_from 0 n ++ k ∷ []) (is ∙ (let e : n ≡ 0 + n = omega arith in e)) ∙ sym (places_more 0 n))
+    rw more
+    (map-append (λ student. student.0) students (last ∷ []) ∙ ap (λ ks. ks ++ last.0 ∷ []) are
+    ∙ ap (λ k. places_from 0 n ++ k ∷ []) (is ∙ (let e : n ≡ 0 + n = omega arith in e)) ∙ sym (places_more 0 n))
 
 abbrev held_of : List Tokens → List (List ℕ) → HeldData
 held_of prices bundles = record { prices = prices; bundles = bundles }

@@ -8,7 +8,8 @@ use Rattle.bundle_rules.specs.Sets.{has}
 abbrev pub exchanged : List Bundle → List StudentNo → List Bundle → List Bundle
 exchanged bundles [] others = bundles
 exchanged bundles (student ∷ students) [] = bundles
-exchanged bundles (student ∷ students) (other ∷ others) = exchanged (slice_set bundles student.0 other) students others
+exchanged bundles (student ∷ students) (other ∷ others) =
+    exchanged (slice_set bundles student.0 other) students others
 
 -- a student is on the list
 abbrev pub IsListed : ℕ → List StudentNo → Type 0
@@ -19,5 +20,6 @@ IsListed i (student ∷ students) = (student.0 ≡ i) ⊎ IsListed i students
 pub record AreHolders (s : ℕ) (bundles : List (List ℕ)) (students : List StudentNo) : Type 0 where
   pub few : length students ≤ length bundles
   pub range : All (λ student. student.0 < length bundles) students
-  pub all : (i : ℕ) → i < length bundles → has (slice_index_or bundles i []) s ≡ true → IsListed i students
+  pub all : (i : ℕ) → i < length bundles → has (slice_index_or bundles i []) s ≡ true
+      → IsListed i students
   pub only : All (λ student. has (slice_index_or bundles student.0 []) s ≡ true) students

@@ -9,7 +9,8 @@ use Rattle.demand_api.specs.Crowds.{holders}
 abbrev pub AreWithin : ℕ → List (List ℕ) → Type 0
 AreWithin sections bundles = (i s : ℕ) → has (slice_index_or bundles i []) s ≡ true → s < sections
 
--- at most 2,000 bundles of sections below this number, and for each section how many of them have it
+-- at most 2,000 bundles of sections below this number, and for each section how many of them have
+-- it
 pub record IsTally (sections : ℕ) (bundles : List Bundle) (counts : List ℕ) : Type 0 where
   pub few : length bundles ≤ 2000
   pub within : AreWithin sections (map sections_of bundles)

@@ -16,8 +16,9 @@ use std::marker::Model;
 use std::sync::Wait;
 use std::thread::Threads;
 
-/// A price for each section, what each student takes at these prices, and how many take each section. When a price
-/// rises, only those who hold the section are asked again: what the others hold stays the best for them.
+/// A price for each section, what each student takes at these prices, and how many take each
+/// section. When a price rises, only those who hold the section are asked again: what the others
+/// hold stays the best for them.
 #[derive(Drop)]
 pub struct Held {
     prices: Vec<Tokens>,
@@ -41,8 +42,8 @@ impl Model for Held {
 }
 
 impl Held {
-    /// What each student takes at these prices: one for each section, each at most the top. The one error is the want
-    /// of memory.
+    /// What each student takes at these prices: one for each section, each at most the top. The one
+    /// error is the want of memory.
     pub fn take<R: Threads + Wait + Sync, D: Demands>(
         rt: &R,
         alloc: Global,
@@ -89,9 +90,9 @@ impl Held {
         self.counts[usize::from(section.0)]
     }
 
-    /// Raises the price of one section, up to the top at most. Only those who hold the section are asked again. For
-    /// the crowd of `demands` the bundles are what the students take at the prices, before and after. Where memory is
-    /// wanted, all that is held stays as it was.
+    /// Raises the price of one section, up to the top at most. Only those who hold the section are
+    /// asked again. For the crowd of `demands` the bundles are what the students take at the
+    /// prices, before and after. Where memory is wanted, all that is held stays as it was.
     pub fn raise<R: Threads + Wait + Sync, D: Demands>(
         &mut self,
         rt: &R,
@@ -105,7 +106,8 @@ impl Held {
         requires up { price_in self.old.prices section.0 ≤ price.0 }
         requires capped { price.0 ≤ top (D.crowd demands.old) }
         ensures crowd { D.crowd demands.new ≡ D.crowd demands.old }
-        ensures prices { IfOk result (λ done. self.new.prices ≡ slice_set self.old.prices section.0 price) }
+        ensures prices { IfOk result
+            (λ done. self.new.prices ≡ slice_set self.old.prices section.0 price) }
         ensures bundles { IfOk result (λ done. Holds (D.crowd demands.old) self.new) }
         ensures unchanged { IfErr result (λ error. self.new ≡ self.old) }
     {

@@ -10,7 +10,8 @@ use std::alloc::Global;
 
 // All students, in file order.
 pub(crate) fn all_students(alloc: Global, count: u16) -> Result<Vec<StudentNo>, NoMemory>
-    ensures { IfOk result (λ students. map (λ student. student.0) students.items ≡ places_from 0 count) }
+    ensures { IfOk result
+        (λ students. map (λ student. student.0) students.items ≡ places_from 0 count) }
 {
     let mut students = Vec::new(alloc);
     for student in 0..count {
@@ -27,7 +28,8 @@ pub(crate) fn holders(
     section: SectionNo,
 ) -> Result<Vec<StudentNo>, NoMemory>
     requires { length bundles.now ≤ 2000 }
-    ensures { IfOk result (λ students. AreHolders section.0 (map sections_of bundles.now) students.items) }
+    ensures { IfOk result
+        (λ students. AreHolders section.0 (map sections_of bundles.now) students.items) }
 {
     let mut students = Vec::new(alloc);
     for place in 0..bundles.len() {

@@ -11,9 +11,9 @@ use std::alloc::Global;
 use std::sync::Wait;
 use std::thread::Threads;
 
-/// The least price of the section, of all prices from 0, at which at most `limit` students take it, the other prices
-/// as given. There is a price for each section, at most the top. It asks at most as often as the top has binary
-/// digits, and once more. The one error is the want of memory.
+/// The least price of the section, of all prices from 0, at which at most `limit` students take it,
+/// the other prices as given. There is a price for each section, at most the top. It asks at most
+/// as often as the top has binary digits, and once more. The one error is the want of memory.
 pub fn least_price<R: Threads + Wait + Sync, D: Demands>(
     rt: &R,
     alloc: Global,
@@ -25,8 +25,11 @@ pub fn least_price<R: Threads + Wait + Sync, D: Demands>(
     requires prices { ArePricesFor (D.crowd demands.old) prices.now }
     requires section { section.0 < (D.crowd demands.old).sections }
     ensures crowd { D.crowd demands.new ≡ D.crowd demands.old }
-    ensures asked { RoseByDigits 1 (top (D.crowd demands.old)) (D.asked demands.old) (D.asked demands.new) }
-    ensures value { IfOk result (λ least. IsLeastPrice (D.crowd demands.old) (price_in prices.now) section.0 limit least.0) }
+    ensures asked { RoseByDigits 1 (top (D.crowd demands.old)) (D.asked demands.old)
+        (D.asked demands.new) }
+    ensures value { IfOk result
+        (λ least. IsLeastPrice (D.crowd demands.old) (price_in prices.now) section.0 limit
+        least.0) }
 {
     let mut from_zero = prices.to_vec(alloc)?;
     from_zero[usize::from(section.0)] = Tokens(0);

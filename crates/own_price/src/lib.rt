@@ -1,4 +1,5 @@
-//! What a section's own price does: the least price at which few enough take it, and what is taken while it rises.
+//! What a section's own price does: the least price at which few enough take it, and what is taken
+//! while it rises.
 // Neither: that `raise` asks only those who hold the section, as it does in the code; how long it
 // takes.
 #![tactic(auto)]
@@ -24,8 +25,8 @@ mod tests {
     use std::test::Fail;
     use std::thread::Threads;
 
-    // Plain demands that keep whom they were asked for last, how often they were asked for bundles, and how often for
-    // a comparison.
+    // Plain demands that keep whom they were asked for last, how often they were asked for bundles,
+    // and how often for a comparison.
     #[derive(Drop)]
     struct Counting {
         plain: PlainDemands,

@@ -29,16 +29,23 @@ done_skips true answer rest refused e = absurd (true≢false (sym e ∙ refused)
 done_skips false answer rest refused e = (refl, e)
 
 -- what holds of each adjusted pair holds of each behind one more for which it holds
-pub pair_keeps : (P : (ℕ × ℕ) → Type 0) (pairs : FinMap {K = ℕ × ℕ} pair_cmp ℤ) (pair : ℕ × ℕ) (size : ℤ) → All (λ (adjusted : (ℕ × ℕ) × ℤ). P adjusted.0) (entries pairs) → P pair → All (λ (adjusted : (ℕ × ℕ) × ℤ). P adjusted.0) (entries (with_pair pairs pair size))
+pub pair_keeps : (P : (ℕ × ℕ) → Type 0) (pairs : FinMap {K = ℕ × ℕ} pair_cmp ℤ) (pair : ℕ × ℕ) (size : ℤ)
+    → All (λ (adjusted : (ℕ × ℕ) × ℤ). P adjusted.0) (entries pairs) → P pair
+    → All (λ (adjusted : (ℕ × ℕ) × ℤ). P adjusted.0) (entries (with_pair pairs pair size))
 pair_keeps P pairs pair size each here =
     elim (unsigned_abs size == 0) as (λ b. All (λ (adjusted : (ℕ × ℕ) × ℤ). P adjusted.0) (entries (cond b (remove pairs pair) (insert pairs pair size)))) [
-      | true ↦ rw (entries-remove pair_cmp pair_cmp_total pair_cmp_same pairs pair) (All-filter (λ e. not (eq_by_cmp pair_cmp pair e.0)) (λ (adjusted : (ℕ × ℕ) × ℤ). P adjusted.0) (entries pairs) each)
+      | true ↦
+          rw (entries-remove pair_cmp pair_cmp_total pair_cmp_same pairs pair)
+          (All-filter (λ e. not (eq_by_cmp pair_cmp pair e.0)) (λ (adjusted : (ℕ × ℕ) × ℤ). P adjusted.0) (entries pairs) each)
       | false ↦ rw (entries-insert pair_cmp_total pairs pair size) (All-put pair_cmp pair_cmp_total P pair size (entries pairs) each here)
     ]
 
 -- what holds of no preferences, and of each student's behind each command that is carried out
-module _ (P : StudentPreferences → Type 0) (names : DeskNames) (none : P no_preferences) (changes : (state : DeskState) (command : Command) → All P state.preferences → is_done (reply_to names state command) ≡ true → All P (changed names state command).preferences) where
-  step_keeps : (state : DeskState) (command : Command) (b : Bool) → is_done (reply_to names state command) ≡ b → All P state.preferences → All P (cond b (changed names state command) state).preferences
+module _ (P : StudentPreferences → Type 0) (names : DeskNames) (none : P no_preferences)
+    (changes : (state : DeskState) (command : Command) → All P state.preferences → is_done (reply_to names state command) ≡ true
+    → All P (changed names state command).preferences) where
+  step_keeps : (state : DeskState) (command : Command) (b : Bool) → is_done (reply_to names state command) ≡ b → All P state.preferences
+      → All P (cond b (changed names state command) state).preferences
   step_keeps state command true e each = changes state command each e
   step_keeps state command false e each = each
 

@@ -18,15 +18,21 @@ found_inside p (x ∷ xs) has = elim (p x) as (λ b. (b || list_any p xs) ≡ tr
 ] has
 
 -- names of one ordinal have the same bytes
-pub same_ordinal : (names : List (List ℕ)) (first second : Name) → has_name names first ≡ true → has_name names second ≡ true → ordinal_of names first ≡ ordinal_of names second → bytes_eq (name_bytes first) (name_bytes second) ≡ true
+pub same_ordinal : (names : List (List ℕ)) (first second : Name) → has_name names first ≡ true → has_name names second ≡ true
+    → ordinal_of names first ≡ ordinal_of names second → bytes_eq (name_bytes first) (name_bytes second) ≡ true
 same_ordinal names first second has has' same =
     let d : List ℕ = [] in
-    let at : bytes_eq (name_bytes first) (get_or names (ordinal_of names first) d) ≡ true = passes_at_first (bytes_eq (name_bytes first)) names d (found_inside (bytes_eq (name_bytes first)) names has) in
-    let at' : bytes_eq (name_bytes second) (get_or names (ordinal_of names second) d) ≡ true = passes_at_first (bytes_eq (name_bytes second)) names d (found_inside (bytes_eq (name_bytes second)) names has') in
-    let there : bytes_eq (name_bytes second) (get_or names (ordinal_of names first) d) ≡ true = ap (λ i. bytes_eq (name_bytes second) (get_or names i d)) same ∙ at' in
-    nat_list_eq_equiv.congr (name_bytes first) (get_or names (ordinal_of names first) d) (name_bytes second) at ∙ nat_list_eq_equiv.symm (get_or names (ordinal_of names first) d) (name_bytes second) ∙ there
+    let at : bytes_eq (name_bytes first) (get_or names (ordinal_of names first) d) ≡ true =
+    passes_at_first (bytes_eq (name_bytes first)) names d (found_inside (bytes_eq (name_bytes first)) names has) in
+    let at' : bytes_eq (name_bytes second) (get_or names (ordinal_of names second) d) ≡ true =
+    passes_at_first (bytes_eq (name_bytes second)) names d (found_inside (bytes_eq (name_bytes second)) names has') in
+    let there : bytes_eq (name_bytes second) (get_or names (ordinal_of names first) d) ≡ true =
+    ap (λ i. bytes_eq (name_bytes second) (get_or names i d)) same ∙ at' in
+    nat_list_eq_equiv.congr (name_bytes first) (get_or names (ordinal_of names first) d) (name_bytes second) at
+    ∙ nat_list_eq_equiv.symm (get_or names (ordinal_of names first) d) (name_bytes second) ∙ there
 
-pub other_ordinals : (names : List (List ℕ)) (first second : Name) (one other : ℕ) → has_name names first ≡ true → has_name names second ≡ true → one ≡ ordinal_of names first → other ≡ ordinal_of names second
+pub other_ordinals : (names : List (List ℕ)) (first second : Name) (one other : ℕ) → has_name names first ≡ true → has_name names second ≡ true
+    → one ≡ ordinal_of names first → other ≡ ordinal_of names second
     → bytes_eq (name_bytes first) (name_bytes second) ≡ false → one ≡ other → ⊥
 other_ordinals names first second one other has has' e f apart same = true≢false (sym (same_ordinal names first second has has' (sym e ∙ same ∙ f)) ∙ apart)
 
@@ -39,11 +45,14 @@ place_cases true n i e = cc
 place_cases false n i e = cc
 
 -- the place that was found is the ordinal
-pub found_ordinal : (keys : List Name) (name : Name) (i : ℕ) → position (λ key. bytes_eq (name_bytes name) (name_bytes key)) keys ≡ Some i → i ≡ ordinal_of (map name_bytes keys) name
+pub found_ordinal : (keys : List Name) (name : Name) (i : ℕ) → position (λ key. bytes_eq (name_bytes name) (name_bytes key)) keys ≡ Some i
+    → i ≡ ordinal_of (map name_bytes keys) name
 found_ordinal keys name i e =
-    place_cases (nat_lt (position_or_len (λ key. bytes_eq (name_bytes name) (name_bytes key)) keys) (length keys)) _ i e ∙ sym (place-map (bytes_eq (name_bytes name)) name_bytes keys)
+    place_cases (nat_lt (position_or_len (λ key. bytes_eq (name_bytes name) (name_bytes key)) keys) (length keys)) _ i e
+    ∙ sym (place-map (bytes_eq (name_bytes name)) name_bytes keys)
 
-pub has_by_keys : (keys : List Name) (name : Name) (b : Bool) → list_any (λ key. bytes_eq (name_bytes name) (name_bytes key)) keys ≡ b → has_name (map name_bytes keys) name ≡ b
+pub has_by_keys : (keys : List Name) (name : Name) (b : Bool) → list_any (λ key. bytes_eq (name_bytes name) (name_bytes key)) keys ≡ b
+    → has_name (map name_bytes keys) name ≡ b
 has_by_keys keys name b e = any-map (bytes_eq (name_bytes name)) name_bytes keys ∙ e
 
 pub length-names : (keys : List Name) → length (map name_bytes keys) ≡ length keys

@@ -22,27 +22,34 @@ set_as_it_was (x ∷ xs) zero d inside = refl
 set_as_it_was (x ∷ xs) (suc i) d inside = ap (λ rest. x ∷ rest) (set_as_it_was xs i d (omega arith))
 
 -- what the row at a student's place says
-pub row_is : (rows : List Row) (place student : ℕ) (row : Row) → row ≡ get_or rows place row → place ≡ student → student < length (map wanted_in rows) → wanted_in row ≡ get_or (map wanted_in rows) student no_preferences
+pub row_is : (rows : List Row) (place student : ℕ) (row : Row) → row ≡ get_or rows place row → place ≡ student → student < length (map wanted_in rows)
+    → wanted_in row ≡ get_or (map wanted_in rows) student no_preferences
 row_is rows place student row e is inside =
     let within : student < length rows = omega (arith, length-entries wanted_in rows) in
     ap wanted_in (e ∙ ap (λ at. get_or rows at row) is) ∙ sym (read_entry wanted_in rows student row no_preferences within)
 
 -- a row that changes, or not
-pub row_changes : (rows : List Row) (place student : ℕ) (new : Row) (b : Bool) (changed : StudentPreferences) → place ≡ student → student < length (map wanted_in rows)
-    → wanted_in new ≡ cond b changed (get_or (map wanted_in rows) student no_preferences) → map wanted_in (set rows place new) ≡ cond b (set (map wanted_in rows) student changed) (map wanted_in rows)
-row_changes rows place student new true changed is inside e = map-set wanted_in rows place new ∙ ap (set (map wanted_in rows) place) e ∙ ap (λ at. set (map wanted_in rows) at changed) is
+pub row_changes : (rows : List Row) (place student : ℕ) (new : Row) (b : Bool) (changed : StudentPreferences) → place ≡ student
+    → student < length (map wanted_in rows)
+    → wanted_in new ≡ cond b changed (get_or (map wanted_in rows) student no_preferences)
+    → map wanted_in (set rows place new) ≡ cond b (set (map wanted_in rows) student changed) (map wanted_in rows)
+row_changes rows place student new true changed is inside e =
+    map-set wanted_in rows place new ∙ ap (set (map wanted_in rows) place) e ∙ ap (λ at. set (map wanted_in rows) at changed) is
 row_changes rows place student new false changed is inside e =
-    map-set wanted_in rows place new ∙ ap (set (map wanted_in rows) place) e ∙ ap (λ at. set (map wanted_in rows) at (get_or (map wanted_in rows) student no_preferences)) is
+    map-set wanted_in rows place new ∙ ap (set (map wanted_in rows) place) e
+    ∙ ap (λ at. set (map wanted_in rows) at (get_or (map wanted_in rows) student no_preferences)) is
     ∙ set_as_it_was (map wanted_in rows) student no_preferences inside
 
-pub rated_row : (row : Row) (new : Ratings) (w : StudentPreferences) (section rating : ℕ) (b : Bool) → wanted_in row ≡ w → ratings_in new ≡ cond b (with_rating (ratings_in row.ratings) section rating) (ratings_in row.ratings)
+pub rated_row : (row : Row) (new : Ratings) (w : StudentPreferences) (section rating : ℕ) (b : Bool) → wanted_in row ≡ w
+    → ratings_in new ≡ cond b (with_rating (ratings_in row.ratings) section rating) (ratings_in row.ratings)
     → wanted_in (record { ratings = new; pairs = row.pairs }) ≡ cond b (record { ratings = with_rating w.ratings section rating; pairs = w.pairs }) w
 rated_row row new w section rating true e is =
     let P : StudentPreferences → StudentPreferences = λ w. record { ratings = with_rating w.ratings section rating; pairs = w.pairs } in
     (λ i. record { ratings = is i; pairs = pairs_in row.pairs }) ∙ ap P e
 rated_row row new w section rating false e is = (λ i. record { ratings = is i; pairs = pairs_in row.pairs }) ∙ e
 
-pub paired_row : (row : Row) (new : Pairs) (w : StudentPreferences) (pair : ℕ × ℕ) (n : ℤ) (b : Bool) → wanted_in row ≡ w → pairs_in new ≡ cond b (with_pair (pairs_in row.pairs) pair n) (pairs_in row.pairs)
+pub paired_row : (row : Row) (new : Pairs) (w : StudentPreferences) (pair : ℕ × ℕ) (n : ℤ) (b : Bool) → wanted_in row ≡ w
+    → pairs_in new ≡ cond b (with_pair (pairs_in row.pairs) pair n) (pairs_in row.pairs)
     → wanted_in (record { ratings = row.ratings; pairs = new }) ≡ cond b (record { ratings = w.ratings; pairs = with_pair w.pairs pair n }) w
 paired_row row new w pair n true e is =
     let P : StudentPreferences → StudentPreferences = λ w. record { ratings = w.ratings; pairs = with_pair w.pairs pair n } in
@@ -54,7 +61,9 @@ replicate_more zero x = refl
 replicate_more (suc n) x = ap (λ rest. x ∷ rest) (replicate_more n x)
 
 -- one more row of a student who wants nothing
-pub one_row_more : (rows : List Row) (n : ℕ) (row : Row) → map wanted_in rows ≡ replicate n no_preferences → wanted_in row ≡ no_preferences → map wanted_in (rows ++ row ∷ []) ≡ replicate (n + 1) no_preferences
+pub one_row_more : (rows : List Row) (n : ℕ) (row : Row) → map wanted_in rows ≡ replicate n no_preferences → wanted_in row ≡ no_preferences
+    → map wanted_in (rows ++ row ∷ []) ≡ replicate (n + 1) no_preferences
 one_row_more rows n row e is =
-    map-append wanted_in rows (row ∷ []) ∙ ap (λ front. front ++ wanted_in row ∷ []) e ∙ ap (λ last. replicate n no_preferences ++ last ∷ []) is ∙ replicate_more n no_preferences
+    map-append wanted_in rows (row ∷ []) ∙ ap (λ front. front ++ wanted_in row ∷ []) e ∙ ap (λ last. replicate n no_preferences ++ last ∷ []) is
+    ∙ replicate_more n no_preferences
     ∙ ap (λ m. replicate m no_preferences) (let m : suc n ≡ n + 1 = omega arith in m)

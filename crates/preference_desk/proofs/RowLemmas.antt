@@ -65,7 +65,8 @@ only_less Greater e = absurd (true≢false (sym e))
 module _ {K X : Type 0} (R : K → K → Ordering) where
   pub place_fits : (k : K) (es : List (K × X)) → place_in R k es ≤ length es
   place_fits k [] = omega arith
-  place_fits k (e ∷ es) = elim (is_le (R k e.0)) as (λ b. cond b 0 (suc (place_in R k es)) ≤ suc (length es)) [ true ↦ omega arith | false ↦ omega (arith, place_fits k es) ]
+  place_fits k (e ∷ es) =
+      elim (is_le (R k e.0)) as (λ b. cond b 0 (suc (place_in R k es)) ≤ suc (length es)) [ true ↦ omega arith | false ↦ omega (arith, place_fits k es) ]
 
   -- a key that does not stand is put in at its place
   pub put_new : (k : K) (v : X) (es : List (K × X)) → stands R k es ≡ false → insert es (place_in R k es) (k, v) ≡ put R k v es
@@ -78,11 +79,13 @@ module _ {K X : Type 0} (R : K → K → Ordering) where
       ] none
 
   -- a key that stands keeps its place, with the new value
-  pub put_same : (k : K) (v : X) (es : List (K × X)) (d : K × X) → stands R k es ≡ true → set es (place_in R k es) ((get_or es (place_in R k es) d).0, v) ≡ put R k v es
+  pub put_same : (k : K) (v : X) (es : List (K × X)) (d : K × X) → stands R k es ≡ true
+      → set es (place_in R k es) ((get_or es (place_in R k es) d).0, v) ≡ put R k v es
   put_same k v [] d here = absurd (true≢false (sym here))
   put_same k v (e ∷ es) d here =
       elim (R k e.0) as (λ r. cond (is_le r) (is_eq r) (stands R k es) ≡ true
-      → set (e ∷ es) (cond (is_le r) 0 (suc (place_in R k es))) ((get_or (e ∷ es) (cond (is_le r) 0 (suc (place_in R k es))) d).0, v) ≡ by_order r ((k, v) ∷ e ∷ es) ((e.0, v) ∷ es) (e ∷ put R k v es)) [
+      → set (e ∷ es) (cond (is_le r) 0 (suc (place_in R k es))) ((get_or (e ∷ es) (cond (is_le r) 0 (suc (place_in R k es))) d).0, v)
+      ≡ by_order r ((k, v) ∷ e ∷ es) ((e.0, v) ∷ es) (e ∷ put R k v es)) [
         | Less ↦ λ h. absurd (true≢false (sym h))
         | Equal ↦ λ h. refl
         | Greater ↦ λ h. ap (λ rest. e ∷ rest) (put_same k v es d h)
@@ -154,7 +157,8 @@ module _ {K X : Type 0} (R : K → K → Ordering) where
         let far : R k e.0 ≡ Less = o.congr k y e.0 p ∙ only_less (R y e.0) (and_first _ _ h) in
         ap (λ r. is_lt r && below_all R k es) far ∙ equal_below k y es p (and_second _ _ h)
 
-    pub remove_at : (k : K) (es : List (K × X)) → is_sorted R es ≡ true → stands R k es ≡ true → remove es (place_in R k es) ≡ where_key R (λ x. not (eq_by_cmp R k x)) es
+    pub remove_at : (k : K) (es : List (K × X)) → is_sorted R es ≡ true → stands R k es ≡ true
+        → remove es (place_in R k es) ≡ where_key R (λ x. not (eq_by_cmp R k x)) es
     remove_at k [] sorted here = absurd (true≢false (sym here))
     remove_at k (e ∷ es) sorted here =
         let others = where_key R (λ x. not (eq_by_cmp R k x)) es in
@@ -185,7 +189,8 @@ module _ {K X : Type 0} (R : K → K → Ordering) where
         same_entries_map _ _ (entries-from_sorted R (put R k v es) (is_sorted-put R o k v es (told sorted))
         ∙ sym (entries-insert o (from_sorted es) k v ∙ ap (put R k v) (entries-from_sorted R es (told sorted))))
 
-    pub map-without : IsAntisymmetric R → (k : K) (es : List (K × X)) → is_sorted R es ≡ true → from_sorted {R = R} (where_key R (λ x. not (eq_by_cmp R k x)) es) ≡ remove_from (from_sorted es) k
+    pub map-without : IsAntisymmetric R → (k : K) (es : List (K × X)) → is_sorted R es ≡ true
+        → from_sorted {R = R} (where_key R (λ x. not (eq_by_cmp R k x)) es) ≡ remove_from (from_sorted es) k
     map-without same k es sorted = same_map o same _ _ (λ q.
         get-from_sorted R _ q (is_sorted-where_key R _ es (told sorted))
         ∙ find-where_key R (λ x. not (eq_by_cmp R k x)) q (λ x t. ap (λ r. not (is_eq r)) (sym (alike_right o q x k t))) es
@@ -231,16 +236,19 @@ module _ {E K X : Type 0} (R : K → K → Ordering) (o : IsTotalOrder R) (same 
     pub sorted : is_sorted R (map entry new) ≡ true
     pub view : from_sorted {R = R} (map entry new) ≡ remove_from (from_sorted (map entry items)) k
 
-  pub taken_out : (items : List E) (k : K) → is_sorted R (map entry items) ≡ true → stands R k (map entry items) ≡ true → TakenOut items (remove items (place_in R k (map entry items))) k
+  pub taken_out : (items : List E) (k : K) → is_sorted R (map entry items) ≡ true → stands R k (map entry items) ≡ true
+      → TakenOut items (remove items (place_in R k (map entry items))) k
   taken_out items k sorted here =
       let es = map entry items in
-      let is : map entry (remove items (place_in R k es)) ≡ where_key R (λ x. not (eq_by_cmp R k x)) es = remove-map entry items (place_in R k es) ∙ remove_at R o k es sorted here in
+      let is : map entry (remove items (place_in R k es)) ≡ where_key R (λ x. not (eq_by_cmp R k x)) es =
+      remove-map entry items (place_in R k es) ∙ remove_at R o k es sorted here in
       record {
         sorted = rw is (sorted_without R o (λ x. not (eq_by_cmp R k x)) es sorted);
         view = ap (λ es. from_sorted es) is ∙ map-without R o same k es sorted;
       }
 
-  pub none_out : (items : List E) (k : K) → is_sorted R (map entry items) ≡ true → stands R k (map entry items) ≡ false → from_sorted {R = R} (map entry items) ≡ remove_from (from_sorted (map entry items)) k
+  pub none_out : (items : List E) (k : K) → is_sorted R (map entry items) ≡ true → stands R k (map entry items) ≡ false
+      → from_sorted {R = R} (map entry items) ≡ remove_from (from_sorted (map entry items)) k
   none_out items k sorted none =
       let es = map entry items in
       ap (λ es. from_sorted es) (sym (nothing_removed R o k es sorted none)) ∙ map-without R o same k es sorted
@@ -256,12 +264,14 @@ module _ {E K X : Type 0} (R : K → K → Ordering) (o : IsTotalOrder R) (same 
     view = ap (λ es. from_sorted es) is ∙ map-put R o k v (map entry items) sorted;
   }
 
-  pub put_in : (items : List E) (k : K) (x : E) (v : X) → entry x ≡ (k, v) → is_sorted R (map entry items) ≡ true → stands R k (map entry items) ≡ false → PutIn items (insert items (place_in R k (map entry items)) x) k v
+  pub put_in : (items : List E) (k : K) (x : E) (v : X) → entry x ≡ (k, v) → is_sorted R (map entry items) ≡ true → stands R k (map entry items) ≡ false
+      → PutIn items (insert items (place_in R k (map entry items)) x) k v
   put_in items k x v is sorted none =
       let es = map entry items in
       put_by items _ k v sorted (insert-map entry items (place_in R k es) x ∙ ap (insert es (place_in R k es)) is ∙ put_new R k v es none)
 
-  pub put_over : (items : List E) (k : K) (x : E) (v : X) (d : K × X) → entry x ≡ ((get_or (map entry items) (place_in R k (map entry items)) d).0, v) → is_sorted R (map entry items) ≡ true → stands R k (map entry items) ≡ true
+  pub put_over : (items : List E) (k : K) (x : E) (v : X) (d : K × X) → entry x ≡ ((get_or (map entry items) (place_in R k (map entry items)) d).0, v)
+      → is_sorted R (map entry items) ≡ true → stands R k (map entry items) ≡ true
       → PutIn items (set items (place_in R k (map entry items)) x) k v
   put_over items k x v d is sorted here =
       let es = map entry items in

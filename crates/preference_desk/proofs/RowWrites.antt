@@ -53,7 +53,8 @@ module _ {E K X : Type 0} (R : K → K → Ordering) (o : IsTotalOrder R) (same 
   one_more : (n : ℕ) → not (true && true && nat_le limit n) ≡ true → n < limit
   one_more n room = grind (arith, nat_tests)
 
-  few_written : (items : List E) (k : K) (x : Option E) → length items ≤ limit → (here : Bool) → stands R k (map entry items) ≡ here → has_room limit items here x ≡ true → length (written items (place_in R k (map entry items)) here x) ≤ limit
+  few_written : (items : List E) (k : K) (x : Option E) → length items ≤ limit → (here : Bool) → stands R k (map entry items) ≡ here
+      → has_room limit items here x ≡ true → length (written items (place_in R k (map entry items)) here x) ≤ limit
   few_written items k (Some x) few true here room = omega (arith, few, length-set items (place_in R k (map entry items)) x)
   few_written items k None few true here room =
       let inside : place_in R k (map entry items) < length items = omega (arith, place_inside R k (map entry items) here, length-entries entry items) in
@@ -78,11 +79,13 @@ module _ {E K X : Type 0} (R : K → K → Ordering) (o : IsTotalOrder R) (same 
   -- what a write of a value at a key leaves of a row
   pub record IsSet (old new : List E) (k : K) (v : Option X) (result : Bool) : Type 0 where
     pub row : IsRow new
-    pub room : result ≡ not (is_some v && not (contains_key (from_sorted {R = R} (map entry old)) k) && nat_le limit (len (from_sorted {R = R} (map entry old))))
+    pub room : result
+        ≡ not (is_some v && not (contains_key (from_sorted {R = R} (map entry old)) k) && nat_le limit (len (from_sorted {R = R} (map entry old))))
     pub view : from_sorted {R = R} (map entry new) ≡ cond result (with_value (from_sorted (map entry old)) k v) (from_sorted (map entry old))
 
   room_is : (old : List E) (k : K) (x : Option E) (v : Option X) → option_map entry x ≡ option_map (λ v. (k, v)) v → IsRow old
-      → has_room limit old (stands R k (map entry old)) x ≡ not (is_some v && not (contains_key (from_sorted {R = R} (map entry old)) k) && nat_le limit (len (from_sorted {R = R} (map entry old))))
+      → has_room limit old (stands R k (map entry old)) x
+      ≡ not (is_some v && not (contains_key (from_sorted {R = R} (map entry old)) k) && nat_le limit (len (from_sorted {R = R} (map entry old))))
   room_is old k x v tie row =
       let has : contains_key (from_sorted {R = R} (map entry old)) k ≡ stands R k (map entry old) = map-has R o k (map entry old) row.sorted in
       let long : len (from_sorted {R = R} (map entry old)) ≡ length old = map-len R o (map entry old) row.sorted ∙ length-entries entry old in
@@ -104,8 +107,10 @@ module _ {E K X : Type 0} (R : K → K → Ordering) (o : IsTotalOrder R) (same 
       }
   by_result old k x v tie fine row false room = record { row = row; room = sym room ∙ room_is old k x v tie row; view = refl }
 
-  pub row_set : (old new : List E) (k : K) (x : Option E) (v : Option X) (place : ℕ) (here result : Bool) → option_map entry x ≡ option_map (λ v. (k, v)) v → ((e : E) → x ≡ Some e → P e) → IsRow old
-      → place ≡ place_in R k (map entry old) → here ≡ stands R k (map entry old) → result ≡ has_room limit old here x → new ≡ cond result (written old place here x) old → IsSet old new k v result
+  pub row_set : (old new : List E) (k : K) (x : Option E) (v : Option X) (place : ℕ) (here result : Bool) → option_map entry x ≡ option_map (λ v. (k, v)) v
+      → ((e : E) → x ≡ Some e → P e) → IsRow old
+      → place ≡ place_in R k (map entry old) → here ≡ stands R k (map entry old) → result ≡ has_room limit old here x
+      → new ≡ cond result (written old place here x) old → IsSet old new k v result
   row_set old new k x v place here result tie fine row place_is here_is room is =
       let room_at : has_room limit old (stands R k (map entry old)) x ≡ result = ap (λ h. has_room limit old h x) (sym here_is) ∙ sym room in
       let new_is : new ≡ cond result (written old (place_in R k (map entry old)) (stands R k (map entry old)) x) old =

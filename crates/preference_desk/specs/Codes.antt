@@ -15,8 +15,10 @@ use Rattle.preference_desk.specs.Histories.{coded_reply}
 
 pub coded_names : Coded DeskNames
 coded_names =
-    code_by (List (List ℕ) × List (List ℕ)) (coded× (coded_list (coded_list coded_ℕ)) (coded_list (coded_list coded_ℕ)))
-    (λ names. (names.students, names.sections)) (λ parts. record { students = parts.0; sections = parts.1 }) (λ _. refl)
+    code_by (List (List ℕ) × List (List ℕ))
+    (coded× (coded_list (coded_list coded_ℕ)) (coded_list (coded_list coded_ℕ)))
+    (λ names. (names.students, names.sections))
+    (λ parts. record { students = parts.0; sections = parts.1 }) (λ _. refl)
 
 coded_name : Coded Name
 coded_name = coded_via (coded_list coded_ℕ) name_bytes same_name
@@ -58,9 +60,11 @@ same_command Unreadable (Clear s') e = let kind = ap (λ p. p.0) e in cc
 same_command Unreadable Close e = let kind = ap (λ p. p.0) e in cc
 
 coded_command : Coded Command
-coded_command = coded_via (coded× coded_ℕ (coded× (coded_list coded_name) coded_ℤ)) parts_of same_command
+coded_command =
+    coded_via (coded× coded_ℕ (coded× (coded_list coded_name) coded_ℤ)) parts_of same_command
 
 pub coded_entry : Coded Entry
 coded_entry =
     code_by (ℕ × (Command × Reply)) (coded× coded_ℕ (coded× coded_command coded_reply))
-    (λ entry. (entry.session, (entry.command, entry.reply))) (λ parts. record { session = parts.0; command = parts.1.0; reply = parts.1.1 }) (λ _. refl)
+    (λ entry. (entry.session, (entry.command, entry.reply)))
+    (λ parts. record { session = parts.0; command = parts.1.0; reply = parts.1.1 }) (λ _. refl)

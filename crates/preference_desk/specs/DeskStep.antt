@@ -41,7 +41,8 @@ names_no_student names Unreadable = false
 -- a section that is named is not in the catalogue
 abbrev pub names_no_section : DeskNames → Command → Bool
 names_no_section names (Rate student section n) = not (has_name names.sections section)
-names_no_section names (Pair student first second n) = not (has_name names.sections first && has_name names.sections second)
+names_no_section names (Pair student first second n) =
+    not (has_name names.sections first && has_name names.sections second)
 names_no_section names (Clear student) = false
 names_no_section names Close = false
 names_no_section names Unreadable = false
@@ -64,16 +65,23 @@ is_out_of_range Unreadable = false
 
 -- a rating above 0 for a section that is not yet rated, where 60 are rated
 abbrev pub has_no_room_to_rate : StudentPreferences → ℕ → ℕ → Bool
-has_no_room_to_rate preferences section rating = nat_lt 0 rating && not (contains_key preferences.ratings section) && nat_le 60 (len preferences.ratings)
+has_no_room_to_rate preferences section rating =
+    nat_lt 0 rating && not (contains_key preferences.ratings section)
+    && nat_le 60 (len preferences.ratings)
 
 -- an adjustment other than 0 for a new pair, where there are 200
 abbrev pub has_no_room_to_pair : StudentPreferences → ℕ × ℕ → ℕ → Bool
-has_no_room_to_pair preferences pair size = nat_lt 0 size && not (contains_key preferences.pairs pair) && nat_le 200 (len preferences.pairs)
+has_no_room_to_pair preferences pair size =
+    nat_lt 0 size && not (contains_key preferences.pairs pair) && nat_le 200 (len preferences.pairs)
 
 abbrev pub is_too_many : DeskNames → DeskState → Command → Bool
-is_too_many names state (Rate student section n) = has_no_room_to_rate (preferences_at state (ordinal_of names.students student)) (ordinal_of names.sections section) (unsigned_abs n)
+is_too_many names state (Rate student section n) =
+    has_no_room_to_rate (preferences_at state (ordinal_of names.students student))
+    (ordinal_of names.sections section) (unsigned_abs n)
 is_too_many names state (Pair student first second n) =
-    has_no_room_to_pair (preferences_at state (ordinal_of names.students student)) (pair_of (ordinal_of names.sections first) (ordinal_of names.sections second)) (unsigned_abs n)
+    has_no_room_to_pair (preferences_at state (ordinal_of names.students student))
+    (pair_of (ordinal_of names.sections first) (ordinal_of names.sections second))
+    (unsigned_abs n)
 is_too_many names state (Clear student) = false
 is_too_many names state Close = false
 is_too_many names state Unreadable = false
@@ -97,19 +105,31 @@ reply_to names state command = first_reply (
 
 -- the state with other preferences of one student
 abbrev pub with_preferences : DeskState → ℕ → StudentPreferences → DeskState
-with_preferences state student new = record { preferences = slice_set state.preferences student new; closed = state.closed }
+with_preferences state student new =
+    record { preferences = slice_set state.preferences student new; closed = state.closed }
 
 -- the state that a command makes where its reply is `Done`
 abbrev pub changed : DeskNames → DeskState → Command → DeskState
 changed names state (Rate student section n) =
     let at = ordinal_of names.students student in
     let old = preferences_at state at in
-    with_preferences state at (record { ratings = with_rating old.ratings (ordinal_of names.sections section) (unsigned_abs n); pairs = old.pairs })
+    with_preferences state at
+    (record {
+      ratings = with_rating old.ratings (ordinal_of names.sections section)
+          (unsigned_abs n);
+      pairs = old.pairs;
+    })
 changed names state (Pair student first second n) =
     let at = ordinal_of names.students student in
     let old = preferences_at state at in
-    with_preferences state at (record { ratings = old.ratings; pairs = with_pair old.pairs (pair_of (ordinal_of names.sections first) (ordinal_of names.sections second)) n })
-changed names state (Clear student) = with_preferences state (ordinal_of names.students student) no_preferences
+    with_preferences state at
+    (record {
+      ratings = old.ratings;
+      pairs = with_pair old.pairs
+          (pair_of (ordinal_of names.sections first) (ordinal_of names.sections second)) n;
+    })
+changed names state (Clear student) =
+    with_preferences state (ordinal_of names.students student) no_preferences
 changed names state Close = record { preferences = state.preferences; closed = true }
 changed names state Unreadable = state
 
@@ -119,4 +139,5 @@ is_done _ = false
 
 -- the state after a command: a reply other than `Done` leaves it as it was
 abbrev pub state_after : DeskNames → DeskState → Command → DeskState
-state_after names state command = if is_done (reply_to names state command) then changed names state command else state
+state_after names state command =
+    if is_done (reply_to names state command) then changed names state command else state

@@ -19,13 +19,16 @@ pub record IsHistory (names : DeskNames) (state : DeskState) (entries : List Ent
 
 coded_preferences : Coded StudentPreferences
 coded_preferences =
-    code_by (FinMap {K = ℕ} nat_cmp ℕ × FinMap {K = ℕ × ℕ} pair_cmp ℤ) (coded× (code coded_ℕ coded_ℕ) (code (coded× coded_ℕ coded_ℕ) coded_ℤ))
-    (λ wanted. (wanted.ratings, wanted.pairs)) (λ maps. record { ratings = maps.0; pairs = maps.1 }) (λ _. refl)
+    code_by (FinMap {K = ℕ} nat_cmp ℕ × FinMap {K = ℕ × ℕ} pair_cmp ℤ)
+    (coded× (code coded_ℕ coded_ℕ) (code (coded× coded_ℕ coded_ℕ) coded_ℤ))
+    (λ wanted. (wanted.ratings, wanted.pairs)) (λ maps. record { ratings = maps.0; pairs = maps.1 })
+    (λ _. refl)
 
 pub coded_state : Coded DeskState
 coded_state =
     code_by (List StudentPreferences × Bool) (coded× (coded_list coded_preferences) coded_bool)
-    (λ state. (state.preferences, state.closed)) (λ parts. record { preferences = parts.0; closed = parts.1 }) (λ _. refl)
+    (λ state. (state.preferences, state.closed))
+    (λ parts. record { preferences = parts.0; closed = parts.1 }) (λ _. refl)
 
 number_of : Reply → ℕ
 number_of reply.Unreadable = 0
@@ -61,12 +64,17 @@ reply_back reply.Done = refl
 pub coded_reply : Coded Reply
 coded_reply = code_by ℕ coded_ℕ number_of reply_of reply_back
 
-IsLegalFrom-prop : (names : DeskNames) (state : DeskState) (entries : List Entry) → IsProp (IsLegalFrom names state entries)
+IsLegalFrom-prop : (names : DeskNames) (state : DeskState) (entries : List Entry)
+    → IsProp (IsLegalFrom names state entries)
 IsLegalFrom-prop names state [] = Unit-prop
-IsLegalFrom-prop names state (entry ∷ more) = ×_prop (Coded-set coded_reply entry.reply (reply_to names state entry.command)) (IsLegalFrom-prop names (state_after names state entry.command) more)
+IsLegalFrom-prop names state (entry ∷ more) =
+    ×_prop (Coded-set coded_reply entry.reply (reply_to names state entry.command))
+    (IsLegalFrom-prop names (state_after names state entry.command) more)
 
-pub IsHistory-prop : (names : DeskNames) (state : DeskState) (entries : List Entry) → IsProp (IsHistory names state entries)
+pub IsHistory-prop : (names : DeskNames) (state : DeskState) (entries : List Entry)
+    → IsProp (IsHistory names state entries)
 IsHistory-prop names state entries a b = λ i. record {
   legal = IsLegalFrom-prop names (opening names) entries a.legal b.legal i;
-  after = Coded-set coded_state state (state_after_all names (opening names) entries) a.after b.after i;
+  after =
+      Coded-set coded_state state (state_after_all names (opening names) entries) a.after b.after i;
 }

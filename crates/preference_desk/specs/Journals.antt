@@ -14,12 +14,15 @@ opening names = open_state (replicate (length names.students) no_preferences)
 -- the state after the commands of these entries
 abbrev pub state_after_all : DeskNames → DeskState → List Entry → DeskState
 state_after_all names state [] = state
-state_after_all names state (entry ∷ more) = state_after_all names (state_after names state entry.command) more
+state_after_all names state (entry ∷ more) =
+    state_after_all names (state_after names state entry.command) more
 
 -- each reply is the desk's in the state after the entries before it
 abbrev pub IsLegalFrom : DeskNames → DeskState → List Entry → Type 0
 IsLegalFrom names state [] = ⊤
-IsLegalFrom names state (entry ∷ more) = (entry.reply ≡ reply_to names state entry.command) × IsLegalFrom names (state_after names state entry.command) more
+IsLegalFrom names state (entry ∷ more) =
+    (entry.reply ≡ reply_to names state entry.command)
+    × IsLegalFrom names (state_after names state entry.command) more
 
 abbrev pub IsLegalJournal : DeskNames → List Entry → Type 0
 IsLegalJournal names entries = IsLegalFrom names (opening names) entries
@@ -34,9 +37,13 @@ sessions_of entries = map (λ (entry : Entry). entry.session) entries
 
 -- the commands of a session, in the order of their entries
 abbrev pub commands_of_session : ℕ → List Entry → List Command
-commands_of_session session entries = map (λ (entry : Entry). entry.command) (part_of (λ (entry : Entry). entry.session) session entries)
+commands_of_session session entries =
+    map (λ (entry : Entry). entry.command)
+    (part_of (λ (entry : Entry). entry.session) session entries)
 
 -- every entry is of a given session, numbered from 1, and the commands of each are its whole stream
 pub record MergesStreams (streams : List (List Command)) (entries : List Entry) : Type 0 where
-  pub given : All (λ (entry : Entry). (1 ≤ entry.session) × (entry.session ≤ length streams)) entries
-  pub whole : (k : ℕ) → k < length streams → commands_of_session (k + 1) entries ≡ slice_index_or streams k []
+  pub given : All (λ (entry : Entry). (1 ≤ entry.session) × (entry.session ≤ length streams))
+      entries
+  pub whole : (k : ℕ) → k < length streams
+      → commands_of_session (k + 1) entries ≡ slice_index_or streams k []

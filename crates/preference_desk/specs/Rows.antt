@@ -19,7 +19,8 @@ IsRating rated = (1 ≤ rated.1) × (rated.1 ≤ 100)
 
 -- an adjustment from -200 to 200 other than 0, the lower section first
 abbrev pub IsAdjustment : (SectionNo × SectionNo × ℤ) → Type 0
-IsAdjustment adjusted = (adjusted.0.0 < adjusted.1.0) × (1 ≤ unsigned_abs adjusted.2) × (unsigned_abs adjusted.2 ≤ 200)
+IsAdjustment adjusted =
+    (adjusted.0.0 < adjusted.1.0) × (1 ≤ unsigned_abs adjusted.2) × (unsigned_abs adjusted.2 ≤ 200)
 
 -- at most 60 ratings, sections ascending
 pub record AreRatings (items : List (SectionNo × ℕ)) : Type 0 where

@@ -30,13 +30,17 @@ told_after known told seat command = record {
 abbrev pub entry_of_step : StepOf Command Reply → Entry
 entry_of_step step = entry_of (step.seat + 1) step.request step.reply
 
--- what a history told of the desk: its steps are the new entries, a legal journal from the state before them, and the state is the one after them
-pub record TellsSteps (known : Known) (old new : Told) (history : List (StepOf Command Reply)) : Type 0 where
+-- what a history told of the desk: its steps are the new entries, a legal journal from the state
+-- before them, and the state is the one after them
+pub record TellsSteps (known : Known) (old new : Told)
+    (history : List (StepOf Command Reply)) : Type 0 where
   pub entries : new.entries ≡ old.entries ++ map entry_of_step history
   pub state : new.state ≡ state_after_all known.names old.state (map entry_of_step history)
   pub legal : IsLegalFrom known.names old.state (map entry_of_step history)
 
 -- a legal history tells its steps
 abbrev pub StepsAreEntriesLaw : Type 0
-StepsAreEntriesLaw = (known : Known) (told : Told) (history : List (StepOf Command Reply)) → IsLegal is_sound told_after told_reply known told history
+StepsAreEntriesLaw =
+    (known : Known) (told : Told) (history : List (StepOf Command Reply))
+    → IsLegal is_sound told_after told_reply known told history
     → TellsSteps known told (state_after_steps told_after known told history) history

@@ -2,7 +2,8 @@
 use Rattle.std.specs.Prelude.{ℕ, Bool, true, false, not, ◌&&◌, nat_le, Option, None, Some, is_some, List, set, length}
 use Rattle.std.specs.List.{insert, remove}
 
--- the row with this entry at the place, in place of the one that stands there where one does; no entry takes out what stands there
+-- the row with this entry at the place, in place of the one that stands there where one does; no
+-- entry takes out what stands there
 abbrev pub written : {E : Type 0} → List E → ℕ → Bool → Option E → List E
 written items place true (Some entry) = set items place entry
 written items place true None = remove items place

@@ -15,7 +15,9 @@ use student_roll::Roll;
 
 // The names of the students, in file order.
 pub(crate) fn students_of(alloc: Global, roll: &Roll) -> Result<IndexSet<Name>, NoMemory>
-    ensures { IfOk result (λ names. map name_bytes names.keys ≡ map (λ (student : Student). student.name) roll.now.students) }
+    ensures { IfOk result
+        (λ names. map name_bytes names.keys
+        ≡ map (λ (student : Student). student.name) roll.now.students) }
 {
     let students = roll.len();
     let mut names = IndexSet::new(alloc);
@@ -27,7 +29,9 @@ pub(crate) fn students_of(alloc: Global, roll: &Roll) -> Result<IndexSet<Name>, 
 
 // The names of the sections, in file order.
 pub(crate) fn sections_of(alloc: Global, catalog: &Catalog) -> Result<IndexSet<Name>, NoMemory>
-    ensures { IfOk result (λ names. map name_bytes names.keys ≡ map (λ (section : Section). section.name) catalog.now.sections) }
+    ensures { IfOk result
+        (λ names. map name_bytes names.keys
+        ≡ map (λ (section : Section). section.name) catalog.now.sections) }
 {
     let sections = catalog.len();
     let mut names = IndexSet::new(alloc);
@@ -44,8 +48,10 @@ pub(crate) fn names_in_limits(
     students: IndexSet<Name>,
     sections: IndexSet<Name>,
 ) -> Names
-    requires students { map name_bytes students.keys ≡ map (λ (student : Student). student.name) roll.now.students }
-    requires sections { map name_bytes sections.keys ≡ map (λ (section : Section). section.name) catalog.now.sections }
+    requires students { map name_bytes students.keys
+        ≡ map (λ (student : Student). student.name) roll.now.students }
+    requires sections { map name_bytes sections.keys
+        ≡ map (λ (section : Section). section.name) catalog.now.sections }
     ensures { names_in result ≡ market_names catalog.now.sections roll.now.students }
 {
     let _few_students = roll.len();

@@ -17,8 +17,8 @@ use std::alloc::Global;
 use student_roll::Roll;
 use utility_language::Command;
 
-/// The desk: what the students want, whether a session has closed it, and the journal of all commands and replies. All memory that it
-/// will need was taken when it was prepared.
+/// The desk: what the students want, whether a session has closed it, and the journal of all
+/// commands and replies. All memory that it will need was taken when it was prepared.
 #[derive(Drop)]
 pub struct Desk {
     names: Names,
@@ -41,16 +41,19 @@ impl Desk {
     ghost use Rattle.preference_desk.specs.MarketNames.{market_names};
     ghost use Rattle.preference_desk.specs.Journals.{IsLegalJournal, closed_preferences, opening};
 
-    /// A desk for the sections of the catalogue and the students of the roll, with room for so many commands: nobody wants anything
-    /// yet, it is not closed, and its journal is empty.
+    /// A desk for the sections of the catalogue and the students of the roll, with room for so many
+    /// commands: nobody wants anything yet, it is not closed, and its journal is empty.
     pub fn prepare(
         alloc: Global,
         catalog: &Catalog,
         roll: &Roll,
         lines: u32,
     ) -> Result<Desk, NoMemory>
-        ensures names { IfOk result (λ desk. names_of desk ≡ market_names catalog.now.sections roll.now.students) }
-        ensures state { IfOk result (λ desk. state_of desk ≡ opening (market_names catalog.now.sections roll.now.students)) }
+        ensures names { IfOk result
+            (λ desk. names_of desk ≡ market_names catalog.now.sections roll.now.students) }
+        ensures state { IfOk result
+            (λ desk. state_of desk
+            ≡ opening (market_names catalog.now.sections roll.now.students)) }
         ensures entries { IfOk result (λ desk. entries_of desk ≡ []) }
         ensures room { IfOk result (λ desk. room_of desk ≡ lines) }
     {
@@ -84,13 +87,16 @@ impl Desk {
         self.lines - self.journal.len() as u32
     }
 
-    /// Takes the session's command: replies to it, carries it out where the reply is `Done`, and enters it into the journal.
+    /// Takes the session's command: replies to it, carries it out where the reply is `Done`, and
+    /// enters it into the journal.
     pub fn post(&mut self, session: u16, command: Command) -> Reply
         requires { 1 ≤ room_of self.old }
         ensures reply { result ≡ reply_to (names_of self.old) (state_of self.old) command }
-        ensures state { state_of self.new ≡ state_after (names_of self.old) (state_of self.old) command }
+        ensures state { state_of self.new
+            ≡ state_after (names_of self.old) (state_of self.old) command }
         ensures names { names_of self.new ≡ names_of self.old }
-        ensures entries { entries_of self.new ≡ entries_of self.old ++ entry_of session command result ∷ [] }
+        ensures entries { entries_of self.new
+            ≡ entries_of self.old ++ entry_of session command result ∷ [] }
         ensures room { room_of self.new + 1 ≡ room_of self.old }
     {
         let reply = carry_out(
@@ -110,9 +116,11 @@ impl Desk {
     /// What the students want after all entries of the journal.
     pub fn closed(&self) -> &Preferences
         ensures state { preferences_of result.now ≡ (state_of self.now).preferences }
-        ensures after { preferences_of result.now ≡ closed_preferences (names_of self.now) (entries_of self.now) }
+        ensures after { preferences_of result.now
+            ≡ closed_preferences (names_of self.now) (entries_of self.now) }
         ensures rows { length (preferences_of result.now) ≡ length (names_of self.now).students }
-        ensures sections { All (SectionsBelow (length (names_of self.now).sections)) (preferences_of result.now) }
+        ensures sections { All (SectionsBelow (length (names_of self.now).sections))
+            (preferences_of result.now) }
     {
         &self.preferences
     }

@@ -1,4 +1,5 @@
-//! The desk: what the sessions' commands make of the students' preferences, and the journal of what was said and replied.
+//! The desk: what the sessions' commands make of the students' preferences, and the journal of what
+//! was said and replied.
 // Neither: how long a post takes. In the code it looks names up in hash tables and searches one
 // student's row.
 #![tactic(auto)]

@@ -31,9 +31,12 @@ impl Names {
 
     // The student of this name.
     pub(crate) fn student(&self, name: &Name) -> Option<StudentNo>
-        ensures has { IfSome result (λ student. has_name (names_in self.now).students name.now ≡ true) }
-        ensures ordinal { IfSome result (λ student. student.0 ≡ ordinal_of (names_in self.now).students name.now) }
-        ensures within { IfSome result (λ student. student.0 < length (names_in self.now).students) }
+        ensures has { IfSome result
+            (λ student. has_name (names_in self.now).students name.now ≡ true) }
+        ensures ordinal { IfSome result
+            (λ student. student.0 ≡ ordinal_of (names_in self.now).students name.now) }
+        ensures within { IfSome result
+            (λ student. student.0 < length (names_in self.now).students) }
         ensures none { IfNone result (has_name (names_in self.now).students name.now ≡ false) }
     {
         let place = self.students.get_index_of(name)?;
@@ -42,9 +45,12 @@ impl Names {
 
     // The section of this name.
     pub(crate) fn section(&self, name: &Name) -> Option<SectionNo>
-        ensures has { IfSome result (λ section. has_name (names_in self.now).sections name.now ≡ true) }
-        ensures ordinal { IfSome result (λ section. section.0 ≡ ordinal_of (names_in self.now).sections name.now) }
-        ensures within { IfSome result (λ section. section.0 < length (names_in self.now).sections) }
+        ensures has { IfSome result
+            (λ section. has_name (names_in self.now).sections name.now ≡ true) }
+        ensures ordinal { IfSome result
+            (λ section. section.0 ≡ ordinal_of (names_in self.now).sections name.now) }
+        ensures within { IfSome result
+            (λ section. section.0 < length (names_in self.now).sections) }
         ensures none { IfNone result (has_name (names_in self.now).sections name.now ≡ false) }
     {
         let place = self.sections.get_index_of(name)?;

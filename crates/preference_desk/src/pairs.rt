@@ -41,12 +41,19 @@ impl Pairs {
         &self.items
     }
 
-    // The pair's adjustment becomes this, and 0 takes it out; `false`, and nothing changes, where there is no room for one more.
+    // The pair's adjustment becomes this, and 0 takes it out; `false`, and nothing changes, where
+    // there is no room for one more.
     pub(crate) fn set(&mut self, first: SectionNo, second: SectionNo, n: i16) -> bool
         requires order { first.0 < second.0 }
         requires small { unsigned_abs n ≤ 200 }
-        ensures room { result ≡ not (nat_lt 0 (unsigned_abs n) && not (contains_key (pairs_in self.old) (first.0, second.0)) && nat_le 200 (len (pairs_in self.old))) }
-        ensures set { pairs_in self.new ≡ (if result then with_pair (pairs_in self.old) (first.0, second.0) n else pairs_in self.old) }
+        ensures room { result
+            ≡ not
+            (nat_lt 0 (unsigned_abs n)
+            && not (contains_key (pairs_in self.old) (first.0, second.0))
+            && nat_le 200 (len (pairs_in self.old))) }
+        ensures set { pairs_in self.new
+            ≡ (if result then with_pair (pairs_in self.old) (first.0, second.0) n
+            else pairs_in self.old) }
     {
         let place = place_of(&self.items, first, second);
         let stands = stands_at(&self.items, place, first, second);
@@ -86,7 +93,9 @@ fn find_from(
     first: SectionNo,
     second: SectionNo,
 ) -> Option<usize>
-    ensures { result ≡ position (λ adjusted. is_le (pair_cmp (first.0, second.0) (pair_entry adjusted).0)) items.now }
+    ensures { result
+        ≡ position (λ adjusted. is_le (pair_cmp (first.0, second.0) (pair_entry adjusted).0))
+        items.now }
 {
     items
         .iter()

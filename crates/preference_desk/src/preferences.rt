@@ -33,7 +33,8 @@ impl Row {
     }
 }
 
-/// What the students of a roll want, student by student: ratings of sections and adjustments of pairs of sections.
+/// What the students of a roll want, student by student: ratings of sections and adjustments of
+/// pairs of sections.
 #[derive(Drop)]
 pub struct Preferences {
     rows: Vec<Row>,
@@ -49,7 +50,8 @@ impl Preferences {
 
     // Nothing is wanted by so many students.
     pub(crate) fn new(alloc: Global, students: u16) -> Result<Preferences, NoMemory>
-        ensures { IfOk result (λ preferences. preferences_of preferences ≡ replicate students no_preferences) }
+        ensures { IfOk result
+            (λ preferences. preferences_of preferences ≡ replicate students no_preferences) }
     {
         let mut rows = Vec::with_capacity(alloc, usize::from(students))?;
         for _student in 0..students {
@@ -72,17 +74,19 @@ impl Preferences {
         self.rows.is_empty()
     }
 
-    /// The sections that the student rates, in ascending order, with their ratings from 1 to 100; at most 60.
+    /// The sections that the student rates, in ascending order, with their ratings from 1 to 100;
+    /// at most 60.
     pub fn ratings(&self, student: StudentNo) -> &[(SectionNo, u8)]
         requires { student.0 < length (preferences_of self.now) }
-        ensures entries { map rating_entry result.now ≡ entries (wanted_by self.now student.0).ratings }
+        ensures entries { map rating_entry result.now
+            ≡ entries (wanted_by self.now student.0).ratings }
         ensures kept { AreRatings result.now }
     {
         self.rows[usize::from(student.0)].ratings.as_slice()
     }
 
-    /// The pairs that the student adjusts, the lower section first, in ascending order, with their adjustments from -200 to 200 and
-    /// other than 0; at most 200.
+    /// The pairs that the student adjusts, the lower section first, in ascending order, with their
+    /// adjustments from -200 to 200 and other than 0; at most 200.
     pub fn pairs(&self, student: StudentNo) -> &[(SectionNo, SectionNo, i16)]
         requires { student.0 < length (preferences_of self.now) }
         ensures entries { map pair_entry result.now ≡ entries (wanted_by self.now student.0).pairs }
@@ -95,8 +99,12 @@ impl Preferences {
     pub(crate) fn rate(&mut self, student: StudentNo, section: SectionNo, rating: u8) -> bool
         requires student { student.0 < length (preferences_of self.old) }
         requires small { rating ≤ 100 }
-        ensures room { result ≡ not (has_no_room_to_rate (wanted_by self.old student.0) section.0 rating) }
-        ensures set { preferences_of self.new ≡ (if result then slice_set (preferences_of self.old) student.0 (record { ratings = with_rating (wanted_by self.old student.0).ratings section.0 rating; pairs = (wanted_by self.old student.0).pairs }) else preferences_of self.old) }
+        ensures room { result
+            ≡ not (has_no_room_to_rate (wanted_by self.old student.0) section.0 rating) }
+        ensures set { preferences_of self.new
+            ≡ (if result
+            then slice_set (preferences_of self.old) student.0 (record { ratings = with_rating (wanted_by self.old student.0).ratings section.0 rating; pairs = (wanted_by self.old student.0).pairs })
+            else preferences_of self.old) }
     {
         let row = &mut self.rows[usize::from(student.0)];
         row.ratings.set(section, rating)
@@ -113,8 +121,14 @@ impl Preferences {
         requires student { student.0 < length (preferences_of self.old) }
         requires order { first.0 < second.0 }
         requires small { unsigned_abs n ≤ 200 }
-        ensures room { result ≡ not (has_no_room_to_pair (wanted_by self.old student.0) (first.0, second.0) (unsigned_abs n)) }
-        ensures set { preferences_of self.new ≡ (if result then slice_set (preferences_of self.old) student.0 (record { ratings = (wanted_by self.old student.0).ratings; pairs = with_pair (wanted_by self.old student.0).pairs (first.0, second.0) n }) else preferences_of self.old) }
+        ensures room { result
+            ≡ not
+            (has_no_room_to_pair (wanted_by self.old student.0) (first.0, second.0)
+            (unsigned_abs n)) }
+        ensures set { preferences_of self.new
+            ≡ (if result
+            then slice_set (preferences_of self.old) student.0 (record { ratings = (wanted_by self.old student.0).ratings; pairs = with_pair (wanted_by self.old student.0).pairs (first.0, second.0) n })
+            else preferences_of self.old) }
     {
         let row = &mut self.rows[usize::from(student.0)];
         row.pairs.set(first, second, n)
@@ -123,7 +137,8 @@ impl Preferences {
     // Takes all ratings and adjustments of the student back.
     pub(crate) fn clear(&mut self, student: StudentNo)
         requires { student.0 < length (preferences_of self.old) }
-        ensures { preferences_of self.new ≡ slice_set (preferences_of self.old) student.0 no_preferences }
+        ensures { preferences_of self.new
+            ≡ slice_set (preferences_of self.old) student.0 no_preferences }
     {
         let row = &mut self.rows[usize::from(student.0)];
         row.clear();

@@ -40,11 +40,17 @@ impl Ratings {
         &self.items
     }
 
-    // The section's rating becomes this, and 0 takes it out; `false`, and nothing changes, where there is no room for one more.
+    // The section's rating becomes this, and 0 takes it out; `false`, and nothing changes, where
+    // there is no room for one more.
     pub(crate) fn set(&mut self, section: SectionNo, rating: u8) -> bool
         requires { rating ≤ 100 }
-        ensures room { result ≡ not (nat_lt 0 rating && not (contains_key (ratings_in self.old) section.0) && nat_le 60 (len (ratings_in self.old))) }
-        ensures set { ratings_in self.new ≡ (if result then with_rating (ratings_in self.old) section.0 rating else ratings_in self.old) }
+        ensures room { result
+            ≡ not
+            (nat_lt 0 rating && not (contains_key (ratings_in self.old) section.0)
+            && nat_le 60 (len (ratings_in self.old))) }
+        ensures set { ratings_in self.new
+            ≡ (if result then with_rating (ratings_in self.old) section.0 rating
+            else ratings_in self.old) }
     {
         let place = place_of(&self.items, section);
         let stands = stands_at(&self.items, place, section);

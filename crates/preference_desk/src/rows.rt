@@ -3,7 +3,8 @@ ghost use Rattle.std.specs.Prelude.{◌≡◌, ◌≤◌, ◌<◌, true, length,
 ghost use Rattle.std.specs.Vec.{vec_capacity};
 ghost use Rattle.preference_desk.specs.Writes.{written, has_room};
 
-// Writes an entry at its key's place, or takes out what stands there; `false`, and nothing changes, where there is no room for one more.
+// Writes an entry at its key's place, or takes out what stands there; `false`, and nothing changes,
+// where there is no room for one more.
 pub(crate) fn write<E: Copy>(
     items: &mut Vec<E>,
     limit: usize,
@@ -15,7 +16,8 @@ pub(crate) fn write<E: Copy>(
     requires inside { stands ≡ true → place < length items.old.items }
     requires capacity { limit ≤ vec_capacity items.old }
     ensures room { result ≡ has_room limit items.old.items stands entry }
-    ensures items { items.new.items ≡ (if result then written items.old.items place stands entry else items.old.items) }
+    ensures items { items.new.items
+        ≡ (if result then written items.old.items place stands entry else items.old.items) }
     ensures capacity { vec_capacity items.old ≤ vec_capacity items.new }
 {
     let Some(entry) = entry else {

@@ -23,7 +23,8 @@ impl Model for Known {
     ghost also_owns = { λ _. ftrue };
 }
 
-/// What the steps of a desk change: what the students want, whether it is closed, and its journal. Contracts alone see it.
+/// What the steps of a desk change: what the students want, whether it is closed, and its journal.
+/// Contracts alone see it.
 pub struct Told {
     pub ghost state: { DeskState } by { coded_state },
     pub ghost entries: { List Entry } by { coded_list coded_entry },

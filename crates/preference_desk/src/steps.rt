@@ -20,8 +20,12 @@ pub(crate) fn rate(
     n: i32,
 ) -> Reply
     requires { length (preferences_of preferences.old) ≡ length (names_in names.now).students }
-    ensures reply { result ≡ reply_to (names_in names.now) (open_state (preferences_of preferences.old)) (command.Rate student.now section.now n) }
-    ensures state { open_state (preferences_of preferences.new) ≡ state_after (names_in names.now) (open_state (preferences_of preferences.old)) (command.Rate student.now section.now n) }
+    ensures reply { result
+        ≡ reply_to (names_in names.now) (open_state (preferences_of preferences.old))
+        (command.Rate student.now section.now n) }
+    ensures state { open_state (preferences_of preferences.new)
+        ≡ state_after (names_in names.now) (open_state (preferences_of preferences.old))
+        (command.Rate student.now section.now n) }
 {
     let Some(student) = names.student(student) else {
         return Reply::NoStudent;
@@ -49,8 +53,12 @@ pub(crate) fn pair(
     n: i32,
 ) -> Reply
     requires { length (preferences_of preferences.old) ≡ length (names_in names.now).students }
-    ensures reply { result ≡ reply_to (names_in names.now) (open_state (preferences_of preferences.old)) (command.Pair student.now first.now second.now n) }
-    ensures state { open_state (preferences_of preferences.new) ≡ state_after (names_in names.now) (open_state (preferences_of preferences.old)) (command.Pair student.now first.now second.now n) }
+    ensures reply { result
+        ≡ reply_to (names_in names.now) (open_state (preferences_of preferences.old))
+        (command.Pair student.now first.now second.now n) }
+    ensures state { open_state (preferences_of preferences.new)
+        ≡ state_after (names_in names.now) (open_state (preferences_of preferences.old))
+        (command.Pair student.now first.now second.now n) }
 {
     let Some(student) = names.student(student) else {
         return Reply::NoStudent;
@@ -79,8 +87,12 @@ pub(crate) fn pair(
 // A student takes everything back.
 pub(crate) fn clear(names: &Names, preferences: &mut Preferences, student: &Name) -> Reply
     requires { length (preferences_of preferences.old) ≡ length (names_in names.now).students }
-    ensures reply { result ≡ reply_to (names_in names.now) (open_state (preferences_of preferences.old)) (command.Clear student.now) }
-    ensures state { open_state (preferences_of preferences.new) ≡ state_after (names_in names.now) (open_state (preferences_of preferences.old)) (command.Clear student.now) }
+    ensures reply { result
+        ≡ reply_to (names_in names.now) (open_state (preferences_of preferences.old))
+        (command.Clear student.now) }
+    ensures state { open_state (preferences_of preferences.new)
+        ≡ state_after (names_in names.now) (open_state (preferences_of preferences.old))
+        (command.Clear student.now) }
 {
     let Some(student) = names.student(student) else {
         return Reply::NoStudent;
@@ -97,8 +109,12 @@ pub(crate) fn carry_out(
     command: Command,
 ) -> Reply
     requires { length (preferences_of preferences.old) ≡ length (names_in names.now).students }
-    ensures reply { result ≡ reply_to (names_in names.now) (state_in (preferences_of preferences.old) closed.old) command }
-    ensures state { state_in (preferences_of preferences.new) closed.new ≡ state_after (names_in names.now) (state_in (preferences_of preferences.old) closed.old) command }
+    ensures reply { result
+        ≡ reply_to (names_in names.now) (state_in (preferences_of preferences.old) closed.old)
+        command }
+    ensures state { state_in (preferences_of preferences.new) closed.new
+        ≡ state_after (names_in names.now) (state_in (preferences_of preferences.old) closed.old)
+        command }
 {
     if command == Command::Unreadable {
         return Reply::Unreadable;

@@ -30,7 +30,9 @@ pub(crate) fn put_rating(
     section: Name,
     rating: u8,
 ) -> Result<(), NoMemory>
-    ensures { OnOk result (text.new.items ≡ text.old.items ++ rating_line (name_bytes student) (name_bytes section) rating) }
+    ensures { OnOk result
+        (text.new.items
+        ≡ text.old.items ++ rating_line (name_bytes student) (name_bytes section) rating) }
 {
     let n = i32::from(rating);
     put_command_line(
@@ -51,7 +53,11 @@ pub(crate) fn put_adjustment(
     second: Name,
     adjustment: i16,
 ) -> Result<(), NoMemory>
-    ensures { OnOk result (text.new.items ≡ text.old.items ++ adjustment_line (name_bytes student) (name_bytes first) (name_bytes second) adjustment) }
+    ensures { OnOk result
+        (text.new.items
+        ≡ text.old.items
+        ++ adjustment_line (name_bytes student) (name_bytes first) (name_bytes second)
+        adjustment) }
 {
     let n = i32::from(adjustment);
     put_command_line(

@@ -20,8 +20,13 @@ pub(crate) fn put_students(
     preferences: &Preferences,
 ) -> Result<(), NoMemory>
     requires students { length (preferences_of preferences.now) ≡ length roll.now.students }
-    requires sections { All (SectionsBelow (length catalog.now.sections)) (preferences_of preferences.now) }
-    ensures { OnOk result (text.new.items ≡ text.old.items ++ wanted_text catalog.now.sections roll.now.students (preferences_of preferences.now)) }
+    requires sections { All (SectionsBelow (length catalog.now.sections))
+        (preferences_of preferences.now) }
+    ensures { OnOk result
+        (text.new.items
+        ≡ text.old.items
+        ++ wanted_text catalog.now.sections roll.now.students
+        (preferences_of preferences.now)) }
 {
     'students: for number in 0..roll.len() {
         let student = StudentNo(number);
@@ -39,8 +44,13 @@ fn put_student(
     student: StudentNo,
 ) -> Result<(), NoMemory>
     requires student { student.0 < length (preferences_of preferences.now) }
-    requires sections { All (SectionsBelow (length catalog.now.sections)) (preferences_of preferences.now) }
-    ensures { OnOk result (text.new.items ≡ text.old.items ++ student_text catalog.now.sections (name_bytes name) (wanted_by preferences.now student.0)) }
+    requires sections { All (SectionsBelow (length catalog.now.sections))
+        (preferences_of preferences.now) }
+    ensures { OnOk result
+        (text.new.items
+        ≡ text.old.items
+        ++ student_text catalog.now.sections (name_bytes name)
+        (wanted_by preferences.now student.0)) }
 {
     put_ratings(text, catalog, name, preferences.ratings(student))?;
     put_adjustments(text, catalog, name, preferences.pairs(student))
@@ -54,7 +64,11 @@ fn put_ratings(
     ratings: &[(SectionNo, u8)],
 ) -> Result<(), NoMemory>
     requires { All (λ rated. rated.0.0 < length catalog.now.sections) ratings.now }
-    ensures { OnOk result (text.new.items ≡ text.old.items ++ ratings_text catalog.now.sections (name_bytes student) (map rating_entry ratings.now)) }
+    ensures { OnOk result
+        (text.new.items
+        ≡ text.old.items
+        ++ ratings_text catalog.now.sections (name_bytes student)
+        (map rating_entry ratings.now)) }
 {
     'ratings: for (section, rating) in ratings {
         put_rating(text, student, catalog.name(*section), *rating)?;
@@ -69,8 +83,15 @@ fn put_adjustments(
     student: Name,
     pairs: &[(SectionNo, SectionNo, i16)],
 ) -> Result<(), NoMemory>
-    requires { All (λ adjusted. (adjusted.0.0 < length catalog.now.sections) × (adjusted.1.0 < length catalog.now.sections)) pairs.now }
-    ensures { OnOk result (text.new.items ≡ text.old.items ++ adjustments_text catalog.now.sections (name_bytes student) (map pair_entry pairs.now)) }
+    requires { All
+        (λ adjusted. (adjusted.0.0 < length catalog.now.sections)
+        × (adjusted.1.0 < length catalog.now.sections))
+        pairs.now }
+    ensures { OnOk result
+        (text.new.items
+        ≡ text.old.items
+        ++ adjustments_text catalog.now.sections (name_bytes student)
+        (map pair_entry pairs.now)) }
 {
     'pairs: for (first, second, adjustment) in pairs {
         let first = catalog.name(*first);

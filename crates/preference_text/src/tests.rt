@@ -16,7 +16,8 @@ const CATALOG: &[u8] = b"section,course,seats,credits,meetings\nA,AA,1,1,\nB,BB,
 
 const ROLL: &[u8] = b"student,budget,credits,courses\nann,100,10,1\nbob,100,10,1\n";
 
-// Lines with their sessions, and the text after them: student by student, sections ascending, lower sections first.
+// Lines with their sessions, and the text after them: student by student, sections ascending, lower
+// sections first.
 const STUDENT_BY_STUDENT: [(u16, &[u8]); 7] = [
     (1, b"pair bob C A 7"),
     (1, b"rate bob C 1"),

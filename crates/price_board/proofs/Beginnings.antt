@@ -25,7 +25,8 @@ sum_of-replicate (suc n) share =
     let goal : share + a ≡ suc n * share = omega arith in goal
 
 -- a seat that has seen nothing is free
-fresh_free : (board : Origin Terms Progress) (number left : ℕ) → IsOpening board.base board.opening → left ≡ 2 * task_count board.base + 1 → IsFree board (standing (Some board) number left [] [])
+fresh_free : (board : Origin Terms Progress) (number left : ℕ) → IsOpening board.base board.opening → left ≡ 2 * task_count board.base + 1
+    → IsFree board (standing (Some board) number left [] [])
 fresh_free board number left opens allotted = record {
   is_seat = record {
     of = refl;
@@ -36,10 +37,14 @@ fresh_free board number left opens allotted = record {
     one_done = (let goal : 0 ≤ 1 = omega arith in goal);
     few_posts = (let n : ℕ = task_count board.base in let goal : 0 ≤ n = omega arith in goal);
   };
-  holds_nothing = λ v s held. (let opened : place_of board.opening.rows v s ≡ Open = opened_at board.base board.opening opens v s in let e : Open ≡ Held number = sym opened ∙ held in cc);
+  holds_nothing =
+      λ v s held. (let opened : place_of board.opening.rows v s ≡ Open = opened_at board.base board.opening opens v s in let e : Open
+      ≡ Held number = sym opened ∙ held in cc);
   not_done = refl;
   each_posted = refl;
 }
 
-pub new_free : (board : Origin Terms Progress) (number left : ℕ) (seat : Standing Terms Progress BoardCall BoardReply) → seat ≡ standing (Some board) number left [] [] → IsOpening board.base board.opening → left ≡ 2 * task_count board.base + 1 → IsFree board seat
-new_free board number left seat is opens allotted = subst (λ (s : Standing Terms Progress BoardCall BoardReply). IsFree board s) (sym is) (fresh_free board number left opens allotted)
+pub new_free : (board : Origin Terms Progress) (number left : ℕ) (seat : Standing Terms Progress BoardCall BoardReply)
+    → seat ≡ standing (Some board) number left [] [] → IsOpening board.base board.opening → left ≡ 2 * task_count board.base + 1 → IsFree board seat
+new_free board number left seat is opens allotted =
+    subst (λ (s : Standing Terms Progress BoardCall BoardReply). IsFree board s) (sym is) (fresh_free board number left opens allotted)

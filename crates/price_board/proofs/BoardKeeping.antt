@@ -36,29 +36,42 @@ module _ (terms : Terms) (rows : List (List Place)) where
       let low : v < length rows = row_below rows v s within in
       record {
         versions = rows-length rows v s p ∙ are.versions;
-        students = All-changed (λ row. length row ≡ student_count terms) rows v (slice_set (row_of rows v) s p) are.students (length-set (row_of rows v) s p ∙ are.students v [] low);
+        students =
+            All-changed (λ row. length row ≡ student_count terms) rows v (slice_set (row_of rows v) s p) are.students
+            (length-set (row_of rows v) s p ∙ are.students v [] low);
       }
 
-  right_kept : (v s : ℕ) (p : Place) → AreRight terms rows → s < length (row_of rows v) → ((b : Bundle) → bundle_in p ≡ Some b → sections_of b ≡ demand_of terms v s) → AreRight terms (with_place rows v s p)
+  right_kept : (v s : ℕ) (p : Place) → AreRight terms rows → s < length (row_of rows v)
+      → ((b : Bundle) → bundle_in p ≡ Some b → sections_of b ≡ demand_of terms v s) → AreRight terms (with_place rows v s p)
   right_kept v s p right within good w t b is =
       elim (cases_Bool ((v == w) && (s == t))) [
         | inl same ↦
             let e = same_place v w s t same in
-            let there : place_of (with_place rows v s p) w t ≡ p = subst (λ x. place_of (with_place rows v s p) x t ≡ p) e.0 (subst (λ x. place_of (with_place rows v s p) v x ≡ p) e.1 (place-same rows v s p within)) in
+            let there : place_of (with_place rows v s p) w t ≡ p =
+            subst (λ x. place_of (with_place rows v s p) x t ≡ p) e.0
+            (subst (λ x. place_of (with_place rows v s p) v x ≡ p) e.1 (place-same rows v s p within)) in
             subst (λ x. sections_of b ≡ demand_of terms x t) e.0 (subst (λ x. sections_of b ≡ demand_of terms v x) e.1 (good b (sym (ap bundle_in there) ∙ is)))
         | inr apart ↦ right w t b (sym (ap bundle_in (place-other rows v w s t p apart)) ∙ is)
       ]
 
   -- a change that posts nothing
-  tallied_kept : (tallies : List Tally) (v s : ℕ) (p : Place) → tallies ≡ tallies_of terms.asks 0 rows → s < length (row_of rows v) → bundle_in (place_of rows v s) ≡ None → bundle_in p ≡ None → tallies ≡ tallies_of terms.asks 0 (with_place rows v s p)
+  tallied_kept : (tallies : List Tally) (v s : ℕ) (p : Place) → tallies ≡ tallies_of terms.asks 0 rows → s < length (row_of rows v)
+      → bundle_in (place_of rows v s) ≡ None → bundle_in p ≡ None → tallies ≡ tallies_of terms.asks 0 (with_place rows v s p)
   tallied_kept tallies v s p tallied within was is =
       let low : v < length rows = row_below rows v s within in
       let d : Tally = tally_of (ask_of terms.asks (0 + v)) (row_of rows v) in
-      let same : tally_of (ask_of terms.asks (0 + v)) (slice_set (row_of rows v) s p) ≡ slice_index_or (tallies_of terms.asks 0 rows) v d = tally-kept (ask_of terms.asks (0 + v)) (row_of rows v) s p within was is ∙ sym (tallies-at terms.asks 0 rows v d low) in
-      tallied ∙ sym (set-kept (tallies_of terms.asks 0 rows) v d) ∙ ap (slice_set (tallies_of terms.asks 0 rows) v) (sym same) ∙ sym (tallies-set terms.asks 0 rows v (slice_set (row_of rows v) s p))
+      let same : tally_of (ask_of terms.asks (0 + v)) (slice_set (row_of rows v) s p) ≡ slice_index_or (tallies_of terms.asks 0 rows) v d =
+      tally-kept (ask_of terms.asks (0 + v)) (row_of rows v) s p within was is ∙ sym (tallies-at terms.asks 0 rows v d low) in
+      tallied ∙ sym (set-kept (tallies_of terms.asks 0 rows) v d) ∙ ap (slice_set (tallies_of terms.asks 0 rows) v) (sym same)
+      ∙ sym (tallies-set terms.asks 0 rows v (slice_set (row_of rows v) s p))
 
-  tallied_filled : (tallies : List Tally) (v s seat : ℕ) (bundle : Bundle) (new : Tally) → tallies ≡ tallies_of terms.asks 0 rows → s < length (row_of rows v) → bundle_in (place_of rows v s) ≡ None
-      → new ≡ record { unfilled = unfilled_in (row_of rows v) - 1; count = count_for (ask_of terms.asks v) (row_of rows v) + one_for (ask_of terms.asks v) (Some bundle) }
+  tallied_filled : (tallies : List Tally) (v s seat : ℕ) (bundle : Bundle) (new : Tally) → tallies ≡ tallies_of terms.asks 0 rows → s < length (row_of rows v)
+      → bundle_in (place_of rows v s) ≡ None
+      → new
+      ≡ record {
+        unfilled = unfilled_in (row_of rows v) - 1;
+        count = count_for (ask_of terms.asks v) (row_of rows v) + one_for (ask_of terms.asks v) (Some bundle);
+      }
       → slice_set tallies v new ≡ tallies_of terms.asks 0 (with_place rows v s (Filled seat bundle))
   tallied_filled tallies v s seat bundle new tallied within was is =
       let e : v ≡ 0 + v = omega arith in
@@ -72,7 +85,8 @@ module _ (terms : Terms) (rows : List (List Place)) where
     pub tally_at : (w : ℕ) (t : Tally) → w < version_count terms → t ≡ slice_index_or tallies w t → t ≡ tally_of (ask_of terms.asks w) (row_of rows w)
     tally_at w t low is =
         let e : 0 + w ≡ w = omega arith in
-        is ∙ ap (λ l. slice_index_or l w t) keeps.tallied ∙ tallies-at terms.asks 0 rows w t (subst (λ n. w < n) (sym keeps.rows.versions) low) ∙ ap (λ n. tally_of (ask_of terms.asks n) (row_of rows w)) e
+        is ∙ ap (λ l. slice_index_or l w t) keeps.tallied ∙ tallies-at terms.asks 0 rows w t (subst (λ n. w < n) (sym keeps.rows.versions) low)
+        ∙ ap (λ n. tally_of (ask_of terms.asks n) (row_of rows w)) e
 
     pub count_tallies : length tallies ≡ version_count terms
     count_tallies = ap length keeps.tallied ∙ tallies-length terms.asks 0 rows ∙ keeps.rows.versions
@@ -80,7 +94,8 @@ module _ (terms : Terms) (rows : List (List Place)) where
     pub wide_at : (w : ℕ) → w < version_count terms → length (row_of rows w) ≡ student_count terms
     wide_at w low = row_wide w keeps.rows low
 
-    pub small_at : (w : ℕ) (t : Tally) → student_count terms ≤ 2000 → w < version_count terms → t ≡ tally_of (ask_of terms.asks w) (row_of rows w) → t.count + t.unfilled ≤ 2000
+    pub small_at : (w : ℕ) (t : Tally) → student_count terms ≤ 2000 → w < version_count terms → t ≡ tally_of (ask_of terms.asks w) (row_of rows w)
+        → t.count + t.unfilled ≤ 2000
     small_at w t few low is =
         let a : ℕ = count_for (ask_of terms.asks w) (row_of rows w) in
         let b : ℕ = unfilled_in (row_of rows w) in
@@ -93,8 +108,10 @@ module _ (terms : Terms) (rows : List (List Place)) where
         let high : n ≤ 2000 = few in
         let goal : t.count + t.unfilled ≤ 2000 = omega arith in goal
 
-    pub settled_at : (w : ℕ) (ask : Ask) (t : Tally) (result : Bool) → ask ≡ ask_of terms.asks w → t ≡ tally_of (ask_of terms.asks w) (row_of rows w) → result ≡ settles ask t → result ≡ is_settled (ask_of terms.asks w) (row_of rows w)
-    settled_at w ask t result asked is said = said ∙ ap (λ a. settles a t) asked ∙ ap (settles (ask_of terms.asks w)) is ∙ settles_is (ask_of terms.asks w) (row_of rows w)
+    pub settled_at : (w : ℕ) (ask : Ask) (t : Tally) (result : Bool) → ask ≡ ask_of terms.asks w → t ≡ tally_of (ask_of terms.asks w) (row_of rows w)
+        → result ≡ settles ask t → result ≡ is_settled (ask_of terms.asks w) (row_of rows w)
+    settled_at w ask t result asked is said =
+        said ∙ ap (λ a. settles a t) asked ∙ ap (settles (ask_of terms.asks w)) is ∙ settles_is (ask_of terms.asks w) (row_of rows w)
 
     -- another cursor of the same rows
     pub with_cursor : (version student : ℕ) → IsCursor terms.asks rows version student → KeepsTasks terms rows tallies version student
@@ -129,7 +146,11 @@ module _ (terms : Terms) (rows : List (List Place)) where
 
     -- a post that is taken
     pub keeps_filled : (w t seat : ℕ) (bundle : Bundle) (new : Tally) → is_held_by seat (place_of rows w t) ≡ true → sections_of bundle ≡ demand_of terms w t
-        → new ≡ record { unfilled = unfilled_in (row_of rows w) - 1; count = count_for (ask_of terms.asks w) (row_of rows w) + one_for (ask_of terms.asks w) (Some bundle) }
+        → new
+        ≡ record {
+          unfilled = unfilled_in (row_of rows w) - 1;
+          count = count_for (ask_of terms.asks w) (row_of rows w) + one_for (ask_of terms.asks w) (Some bundle);
+        }
         → KeepsTasks terms (with_place rows w t (Filled seat bundle)) (slice_set tallies w new) v s
     keeps_filled w t seat bundle new held good is =
         let there : place_of rows w t ≡ Held seat = held_is seat (place_of rows w t) held in
@@ -144,11 +165,16 @@ module _ (terms : Terms) (rows : List (List Place)) where
     -- the tally that the code puts
     pub new_tally : (w : ℕ) (ask : Ask) (t new : Tally) (bundle : Bundle) → ask ≡ ask_of terms.asks w → t ≡ tally_of (ask_of terms.asks w) (row_of rows w)
         → new ≡ record { unfilled = t.unfilled - 1; count = t.count + one_for ask (Some bundle) }
-        → new ≡ record { unfilled = unfilled_in (row_of rows w) - 1; count = count_for (ask_of terms.asks w) (row_of rows w) + one_for (ask_of terms.asks w) (Some bundle) }
+        → new
+        ≡ record {
+          unfilled = unfilled_in (row_of rows w) - 1;
+          count = count_for (ask_of terms.asks w) (row_of rows w) + one_for (ask_of terms.asks w) (Some bundle);
+        }
     new_tally w ask t new bundle asked is put =
         put ∙ (λ i. record { unfilled = (is i).unfilled - 1; count = (is i).count + one_for (asked i) (Some bundle) })
 
-    pub place_left : (w t seat : ℕ) (tally : Tally) → is_held_by seat (place_of rows w t) ≡ true → tally ≡ tally_of (ask_of terms.asks w) (row_of rows w) → 1 ≤ tally.unfilled
+    pub place_left : (w t seat : ℕ) (tally : Tally) → is_held_by seat (place_of rows w t) ≡ true → tally ≡ tally_of (ask_of terms.asks w) (row_of rows w)
+        → 1 ≤ tally.unfilled
     place_left w t seat tally held is =
         let there : place_of rows w t ≡ Held seat = held_is seat (place_of rows w t) held in
         subst (λ (x : Tally). 1 ≤ x.unfilled) (sym is) (none_left (row_of rows w) t (closed_below (row_of rows w) t (ap is_open there)) (ap bundle_in there))
@@ -162,13 +188,15 @@ few_tasks n m few small =
 -- the answers, and the rows after them
 
 module _ (asks : List Ask) (rows : List (List Place)) where
-  pub drew_task : (seat v s : ℕ) → first_task asks 0 rows ≡ Some (v, s) → (Drawn (task_of v s) ≡ draw_answer asks rows) × (with_place rows v s (Held seat) ≡ rows_drawn asks rows seat)
+  pub drew_task : (seat v s : ℕ) → first_task asks 0 rows ≡ Some (v, s)
+      → (Drawn (task_of v s) ≡ draw_answer asks rows) × (with_place rows v s (Held seat) ≡ rows_drawn asks rows seat)
   drew_task seat v s first = (sym (ap draw_of first), sym (ap (λ task. with_holder seat task rows) first))
 
   pub drew_none : (seat : ℕ) → first_task asks 0 rows ≡ None → (Done ≡ draw_answer asks rows) × (rows ≡ rows_drawn asks rows seat)
   drew_none seat none = (sym (ap draw_of none), sym (ap (λ task. with_holder seat task rows) none))
 
-  pub post_late : (seat v s count : ℕ) (bundle : Bundle) → is_held_by seat (place_of rows v s) ≡ true → is_settled (ask_of asks v) (row_of rows v) ≡ true → count ≡ count_for (ask_of asks v) (row_of rows v)
+  pub post_late : (seat v s count : ℕ) (bundle : Bundle) → is_held_by seat (place_of rows v s) ≡ true → is_settled (ask_of asks v) (row_of rows v) ≡ true
+      → count ≡ count_for (ask_of asks v) (row_of rows v)
       → (Late count ≡ post_answer asks rows seat v s) × (with_place rows v s (Spent seat) ≡ rows_posted asks rows seat v s bundle)
   post_late seat v s count bundle held settled is = (rw (held, settled) (ap Late is), rw (held, settled) refl)
 
@@ -198,7 +226,9 @@ none_counted (Exceeds section limit) = refl
 
 open_count : (ask : Ask) (m : ℕ) → count_for ask (replicate m Open) ≡ 0
 open_count ask zero = refl
-open_count ask (suc m) = let n : ℕ = count_for ask (replicate m Open) in let h : n ≡ 0 = open_count ask m in let a : ℕ = one_for ask None in let e : a ≡ 0 = none_counted ask in let goal : a + n ≡ 0 = omega arith in goal
+open_count ask (suc m) =
+    let n : ℕ = count_for ask (replicate m Open) in
+    let h : n ≡ 0 = open_count ask m in let a : ℕ = one_for ask None in let e : a ≡ 0 = none_counted ask in let goal : a + n ≡ 0 = omega arith in goal
 
 open_tallies : (asks : List Ask) (k n m : ℕ) → replicate n (record { unfilled = m; count = 0 }) ≡ tallies_of asks k (replicate n (replicate m Open))
 open_tallies asks k zero m = refl
@@ -208,7 +238,9 @@ open_tallies asks k (suc n) m =
     let rest = open_tallies asks (k + 1) n m in
     λ i. record { unfilled = a i; count = b i } ∷ rest i
 
-pub keeps_open : (terms : Terms) (rows : List (List Place)) (tallies : List Tally) → rows ≡ replicate (version_count terms) (replicate (student_count terms) Open) → tallies ≡ replicate (version_count terms) (record { unfilled = student_count terms; count = 0 })
+pub keeps_open : (terms : Terms) (rows : List (List Place)) (tallies : List Tally)
+    → rows ≡ replicate (version_count terms) (replicate (student_count terms) Open)
+    → tallies ≡ replicate (version_count terms) (record { unfilled = student_count terms; count = 0 })
     → KeepsTasks terms rows tallies 0 0
 keeps_open terms rows tallies are count =
     let n : ℕ = version_count terms in
@@ -217,7 +249,9 @@ keeps_open terms rows tallies are count =
     record {
       rows = record {
         versions = ap length are ∙ length-replicate n (replicate m Open);
-        students = subst (λ r. All (λ row. length row ≡ m) r) (sym are) (All-replicate (λ (row : List Place). length row ≡ m) n (replicate m Open) (length-replicate m Open));
+        students =
+            subst (λ r. All (λ row. length row ≡ m) r) (sym are)
+            (All-replicate (λ (row : List Place). length row ≡ m) n (replicate m Open) (length-replicate m Open));
       };
       right = λ v s b is. let none : bundle_in (place_of rows v s) ≡ None = ap bundle_in (opened v s) in cc;
       tallied = count ∙ open_tallies terms.asks 0 n m ∙ ap (tallies_of terms.asks 0) (sym are);

@@ -59,10 +59,12 @@ one_between section None sections right =
     ]
 one_between section (Some c) sections right =
     let x : ℕ = if has (sections_of c) section then 1 else 0 in
-    subst (λ l. (x ≤ (if has l section then 1 else 0)) × ((if has l section then 1 else 0) ≤ x + 0)) (right c refl) ((let goal : x ≤ x = omega arith in goal), (let goal : x ≤ x + 0 = omega arith in goal))
+    subst (λ l. (x ≤ (if has l section then 1 else 0)) × ((if has l section then 1 else 0) ≤ x + 0)) (right c refl)
+    ((let goal : x ≤ x = omega arith in goal), (let goal : x ≤ x + 0 = omega arith in goal))
 
 -- how many take the section is between the posted bundles with it and these with the unfilled places
-between : (section : ℕ) (row : List Place) (list : List (List ℕ)) → length row ≡ length list → ((s : ℕ) (b : Bundle) → bundle_in (slice_index_or row s Open) ≡ Some b → sections_of b ≡ slice_index_or list s [])
+between : (section : ℕ) (row : List Place) (list : List (List ℕ)) → length row ≡ length list
+    → ((s : ℕ) (b : Bundle) → bundle_in (slice_index_or row s Open) ≡ Some b → sections_of b ≡ slice_index_or list s [])
     → (with_section section row ≤ holders section list) × (holders section list ≤ with_section section row + unfilled_in row)
 between section [] [] same right = ((let goal : 0 ≤ 0 = omega arith in goal), (let goal : 0 ≤ 0 + 0 = omega arith in goal))
 between section [] (sections ∷ list) same right = absurd (let k : ℕ = length list in let h : 0 ≡ suc k = same in omega arith)
@@ -105,7 +107,9 @@ module _ (terms : Terms) (rows : List (List Place)) (shape : AreRows terms rows)
   decides : (v : ℕ) (ask : Ask) → v < version_count terms → is_settled ask (row_of rows v) ≡ true → exceeds_in ask (row_of rows v) ≡ exceeds_at terms v ask
   decides v Counts low is = refl
   decides v (Exceeds section limit) low is =
-      let both = between section.0 (row_of rows v) (demands terms.crowd (prices_of terms v)) (row_wide v low ∙ sym (as_many terms.crowd (prices_of terms v))) (λ s b there. right v s b there) in
+      let both =
+      between section.0 (row_of rows v) (demands terms.crowd (prices_of terms v)) (row_wide v low ∙ sym (as_many terms.crowd (prices_of terms v)))
+      (λ s b there. right v s b there) in
       ap Some (decided limit (with_section section.0 (row_of rows v)) (unfilled_in (row_of rows v)) (count_of terms v section.0) is both.0 both.1)
 
   -- what the posted bundles say is what the crowd's demand says
@@ -113,7 +117,9 @@ module _ (terms : Terms) (rows : List (List Place)) (shape : AreRows terms rows)
   exceeds_right v asks =
       let n : ℕ = version_count terms in
       elim (cases_Bool (nat_lt v n)) [
-        | inl low ↦ decides v (ask_of terms.asks v) (let goal : v < n = grind (arith, nat_tests) in goal) (settled v (let goal : v < n = grind (arith, nat_tests) in goal))
+        | inl low ↦
+            decides v (ask_of terms.asks v) (let goal : v < n = grind (arith, nat_tests) in goal)
+            (settled v (let goal : v < n = grind (arith, nat_tests) in goal))
         | inr high ↦
             let past : n ≤ v = grind (arith, nat_tests) in
             let none : ask_of terms.asks v ≡ Counts = past_end terms.asks v Counts (subst (λ k. k ≤ v) (sym asks) past) in
@@ -121,7 +127,9 @@ module _ (terms : Terms) (rows : List (List Place)) (shape : AreRows terms rows)
       ]
 
 -- each place of a Counts version is filled
-pub counts_filled : (terms : Terms) (rows : List (List Place)) → AreRows terms rows → AreSettled terms rows → (v s : ℕ) → v < version_count terms → s < student_count terms → ask_of terms.asks v ≡ Counts → IsSome (bundle_in (place_of rows v s))
+pub counts_filled : (terms : Terms) (rows : List (List Place)) → AreRows terms rows → AreSettled terms rows → (v s : ℕ) → v < version_count terms
+    → s < student_count terms → ask_of terms.asks v ≡ Counts → IsSome (bundle_in (place_of rows v s))
 counts_filled terms rows shape settled v s low within counts =
     let wide : length (row_of rows v) ≡ student_count terms = shape.students v [] (subst (λ n. v < n) (sym shape.versions) low) in
-    some_unless (bundle_in (place_of rows v s)) (λ none. unfilled_open (ask_of terms.asks v) (row_of rows v) s counts (subst (λ n. s < n) (sym wide) within) (settled v low) none)
+    some_unless (bundle_in (place_of rows v s))
+    (λ none. unfilled_open (ask_of terms.asks v) (row_of rows v) s counts (subst (λ n. s < n) (sym wide) within) (settled v low) none)

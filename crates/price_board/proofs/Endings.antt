@@ -45,7 +45,8 @@ each_of P test (x ∷ xs) all =
     ]
 
 -- each request of a legal history is sound
-sound_on : (terms : Terms) (progress : Progress) (history : List (StepOf BoardCall BoardReply)) (v s : ℕ) → IsLegal is_sound progress_after reply_to terms progress history
+sound_on : (terms : Terms) (progress : Progress) (history : List (StepOf BoardCall BoardReply)) (v s : ℕ)
+    → IsLegal is_sound progress_after reply_to terms progress history
     → Each (λ (step : StepOf BoardCall BoardReply). is_sound terms step.request ≡ true) (calls_on v s history)
 sound_on terms progress [] v s legal = tt
 sound_on terms progress (step ∷ more) v s legal =
@@ -56,7 +57,8 @@ sound_on terms progress (step ∷ more) v s legal =
     ]
 
 -- a `Done` of a seat is one of the history
-done_of_seat : (n : ℕ) (history : List (StepOf BoardCall BoardReply)) → 1 ≤ dones (calls_by n history) → list_any (λ (step : StepOf BoardCall BoardReply). is_done step.reply) history ≡ true
+done_of_seat : (n : ℕ) (history : List (StepOf BoardCall BoardReply)) → 1 ≤ dones (calls_by n history)
+    → list_any (λ (step : StepOf BoardCall BoardReply). is_done step.reply) history ≡ true
 done_of_seat n [] some = absurd (omega arith)
 done_of_seat n (step ∷ more) some =
     elim (cases_Bool (is_done step.reply)) [
@@ -67,9 +69,12 @@ done_of_seat n (step ∷ more) some =
       ])
     ]
 
-module _ (board : Origin Terms Progress) (history : List (StepOf BoardCall BoardReply)) (seats : List (Standing Terms Progress BoardCall BoardReply)) (some : 1 ≤ length board.allotments)
-    (all : (n : ℕ) → n < length board.allotments → Any (λ (s : Standing Terms Progress BoardCall BoardReply). s.number ≡ n) seats) (finished : All (λ (s : Standing Terms Progress BoardCall BoardReply). IsFinished board s) seats)
-    (legal : IsLegal is_sound progress_after reply_to board.base board.opening history) (known : All (λ (step : StepOf BoardCall BoardReply). Any (λ (s : Standing Terms Progress BoardCall BoardReply). s.number ≡ step.seat) seats) history)
+module _ (board : Origin Terms Progress) (history : List (StepOf BoardCall BoardReply)) (seats : List (Standing Terms Progress BoardCall BoardReply))
+    (some : 1 ≤ length board.allotments)
+    (all : (n : ℕ) → n < length board.allotments → Any (λ (s : Standing Terms Progress BoardCall BoardReply). s.number ≡ n) seats)
+    (finished : All (λ (s : Standing Terms Progress BoardCall BoardReply). IsFinished board s) seats)
+    (legal : IsLegal is_sound progress_after reply_to board.base board.opening history)
+    (known : All (λ (step : StepOf BoardCall BoardReply). Any (λ (s : Standing Terms Progress BoardCall BoardReply). s.number ≡ step.seat) seats) history)
     (own : All (λ (s : Standing Terms Progress BoardCall BoardReply). calls_by s.number history ≡ s.own) seats) where
   -- the first seat
   first : Any (λ (s : Standing Terms Progress BoardCall BoardReply). s.number ≡ 0) seats
@@ -78,7 +83,8 @@ module _ (board : Origin Terms Progress) (history : List (StepOf BoardCall Board
   seat_finished : (k : ℕ) (who : Standing Terms Progress BoardCall BoardReply) → k < length seats → slice_index_or seats k who ≡ who → IsFinished board who
   seat_finished k who low same = subst (λ (s : Standing Terms Progress BoardCall BoardReply). IsFinished board s) same (finished k who low)
 
-  seat_own : (k : ℕ) (who : Standing Terms Progress BoardCall BoardReply) → k < length seats → slice_index_or seats k who ≡ who → calls_by who.number history ≡ who.own
+  seat_own : (k : ℕ) (who : Standing Terms Progress BoardCall BoardReply) → k < length seats → slice_index_or seats k who ≡ who
+      → calls_by who.number history ≡ who.own
   seat_own k who low same = subst (λ (s : Standing Terms Progress BoardCall BoardReply). calls_by s.number history ≡ s.own) same (own k who low)
 
   pub opening : IsOpening board.base board.opening
@@ -100,16 +106,21 @@ module _ (board : Origin Terms Progress) (history : List (StepOf BoardCall Board
   nobody_holds : (v s seat : ℕ) → ¬ (place_of rows v s ≡ Held seat)
   unfolding rows
   nobody_holds v s seat held =
-      let calls : calls_on v s history ≡ drew seat v s ∷ [] = subst (λ p. AreCallsTo v s p (calls_on v s history)) held (calls_tell board.base board.opening history opening legal v s) in
-      let each = subst (λ l. Each (λ (step : StepOf BoardCall BoardReply). Any (λ (s : Standing Terms Progress BoardCall BoardReply). s.number ≡ step.seat) seats) l) calls
-      (each_of (λ (step : StepOf BoardCall BoardReply). Any (λ (s : Standing Terms Progress BoardCall BoardReply). s.number ≡ step.seat) seats) (λ (step : StepOf BoardCall BoardReply). is_on_call v s step.request step.reply) history known) in
+      let calls : calls_on v s history ≡ drew seat v s ∷ [] =
+      subst (λ p. AreCallsTo v s p (calls_on v s history)) held (calls_tell board.base board.opening history opening legal v s) in
+      let each =
+      subst (λ l. Each (λ (step : StepOf BoardCall BoardReply). Any (λ (s : Standing Terms Progress BoardCall BoardReply). s.number ≡ step.seat) seats) l)
+      calls
+      (each_of (λ (step : StepOf BoardCall BoardReply). Any (λ (s : Standing Terms Progress BoardCall BoardReply). s.number ≡ step.seat) seats)
+      (λ (step : StepOf BoardCall BoardReply). is_on_call v s step.request step.reply) history known) in
       let its : Any (λ (s : Standing Terms Progress BoardCall BoardReply). s.number ≡ seat) seats = each.0 in
       let who = its.1 in
       let end : IsFinished board who = seat_finished its.0 who its.2 its.3 in
       let mine : calls_by who.number history ≡ who.own = seat_own its.0 who its.2 its.3 in
       let number : who.number ≡ seat = its.4 in
       end.holds_nothing v s
-      (stays_held board.base board.opening opening history who.seen who.number legal end.is_seat.legal (mine ∙ sym end.is_seat.all_own) v s (held ∙ ap Held (sym number)))
+      (stays_held board.base board.opening opening history who.seen who.number legal end.is_seat.legal (mine ∙ sym end.is_seat.all_own) v s
+      (held ∙ ap Held (sym number)))
 
   -- each version is settled
   pub all_settled : AreSettled board.base rows
@@ -117,22 +128,32 @@ module _ (board : Origin Terms Progress) (history : List (StepOf BoardCall Board
   all_settled v low =
       let shape : AreRows board.base board.opening.rows = rows_shape board.base board.opening [] opening in
       let over = done_over board.base board.opening history legal some_done v (subst (λ n. v < n) (sym shape.versions) low) in
-      over_settled board.base.asks (rows_after board history) v nobody_holds (spent_all board.base board.opening history (spent_opening board.base board.opening opening)) over
+      over_settled board.base.asks (rows_after board history) v nobody_holds
+      (spent_all board.base board.opening history (spent_opening board.base board.opening opening)) over
 
-  pub all_settled_as : (terms : Terms) (progress : Progress) → terms ≡ board.base → progress ≡ state_after progress_after board.base board.opening history → AreSettled terms progress.rows
+  pub all_settled_as : (terms : Terms) (progress : Progress) → terms ≡ board.base → progress ≡ state_after progress_after board.base board.opening history
+      → AreSettled terms progress.rows
   unfolding rows
-  all_settled_as terms progress same last = subst (λ (t : Terms). AreSettled t progress.rows) (sym same) (subst (λ (p : Progress). AreSettled board.base p.rows) (sym last) all_settled)
+  all_settled_as terms progress same last =
+      subst (λ (t : Terms). AreSettled t progress.rows) (sym same) (subst (λ (p : Progress). AreSettled board.base p.rows) (sym last) all_settled)
 
-  pub last_as : (terms : Terms) (progress : Progress) → terms ≡ board.base → progress ≡ state_after progress_after board.base board.opening history → state_after progress_after terms (opening_of terms) history ≡ progress
-  last_as terms progress same last = ap (λ (t : Terms). state_after progress_after t (opening_of t) history) same ∙ ap (λ (p : Progress). state_after progress_after board.base p history) (sym opening) ∙ sym last
+  pub last_as : (terms : Terms) (progress : Progress) → terms ≡ board.base → progress ≡ state_after progress_after board.base board.opening history
+      → state_after progress_after terms (opening_of terms) history ≡ progress
+  last_as terms progress same last =
+      ap (λ (t : Terms). state_after progress_after t (opening_of t) history) same
+      ∙ ap (λ (p : Progress). state_after progress_after board.base p history) (sym opening) ∙ sym last
 
   -- what a task's calls say of it
-  right_at : (v s seat : ℕ) (bundle : Bundle) (answer : Posted) → calls_on v s history ≡ drew seat v s ∷ posted seat v s bundle answer ∷ [] → sections_of bundle ≡ demand_of board.base v s
+  right_at : (v s seat : ℕ) (bundle : Bundle) (answer : Posted) → calls_on v s history ≡ drew seat v s ∷ posted seat v s bundle answer ∷ []
+      → sections_of bundle ≡ demand_of board.base v s
   right_at v s seat bundle answer calls =
-      let each : Each (λ (step : StepOf BoardCall BoardReply). is_sound board.base step.request ≡ true) (drew seat v s ∷ posted seat v s bundle answer ∷ []) = subst (λ l. Each (λ (step : StepOf BoardCall BoardReply). is_sound board.base step.request ≡ true) l) calls (sound_on board.base board.opening history v s legal) in
+      let each : Each (λ (step : StepOf BoardCall BoardReply). is_sound board.base step.request ≡ true) (drew seat v s ∷ posted seat v s bundle answer ∷ []) =
+      subst (λ l. Each (λ (step : StepOf BoardCall BoardReply). is_sound board.base step.request ≡ true) l) calls
+      (sound_on board.base board.opening history v s legal) in
       right_post board.base v (record { 0 = s }) bundle each.1.0
 
-  task_at : (v s : ℕ) (p : Place) → AreCallsTo v s p (calls_on v s history) → ((seat : ℕ) → ¬ (p ≡ Held seat)) → (calls_on v s history ≡ []) ⊎ IsWorked IsTakenOrLate board.base history v s
+  task_at : (v s : ℕ) (p : Place) → AreCallsTo v s p (calls_on v s history) → ((seat : ℕ) → ¬ (p ≡ Held seat))
+      → (calls_on v s history ≡ []) ⊎ IsWorked IsTakenOrLate board.base history v s
   task_at v s Open are free = inl are
   task_at v s (Held seat) are free = absurd (free seat refl)
   task_at v s (Filled seat bundle) are free = inr (seat, bundle, Taken, are, right_at v s seat bundle Taken are, inl refl)
@@ -149,10 +170,12 @@ module _ (board : Origin Terms Progress) (history : List (StepOf BoardCall Board
   filled_at v s (Spent seat) are filled = absurd (filled refl)
 
   -- each task of a Counts version was taken
-  pub all_counted : (v s : ℕ) → v < version_count board.base → s < student_count board.base → ask_of board.base.asks v ≡ Counts → IsWorked IsTaken board.base history v s
+  pub all_counted : (v s : ℕ) → v < version_count board.base → s < student_count board.base → ask_of board.base.asks v ≡ Counts
+      → IsWorked IsTaken board.base history v s
   unfolding rows
   all_counted v s low within counts =
       let shape : AreRows board.base (rows_after board history) = rows_shape board.base board.opening history opening in
       let wide : length (row_of (rows_after board history) v) ≡ student_count board.base = shape.students v [] (subst (λ n. v < n) (sym shape.versions) low) in
       filled_at v s (place_of (rows_after board history) v s) (calls_tell board.base board.opening history opening legal v s)
-      (λ none. unfilled_open (ask_of board.base.asks v) (row_of (rows_after board history) v) s counts (subst (λ n. s < n) (sym wide) within) (all_settled v low) none)
+      (λ none. unfilled_open (ask_of board.base.asks v) (row_of (rows_after board history) v) s counts (subst (λ n. s < n) (sym wide) within)
+      (all_settled v low) none)

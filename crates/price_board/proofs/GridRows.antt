@@ -44,11 +44,13 @@ first_spare rows = omega arith
 
 module _ {T : Type 0} where
   -- a change to a row that is none of these
-  rows_other : (live : map.FinMap nat_cmp (List T)) (id : ℕ) (row : List T) (ids : List ℕ) → is_among ids id ≡ false → rows_in (map.insert live id row) ids ≡ rows_in live ids
+  rows_other : (live : map.FinMap nat_cmp (List T)) (id : ℕ) (row : List T) (ids : List ℕ) → is_among ids id ≡ false
+      → rows_in (map.insert live id row) ids ≡ rows_in live ids
   rows_other live id row [] lacks = refl
   rows_other live id row (x ∷ ids) lacks =
       let parts = or_false (x == id) (is_among ids id) lacks in
-      let here : cells_of (map.get (map.insert live id row) x) ≡ cells_of (map.get live x) = ap cells_of (row_there live id row x (apart_of_test x id parts.0)) in
+      let here : cells_of (map.get (map.insert live id row) x) ≡ cells_of (map.get live x) =
+      ap cells_of (row_there live id row x (apart_of_test x id parts.0)) in
       let rest = rows_other live id row ids parts.1 in
       rw (here, rest) refl
 
@@ -60,16 +62,19 @@ module _ {T : Type 0} where
       rw apart (lacks_spare region id ids spare live.2)
 
   -- one more row
-  pub live_more : (region : Rows T) (id : ℕ) (row : List T) (ids : List ℕ) → map.get region.live id ≡ None → AreLive region ids → AreLive (with_row region id row) (ids ++ id ∷ [])
+  pub live_more : (region : Rows T) (id : ℕ) (row : List T) (ids : List ℕ) → map.get region.live id ≡ None → AreLive region ids
+      → AreLive (with_row region id row) (ids ++ id ∷ [])
   live_more region id row [] spare live = (live_here region.live id row, refl, tt)
   live_more region id row (x ∷ ids) spare live =
       let apart : x ≢ id = spare_apart region.live id x spare live.0 in
       (live_there region.live id row x live.0, lacks_more ids id x live.1 (λ e. apart (sym e)), live_more region id row ids spare live.2)
 
-  pub rows_more : (region : Rows T) (id : ℕ) (row : List T) (ids : List ℕ) → map.get region.live id ≡ None → AreLive region ids → rows_in (with_row region id row).live (ids ++ id ∷ []) ≡ rows_in region.live ids ++ row ∷ []
+  pub rows_more : (region : Rows T) (id : ℕ) (row : List T) (ids : List ℕ) → map.get region.live id ≡ None → AreLive region ids
+      → rows_in (with_row region id row).live (ids ++ id ∷ []) ≡ rows_in region.live ids ++ row ∷ []
   rows_more region id row [] spare live = ap (λ o. cells_of o ∷ []) (row_here region.live id row)
   rows_more region id row (x ∷ ids) spare live =
-      let here : cells_of (map.get (map.insert region.live id row) x) ≡ cells_of (map.get region.live x) = ap cells_of (row_there region.live id row x (spare_apart region.live id x spare live.0)) in
+      let here : cells_of (map.get (map.insert region.live id row) x) ≡ cells_of (map.get region.live x) =
+      ap cells_of (row_there region.live id row x (spare_apart region.live id x spare live.0)) in
       let rest = rows_more region id row ids spare live.2 in
       rw (here, rest) refl
 
@@ -77,9 +82,11 @@ module _ {T : Type 0} where
   pub live_at : (region : Rows T) (ids : List ℕ) (v : ℕ) → v < length ids → AreLive region ids → IsLive region (get_or ids v 0)
   live_at region [] v below live = absurd (omega arith)
   live_at region (x ∷ ids) zero below live = live.0
-  live_at region (x ∷ ids) (suc v) below live = live_at region ids v (let k : ℕ = length ids in let b : suc v < suc k = below in let goal : v < k = omega arith in goal) live.2
+  live_at region (x ∷ ids) (suc v) below live =
+      live_at region ids v (let k : ℕ = length ids in let b : suc v < suc k = below in let goal : v < k = omega arith in goal) live.2
 
-  pub row_at : (live : map.FinMap nat_cmp (List T)) (ids : List ℕ) (v : ℕ) → v < length ids → slice_index_or (rows_in live ids) v [] ≡ cells_of (map.get live (get_or ids v 0))
+  pub row_at : (live : map.FinMap nat_cmp (List T)) (ids : List ℕ) (v : ℕ) → v < length ids
+      → slice_index_or (rows_in live ids) v [] ≡ cells_of (map.get live (get_or ids v 0))
   row_at live [] v below = absurd (omega arith)
   row_at live (x ∷ ids) zero below = refl
   row_at live (x ∷ ids) (suc v) below = row_at live ids v (let k : ℕ = length ids in let b : suc v < suc k = below in let goal : v < k = omega arith in goal)
@@ -93,7 +100,8 @@ module _ {T : Type 0} where
   live_written region id row [] live = tt
   live_written region id row (x ∷ ids) live = (live_there region.live id row x live.0, live.1, live_written region id row ids live.2)
 
-  pub rows_written : (region : Rows T) (row : List T) (ids : List ℕ) (v : ℕ) → v < length ids → AreLive region ids → rows_in (map.insert region.live (get_or ids v 0) row) ids ≡ slice_set (rows_in region.live ids) v row
+  pub rows_written : (region : Rows T) (row : List T) (ids : List ℕ) (v : ℕ) → v < length ids → AreLive region ids
+      → rows_in (map.insert region.live (get_or ids v 0) row) ids ≡ slice_set (rows_in region.live ids) v row
   rows_written region row [] v below live = absurd (omega arith)
   rows_written region row (x ∷ ids) zero below live =
       let here : cells_of (map.get (map.insert region.live x row) x) ≡ row = ap cells_of (row_here region.live x row) in
@@ -109,35 +117,43 @@ module _ {T : Type 0} where
       rw (here, rest) refl
 
   -- the row that a region shows is the row at its place
-  pub shown_row : (region : Rows T) (ids : List ℕ) (rows : List (List T)) (v id : ℕ) (row : List T) → rows_in region.live ids ≡ rows → v < length rows → id ≡ get_or ids v 0 → map.get region.live id ≡ Some row → slice_index_or rows v [] ≡ row
+  pub shown_row : (region : Rows T) (ids : List ℕ) (rows : List (List T)) (v id : ℕ) (row : List T) → rows_in region.live ids ≡ rows → v < length rows
+      → id ≡ get_or ids v 0 → map.get region.live id ≡ Some row → slice_index_or rows v [] ≡ row
   shown_row region ids rows v id row are below here shows =
       let many : length rows ≡ length ids = sym (ap length are) ∙ rows_length region.live ids in
       let low : v < length ids = omega arith in
       sym (ap (λ r. slice_index_or r v []) are) ∙ row_at region.live ids v low ∙ ap (λ n. cells_of (map.get region.live n)) (sym here) ∙ ap cells_of shows
 
-  pub is_live : (region : Rows T) (ids : List ℕ) (rows : List (List T)) (v id : ℕ) → rows_in region.live ids ≡ rows → v < length rows → id ≡ get_or ids v 0 → AreLive region ids → IsLive region id
+  pub is_live : (region : Rows T) (ids : List ℕ) (rows : List (List T)) (v id : ℕ) → rows_in region.live ids ≡ rows → v < length rows → id ≡ get_or ids v 0
+      → AreLive region ids → IsLive region id
   is_live region ids rows v id are below here live =
       let many : length rows ≡ length ids = sym (ap length are) ∙ rows_length region.live ids in
       let low : v < length ids = omega arith in
       subst (λ n. IsLive region n) (sym here) (live_at region ids v low live)
 
   -- the rows after the row was written
-  pub set_rows : (region : Rows T) (ids : List ℕ) (rows : List (List T)) (v id : ℕ) (row cells : List T) (s : ℕ) (value : T) → rows_in region.live ids ≡ rows → v < length rows → id ≡ get_or ids v 0 → AreLive region ids
-      → map.get region.live id ≡ Some row → cells ≡ slice_set row s value → rows_in (map.insert region.live id (rewritten row cells)) ids ≡ slice_set rows v (slice_set (slice_index_or rows v []) s value)
+  pub set_rows : (region : Rows T) (ids : List ℕ) (rows : List (List T)) (v id : ℕ) (row cells : List T) (s : ℕ) (value : T) → rows_in region.live ids ≡ rows
+      → v < length rows → id ≡ get_or ids v 0 → AreLive region ids
+      → map.get region.live id ≡ Some row → cells ≡ slice_set row s value
+      → rows_in (map.insert region.live id (rewritten row cells)) ids ≡ slice_set rows v (slice_set (slice_index_or rows v []) s value)
   set_rows region ids rows v id row cells s value are below here live shows written =
       let many : length rows ≡ length ids = sym (ap length are) ∙ rows_length region.live ids in
       let low : v < length ids = omega arith in
-      let whole : rewritten row cells ≡ slice_set row s value = ap (rewritten row) written ∙ rewritten_same row (slice_set row s value) (length-set row s value) in
+      let whole : rewritten row cells ≡ slice_set row s value =
+      ap (rewritten row) written ∙ rewritten_same row (slice_set row s value) (length-set row s value) in
       ap (λ n. rows_in (map.insert region.live n (rewritten row cells)) ids) here
       ∙ rows_written region (rewritten row cells) ids v low live
-      ∙ ap (λ r. slice_set (rows_in region.live ids) v r) (whole ∙ ap (λ r. slice_set r s value) (sym (shown_row region ids rows v id row are below here shows)))
+      ∙ ap (λ r. slice_set (rows_in region.live ids) v r)
+      (whole ∙ ap (λ r. slice_set r s value) (sym (shown_row region ids rows v id row are below here shows)))
       ∙ ap (λ l. slice_set l v (slice_set (slice_index_or rows v []) s value)) are
 
   -- at the beginning, and after one more row was taken
-  pub first_rows : (region : Rows T) (rows width : ℕ) (fill : T) → region ≡ record { width = width; fill = fill; reserved = rows; live = map.empty } → spare_of region + 0 ≡ rows
+  pub first_rows : (region : Rows T) (rows width : ℕ) (fill : T) → region ≡ record { width = width; fill = fill; reserved = rows; live = map.empty }
+      → spare_of region + 0 ≡ rows
   first_rows region rows width fill is = ap (λ r. spare_of r + 0) is ∙ ap (λ n. rows - n + 0) (map.len-empty nat_cmp (List T)) ∙ first_spare rows
 
-  pub more_rows : (old new : Rows T) (id n width : ℕ) (fill : T) (ids : List ℕ) → map.get old.live id ≡ None → new ≡ with_row old id (replicate old.width old.fill) → AreLive old ids
+  pub more_rows : (old new : Rows T) (id n width : ℕ) (fill : T) (ids : List ℕ) → map.get old.live id ≡ None
+      → new ≡ with_row old id (replicate old.width old.fill) → AreLive old ids
       → rows_in old.live ids ≡ replicate n (replicate width fill) → old.width ≡ width → old.fill ≡ fill
       → rows_in new.live (ids ++ id ∷ []) ≡ replicate (n + 1) (replicate width fill)
   more_rows old new id n width fill ids spare is live are wide filled =

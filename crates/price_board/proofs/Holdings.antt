@@ -67,7 +67,8 @@ both_or_none seat other a b c ia ib is =
     ]
 
 -- a seat's one call on a task shows that it holds it
-place_from : (v s seat : ℕ) (p : Place) (calls : List (StepOf BoardCall BoardReply)) → AreCallsTo v s p calls → calls_by seat calls ≡ drew seat v s ∷ [] → p ≡ Held seat
+place_from : (v s seat : ℕ) (p : Place) (calls : List (StepOf BoardCall BoardReply)) → AreCallsTo v s p calls → calls_by seat calls ≡ drew seat v s ∷ []
+    → p ≡ Held seat
 place_from v s seat Open calls are is = absurd (nothing_is_some (sym (ap (calls_by seat) are) ∙ is))
 place_from v s seat (Held other) calls are is =
     let own : calls_by seat (drew other v s ∷ []) ≡ drew seat v s ∷ [] = sym (ap (calls_by seat) are) ∙ is in
@@ -75,10 +76,13 @@ place_from v s seat (Held other) calls are is =
       | inl same ↦ let e : other ≡ seat = grind (arith, nat_tests) in ap Held e
       | inr apart ↦ absurd (nothing_is_some (let h : [] ≡ drew seat v s ∷ [] = rw apart at own in h))
     ]
-place_from v s seat (Filled other bundle) calls are is = absurd (both_or_none seat other (drew other v s) (posted other v s bundle Taken) (drew seat v s) refl refl (sym (ap (calls_by seat) are) ∙ is))
-place_from v s seat (Spent other) calls are is = absurd (both_or_none seat other (drew other v s) (posted other v s are.0 (Late are.1)) (drew seat v s) refl refl (sym (ap (calls_by seat) are.2) ∙ is))
+place_from v s seat (Filled other bundle) calls are is =
+    absurd (both_or_none seat other (drew other v s) (posted other v s bundle Taken) (drew seat v s) refl refl (sym (ap (calls_by seat) are) ∙ is))
+place_from v s seat (Spent other) calls are is =
+    absurd (both_or_none seat other (drew other v s) (posted other v s are.0 (Late are.1)) (drew seat v s) refl refl (sym (ap (calls_by seat) are.2) ∙ is))
 
-own_of_held : (v s seat : ℕ) (p : Place) (calls : List (StepOf BoardCall BoardReply)) → AreCallsTo v s p calls → p ≡ Held seat → calls_by seat calls ≡ drew seat v s ∷ []
+own_of_held : (v s seat : ℕ) (p : Place) (calls : List (StepOf BoardCall BoardReply)) → AreCallsTo v s p calls → p ≡ Held seat
+    → calls_by seat calls ≡ drew seat v s ∷ []
 own_of_held v s seat p calls are is =
     let one : calls ≡ drew seat v s ∷ [] = subst (λ q. AreCallsTo v s q calls) is are in
     let same : (seat == seat) ≡ true = grind (arith, nat_tests) in
@@ -86,11 +90,16 @@ own_of_held v s seat p calls are is =
 
 module _ (terms : Terms) (opening : Progress) (opens : IsOpening terms opening) where
   -- what a seat holds is told by its own calls alone
-  pub stays_held : (one other : List (StepOf BoardCall BoardReply)) (seat : ℕ) → IsLegal is_sound progress_after reply_to terms opening one → IsLegal is_sound progress_after reply_to terms opening other → calls_by seat one ≡ calls_by seat other
-      → (v s : ℕ) → place_of (state_after progress_after terms opening one).rows v s ≡ Held seat → place_of (state_after progress_after terms opening other).rows v s ≡ Held seat
+  pub stays_held : (one other : List (StepOf BoardCall BoardReply)) (seat : ℕ) → IsLegal is_sound progress_after reply_to terms opening one
+      → IsLegal is_sound progress_after reply_to terms opening other → calls_by seat one ≡ calls_by seat other
+      → (v s : ℕ) → place_of (state_after progress_after terms opening one).rows v s ≡ Held seat
+      → place_of (state_after progress_after terms opening other).rows v s ≡ Held seat
   stays_held one other seat legal legal' same v s held =
-      let first = own_of_held v s seat (place_of (state_after progress_after terms opening one).rows v s) (calls_on v s one) (calls_tell terms opening one opens legal v s) held in
-      place_from v s seat (place_of (state_after progress_after terms opening other).rows v s) (calls_on v s other) (calls_tell terms opening other opens legal' v s)
+      let first =
+      own_of_held v s seat (place_of (state_after progress_after terms opening one).rows v s) (calls_on v s one)
+      (calls_tell terms opening one opens legal v s) held in
+      place_from v s seat (place_of (state_after progress_after terms opening other).rows v s) (calls_on v s other)
+      (calls_tell terms opening other opens legal' v s)
       (sym (calls_on-calls_by v s seat other) ∙ ap (calls_on v s) (sym same) ∙ calls_on-calls_by v s seat one ∙ first)
 
 -- how many tasks nobody drew
@@ -112,7 +121,8 @@ open_one : (p : Place) → p ≡ Open → one_if_open p ≡ 1
 unfolding one_if_open
 open_one p is = ap (λ q. if is_open q then 1 else 0) is
 
-changed : (rows : List (List Place)) (v s : ℕ) (p : Place) → s < length (row_of rows v) → open_all (with_place rows v s p) + one_if_open (place_of rows v s) ≡ open_all rows + one_if_open p
+changed : (rows : List (List Place)) (v s : ℕ) (p : Place) → s < length (row_of rows v)
+    → open_all (with_place rows v s p) + one_if_open (place_of rows v s) ≡ open_all rows + one_if_open p
 unfolding open_all open_in
 changed rows v s p within =
     let low : v < length rows = row_below rows v s within in
@@ -152,7 +162,8 @@ pub posts-append : (xs ys : List (StepOf BoardCall BoardReply)) → posts (xs ++
 posts-append xs ys = ap length (filter-append (λ (step : StepOf BoardCall BoardReply). is_post step.request) xs ys) ∙ length-append _ _
 
 module _ (terms : Terms) where
-  draw_opens : (rows : List (List Place)) (seat : ℕ) (task : Option (ℕ × ℕ)) → first_task terms.asks 0 rows ≡ task → draws (step_of seat DrawCall (Drew (draw_of task)) ∷ []) + open_all (with_holder seat task rows) ≡ open_all rows
+  draw_opens : (rows : List (List Place)) (seat : ℕ) (task : Option (ℕ × ℕ)) → first_task terms.asks 0 rows ≡ task
+      → draws (step_of seat DrawCall (Drew (draw_of task)) ∷ []) + open_all (with_holder seat task rows) ≡ open_all rows
   draw_opens rows seat None is = let n : ℕ = open_all rows in let goal : 0 + n ≡ n = omega arith in goal
   draw_opens rows seat (Some task) is =
       let found = drawable terms.asks rows task is in
@@ -165,7 +176,8 @@ module _ (terms : Terms) where
       let ey : y ≡ 0 = closed_zero (Held seat) refl in
       let goal : 1 + a ≡ b = omega arith in goal
 
-  put_opens : (rows : List (List Place)) (v n seat : ℕ) (p : Place) → place_of rows v n ≡ Held seat → is_open p ≡ false → open_all (with_place rows v n p) ≡ open_all rows
+  put_opens : (rows : List (List Place)) (v n seat : ℕ) (p : Place) → place_of rows v n ≡ Held seat → is_open p ≡ false
+      → open_all (with_place rows v n p) ≡ open_all rows
   put_opens rows v n seat p there closed =
       let a : ℕ = open_all (with_place rows v n p) in
       let b : ℕ = open_all rows in
@@ -188,8 +200,11 @@ module _ (terms : Terms) where
         | inr stray ↦ rw stray refl
       ]
 
-  draws_step : (progress : Progress) (seat : ℕ) (call : BoardCall) (reply : BoardReply) → reply ≡ reply_to terms progress seat call → draws (step_of seat call reply ∷ []) + open_all (progress_after terms progress seat call).rows ≡ open_all progress.rows
-  draws_step progress seat DrawCall reply is = subst (λ r. draws (step_of seat DrawCall r ∷ []) + open_all (progress_after terms progress seat DrawCall).rows ≡ open_all progress.rows) (sym is) (draw_opens progress.rows seat (first_task terms.asks 0 progress.rows) refl)
+  draws_step : (progress : Progress) (seat : ℕ) (call : BoardCall) (reply : BoardReply) → reply ≡ reply_to terms progress seat call
+      → draws (step_of seat call reply ∷ []) + open_all (progress_after terms progress seat call).rows ≡ open_all progress.rows
+  draws_step progress seat DrawCall reply is =
+      subst (λ r. draws (step_of seat DrawCall r ∷ []) + open_all (progress_after terms progress seat DrawCall).rows ≡ open_all progress.rows) (sym is)
+      (draw_opens progress.rows seat (first_task terms.asks 0 progress.rows) refl)
   draws_step progress seat (PostCall v n bundle) reply is =
       let a : ℕ = open_all (progress_after terms progress seat (PostCall v n bundle)).rows in
       let b : ℕ = open_all progress.rows in
@@ -222,12 +237,16 @@ draws_of_seat n (step ∷ more) =
     let z : ℕ = draws (step ∷ more) in
     let hz : z ≡ one + y = draws-append (step ∷ []) more in
     elim (cases_Bool (step.seat == n)) [
-      | inl own ↦ rw own (let w : ℕ = draws (step ∷ calls_by n more) in let hw : w ≡ one + x = draws-append (step ∷ []) (calls_by n more) in let goal : w ≤ z = omega arith in goal)
+      | inl own ↦
+          rw own
+          (let w : ℕ = draws (step ∷ calls_by n more) in let hw : w ≡ one + x = draws-append (step ∷ []) (calls_by n more) in let goal : w
+          ≤ z = omega arith in goal)
       | inr other ↦ rw other (let goal : x ≤ z = omega arith in goal)
     ]
 
 -- a seat draws no more tasks than there are
-pub few_draws : (terms : Terms) (opening : Progress) (history : List (StepOf BoardCall BoardReply)) (seat : ℕ) → IsOpening terms opening → IsLegal is_sound progress_after reply_to terms opening history → draws (calls_by seat history) ≤ task_count terms
+pub few_draws : (terms : Terms) (opening : Progress) (history : List (StepOf BoardCall BoardReply)) (seat : ℕ) → IsOpening terms opening
+    → IsLegal is_sound progress_after reply_to terms opening history → draws (calls_by seat history) ≤ task_count terms
 few_draws terms opening history seat opens legal =
     let a : ℕ = draws (calls_by seat history) in
     let b : ℕ = draws history in
@@ -239,16 +258,27 @@ few_draws terms opening history seat opens legal =
     let begin : d ≡ n = ap (λ (p : Progress). open_all p.rows) opens ∙ open_rows (version_count terms) (student_count terms) in
     let goal : a ≤ n = omega arith in goal
 
-kind_of_draw : (n : ℕ) (task : Option (ℕ × ℕ)) → draws (step_of n DrawCall (Drew (draw_of task)) ∷ []) + dones (step_of n DrawCall (Drew (draw_of task)) ∷ []) + posts (step_of n DrawCall (Drew (draw_of task)) ∷ []) ≡ 1
+kind_of_draw : (n : ℕ) (task : Option (ℕ × ℕ))
+    → draws (step_of n DrawCall (Drew (draw_of task)) ∷ []) + dones (step_of n DrawCall (Drew (draw_of task)) ∷ [])
+    + posts (step_of n DrawCall (Drew (draw_of task)) ∷ [])
+    ≡ 1
 kind_of_draw n None = let goal : 0 + 1 + 0 ≡ 1 = omega arith in goal
 kind_of_draw n (Some task) = let goal : 1 + 0 + 0 ≡ 1 = omega arith in goal
 
 -- each call is a draw that gave a task, one that gave none, or a post
-kinds_one : (call : BoardCall) (reply : BoardReply) (terms : Terms) (progress : Progress) (seat : ℕ) → reply ≡ reply_to terms progress seat call → (n : ℕ) → draws (step_of n call reply ∷ []) + dones (step_of n call reply ∷ []) + posts (step_of n call reply ∷ []) ≡ 1
-kinds_one DrawCall reply terms progress seat is n = subst (λ r. draws (step_of n DrawCall r ∷ []) + dones (step_of n DrawCall r ∷ []) + posts (step_of n DrawCall r ∷ []) ≡ 1) (sym is) (kind_of_draw n (first_task terms.asks 0 progress.rows))
-kinds_one (PostCall v s bundle) reply terms progress seat is n = subst (λ r. draws (step_of n (PostCall v s bundle) r ∷ []) + dones (step_of n (PostCall v s bundle) r ∷ []) + posts (step_of n (PostCall v s bundle) r ∷ []) ≡ 1) (sym is) (let goal : 0 + 0 + 1 ≡ 1 = omega arith in goal)
+kinds_one : (call : BoardCall) (reply : BoardReply) (terms : Terms) (progress : Progress) (seat : ℕ) → reply ≡ reply_to terms progress seat call → (n : ℕ)
+    → draws (step_of n call reply ∷ []) + dones (step_of n call reply ∷ []) + posts (step_of n call reply ∷ []) ≡ 1
+kinds_one DrawCall reply terms progress seat is n =
+    subst (λ r. draws (step_of n DrawCall r ∷ []) + dones (step_of n DrawCall r ∷ []) + posts (step_of n DrawCall r ∷ []) ≡ 1) (sym is)
+    (kind_of_draw n (first_task terms.asks 0 progress.rows))
+kinds_one (PostCall v s bundle) reply terms progress seat is n =
+    subst
+    (λ r. draws (step_of n (PostCall v s bundle) r ∷ []) + dones (step_of n (PostCall v s bundle) r ∷ []) + posts (step_of n (PostCall v s bundle) r ∷ [])
+    ≡ 1)
+    (sym is) (let goal : 0 + 0 + 1 ≡ 1 = omega arith in goal)
 
-pub kinds : (terms : Terms) (progress : Progress) (history : List (StepOf BoardCall BoardReply)) (seat : ℕ) → IsLegal is_sound progress_after reply_to terms progress history
+pub kinds : (terms : Terms) (progress : Progress) (history : List (StepOf BoardCall BoardReply)) (seat : ℕ)
+    → IsLegal is_sound progress_after reply_to terms progress history
     → length (calls_by seat history) ≡ draws (calls_by seat history) + dones (calls_by seat history) + posts (calls_by seat history)
 kinds terms progress [] seat legal = let goal : 0 ≡ 0 + 0 + 0 = omega arith in goal
 kinds terms progress (step ∷ more) seat legal =

@@ -26,7 +26,8 @@ place-other_student [] v s t p apart = refl
 place-other_student (row ∷ rows) zero s t p apart = get_or-set_other row s t p Open apart
 place-other_student (row ∷ rows) (suc v) s t p apart = place-other_student rows v s t p apart
 
-pub place-other : (rows : List (List Place)) (v w s t : ℕ) (p : Place) → ((v == w) && (s == t)) ≡ false → place_of (with_place rows v s p) w t ≡ place_of rows w t
+pub place-other : (rows : List (List Place)) (v w s t : ℕ) (p : Place) → ((v == w) && (s == t)) ≡ false
+    → place_of (with_place rows v s p) w t ≡ place_of rows w t
 place-other rows v w s t p other =
     elim (cases_eq w v) [
       | inl same ↦ elim (cases_eq t s) [
@@ -72,7 +73,9 @@ row-other rows v w s p apart = get_or-set_other rows v w (slice_set (row_of rows
 
 pub row-length : (rows : List (List Place)) (v w s : ℕ) (p : Place) → length (row_of (with_place rows v s p) w) ≡ length (row_of rows w)
 row-length rows v w s p = elim (cases_eq w v) [
-  | inl same ↦ ap (λ x. length (row_of (with_place rows v s p) x)) same ∙ ap length (row-same rows v s p) ∙ length-set (row_of rows v) s p ∙ sym (ap (λ x. length (row_of rows x)) same)
+  | inl same ↦
+      ap (λ x. length (row_of (with_place rows v s p) x)) same ∙ ap length (row-same rows v s p) ∙ length-set (row_of rows v) s p
+      ∙ sym (ap (λ x. length (row_of rows x)) same)
   | inr apart ↦ ap length (row-other rows v w s p apart)
 ]
 

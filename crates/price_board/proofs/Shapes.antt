@@ -22,7 +22,8 @@ use Rattle.price_board.proofs.Histories.{drawable}
 use Rattle.price_board.proofs.PlaceChanges.{closed_below, held_is}
 
 module _ (terms : Terms) where
-  draw_shape : (rows : List (List Place)) (seat : ℕ) (task : Option (ℕ × ℕ)) → first_task terms.asks 0 rows ≡ task → AreRows terms rows → AreRows terms (with_holder seat task rows)
+  draw_shape : (rows : List (List Place)) (seat : ℕ) (task : Option (ℕ × ℕ)) → first_task terms.asks 0 rows ≡ task → AreRows terms rows
+      → AreRows terms (with_holder seat task rows)
   draw_shape rows seat None is shape = shape
   draw_shape rows seat (Some task) is shape = rows_kept terms rows task.0 task.1 (Held seat) shape (drawable terms.asks rows task is).below
 
@@ -32,14 +33,21 @@ module _ (terms : Terms) where
       elim (cases_Bool (is_held_by seat (place_of progress.rows v n.0))) [
         | inl held ↦
             let there = held_is seat (place_of progress.rows v n.0) held in
-            rw held (rows_kept terms progress.rows v n.0 (if is_settled (ask_of terms.asks v) (row_of progress.rows v) then Spent seat else Filled seat bundle) shape (closed_below (row_of progress.rows v) n.0 (ap is_open there)))
+            rw held
+            (rows_kept terms progress.rows v n.0 (if is_settled (ask_of terms.asks v) (row_of progress.rows v) then Spent seat else Filled seat bundle)
+            shape (closed_below (row_of progress.rows v) n.0 (ap is_open there)))
         | inr other ↦ rw other shape
       ]
 
-  all_shape : (progress : Progress) (history : List (StepOf BoardCall BoardReply)) → AreRows terms progress.rows → AreRows terms (state_after progress_after terms progress history).rows
+  all_shape : (progress : Progress) (history : List (StepOf BoardCall BoardReply)) → AreRows terms progress.rows
+      → AreRows terms (state_after progress_after terms progress history).rows
   all_shape progress [] shape = shape
-  all_shape progress (step ∷ more) shape = all_shape (progress_after terms progress step.seat step.request) more (step_shape progress step.seat step.request shape)
+  all_shape progress (step ∷ more) shape =
+      all_shape (progress_after terms progress step.seat step.request) more (step_shape progress step.seat step.request shape)
 
-  pub rows_shape : (opening : Progress) (history : List (StepOf BoardCall BoardReply)) → IsOpening terms opening → AreRows terms (state_after progress_after terms opening history).rows
+  pub rows_shape : (opening : Progress) (history : List (StepOf BoardCall BoardReply)) → IsOpening terms opening
+      → AreRows terms (state_after progress_after terms opening history).rows
   rows_shape opening history opens =
-      all_shape opening history (keeps_open terms opening.rows (replicate (version_count terms) (record { unfilled = student_count terms; count = 0 })) (ap (λ (p : Progress). p.rows) opens) refl).rows
+      all_shape opening history
+      (keeps_open terms opening.rows (replicate (version_count terms) (record { unfilled = student_count terms; count = 0 }))
+      (ap (λ (p : Progress). p.rows) opens) refl).rows

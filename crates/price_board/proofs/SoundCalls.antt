@@ -32,15 +32,19 @@ same_sections-own (x ∷ xs) = let first : (x == x) ≡ true = grind (arith, nat
 module _ (terms : Terms) (version : ℕ) (student : StudentNo) (bundle : Bundle) where
   pub right_post : is_sound terms (PostCall version student bundle) ≡ true → sections_of bundle ≡ demand_of terms version student.0
   right_post sound =
-      let parts = and_parts (nat_lt version (version_count terms) && nat_lt student.0 (student_count terms)) (same_sections (sections_of bundle) (demand_of terms version student.0)) sound in
+      let parts =
+      and_parts (nat_lt version (version_count terms) && nat_lt student.0 (student_count terms))
+      (same_sections (sections_of bundle) (demand_of terms version student.0)) sound in
       same_sections-is (sections_of bundle) (demand_of terms version student.0) parts.1
 
-  pub sound_post : version < version_count terms → student.0 < student_count terms → sections_of bundle ≡ demand_of terms version student.0 → is_sound terms (PostCall version student bundle) ≡ true
+  pub sound_post : version < version_count terms → student.0 < student_count terms → sections_of bundle ≡ demand_of terms version student.0
+      → is_sound terms (PostCall version student bundle) ≡ true
   sound_post low within right =
       let v : ℕ = version_count terms in
       let s : ℕ = student_count terms in
       let n : ℕ = student.0 in
       let a : nat_lt version v ≡ true = grind (arith, nat_tests) in
       let b : nat_lt n s ≡ true = grind (arith, nat_tests) in
-      let same : same_sections (sections_of bundle) (demand_of terms version student.0) ≡ true = subst (λ l. same_sections (sections_of bundle) l ≡ true) right (same_sections-own (sections_of bundle)) in
+      let same : same_sections (sections_of bundle) (demand_of terms version student.0) ≡ true =
+      subst (λ l. same_sections (sections_of bundle) l ≡ true) right (same_sections-own (sections_of bundle)) in
       rw (a, b) same

@@ -19,7 +19,8 @@ low_of : (v k : ℕ) → suc v < suc k → v < k
 low_of v k below = omega arith
 
 -- a sum after one item changes
-pub total-set : {A : Type 0} (f : A → ℕ) (xs : List A) (n : ℕ) (y d : A) → n < length xs → total f (slice_set xs n y) + f (slice_index_or xs n d) ≡ total f xs + f y
+pub total-set : {A : Type 0} (f : A → ℕ) (xs : List A) (n : ℕ) (y d : A) → n < length xs
+    → total f (slice_set xs n y) + f (slice_index_or xs n d) ≡ total f xs + f y
 total-set f [] n y d below = absurd (omega arith)
 total-set f (x ∷ xs) zero y d below = let a : ℕ = f x in let b : ℕ = f y in let c : ℕ = total f xs in let goal : b + c + a ≡ a + c + b = omega arith in goal
 total-set f (x ∷ xs) (suc n) y d below =
@@ -31,7 +32,8 @@ total-set f (x ∷ xs) (suc n) y d below =
     let a : ℕ = f x in
     let goal : a + p + q ≡ a + r + z = omega arith in goal
 
-total-kept : {A : Type 0} (f : A → ℕ) (xs : List A) (n : ℕ) (y d : A) → n < length xs → f y ≡ f (slice_index_or xs n d) → total f (slice_set xs n y) ≡ total f xs
+total-kept : {A : Type 0} (f : A → ℕ) (xs : List A) (n : ℕ) (y d : A) → n < length xs → f y ≡ f (slice_index_or xs n d)
+    → total f (slice_set xs n y) ≡ total f xs
 total-kept f xs n y d below same =
     let p : ℕ = total f (slice_set xs n y) in
     let q : ℕ = f (slice_index_or xs n d) in
@@ -45,7 +47,8 @@ tally-is : (u v m n : ℕ) → u ≡ v → m ≡ n → record { unfilled = u; co
 tally-is u v m n a b = λ i. record { unfilled = a i; count = b i }
 
 -- a change that posts nothing leaves the tally
-pub tally-kept : (ask : Ask) (row : List Place) (s : ℕ) (p : Place) → s < length row → bundle_in (slice_index_or row s Open) ≡ None → bundle_in p ≡ None → tally_of ask (slice_set row s p) ≡ tally_of ask row
+pub tally-kept : (ask : Ask) (row : List Place) (s : ℕ) (p : Place) → s < length row → bundle_in (slice_index_or row s Open) ≡ None → bundle_in p ≡ None
+    → tally_of ask (slice_set row s p) ≡ tally_of ask row
 tally-kept ask row s p below was is =
     tally-is (unfilled_in (slice_set row s p)) (unfilled_in row) (count_for ask (slice_set row s p)) (count_for ask row)
     (total-kept (λ place. one_if_none (bundle_in place)) row s p Open below (ap one_if_none (is ∙ sym was)))
@@ -56,7 +59,8 @@ one_for-none Counts = refl
 one_for-none (Exceeds section limit) = refl
 
 -- one more bundle
-pub unfilled-filled : (row : List Place) (s seat : ℕ) (bundle : Bundle) → s < length row → bundle_in (slice_index_or row s Open) ≡ None → unfilled_in (slice_set row s (Filled seat bundle)) + 1 ≡ unfilled_in row
+pub unfilled-filled : (row : List Place) (s seat : ℕ) (bundle : Bundle) → s < length row → bundle_in (slice_index_or row s Open) ≡ None
+    → unfilled_in (slice_set row s (Filled seat bundle)) + 1 ≡ unfilled_in row
 unfilled-filled row s seat bundle below was =
     let p : ℕ = unfilled_in (slice_set row s (Filled seat bundle)) in
     let q : ℕ = one_if_none (bundle_in (slice_index_or row s Open)) in
@@ -65,7 +69,8 @@ unfilled-filled row s seat bundle below was =
     let e : q ≡ 1 = ap one_if_none was in
     let goal : p + 1 ≡ r = omega arith in goal
 
-pub count-filled : (ask : Ask) (row : List Place) (s seat : ℕ) (bundle : Bundle) → s < length row → bundle_in (slice_index_or row s Open) ≡ None → count_for ask (slice_set row s (Filled seat bundle)) ≡ count_for ask row + one_for ask (Some bundle)
+pub count-filled : (ask : Ask) (row : List Place) (s seat : ℕ) (bundle : Bundle) → s < length row → bundle_in (slice_index_or row s Open) ≡ None
+    → count_for ask (slice_set row s (Filled seat bundle)) ≡ count_for ask row + one_for ask (Some bundle)
 count-filled ask row s seat bundle below was =
     let p : ℕ = count_for ask (slice_set row s (Filled seat bundle)) in
     let q : ℕ = one_for ask (bundle_in (slice_index_or row s Open)) in
@@ -81,17 +86,21 @@ tally-filled ask row s seat bundle below was =
     let p : ℕ = unfilled_in (slice_set row s (Filled seat bundle)) in
     let r : ℕ = unfilled_in row in
     let fewer : p + 1 ≡ r = unfilled-filled row s seat bundle below was in
-    tally-is p (r - 1) (count_for ask (slice_set row s (Filled seat bundle))) (count_for ask row + one_for ask (Some bundle)) (let goal : p ≡ r - 1 = omega arith in goal) (count-filled ask row s seat bundle below was)
+    tally-is p (r - 1) (count_for ask (slice_set row s (Filled seat bundle))) (count_for ask row + one_for ask (Some bundle))
+    (let goal : p ≡ r - 1 = omega arith in goal) (count-filled ask row s seat bundle below was)
 
 -- the tallies of rows of which one changes
-pub tallies-set : (asks : List Ask) (k : ℕ) (rows : List (List Place)) (v : ℕ) (row : List Place) → tallies_of asks k (slice_set rows v row) ≡ slice_set (tallies_of asks k rows) v (tally_of (ask_of asks (k + v)) row)
+pub tallies-set : (asks : List Ask) (k : ℕ) (rows : List (List Place)) (v : ℕ) (row : List Place)
+    → tallies_of asks k (slice_set rows v row) ≡ slice_set (tallies_of asks k rows) v (tally_of (ask_of asks (k + v)) row)
 tallies-set asks k [] v row = refl
 tallies-set asks k (x ∷ rows) zero row = let e : k ≡ k + 0 = omega arith in ap (λ n. tally_of (ask_of asks n) row ∷ tallies_of asks (k + 1) rows) e
 tallies-set asks k (x ∷ rows) (suc v) row =
     let e : k + 1 + v ≡ k + suc v = omega arith in
-    ap (λ l. tally_of (ask_of asks k) x ∷ l) (tallies-set asks (k + 1) rows v row ∙ ap (λ n. slice_set (tallies_of asks (k + 1) rows) v (tally_of (ask_of asks n) row)) e)
+    ap (λ l. tally_of (ask_of asks k) x ∷ l)
+    (tallies-set asks (k + 1) rows v row ∙ ap (λ n. slice_set (tallies_of asks (k + 1) rows) v (tally_of (ask_of asks n) row)) e)
 
-pub tallies-at : (asks : List Ask) (k : ℕ) (rows : List (List Place)) (v : ℕ) (d : Tally) → v < length rows → slice_index_or (tallies_of asks k rows) v d ≡ tally_of (ask_of asks (k + v)) (row_of rows v)
+pub tallies-at : (asks : List Ask) (k : ℕ) (rows : List (List Place)) (v : ℕ) (d : Tally) → v < length rows
+    → slice_index_or (tallies_of asks k rows) v d ≡ tally_of (ask_of asks (k + v)) (row_of rows v)
 tallies-at asks k [] v d below = absurd (omega arith)
 tallies-at asks k (x ∷ rows) zero d below = let e : k ≡ k + 0 = omega arith in ap (λ n. tally_of (ask_of asks n) x) e
 tallies-at asks k (x ∷ rows) (suc v) d below =
@@ -137,7 +146,8 @@ tally_small ask (p ∷ row) =
     let goal : (a + c) + (b + d) ≤ suc k = omega arith in goal
 
 -- a settled version stays so, whatever comes to a place that is not filled
-settled_numbers : (limit h g i j : ℕ) → (nat_lt limit h || nat_le (h + g) limit) ≡ true → h ≤ i → i + j ≤ h + g → (nat_lt limit i || nat_le (i + j) limit) ≡ true
+settled_numbers : (limit h g i j : ℕ) → (nat_lt limit h || nat_le (h + g) limit) ≡ true → h ≤ i → i + j ≤ h + g
+    → (nat_lt limit i || nat_le (i + j) limit) ≡ true
 settled_numbers limit h g i j was more less =
     elim (cases_Bool (nat_lt limit h)) [
       | inl over ↦ let a : nat_lt limit i ≡ true = grind (arith, nat_tests) in rw a refl
@@ -151,7 +161,8 @@ settled_numbers limit h g i j was more less =
     ]
 
 settled_at : (ask : Ask) (row : List Place) (s : ℕ) (p : Place) → s < length row → bundle_in (slice_index_or row s Open) ≡ None
-    → (count_for ask row ≤ count_for ask (slice_set row s p)) × (count_for ask (slice_set row s p) + unfilled_in (slice_set row s p) ≤ count_for ask row + unfilled_in row)
+    → (count_for ask row ≤ count_for ask (slice_set row s p))
+    × (count_for ask (slice_set row s p) + unfilled_in (slice_set row s p) ≤ count_for ask row + unfilled_in row)
 settled_at ask row s p below was =
     let h : ℕ = count_for ask row in
     let g : ℕ = unfilled_in row in
@@ -171,14 +182,16 @@ settled_at ask row s p below was =
 -- no place of a version of which all are filled is empty
 pub none_left : (row : List Place) (s : ℕ) → s < length row → bundle_in (slice_index_or row s Open) ≡ None → 1 ≤ unfilled_in row
 none_left [] s below was = absurd (omega arith)
-none_left (q ∷ row) zero below was = let a : ℕ = one_if_none (bundle_in q) in let b : ℕ = unfilled_in row in let e : a ≡ 1 = ap one_if_none was in let goal : 1 ≤ a + b = omega arith in goal
+none_left (q ∷ row) zero below was =
+    let a : ℕ = one_if_none (bundle_in q) in let b : ℕ = unfilled_in row in let e : a ≡ 1 = ap one_if_none was in let goal : 1 ≤ a + b = omega arith in goal
 none_left (q ∷ row) (suc s) below was =
     let a : ℕ = one_if_none (bundle_in q) in
     let b : ℕ = unfilled_in row in
     let rest : 1 ≤ b = none_left row s (low_of s (length row) below) was in
     let goal : 1 ≤ a + b = omega arith in goal
 
-pub stays_settled : (ask : Ask) (row : List Place) (s : ℕ) (p : Place) → s < length row → bundle_in (slice_index_or row s Open) ≡ None → is_settled ask row ≡ true → is_settled ask (slice_set row s p) ≡ true
+pub stays_settled : (ask : Ask) (row : List Place) (s : ℕ) (p : Place) → s < length row → bundle_in (slice_index_or row s Open) ≡ None
+    → is_settled ask row ≡ true → is_settled ask (slice_set row s p) ≡ true
 stays_settled Counts row s p below was settled =
     let g : ℕ = unfilled_in row in
     let is : (g == 0) ≡ true = settled in
@@ -187,10 +200,12 @@ stays_settled Counts row s p below was settled =
     absurd (omega arith)
 stays_settled (Exceeds section limit) row s p below was settled =
     let both = settled_at (Exceeds section limit) row s p below was in
-    settled_numbers limit (with_section section.0 row) (unfilled_in row) (with_section section.0 (slice_set row s p)) (unfilled_in (slice_set row s p)) settled both.0 both.1
+    settled_numbers limit (with_section section.0 row) (unfilled_in row) (with_section section.0 (slice_set row s p)) (unfilled_in (slice_set row s p)) settled
+    both.0 both.1
 
 -- a Counts version with a place that is not filled is not settled
-pub unfilled_open : (ask : Ask) (row : List Place) (s : ℕ) → ask ≡ Counts → s < length row → is_settled ask row ≡ true → bundle_in (slice_index_or row s Open) ≡ None → ⊥
+pub unfilled_open : (ask : Ask) (row : List Place) (s : ℕ) → ask ≡ Counts → s < length row → is_settled ask row ≡ true
+    → bundle_in (slice_index_or row s Open) ≡ None → ⊥
 unfilled_open ask row s is below settled was =
     let g : ℕ = unfilled_in row in
     let all : (g == 0) ≡ true = subst (λ a. is_settled a row ≡ true) is settled in

@@ -36,7 +36,8 @@ use Rattle.price_board.proofs.PlaceChanges.{place-same, place-other, same_place,
 use Rattle.price_board.proofs.Shapes.{rows_shape}
 
 -- what a call of the chronicle says
-pub record HasCalled (board : Origin Terms Progress) (call : BoardCall) (reply : BoardReply) (old new : Standing Terms Progress BoardCall BoardReply) : Type 0 where
+pub record HasCalled (board : Origin Terms Progress) (call : BoardCall) (reply : BoardReply) (old new : Standing Terms Progress BoardCall BoardReply) : Type
+    0 where
   pub seen : Extends old.seen new.seen (step_of old.number call reply)
   pub legal : IsLegal is_sound progress_after reply_to board.base board.opening new.seen
   pub own : new.own ≡ old.own ++ step_of old.number call reply ∷ []
@@ -52,14 +53,16 @@ left_of a b c l n left few kinds more room = omega arith
 
 module _ (board : Origin Terms Progress) (seat : Standing Terms Progress BoardCall BoardReply) (is_seat : IsSeatOf board seat) where
   pub own_draws : draws seat.own ≤ task_count board.base
-  own_draws = subst (λ l. draws l ≤ task_count board.base) is_seat.all_own (few_draws board.base board.opening seat.seen seat.number is_seat.opening is_seat.legal)
+  own_draws =
+      subst (λ l. draws l ≤ task_count board.base) is_seat.all_own (few_draws board.base board.opening seat.seen seat.number is_seat.opening is_seat.legal)
 
   own_kinds : length seat.own ≡ draws seat.own + dones seat.own + posts seat.own
   own_kinds = subst (λ l. length l ≡ draws l + dones l + posts l) is_seat.all_own (kinds board.base board.opening seat.seen seat.number is_seat.legal)
 
   pub may_draw : dones seat.own ≡ 0 → 1 ≤ seat.left
   may_draw none =
-      left_of (draws seat.own) (dones seat.own) (posts seat.own) (length seat.own) (task_count board.base) seat.left own_draws own_kinds (no_end (dones seat.own) (posts seat.own) (task_count board.base) none is_seat.few_posts)
+      left_of (draws seat.own) (dones seat.own) (posts seat.own) (length seat.own) (task_count board.base) seat.left own_draws own_kinds
+      (no_end (dones seat.own) (posts seat.own) (task_count board.base) none is_seat.few_posts)
       is_seat.allotment
     where
       no_end : (b c n : ℕ) → b ≡ 0 → c ≤ n → b + c ≤ n
@@ -67,7 +70,8 @@ module _ (board : Origin Terms Progress) (seat : Standing Terms Progress BoardCa
 
   pub may_post : posts seat.own < task_count board.base → 1 ≤ seat.left
   may_post few =
-      left_of (draws seat.own) (dones seat.own) (posts seat.own) (length seat.own) (task_count board.base) seat.left own_draws own_kinds (one_end (dones seat.own) (posts seat.own) (task_count board.base) is_seat.one_done few)
+      left_of (draws seat.own) (dones seat.own) (posts seat.own) (length seat.own) (task_count board.base) seat.left own_draws own_kinds
+      (one_end (dones seat.own) (posts seat.own) (task_count board.base) is_seat.one_done few)
       is_seat.allotment
     where
       one_end : (b c n : ℕ) → b ≤ 1 → c < n → b + c ≤ n
@@ -95,7 +99,8 @@ test_of v w s t apart = elim (cases_Bool ((v == w) && (s == t))) [
   | inr other ↦ other
 ]
 
-module _ (board : Origin Terms Progress) (old new : Standing Terms Progress BoardCall BoardReply) (call : BoardCall) (reply : BoardReply) (is_seat : IsSeatOf board old) (called : HasCalled board call reply old new) where
+module _ (board : Origin Terms Progress) (old new : Standing Terms Progress BoardCall BoardReply) (call : BoardCall) (reply : BoardReply)
+    (is_seat : IsSeatOf board old) (called : HasCalled board call reply old new) where
   -- the history before the call
   pub front : List (StepOf BoardCall BoardReply)
   front = old.seen ++ called.seen.0
@@ -116,11 +121,15 @@ module _ (board : Origin Terms Progress) (old new : Standing Terms Progress Boar
 
   after_is : rows_after board new.seen ≡ (progress_after board.base before old.number call).rows
   unfolding front before
-  after_is = ap (rows_after board) called.seen.1 ∙ ap (λ (p : Progress). p.rows) (state_after-append progress_after board.base board.opening front (step_of old.number call reply ∷ []))
+  after_is =
+      ap (rows_after board) called.seen.1
+      ∙ ap (λ (p : Progress). p.rows) (state_after-append progress_after board.base board.opening front (step_of old.number call reply ∷ []))
 
   pub before_is : rows_before_last board new ≡ before.rows
   unfolding front before
-  before_is = ap (λ l. rows_after board (take (length l - 1) l)) called.seen.1 ∙ ap (rows_after board) (front_of (old.seen ++ called.seen.0) (step_of old.number call reply))
+  before_is =
+      ap (λ l. rows_after board (take (length l - 1) l)) called.seen.1
+      ∙ ap (rows_after board) (front_of (old.seen ++ called.seen.0) (step_of old.number call reply))
 
   own_front : calls_by old.number front ≡ old.own
   unfolding front
@@ -136,7 +145,8 @@ module _ (board : Origin Terms Progress) (old new : Standing Terms Progress Boar
 
   held_before : (v s : ℕ) → place_of before.rows v s ≡ Held old.number → Holds board old v s
   unfolding before
-  held_before v s = stays_held board.base board.opening is_seat.opening front old.seen old.number legal_before is_seat.legal (own_front ∙ sym is_seat.all_own) v s
+  held_before v s =
+      stays_held board.base board.opening is_seat.opening front old.seen old.number legal_before is_seat.legal (own_front ∙ sym is_seat.all_own) v s
 
   pub draws_more : draws new.own ≡ draws old.own + draws (step_of old.number call reply ∷ [])
   draws_more = ap draws called.own ∙ draws-append old.own (step_of old.number call reply ∷ [])
@@ -166,7 +176,8 @@ module _ (board : Origin Terms Progress) (old new : Standing Terms Progress Boar
   }
 
   -- what the seat holds, by the rows after the call
-  holds_by : (rows : List (List Place)) → (progress_after board.base before old.number call).rows ≡ rows → (w t : ℕ) → Holds board new w t ↔ (place_of rows w t ≡ Held old.number)
+  holds_by : (rows : List (List Place)) → (progress_after board.base before old.number call).rows ≡ rows → (w t : ℕ)
+      → Holds board new w t ↔ (place_of rows w t ≡ Held old.number)
   holds_by rows is w t =
       let same : place_of (rows_after board new.seen) w t ≡ place_of rows w t = ap (λ r. place_of r w t) (after_is ∙ is) in
       let number : Held new.number ≡ Held old.number = ap Held called.same.1 in
@@ -181,13 +192,17 @@ module _ (board : Origin Terms Progress) (old new : Standing Terms Progress Boar
     pub holds : HoldsDrawn board draw new
     pub turn : IsFree board old → AfterDraw board draw new
 
-module _ (board : Origin Terms Progress) (old new : Standing Terms Progress BoardCall BoardReply) (is_seat : IsSeatOf board old) (draw : Draw) (called : HasCalled board DrawCall (Drew draw) old new) where
+module _ (board : Origin Terms Progress) (old new : Standing Terms Progress BoardCall BoardReply) (is_seat : IsSeatOf board old) (draw : Draw)
+    (called : HasCalled board DrawCall (Drew draw) old new) where
   rows : List (List Place)
   rows = (before board old new DrawCall (Drew draw) is_seat called).rows
 
   draw_is : draw ≡ draw_answer board.base.asks rows
   unfolding rows
-  draw_is = let h : Drew draw ≡ Drew (draw_answer board.base.asks (before board old new DrawCall (Drew draw) is_seat called).rows) = replied board old new DrawCall (Drew draw) is_seat called in cc
+  draw_is =
+      let h : Drew draw ≡ Drew (draw_answer board.base.asks (before board old new DrawCall (Drew draw) is_seat called).rows) =
+      replied board old new DrawCall (Drew draw) is_seat called in
+      cc
 
   pub drew_answer : draw ≡ draw_answer board.base.asks (rows_before_last board new)
   unfolding rows
@@ -209,7 +224,8 @@ module _ (board : Origin Terms Progress) (old new : Standing Terms Progress Boar
   draw_seat : dones new.own ≤ 1 → IsSeatOf board new
   draw_seat one = seat_after board old new DrawCall (Drew draw) is_seat called one (subst (λ n. n ≤ task_count board.base) (sym posts_same) is_seat.few_posts)
 
-  holds_drawn : (after : List (List Place)) → rows_drawn board.base.asks rows old.number ≡ after → (w t : ℕ) → Holds board new w t ↔ (place_of after w t ≡ Held old.number)
+  holds_drawn : (after : List (List Place)) → rows_drawn board.base.asks rows old.number ≡ after → (w t : ℕ)
+      → Holds board new w t ↔ (place_of after w t ≡ Held old.number)
   unfolding rows
   holds_drawn after is = holds_by board old new DrawCall (Drew draw) is_seat called after is
 
@@ -237,7 +253,11 @@ module _ (board : Origin Terms Progress) (old new : Standing Terms Progress Boar
         holds = (holds_drawn (with_place rows v s (Held old.number)) same v s).1 (place-same rows v s (Held old.number) found.below);
         alone = λ w t holds. elim (cases_Bool ((v == w) && (s == t))) [
           | inl here ↦ let e = same_place v w s t here in (sym e.0, sym e.1)
-          | inr other ↦ absurd (free w t (held_drawn w t (sym (place-other rows v w s t (Held old.number) other) ∙ (holds_drawn (with_place rows v s (Held old.number)) same w t).0 holds)))
+          | inr other ↦
+              absurd
+              (free w t
+              (held_drawn w t
+              (sym (place-other rows v w s t (Held old.number) other) ∙ (holds_drawn (with_place rows v s (Held old.number)) same w t).0 holds)))
         ];
       }
 
@@ -251,7 +271,8 @@ module _ (board : Origin Terms Progress) (old new : Standing Terms Progress Boar
       let one : a ≡ 1 = omega arith in
       let seat = draw_seat (let goal : a ≤ 1 = omega arith in goal) in
       let nothing = none_holds none free in
-      let all : HasDrawn board old new Done = record { seat = seat; holds = (nothing, one); turn = λ turn. record { is_seat = seat; holds_nothing = nothing; done = one } } in
+      let all : HasDrawn board old new Done =
+      record { seat = seat; holds = (nothing, one); turn = λ turn. record { is_seat = seat; holds_nothing = nothing; done = one } } in
       subst (λ d. HasDrawn board old new d) (sym is) all
   by_task (Some (v, s)) some free fresh =
       let d : Draw = Drawn (task_of v s) in
@@ -276,7 +297,13 @@ module _ (board : Origin Terms Progress) (old new : Standing Terms Progress Boar
         holds = (only, none);
         turn = λ turn.
             let even : o ≡ l = turn.each_posted in
-            record { is_seat = seat; only = only; not_done = none; others_posted = (let goal : m + 1 ≡ k = omega arith in goal); post_left = (let goal : m < n = omega arith in goal) };
+            record {
+              is_seat = seat;
+              only = only;
+              not_done = none;
+              others_posted = (let goal : m + 1 ≡ k = omega arith in goal);
+              post_left = (let goal : m < n = omega arith in goal);
+            };
       } in
       subst (λ x. HasDrawn board old new x) (sym is) all
 
@@ -287,24 +314,43 @@ module _ (board : Origin Terms Progress) (old new : Standing Terms Progress Boar
 
 module _ (board : Origin Terms Progress) (old new : Standing Terms Progress BoardCall BoardReply) (is_seat : IsSeatOf board old) where
   pub no_post : (reply : BoardReply) (answer : Posted) → HasCalled board DrawCall reply old new → reply ≡ Answered answer → ⊥
-  no_post reply answer called is = let h = replied board old new DrawCall reply is_seat called in let e : Answered answer ≡ Drew (draw_answer board.base.asks (before board old new DrawCall reply is_seat called).rows) = sym is ∙ h in cc
+  no_post reply answer called is =
+      let h = replied board old new DrawCall reply is_seat called in
+      let e : Answered answer ≡ Drew (draw_answer board.base.asks (before board old new DrawCall reply is_seat called).rows) = sym is ∙ h in cc
 
-  pub no_draw : (version : ℕ) (student : StudentNo) (bundle : Bundle) (reply : BoardReply) (draw : Draw) → HasCalled board (PostCall version student bundle) reply old new → reply ≡ Drew draw → ⊥
-  no_draw version student bundle reply draw called is = let h = replied board old new (PostCall version student bundle) reply is_seat called in let e : Drew draw ≡ Answered (post_answer board.base.asks (before board old new (PostCall version student bundle) reply is_seat called).rows old.number version student.0) = sym is ∙ h in cc
+  pub no_draw : (version : ℕ) (student : StudentNo) (bundle : Bundle) (reply : BoardReply) (draw : Draw)
+      → HasCalled board (PostCall version student bundle) reply old new → reply ≡ Drew draw → ⊥
+  no_draw version student bundle reply draw called is =
+      let h = replied board old new (PostCall version student bundle) reply is_seat called in
+      let e : Drew draw
+      ≡ Answered
+      (post_answer board.base.asks (before board old new (PostCall version student bundle) reply is_seat called).rows old.number version student.0) =
+      sym is ∙ h in
+      cc
 
 -- ---- posts
 
-module _ (board : Origin Terms Progress) (old new : Standing Terms Progress BoardCall BoardReply) (is_seat : IsSeatOf board old) (version : ℕ) (student : StudentNo) (bundle : Bundle) (answer : Posted) (called : HasCalled board (PostCall version student bundle) (Answered answer) old new) where
+module _ (board : Origin Terms Progress) (old new : Standing Terms Progress BoardCall BoardReply) (is_seat : IsSeatOf board old) (version : ℕ)
+    (student : StudentNo) (bundle : Bundle) (answer : Posted) (called : HasCalled board (PostCall version student bundle) (Answered answer) old new) where
   rows_then : List (List Place)
   rows_then = (before board old new (PostCall version student bundle) (Answered answer) is_seat called).rows
 
   answer_is : answer ≡ post_answer board.base.asks rows_then old.number version student.0
   unfolding rows_then
-  answer_is = let h : Answered answer ≡ Answered (post_answer board.base.asks (before board old new (PostCall version student bundle) (Answered answer) is_seat called).rows old.number version student.0) = replied board old new (PostCall version student bundle) (Answered answer) is_seat called in cc
+  answer_is =
+      let h : Answered answer
+      ≡ Answered
+      (post_answer board.base.asks (before board old new (PostCall version student bundle) (Answered answer) is_seat called).rows old.number version
+      student.0) =
+      replied board old new (PostCall version student bundle) (Answered answer) is_seat called in
+      cc
 
   pub post_answered : answer ≡ post_answer board.base.asks (rows_before_last board new) old.number version student.0
   unfolding rows_then
-  post_answered = answer_is ∙ ap (λ r. post_answer board.base.asks r old.number version student.0) (sym (before_is board old new (PostCall version student bundle) (Answered answer) is_seat called))
+  post_answered =
+      answer_is
+      ∙ ap (λ r. post_answer board.base.asks r old.number version student.0)
+      (sym (before_is board old new (PostCall version student bundle) (Answered answer) is_seat called))
 
   draws_same : draws new.own ≡ draws old.own
   draws_same =
@@ -330,22 +376,28 @@ module _ (board : Origin Terms Progress) (old new : Standing Terms Progress Boar
       let n : ℕ = task_count board.base in
       let more : a ≡ b + 1 = one_post in
       let low : b < n = few in
-      seat_after board old new (PostCall version student bundle) (Answered answer) is_seat called (subst (λ m. m ≤ 1) (sym dones_same) is_seat.one_done) (let goal : a ≤ n = omega arith in goal)
+      seat_after board old new (PostCall version student bundle) (Answered answer) is_seat called (subst (λ m. m ≤ 1) (sym dones_same) is_seat.one_done)
+      (let goal : a ≤ n = omega arith in goal)
 
-  posted_by : (after : List (List Place)) → rows_posted board.base.asks rows_then old.number version student.0 bundle ≡ after → (w t : ℕ) → Holds board new w t ↔ (place_of after w t ≡ Held old.number)
+  posted_by : (after : List (List Place)) → rows_posted board.base.asks rows_then old.number version student.0 bundle ≡ after → (w t : ℕ)
+      → Holds board new w t ↔ (place_of after w t ≡ Held old.number)
   unfolding rows_then
   posted_by after is = holds_by board old new (PostCall version student bundle) (Answered answer) is_seat called after is
 
   held_posted : (w t : ℕ) → Holds board old w t ↔ (place_of rows_then w t ≡ Held old.number)
   unfolding rows_then
-  held_posted w t = (held_then board old new (PostCall version student bundle) (Answered answer) is_seat called w t, held_before board old new (PostCall version student bundle) (Answered answer) is_seat called w t)
+  held_posted w t = (
+    held_then board old new (PostCall version student bundle) (Answered answer) is_seat called w t,
+    held_before board old new (PostCall version student bundle) (Answered answer) is_seat called w t,
+  )
 
   -- what a post leaves
   pub record HasPosted : Type 0 where
     pub not_yours : (answer ≡ NotYours) ↔ (¬ Holds board old version student.0)
     pub holds : (w t : ℕ) → Holds board new w t ↔ (Holds board old w t × (¬ ((w ≡ version) × (t ≡ student.0))))
 
-  by_place : (p : Place) → ¬ (p ≡ Held old.number) → place_of rows_then version student.0 ≡ Held old.number → rows_posted board.base.asks rows_then old.number version student.0 bundle ≡ with_place rows_then version student.0 p → ¬ (answer ≡ NotYours) → HasPosted
+  by_place : (p : Place) → ¬ (p ≡ Held old.number) → place_of rows_then version student.0 ≡ Held old.number
+      → rows_posted board.base.asks rows_then old.number version student.0 bundle ≡ with_place rows_then version student.0 p → ¬ (answer ≡ NotYours) → HasPosted
   by_place p other there is yours =
       let within : student.0 < length (row_of rows_then version) = closed_below (row_of rows_then version) student.0 (ap is_open there) in
       let mine : Holds board old version student.0 = (held_posted version student.0).1 there in
@@ -355,11 +407,18 @@ module _ (board : Origin Terms Progress) (old new : Standing Terms Progress Boar
           (λ holds. elim (cases_Bool ((version == w) && (student.0 == t))) [
             | inl here ↦
                 let e = same_place version w student.0 t here in
-                let shown : place_of (with_place rows_then version student.0 p) w t ≡ p = subst (λ x. place_of (with_place rows_then version student.0 p) x t ≡ p) e.0 (subst (λ x. place_of (with_place rows_then version student.0 p) version x ≡ p) e.1 (place-same rows_then version student.0 p within)) in
+                let shown : place_of (with_place rows_then version student.0 p) w t ≡ p =
+                subst (λ x. place_of (with_place rows_then version student.0 p) x t ≡ p) e.0
+                (subst (λ x. place_of (with_place rows_then version student.0 p) version x ≡ p) e.1 (place-same rows_then version student.0 p within)) in
                 absurd (other (sym shown ∙ (posted_by (with_place rows_then version student.0 p) is w t).0 holds))
-            | inr apart ↦ ((held_posted w t).1 (sym (place-other rows_then version w student.0 t p apart) ∙ (posted_by (with_place rows_then version student.0 p) is w t).0 holds), apart_of version w student.0 t apart)
+            | inr apart ↦ (
+              (held_posted w t).1
+                  (sym (place-other rows_then version w student.0 t p apart) ∙ (posted_by (with_place rows_then version student.0 p) is w t).0 holds),
+              apart_of version w student.0 t apart,
+            )
           ]),
-          (λ held. (posted_by (with_place rows_then version student.0 p) is w t).1 (place-other rows_then version w student.0 t p (test_of version w student.0 t held.1) ∙ (held_posted w t).0 held.0)),
+          (λ held. (posted_by (with_place rows_then version student.0 p) is w t).1
+              (place-other rows_then version w student.0 t p (test_of version w student.0 t held.1) ∙ (held_posted w t).0 held.0)),
         );
       }
 
@@ -371,10 +430,12 @@ module _ (board : Origin Terms Progress) (old new : Standing Terms Progress Boar
             elim (cases_Bool (is_settled (ask_of board.base.asks version) (row_of rows_then version))) [
               | inl over ↦
                   let late : answer ≡ Late (count_for (ask_of board.base.asks version) (row_of rows_then version)) = rw (held, over) at answer_is in
-                  by_place (Spent old.number) (λ same. cc) there (rw (held, over) refl) (λ refused. let e : NotYours ≡ Late (count_for (ask_of board.base.asks version) (row_of rows_then version)) = sym refused ∙ late in cc)
+                  by_place (Spent old.number) (λ same. cc) there (rw (held, over) refl)
+                  (λ refused. let e : NotYours ≡ Late (count_for (ask_of board.base.asks version) (row_of rows_then version)) = sym refused ∙ late in cc)
               | inr more ↦
                   let taken : answer ≡ Taken = rw (held, more) at answer_is in
-                  by_place (Filled old.number bundle) (λ same. cc) there (rw (held, more) refl) (λ refused. let e : NotYours ≡ Taken = sym refused ∙ taken in cc)
+                  by_place (Filled old.number bundle) (λ same. cc) there (rw (held, more) refl)
+                  (λ refused. let e : NotYours ≡ Taken = sym refused ∙ taken in cc)
             ]
         | inr stray ↦
             let refused : answer ≡ NotYours = rw stray at answer_is in

@@ -11,7 +11,8 @@ use Rattle.price_board.specs.Places.{row_of}
 use Rattle.price_board.specs.Settling.{ask_of, is_settled, with_section}
 use Rattle.price_board.specs.Terms.{version_count, count_of}
 
--- what the answers are in contracts: the terms, where each task stands at the end, and the history that led there
+-- what the answers are in contracts: the terms, where each task stands at the end, and the history
+-- that led there
 pub record AnswersData : Type 0 where
   pub terms : Terms
   pub rows : List (List Place)
@@ -19,7 +20,9 @@ pub record AnswersData : Type 0 where
 
 -- each version is settled
 abbrev pub AreSettled : Terms → List (List Place) → Type 0
-AreSettled terms rows = (version : ℕ) → version < version_count terms → is_settled (ask_of terms.asks version) (row_of rows version) ≡ true
+AreSettled terms rows =
+    (version : ℕ) → version < version_count terms
+    → is_settled (ask_of terms.asks version) (row_of rows version) ≡ true
 
 -- whether more posted bundles than the limit have the section that is asked of
 abbrev pub exceeds_in : Ask → List Place → Option Bool
@@ -29,7 +32,8 @@ exceeds_in (Exceeds section limit) row = Some (nat_lt limit (with_section sectio
 -- whether more students than the limit take it
 abbrev pub exceeds_at : Terms → ℕ → Ask → Option Bool
 exceeds_at terms version Counts = None
-exceeds_at terms version (Exceeds section limit) = Some (nat_lt limit (count_of terms version section.0))
+exceeds_at terms version (Exceeds section limit) =
+    Some (nat_lt limit (count_of terms version section.0))
 
 -- the same of a version, by what is asked of it
 abbrev pub exceeds_of : Terms → ℕ → Option Bool

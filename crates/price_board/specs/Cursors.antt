@@ -10,8 +10,10 @@ use Rattle.price_board.specs.Settling.{ask_of, is_settled}
 abbrev pub is_over : Ask → List Place → Bool
 is_over ask row = is_settled ask row || nat_le (length row) (first_open row)
 
--- the versions before this one are over, its tasks of the students before this one are drawn, and no others of it and of the later versions are
-pub record IsCursor (asks : List Ask) (rows : List (List Place)) (version student : ℕ) : Type 0 where
+-- the versions before this one are over, its tasks of the students before this one are drawn, and
+-- no others of it and of the later versions are
+pub record IsCursor (asks : List Ask) (rows : List (List Place))
+    (version student : ℕ) : Type 0 where
   pub over : (v : ℕ) → v < version → is_over (ask_of asks v) (row_of rows v) ≡ true
   pub drawn : (s : ℕ) → s < student → is_open (place_of rows version s) ≡ false
   pub next : (s : ℕ) → student ≤ s → is_open (place_of rows version s) ≡ true

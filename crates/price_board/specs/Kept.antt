@@ -21,7 +21,8 @@ abbrev pub board_of : Inside → BoardData
 board_of board = record { terms = terms_in board; rows = board.places; room = board.calls }
 
 -- the rows with their tallies, the task that is drawn next, and what stands in them
-pub record KeepsTasks (terms : Terms) (places : List (List Place)) (tallies : List Tally) (version student : ℕ) : Type 0 where
+pub record KeepsTasks (terms : Terms) (places : List (List Place)) (tallies : List Tally)
+    (version student : ℕ) : Type 0 where
   pub rows : AreRows terms places
   pub right : AreRight terms places
   pub tallied : tallies ≡ tallies_of terms.asks 0 places
@@ -33,4 +34,5 @@ pub record IsKept (board : Inside) : Type 0 where
   pub few_students : student_count (terms_in board) ≤ 2000
   pub asked : length board.round.asks.items ≡ version_count (terms_in board)
   pub students : board.students ≡ student_count (terms_in board)
-  pub tasks : KeepsTasks (terms_in board) board.places board.tallies.items board.next.version board.next.student
+  pub tasks : KeepsTasks (terms_in board) board.places board.tallies.items board.next.version
+      board.next.student

@@ -48,4 +48,5 @@ places_in (row ∷ marks) (more ∷ bundles) = row_in row more ∷ places_in mar
 abbrev pub HaveOneShape : List (List Mark) → List (List (Option Bundle)) → Type 0
 HaveOneShape [] bundles = bundles ≡ []
 HaveOneShape (row ∷ marks) [] = ⊥
-HaveOneShape (row ∷ marks) (more ∷ bundles) = (length row ≡ length more) × HaveOneShape marks bundles
+HaveOneShape (row ∷ marks) (more ∷ bundles) =
+    (length row ≡ length more) × HaveOneShape marks bundles

@@ -13,7 +13,12 @@ use Rattle.price_board.specs.Terms.{student_count, version_count}
 
 -- what a round asks of a crowd
 abbrev pub terms_of : Crowd → Round → Terms
-terms_of crowd round = record { crowd = crowd_of crowd.menus.items crowd.budgets.items crowd.sections; versions = map (λ version. version.items) round.versions.items; asks = round.asks.items }
+terms_of crowd round =
+    record {
+      crowd = crowd_of crowd.menus.items crowd.budgets.items crowd.sections;
+      versions = map (λ version. version.items) round.versions.items;
+      asks = round.asks.items;
+    }
 
 -- a crowd that can be asked
 abbrev pub IsMade : Crowd → Type 0
@@ -39,7 +44,8 @@ pub record IsRound (terms : Terms) : Type 0 where
 
 -- nothing is drawn or filled
 abbrev pub opening_of : Terms → Progress
-opening_of terms = record { rows = replicate (version_count terms) (replicate (student_count terms) Open) }
+opening_of terms =
+    record { rows = replicate (version_count terms) (replicate (student_count terms) Open) }
 
 -- a board that is at its opening
 abbrev pub IsOpening : Terms → Progress → Type 0

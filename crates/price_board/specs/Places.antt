@@ -14,7 +14,8 @@ place_of rows version student = slice_index_or (row_of rows version) student Ope
 
 -- the rows with one task standing elsewhere
 abbrev pub with_place : List (List Place) → ℕ → ℕ → Place → List (List Place)
-with_place rows version student place = slice_set rows version (slice_set (row_of rows version) student place)
+with_place rows version student place =
+    slice_set rows version (slice_set (row_of rows version) student place)
 
 -- nobody drew the task
 abbrev pub is_open : Place → Bool

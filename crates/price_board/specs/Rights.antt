@@ -14,4 +14,7 @@ pub record AreRows (terms : Terms) (rows : List (List Place)) : Type 0 where
 
 -- each posted bundle is what the student takes at the prices of the version
 abbrev pub AreRight : Terms → List (List Place) → Type 0
-AreRight terms rows = (version student : ℕ) (bundle : Bundle) → bundle_in (place_of rows version student) ≡ Some bundle → sections_of bundle ≡ demand_of terms version student
+AreRight terms rows =
+    (version student : ℕ) (bundle : Bundle)
+    → bundle_in (place_of rows version student) ≡ Some bundle
+    → sections_of bundle ≡ demand_of terms version student

@@ -36,10 +36,13 @@ one_for (Exceeds section limit) bundle = one_if_with section.0 bundle
 abbrev pub count_for : Ask → List Place → ℕ
 count_for ask row = total (λ place. one_for ask (bundle_in place)) row
 
--- all places are filled; or more than the limit have the section, or no more than the limit can have it
+-- all places are filled; or more than the limit have the section, or no more than the limit can
+-- have it
 abbrev pub is_settled : Ask → List Place → Bool
 is_settled Counts row = unfilled_in row == 0
-is_settled (Exceeds section limit) row = nat_lt limit (with_section section.0 row) || nat_le (with_section section.0 row + unfilled_in row) limit
+is_settled (Exceeds section limit) row =
+    nat_lt limit (with_section section.0 row)
+    || nat_le (with_section section.0 row + unfilled_in row) limit
 
 -- what is asked of a version
 abbrev pub ask_of : List Ask → ℕ → Ask

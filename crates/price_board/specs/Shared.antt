@@ -14,14 +14,17 @@ use Rattle.price_board.specs.Terms.{version_count, student_count, demand_of, sam
 abbrev pub is_sound : Terms → BoardCall → Bool
 is_sound terms Draw = true
 is_sound terms (Post version student bundle) =
-    nat_lt version (version_count terms) && nat_lt student.0 (student_count terms) && same_sections (sections_of bundle) (demand_of terms version student.0)
+    nat_lt version (version_count terms) && nat_lt student.0 (student_count terms)
+    && same_sections (sections_of bundle) (demand_of terms version student.0)
 
 -- the reply to a call
 abbrev pub reply_to : Terms → Progress → ℕ → BoardCall → BoardReply
 reply_to terms progress seat Draw = Drew (draw_answer terms.asks progress.rows)
-reply_to terms progress seat (Post version student bundle) = Posted (post_answer terms.asks progress.rows seat version student.0)
+reply_to terms progress seat (Post version student bundle) =
+    Posted (post_answer terms.asks progress.rows seat version student.0)
 
 -- where the tasks stand after a call
 abbrev pub progress_after : Terms → Progress → ℕ → BoardCall → Progress
 progress_after terms progress seat Draw = record { rows = rows_drawn terms.asks progress.rows seat }
-progress_after terms progress seat (Post version student bundle) = record { rows = rows_posted terms.asks progress.rows seat version student.0 bundle }
+progress_after terms progress seat (Post version student bundle) =
+    record { rows = rows_posted terms.asks progress.rows seat version student.0 bundle }

@@ -13,14 +13,17 @@ tally_of ask row = record { unfilled = unfilled_in row; count = count_for ask ro
 -- the tallies of the rows of this version and the later ones
 abbrev pub tallies_of : List Ask → ℕ → List (List Place) → List Tally
 tallies_of asks version [] = []
-tallies_of asks version (row ∷ rows) = tally_of (ask_of asks version) row ∷ tallies_of asks (version + 1) rows
+tallies_of asks version (row ∷ rows) =
+    tally_of (ask_of asks version) row ∷ tallies_of asks (version + 1) rows
 
 -- whether a version with this tally is settled
 abbrev pub settles : Ask → Tally → Bool
 settles Counts tally = tally.unfilled == 0
-settles (Exceeds section limit) tally = nat_lt limit tally.count || nat_le (tally.count + tally.unfilled) limit
+settles (Exceeds section limit) tally =
+    nat_lt limit tally.count || nat_le (tally.count + tally.unfilled) limit
 
--- whether a version with this tally has more bundles with the section than the limit, where that is asked
+-- whether a version with this tally has more bundles with the section than the limit, where that is
+-- asked
 abbrev pub exceeds_by : Ask → Tally → Option Bool
 exceeds_by Counts tally = None
 exceeds_by (Exceeds section limit) tally = Some (nat_lt limit tally.count)

@@ -39,17 +39,22 @@ impl Answers {
     ghost use Rattle.price_board.specs.Settling.{ask_of};
     ghost use Rattle.price_board.specs.Terms.{version_count, student_count, demand_of};
 
-    /// What the student takes at the prices of the version, where it was posted: for every student of a `Counts` version.
+    /// What the student takes at the prices of the version, where it was posted: for every student
+    /// of a `Counts` version.
     pub fn bundle(&self, version: u8, student: StudentNo) -> Option<Bundle>
         ensures posted { result ≡ bundle_in (place_of self.now.rows version student.0) }
-        ensures some { version < version_count self.now.terms → student.0 < student_count self.now.terms → ask_of self.now.terms.asks version ≡ ask.Counts → IsSome result }
-        ensures right { IfSome result (λ bundle. sections_of bundle ≡ demand_of self.now.terms version student.0) }
+        ensures some { version < version_count self.now.terms
+            → student.0 < student_count self.now.terms
+            → ask_of self.now.terms.asks version ≡ ask.Counts → IsSome result }
+        ensures right { IfSome result
+            (λ bundle. sections_of bundle ≡ demand_of self.now.terms version student.0) }
     {
         self.state
             .bundle(usize::from(version), usize::from(student.0))
     }
 
-    /// Of an `Exceeds` version, and of no other, whether more students than the limit take the section at its prices.
+    /// Of an `Exceeds` version, and of no other, whether more students than the limit take the
+    /// section at its prices.
     pub fn exceeds(&self, version: u8) -> Option<bool>
         ensures { result ≡ exceeds_of self.now.terms version }
     {

@@ -27,8 +27,8 @@ use std::sync::{Arc, Wait};
 /// The right to draw and post on a board, which one thread uses at a time.
 pub type BoardSeat = Seat<BoardState>;
 
-/// A round's tasks, which workers draw and whose bundles they post, each from its seat. Contracts see it as the origin of its
-/// chronicle: the terms, the opening, and what each seat was allotted.
+/// A round's tasks, which workers draw and whose bundles they post, each from its seat. Contracts
+/// see it as the origin of its chronicle: the terms, the opening, and what each seat was allotted.
 #[derive(Drop)]
 pub struct Board {
     chronicle: Chronicle<BoardState>,
@@ -53,8 +53,8 @@ impl Model for Board {
 }
 
 impl Board {
-    /// A board of this round, of which nothing is drawn or filled, with a seat for each of 1 to 16 workers, numbered from 0. All
-    /// memory is taken here; the only error is that it was not given.
+    /// A board of this round, of which nothing is drawn or filled, with a seat for each of 1 to 16
+    /// workers, numbered from 0. All memory is taken here; the only error is that it was not given.
     pub fn start(
         alloc: Global,
         crowd: Arc<Crowd>,
@@ -67,7 +67,8 @@ impl Board {
         ensures terms { IfOk result (λ r. r.0.base ≡ terms_of (arc_value crowd) round) }
         ensures allotments { IfOk result (λ r. length r.0.allotments ≡ workers) }
         ensures count { IfOk result (λ r. vec_len r.1 ≡ workers) }
-        ensures numbers { IfOk result (λ r. (n : ℕ) (d : _) → n < workers → (slice_index_or r.1.items n d).number ≡ n) }
+        ensures numbers { IfOk result
+            (λ r. (n : ℕ) (d : _) → n < workers → (slice_index_or r.1.items n d).number ≡ n) }
         ensures free { IfOk result (λ r. All (λ s. IsFree r.0 s) r.1.items) }
         ensures fresh { IfOk result (λ r. All (λ s. (s.seen ≡ []) × (s.own ≡ [])) r.1.items) }
     {
@@ -78,18 +79,22 @@ impl Board {
         Ok((Board { chronicle }, seats))
     }
 
-    /// Gives the seat the first task by version, then student, that is neither drawn nor of a settled version, and `Done` exactly
-    /// where there is none. It takes no memory, and may wait for its turn.
+    /// Gives the seat the first task by version, then student, that is neither drawn nor of a
+    /// settled version, and `Done` exactly where there is none. It takes no memory, and may wait
+    /// for its turn.
     pub fn draw<R: Wait>(&self, rt: &R, seat: &mut BoardSeat) -> Draw
         requires seat { IsSeatOf self.now seat.old }
         requires holds_nothing { HoldsNothing self.now seat.old }
         requires not_done { dones seat.old.own ≡ 0 }
         ensures seat { IsSeatOf self.now seat.new }
-        ensures answer { result ≡ draw_answer self.now.base.asks (rows_before_last self.now seat.new) }
+        ensures answer { result
+            ≡ draw_answer self.now.base.asks (rows_before_last self.now seat.new) }
         ensures holds { HoldsDrawn self.now result seat.new }
         ensures turn { IsFree self.now seat.old → AfterDraw self.now result seat.new }
-        ensures seen { Extends seat.old.seen seat.new.seen (step_of seat.old.number BoardCall.Draw (BoardReply.Draw result)) }
-        ensures own { seat.new.own ≡ seat.old.own ++ step_of seat.old.number BoardCall.Draw (BoardReply.Draw result) ∷ [] }
+        ensures seen { Extends seat.old.seen seat.new.seen
+            (step_of seat.old.number BoardCall.Draw (BoardReply.Draw result)) }
+        ensures own { seat.new.own
+            ≡ seat.old.own ++ step_of seat.old.number BoardCall.Draw (BoardReply.Draw result) ∷ [] }
         ensures number { seat.new.number ≡ seat.old.number }
     {
         match self.chronicle.call(rt, seat, BoardCall::Draw) {
@@ -98,9 +103,10 @@ impl Board {
         }
     }
 
-    /// Takes what the student takes at the prices of the version. `NotYours` comes exactly where the seat does not hold the task, and
-    /// changes nothing but the posts left; `Late` exactly where it does and the version is settled. In both other cases the seat no
-    /// longer holds the task. It takes no memory, and may wait for its turn.
+    /// Takes what the student takes at the prices of the version. `NotYours` comes exactly where
+    /// the seat does not hold the task, and changes nothing but the posts left; `Late` exactly
+    /// where it does and the version is settled. In both other cases the seat no longer holds the
+    /// task. It takes no memory, and may wait for its turn.
     pub fn post<R: Wait>(
         &self,
         rt: &R,
@@ -115,12 +121,24 @@ impl Board {
         requires bundle { sections_of bundle ≡ demand_of self.now.base version student.0 }
         requires post_left { posts seat.old.own < task_count self.now.base }
         ensures seat { IsSeatOf self.now seat.new }
-        ensures answer { result ≡ post_answer self.now.base.asks (rows_before_last self.now seat.new) seat.old.number version student.0 }
-        ensures not_yours { (result ≡ Posted.NotYours) ↔ (¬ Holds self.now seat.old version student.0) }
-        ensures holds { (other task : ℕ) → Holds self.now seat.new other task ↔ (Holds self.now seat.old other task × (¬ ((other ≡ version) × (task ≡ student.0)))) }
+        ensures answer { result
+            ≡ post_answer self.now.base.asks (rows_before_last self.now seat.new) seat.old.number
+            version student.0 }
+        ensures not_yours { (result ≡ Posted.NotYours)
+            ↔ (¬ Holds self.now seat.old version student.0) }
+        ensures holds { (other task : ℕ)
+            → Holds self.now seat.new other task
+            ↔ (Holds self.now seat.old other task
+            × (¬ ((other ≡ version) × (task ≡ student.0)))) }
         ensures turn { IsHolding self.now version student.0 seat.old → IsFree self.now seat.new }
-        ensures seen { Extends seat.old.seen seat.new.seen (step_of seat.old.number (BoardCall.Post version student bundle) (BoardReply.Post result)) }
-        ensures own { seat.new.own ≡ seat.old.own ++ step_of seat.old.number (BoardCall.Post version student bundle) (BoardReply.Post result) ∷ [] }
+        ensures seen { Extends seat.old.seen seat.new.seen
+            (step_of seat.old.number (BoardCall.Post version student bundle)
+            (BoardReply.Post result)) }
+        ensures own { seat.new.own
+            ≡ seat.old.own
+            ++ step_of seat.old.number (BoardCall.Post version student bundle)
+            (BoardReply.Post result)
+            ∷ [] }
         ensures number { seat.new.number ≡ seat.old.number }
     {
         let call = BoardCall::Post {
@@ -134,19 +152,26 @@ impl Board {
         }
     }
 
-    /// Ends the round: with all seats back, in any order, of which none holds a task and each was answered `Done`, the answers come
-    /// out, with the one history of all calls.
+    /// Ends the round: with all seats back, in any order, of which none holds a task and each was
+    /// answered `Done`, the answers come out, with the one history of all calls.
     pub fn close(self, seats: Vec<BoardSeat>) -> Answers
         requires all { (n : ℕ) → n < length self.allotments → Any (λ s. s.number ≡ n) seats.items }
         requires finished { All (λ s. IsFinished self s) seats.items }
         ensures terms { result.terms ≡ self.base }
-        ensures legal { IsLegal is_sound progress_after reply_to self.base self.opening result.history }
-        ensures rows { state_after progress_after self.base self.opening result.history ≡ record { rows = result.rows } }
+        ensures legal { IsLegal is_sound progress_after reply_to self.base self.opening
+            result.history }
+        ensures rows { state_after progress_after self.base self.opening result.history
+            ≡ record { rows = result.rows } }
         ensures settled { AreSettled result.terms result.rows }
         ensures seats { All (λ step. Any (λ s. s.number ≡ step.seat) seats.items) result.history }
         ensures own { All (λ s. calls_by s.number result.history ≡ s.own) seats.items }
-        ensures tasks { (version student : ℕ) → version < version_count self.base → student < student_count self.base → (calls_on version student result.history ≡ []) ⊎ IsWorked IsTakenOrLate self.base result.history version student }
-        ensures counts { (version student : ℕ) → version < version_count self.base → student < student_count self.base → ask_of self.base.asks version ≡ Ask.Counts → IsWorked IsTaken self.base result.history version student }
+        ensures tasks { (version student : ℕ) → version < version_count self.base
+            → student < student_count self.base
+            → (calls_on version student result.history ≡ [])
+            ⊎ IsWorked IsTakenOrLate self.base result.history version student }
+        ensures counts { (version student : ℕ) → version < version_count self.base
+            → student < student_count self.base → ask_of self.base.asks version ≡ Ask.Counts
+            → IsWorked IsTaken self.base result.history version student }
     {
         let (state, journal) = self.chronicle.close(seats);
         state.answers(journal)

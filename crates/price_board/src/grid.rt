@@ -54,7 +54,8 @@ impl<T: Copy> Grid<T> {
     pub fn set(&mut self, row: usize, column: usize, value: T)
         requires row { row < length self.old }
         requires column { column < length (slice_index_or self.old row []) }
-        ensures { self.new ≡ slice_set self.old row (slice_set (slice_index_or self.old row []) column value) }
+        ensures { self.new
+            ≡ slice_set self.old row (slice_set (slice_index_or self.old row []) column value) }
     {
         put(self.region.row_mut(RowId(self.ids[row])), column, value);
     }

@@ -46,7 +46,8 @@ impl Model for RoundPlaces {
 impl RoundPlaces {
     /// A row for each version, with a place for each student, all of them open.
     pub fn reserve(alloc: Global, versions: u32, students: u32) -> Result<RoundPlaces, NoMemory>
-        ensures { IfOk result (λ places. places ≡ replicate versions (replicate students place.Open)) }
+        ensures { IfOk result
+            (λ places. places ≡ replicate versions (replicate students place.Open)) }
     {
         let marks = Grid::reserve(alloc, versions, students, Mark::Open)?;
         let bundles = Grid::reserve(alloc, versions, students, None)?;

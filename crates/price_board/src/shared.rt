@@ -16,7 +16,8 @@ use crate::state::BoardState;
 use chronicle::Object;
 use std::marker::Model;
 
-/// What no step of a board changes: the crowd, the prices of each version, and what is asked of it. Contracts alone see it.
+/// What no step of a board changes: the crowd, the prices of each version, and what is asked of it.
+/// Contracts alone see it.
 pub struct Terms {
     pub ghost crowd: { CrowdData } by { Prim.hlevel (codes, rated.the_row.coded) },
     pub ghost versions: { List (List Tokens) } by { Prim.hlevel (codes, tokens.the_row.coded) },

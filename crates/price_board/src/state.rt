@@ -33,7 +33,8 @@ pub struct Cursor {
     pub student: usize,
 }
 
-/// The tasks of a round, one for each version and student, and where they stand. All memory is taken when it is made.
+/// The tasks of a round, one for each version and student, and where they stand. All memory is
+/// taken when it is made.
 #[derive(Drop)]
 pub struct BoardState {
     crowd: Arc<Crowd>,
@@ -63,8 +64,8 @@ impl Model for BoardState {
 }
 
 impl BoardState {
-    /// A board of this round, of which nothing is drawn or filled, with room for the calls of 1 to 16 workers. The only error is that
-    /// memory was wanted and not given.
+    /// A board of this round, of which nothing is drawn or filled, with room for the calls of 1 to
+    /// 16 workers. The only error is that memory was wanted and not given.
     pub fn make(
         alloc: Global,
         crowd: Arc<Crowd>,
@@ -75,8 +76,11 @@ impl BoardState {
         requires round { IsRound (terms_of (arc_value crowd) round) }
         requires workers { (1 ≤ workers) × (workers ≤ 16) }
         ensures terms { IfOk result (λ board. board.terms ≡ terms_of (arc_value crowd) round) }
-        ensures opening { IfOk result (λ board. board.rows ≡ (opening_of (terms_of (arc_value crowd) round)).rows) }
-        ensures room { IfOk result (λ board. board.room ≡ workers * (2 * task_count (terms_of (arc_value crowd) round) + 1)) }
+        ensures opening { IfOk result
+            (λ board. board.rows ≡ (opening_of (terms_of (arc_value crowd) round)).rows) }
+        ensures room { IfOk result
+            (λ board. board.room
+            ≡ workers * (2 * task_count (terms_of (arc_value crowd) round) + 1)) }
     {
         let students = crowd.menus.len();
         let versions = round.versions.len();
@@ -109,7 +113,8 @@ impl BoardState {
         self.tallies.len() as u64 * self.students as u64
     }
 
-    /// Gives the worker the first task by version, then student, that is neither drawn nor of a settled version.
+    /// Gives the worker the first task by version, then student, that is neither drawn nor of a
+    /// settled version.
     pub fn draw(&mut self, worker: u16) -> Draw
         ensures answer { result ≡ draw_answer self.old.terms.asks self.old.rows }
         ensures rows { self.new.rows ≡ rows_drawn self.old.terms.asks self.old.rows worker }
@@ -132,7 +137,10 @@ impl BoardState {
     // The first task that may be drawn, past the versions where there is none.
     fn next_task(&self) -> Cursor
         ensures cursor { IsCursor self.now.terms.asks self.now.rows result.version result.student }
-        ensures stops { result.version < version_count self.now.terms → is_over (ask_of self.now.terms.asks result.version) (row_of self.now.rows result.version) ≡ false }
+        ensures stops { result.version < version_count self.now.terms
+            → is_over (ask_of self.now.terms.asks result.version)
+            (row_of self.now.rows result.version)
+            ≡ false }
     {
         let mut next = self.next;
         'versions: while next.version < self.tallies.len() {
@@ -151,7 +159,9 @@ impl BoardState {
     fn is_over(&self, next: Cursor) -> bool
         requires version { next.version < version_count self.now.terms }
         requires cursor { IsCursor self.now.terms.asks self.now.rows next.version next.student }
-        ensures { result ≡ is_over (ask_of self.now.terms.asks next.version) (row_of self.now.rows next.version) }
+        ensures { result
+            ≡ is_over (ask_of self.now.terms.asks next.version)
+            (row_of self.now.rows next.version) }
     {
         if next.student >= self.students {
             return true;
@@ -162,19 +172,23 @@ impl BoardState {
     // Whether what was posted decides what is asked of the version.
     fn is_settled(&self, version: usize) -> bool
         requires { version < version_count self.now.terms }
-        ensures { result ≡ is_settled (ask_of self.now.terms.asks version) (row_of self.now.rows version) }
+        ensures { result
+            ≡ is_settled (ask_of self.now.terms.asks version) (row_of self.now.rows version) }
     {
         settles(self.round.asks[version], self.tallies[version])
     }
 
-    /// Takes what the student takes at the prices of the version from the worker that holds the task. `NotYours` comes exactly
-    /// where the worker does not hold it, and changes nothing; `Late` exactly where it does and the version is settled.
+    /// Takes what the student takes at the prices of the version from the worker that holds the
+    /// task. `NotYours` comes exactly where the worker does not hold it, and changes nothing;
+    /// `Late` exactly where it does and the version is settled.
     pub fn post(&mut self, worker: u16, version: u8, student: StudentNo, bundle: Bundle) -> Posted
         requires version { version < version_count self.old.terms }
         requires student { student.0 < student_count self.old.terms }
         requires bundle { sections_of bundle ≡ demand_of self.old.terms version student.0 }
-        ensures answer { result ≡ post_answer self.old.terms.asks self.old.rows worker version student.0 }
-        ensures rows { self.new.rows ≡ rows_posted self.old.terms.asks self.old.rows worker version student.0 bundle }
+        ensures answer { result
+            ≡ post_answer self.old.terms.asks self.old.rows worker version student.0 }
+        ensures rows { self.new.rows
+            ≡ rows_posted self.old.terms.asks self.old.rows worker version student.0 bundle }
         ensures unchanged { result ≡ Posted.NotYours → self.new ≡ self.old }
         ensures terms { self.new.terms ≡ self.old.terms }
         ensures room { self.new.room ≡ self.old.room }
@@ -187,8 +201,10 @@ impl BoardState {
         requires version { version < version_count self.old.terms }
         requires student { student < student_count self.old.terms }
         requires bundle { sections_of bundle ≡ demand_of self.old.terms version student }
-        ensures answer { result ≡ post_answer self.old.terms.asks self.old.rows worker version student }
-        ensures rows { self.new.rows ≡ rows_posted self.old.terms.asks self.old.rows worker version student bundle }
+        ensures answer { result
+            ≡ post_answer self.old.terms.asks self.old.rows worker version student }
+        ensures rows { self.new.rows
+            ≡ rows_posted self.old.terms.asks self.old.rows worker version student bundle }
         ensures unchanged { result ≡ Posted.NotYours → self.new ≡ self.old }
         ensures terms { self.new.terms ≡ self.old.terms }
         ensures room { self.new.room ≡ self.old.room }
@@ -207,10 +223,12 @@ impl BoardState {
         Posted::Taken
     }
 
-    /// The answers of a round that has come to its end, with the history that led there: all versions are settled.
+    /// The answers of a round that has come to its end, with the history that led there: all
+    /// versions are settled.
     pub fn answers(self, journal: Journal<BoardState>) -> Answers
         requires settled { AreSettled self.terms self.rows }
-        requires last { state_after progress_after self.terms (opening_of self.terms) journal ≡ record { rows = self.rows } }
+        requires last { state_after progress_after self.terms (opening_of self.terms) journal
+            ≡ record { rows = self.rows } }
         ensures { result ≡ record { terms = self.terms; rows = self.rows; history = journal } }
     {
         Answers {
@@ -222,7 +240,8 @@ impl BoardState {
     // The bundle that was posted for a task.
     pub(crate) fn bundle(&self, version: usize, student: usize) -> Option<Bundle>
         ensures posted { result ≡ bundle_in (place_of self.now.rows version student) }
-        ensures right { IfSome result (λ bundle. sections_of bundle ≡ demand_of self.now.terms version student) }
+        ensures right { IfSome result
+            (λ bundle. sections_of bundle ≡ demand_of self.now.terms version student) }
         ensures rows { AreRows self.now.terms self.now.rows }
     {
         if version >= self.tallies.len() {
@@ -236,7 +255,8 @@ impl BoardState {
 
     // Of an `Exceeds` version, whether more of its posted bundles than the limit have the section.
     pub(crate) fn exceeds(&self, version: usize) -> Option<bool>
-        ensures value { result ≡ exceeds_in (ask_of self.now.terms.asks version) (row_of self.now.rows version) }
+        ensures value { result
+            ≡ exceeds_in (ask_of self.now.terms.asks version) (row_of self.now.rows version) }
         ensures right { AreRight self.now.terms self.now.rows }
         ensures rows { AreRows self.now.terms self.now.rows }
         ensures asks { length self.now.terms.asks ≡ version_count self.now.terms }

@@ -8,7 +8,8 @@ ghost use Rattle.price_board.specs.Tallies.{settles, exceeds_by};
 use crate::round::Ask;
 use bundle_rules::Bundle;
 
-/// How many places of a version are still to be filled, and how many of its posted bundles have the section that is asked of.
+/// How many places of a version are still to be filled, and how many of its posted bundles have the
+/// section that is asked of.
 #[derive(Clone, Copy)]
 pub struct Tally {
     pub unfilled: u32,
@@ -31,7 +32,11 @@ pub(crate) fn settles(ask: Ask, tally: Tally) -> bool
 // The tally after one more bundle.
 pub(crate) fn with_bundle(ask: Ask, tally: Tally, bundle: &Bundle) -> Tally
     requires { (1 ≤ tally.unfilled) × (tally.count ≤ 2000) }
-    ensures { result ≡ record { unfilled = tally.unfilled - 1; count = tally.count + one_for ask (Some bundle.now) } }
+    ensures { result
+        ≡ record {
+          unfilled = tally.unfilled - 1;
+          count = tally.count + one_for ask (Some bundle.now);
+        } }
 {
     let has_it = match ask {
         Ask::Counts => false,

@@ -22,24 +22,30 @@ list_any-map p f [] = refl
 list_any-map p f (x ∷ xs) = ap (λ b. p (f x) || b) (list_any-map p f xs)
 
 -- a vector whose amounts were not seen is kept
-pub kept_then : (all kept : List (List Tokens)) (keys later : List (List ℕ)) (vector : List Tokens) (key : List ℕ) → kept ≡ once same_prices all → keys ≡ map amounts kept → key ≡ amounts vector
+pub kept_then : (all kept : List (List Tokens)) (keys later : List (List ℕ)) (vector : List Tokens) (key : List ℕ) → kept ≡ once same_prices all
+    → keys ≡ map amounts kept → key ≡ amounts vector
     → true ≡ not (list_any (pointwise nat_eq key) keys) → later ≡ cond (list_any (pointwise nat_eq key) keys) keys (keys ++ key ∷ [])
     → (kept ++ vector ∷ [] ≡ once same_prices (all ++ vector ∷ [])) × (later ≡ map amounts (kept ++ vector ∷ []))
 kept_then all kept keys later vector key is seen at new then = elim (cases_Bool (list_any (pointwise nat_eq key) keys)) [
   | inl t ↦ absurd (true≢false (new ∙ ap not t))
   | inr f ↦
-      let fresh : list_any (same_prices vector) (once same_prices all) ≡ false = rw (← is) (sym (list_any-map (pointwise nat_eq (amounts vector)) amounts kept) ∙ rw (← at, ← seen) f) in
-      let more : later ≡ keys ++ key ∷ [] = then ∙ rw f refl in
-      (ap (λ l. l ++ vector ∷ []) is ∙ sym (once_more_new same_prices same_prices_equal all vector fresh), more ∙ rw (seen, at) (sym (map-append amounts kept (vector ∷ []))))
+      let fresh : list_any (same_prices vector) (once same_prices all) ≡ false =
+      rw (← is) (sym (list_any-map (pointwise nat_eq (amounts vector)) amounts kept) ∙ rw (← at, ← seen) f) in
+      let more : later ≡ keys ++ key ∷ [] = then ∙ rw f refl in (
+        ap (λ l. l ++ vector ∷ []) is ∙ sym (once_more_new same_prices same_prices_equal all vector fresh),
+        more ∙ rw (seen, at) (sym (map-append amounts kept (vector ∷ []))),
+      )
 ]
 
 -- and one whose amounts were seen is not
-pub kept_still : (all kept : List (List Tokens)) (keys later : List (List ℕ)) (vector : List Tokens) (key : List ℕ) → kept ≡ once same_prices all → keys ≡ map amounts kept → key ≡ amounts vector
+pub kept_still : (all kept : List (List Tokens)) (keys later : List (List ℕ)) (vector : List Tokens) (key : List ℕ) → kept ≡ once same_prices all
+    → keys ≡ map amounts kept → key ≡ amounts vector
     → false ≡ not (list_any (pointwise nat_eq key) keys) → later ≡ cond (list_any (pointwise nat_eq key) keys) keys (keys ++ key ∷ [])
     → (kept ≡ once same_prices (all ++ vector ∷ [])) × (later ≡ map amounts kept)
 kept_still all kept keys later vector key is seen at old then = elim (cases_Bool (list_any (pointwise nat_eq key) keys)) [
   | inl t ↦
-      let there : list_any (same_prices vector) (once same_prices all) ≡ true = rw (← is) (sym (list_any-map (pointwise nat_eq (amounts vector)) amounts kept) ∙ rw (← at, ← seen) t) in
+      let there : list_any (same_prices vector) (once same_prices all) ≡ true =
+      rw (← is) (sym (list_any-map (pointwise nat_eq (amounts vector)) amounts kept) ∙ rw (← at, ← seen) t) in
       let stays : later ≡ keys = then ∙ rw t refl in
       (is ∙ sym (once_more_seen same_prices same_prices_equal all vector there), stays ∙ seen)
   | inr f ↦ absurd (true≢false (sym (old ∙ ap not f)))
@@ -52,7 +58,8 @@ vectors_of vectors = map (λ vector. vector.items) vectors
 abbrev pub keys_of : List (Vec ℕ Global) → List (List ℕ)
 keys_of keys = map (λ key. key.items) keys
 
-keys_then : (seen later : List (Vec ℕ Global)) (key : Vec ℕ Global) → later ≡ cond (list_any (λ other. pointwise nat_eq key.items other.items) seen) seen (seen ++ key ∷ [])
+keys_then : (seen later : List (Vec ℕ Global)) (key : Vec ℕ Global)
+    → later ≡ cond (list_any (λ other. pointwise nat_eq key.items other.items) seen) seen (seen ++ key ∷ [])
     → keys_of later ≡ cond (list_any (pointwise nat_eq key.items) (keys_of seen)) (keys_of seen) (keys_of seen ++ key.items ∷ [])
 keys_then seen later key is =
     let any = list_any-map (pointwise nat_eq key.items) (λ (other : Vec ℕ Global). other.items) seen in
@@ -62,22 +69,30 @@ keys_then seen later key is =
     ]
 
 pub vectors_then : (all kept more : List (Vec Tokens Global)) (seen later : List (Vec ℕ Global)) (vector : Vec Tokens Global) (key : Vec ℕ Global) (new : Bool)
-    → (vectors_of kept ≡ once same_prices (vectors_of all)) × (keys_of seen ≡ map amounts (vectors_of kept)) → key.items ≡ amounts vector.items → new ≡ true → more ≡ kept ++ vector ∷ []
-    → new ≡ not (list_any (λ other. pointwise nat_eq key.items other.items) seen) → later ≡ cond (list_any (λ other. pointwise nat_eq key.items other.items) seen) seen (seen ++ key ∷ [])
+    → (vectors_of kept ≡ once same_prices (vectors_of all)) × (keys_of seen ≡ map amounts (vectors_of kept)) → key.items ≡ amounts vector.items → new ≡ true
+    → more ≡ kept ++ vector ∷ []
+    → new ≡ not (list_any (λ other. pointwise nat_eq key.items other.items) seen)
+    → later ≡ cond (list_any (λ other. pointwise nat_eq key.items other.items) seen) seen (seen ++ key ∷ [])
     → (vectors_of more ≡ once same_prices (vectors_of (all ++ vector ∷ []))) × (keys_of later ≡ map amounts (vectors_of more))
 vectors_then all kept more seen later vector key new so_far at is_new is_more told then =
     let any = list_any-map (pointwise nat_eq key.items) (λ (other : Vec ℕ Global). other.items) seen in
-    let on = kept_then (vectors_of all) (vectors_of kept) (keys_of seen) (keys_of later) vector.items key.items so_far.0 so_far.1 at (sym is_new ∙ told ∙ ap not (sym any)) (keys_then seen later key then) in
-    let kept_is : vectors_of more ≡ vectors_of kept ++ vector.items ∷ [] = ap vectors_of is_more ∙ map-append (λ (v : Vec Tokens Global). v.items) kept (vector ∷ []) in
+    let on =
+    kept_then (vectors_of all) (vectors_of kept) (keys_of seen) (keys_of later) vector.items key.items so_far.0 so_far.1 at
+    (sym is_new ∙ told ∙ ap not (sym any)) (keys_then seen later key then) in
+    let kept_is : vectors_of more ≡ vectors_of kept ++ vector.items ∷ [] =
+    ap vectors_of is_more ∙ map-append (λ (v : Vec Tokens Global). v.items) kept (vector ∷ []) in
     let all_is : vectors_of (all ++ vector ∷ []) ≡ vectors_of all ++ vector.items ∷ [] = map-append (λ (v : Vec Tokens Global). v.items) all (vector ∷ []) in
     rw (kept_is, all_is) on
 
 pub vectors_still : (all kept : List (Vec Tokens Global)) (seen later : List (Vec ℕ Global)) (vector : Vec Tokens Global) (key : Vec ℕ Global) (new : Bool)
     → (vectors_of kept ≡ once same_prices (vectors_of all)) × (keys_of seen ≡ map amounts (vectors_of kept)) → key.items ≡ amounts vector.items → new ≡ false
-    → new ≡ not (list_any (λ other. pointwise nat_eq key.items other.items) seen) → later ≡ cond (list_any (λ other. pointwise nat_eq key.items other.items) seen) seen (seen ++ key ∷ [])
+    → new ≡ not (list_any (λ other. pointwise nat_eq key.items other.items) seen)
+    → later ≡ cond (list_any (λ other. pointwise nat_eq key.items other.items) seen) seen (seen ++ key ∷ [])
     → (vectors_of kept ≡ once same_prices (vectors_of (all ++ vector ∷ []))) × (keys_of later ≡ map amounts (vectors_of kept))
 vectors_still all kept seen later vector key new so_far at is_old told then =
     let any = list_any-map (pointwise nat_eq key.items) (λ (other : Vec ℕ Global). other.items) seen in
-    let on = kept_still (vectors_of all) (vectors_of kept) (keys_of seen) (keys_of later) vector.items key.items so_far.0 so_far.1 at (sym is_old ∙ told ∙ ap not (sym any)) (keys_then seen later key then) in
+    let on =
+    kept_still (vectors_of all) (vectors_of kept) (keys_of seen) (keys_of later) vector.items key.items so_far.0 so_far.1 at
+    (sym is_old ∙ told ∙ ap not (sym any)) (keys_then seen later key then) in
     let all_is : vectors_of (all ++ vector ∷ []) ≡ vectors_of all ++ vector.items ∷ [] = map-append (λ (v : Vec Tokens Global). v.items) all (vector ∷ []) in
     rw all_is on

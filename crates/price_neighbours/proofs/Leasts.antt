@@ -23,7 +23,8 @@ below_top crowd price s some = elim (cases_lt (price s) (top crowd)) [
 ]
 
 -- the least price is the first that is found
-pub least_first : (crowd : CrowdData) (price : ℕ → ℕ) (s least : ℕ) → price s < top crowd → IsLeastFewer crowd price s least → least_fewer crowd price s ≡ Some least
+pub least_first : (crowd : CrowdData) (price : ℕ → ℕ) (s least : ℕ) → price s < top crowd → IsLeastFewer crowd price s least
+    → least_fewer crowd price s ≡ Some least
 least_first crowd price s least low is = find_in_range (λ p. nat_lt (count crowd (with_price price s p) s) (count crowd price s)) (price s + 1) (top crowd - price s) least (record {
   from = let above : price s < least = is.above in omega arith;
   below = elim (cases_lt (top crowd) least) [
@@ -39,7 +40,8 @@ least_first crowd price s least low is = find_in_range (λ p. nat_lt (count crow
 })
 
 -- what is asked of the crowd is that price
-pub least_asked : (crowd : CrowdData) (price : ℕ → ℕ) (s limit least : ℕ) → limit + 1 ≡ count crowd price s → IsLeastFrom (price s) crowd price s limit least → least_fewer crowd price s ≡ Some least
+pub least_asked : (crowd : CrowdData) (price : ℕ → ℕ) (s limit least : ℕ) → limit + 1 ≡ count crowd price s → IsLeastFrom (price s) crowd price s limit least
+    → least_fewer crowd price s ≡ Some least
 least_asked crowd price s limit least one is =
     let present : count crowd (with_price price s (price s)) s ≡ count crowd price s = count_present crowd price s in
     let from : price s ≤ least = is.from in
@@ -57,11 +59,14 @@ least_asked crowd price s limit least one is =
     })
 
 -- and there is one
-pub least_fewer_is_least : (crowd : CrowdData) (price : ℕ → ℕ) (s : ℕ) → 0 < count crowd price s → (least : ℕ) × (least_fewer crowd price s ≡ Some least) × IsLeastFewer crowd price s least
+pub least_fewer_is_least : (crowd : CrowdData) (price : ℕ → ℕ) (s : ℕ) → 0 < count crowd price s
+    → (least : ℕ) × (least_fewer crowd price s ≡ Some least) × IsLeastFewer crowd price s least
 least_fewer_is_least crowd price s some =
     let low : price s < top crowd = below_top crowd price s some in
     let none : count crowd (with_price price s (top crowd)) s ≡ 0 = none_with_top crowd price s in
-    let found = some_first (λ p. nat_lt (count crowd (with_price price s p) s) (count crowd price s)) (price s + 1) (top crowd - price s) (top crowd) (omega arith) (omega arith) (grind (arith, nat_tests)) in
+    let found =
+    some_first (λ p. nat_lt (count crowd (with_price price s p) s) (count crowd price s)) (price s + 1) (top crowd - price s) (top crowd) (omega arith)
+    (omega arith) (grind (arith, nat_tests)) in
     let from : price s + 1 ≤ found.0 = found.1.from in
     let passes : nat_lt (count crowd (with_price price s found.0) s) (count crowd price s) ≡ true = found.1.passes in (
       found.0,
@@ -76,7 +81,8 @@ least_fewer_is_least crowd price s some =
 -- what is found is at most the top
 pub found_capped : (crowd : CrowdData) (price : ℕ → ℕ) (s p : ℕ) → least_fewer crowd price s ≡ Some p → p ≤ top crowd
 found_capped crowd price s p is =
-    let below : p < (price s + 1) + (top crowd - price s) = found_below (λ q. nat_lt (count crowd (with_price price s q) s) (count crowd price s)) (price s + 1) (top crowd - price s) p is in
+    let below : p < (price s + 1) + (top crowd - price s) =
+    found_below (λ q. nat_lt (count crowd (with_price price s q) s) (count crowd price s)) (price s + 1) (top crowd - price s) p is in
     elim (cases_lt (price s) (top crowd)) [
       | inl low ↦ omega arith
       | inr high ↦

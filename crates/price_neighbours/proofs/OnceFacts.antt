@@ -34,7 +34,8 @@ module _ {A : Type 0} (same : A → A → Bool) (equal : IsEquivalence same) whe
   snoc-step x y kept false = elim (cases_Bool (same y x)) [
     | inl t ↦
         let back : same x y ≡ true = equal.symm x y ∙ t in
-        rw (filter-append (λ other. not (same x other)) kept (y ∷ []), back, t) (ap (λ (rest : List A). x ∷ rest) (append-nil (filter (λ other. not (same x other)) kept)))
+        rw (filter-append (λ other. not (same x other)) kept (y ∷ []), back, t)
+        (ap (λ (rest : List A). x ∷ rest) (append-nil (filter (λ other. not (same x other)) kept)))
     | inr f ↦
         let back : same x y ≡ false = equal.symm x y ∙ f in
         rw (filter-append (λ other. not (same x other)) kept (y ∷ []), back, f) refl
@@ -54,7 +55,9 @@ module _ {A : Type 0} (same : A → A → Bool) (equal : IsEquivalence same) whe
 -- what holds of all holds of those that stand once
 pub All-once : {A : Type 0} (same : A → A → Bool) (P : A → Type 0) (xs : List A) → All P xs → All P (once same xs)
 All-once same P [] all = All-nil P
-All-once same P (x ∷ xs) all = All-cons P x (filter (λ other. not (same x other)) (once same xs)) (All-head P x xs all) (All-filter (λ other. not (same x other)) P (once same xs) (All-once same P xs (All-tail P x xs all)))
+All-once same P (x ∷ xs) all =
+    All-cons P x (filter (λ other. not (same x other)) (once same xs)) (All-head P x xs all)
+    (All-filter (λ other. not (same x other)) P (once same xs) (All-once same P xs (All-tail P x xs all)))
 
 -- no item is the same as a later one
 abbrev pub AreApart : {A : Type 0} → (A → A → Bool) → List A → Type 0
@@ -72,13 +75,15 @@ apart-filter same p (x ∷ xs) apart = elim (cases_Bool (p x)) [
 pub apart-once : {A : Type 0} (same : A → A → Bool) (xs : List A) → AreApart same (once same xs)
 apart-once same [] = tt
 apart-once same (x ∷ xs) = (
-  All-weaker (λ other. not (same x other) ≡ true) (λ other. same x other ≡ false) (λ other not_same. elim (cases_Bool (same x other)) [ inl t ↦ absurd (true≢false (sym not_same ∙ ap not t)) | inr f ↦ f ])
+  All-weaker (λ other. not (same x other) ≡ true) (λ other. same x other ≡ false)
+      (λ other not_same. elim (cases_Bool (same x other)) [ inl t ↦ absurd (true≢false (sym not_same ∙ ap not t)) | inr f ↦ f ])
       (filter (λ other. not (same x other)) (once same xs)) (filter_passes (λ other. not (same x other)) (once same xs)),
   apart-filter same (λ other. not (same x other)) (once same xs) (apart-once same xs),
 )
 
 -- by places
-pub apart_by_place : {A : Type 0} (same : A → A → Bool) (xs : List A) (d : A) (i j : ℕ) → AreApart same xs → i < j → j < length xs → same (get_or xs i d) (get_or xs j d) ≡ false
+pub apart_by_place : {A : Type 0} (same : A → A → Bool) (xs : List A) (d : A) (i j : ℕ) → AreApart same xs → i < j → j < length xs
+    → same (get_or xs i d) (get_or xs j d) ≡ false
 apart_by_place same [] d i j apart below within = absurd (omega arith)
 apart_by_place same (x ∷ xs) d i zero apart below within = absurd (omega arith)
 apart_by_place same (x ∷ xs) d zero (suc j) apart below within = apart.0 j d (omega arith)

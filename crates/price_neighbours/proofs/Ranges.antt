@@ -35,7 +35,9 @@ find_in_range p a (suc n) x is = elim (cases_lt a x) [
   | inl less ↦
       let below : x < a + suc n = is.below in
       let f : p a ≡ false = is.fails a (omega arith) less in
-      rw f (find_in_range p (a + 1) n x (record { from = omega arith; below = omega arith; passes = is.passes; fails = λ y at before. is.fails y (omega arith) before }))
+      rw f
+      (find_in_range p (a + 1) n x
+      (record { from = omega arith; below = omega arith; passes = is.passes; fails = λ y at before. is.fails y (omega arith) before }))
   | inr more ↦
       let from : a ≤ x = is.from in
       let e : x ≡ a = omega arith in

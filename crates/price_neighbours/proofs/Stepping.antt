@@ -26,8 +26,11 @@ pub clamped : (top : ℕ) (z y t r : ℤ) → r ≡ int_max (pos 0) (int_min y t
 clamped top z y t r is same same_top = rw (is, same, same_top) (cut_clamped top z)
 
 -- one price more
-pub stepped_more : (f : ℕ → ℕ) (moved later : List Tokens) (price : Tokens) (n : ℕ) → moved ≡ map (λ s. record { 0 = f s }) (range_with_len 0 n) → price.0 ≡ f n → later ≡ moved ++ price ∷ [] → later ≡ map (λ s. record { 0 = f s }) (range_with_len 0 (n + 1))
+pub stepped_more : (f : ℕ → ℕ) (moved later : List Tokens) (price : Tokens) (n : ℕ) → moved ≡ map (λ s. record { 0 = f s }) (range_with_len 0 n) → price.0 ≡ f n
+    → later ≡ moved ++ price ∷ [] → later ≡ map (λ s. record { 0 = f s }) (range_with_len 0 (n + 1))
 stepped_more f moved later price n so_far is more =
     let same : price ≡ record { 0 = f n } = ap (λ k. record { 0 = k }) is in
-    let next : map {B = Tokens} (λ s. record { 0 = f s }) (range_with_len 0 (n + 1)) ≡ map (λ s. record { 0 = f s }) (range_with_len 0 n) ++ record { 0 = f n } ∷ [] = map-range_with_len_more (λ s. record { 0 = f s }) 0 n n (omega arith) in
+    let next : map {B = Tokens} (λ s. record { 0 = f s }) (range_with_len 0 (n + 1))
+    ≡ map (λ s. record { 0 = f s }) (range_with_len 0 n) ++ record { 0 = f n } ∷ [] =
+    map-range_with_len_more (λ s. record { 0 = f s }) 0 n n (omega arith) in
     rw (more, so_far, same) (sym next)

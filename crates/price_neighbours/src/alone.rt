@@ -13,7 +13,8 @@ use std::alloc::Global;
 use std::sync::Wait;
 use std::thread::Threads;
 
-// The sections that more students take than they have seats, by ordinal, each with one less than its count.
+// The sections that more students take than they have seats, by ordinal, each with one less than
+// its count.
 fn pairs_over(
     alloc: Global,
     counts: &[u32],
@@ -21,7 +22,10 @@ fn pairs_over(
 ) -> Result<Vec<(SectionNo, u32)>, NoMemory>
     requires few { length counts.now ≤ 400 }
     requires seats { length seats.now ≡ length counts.now }
-    ensures { IfOk result (λ pairs. pairs.items ≡ map (pair_of counts.now) (filter (is_over counts.now seats.now) (range_with_len 0 (length counts.now)))) }
+    ensures { IfOk result
+        (λ pairs. pairs.items
+        ≡ map (pair_of counts.now)
+        (filter (is_over counts.now seats.now) (range_with_len 0 (length counts.now)))) }
 {
     let mut pairs = Vec::new(alloc);
     for place in 0..counts.len() {
@@ -49,7 +53,8 @@ fn with_alone(
     Ok(vector)
 }
 
-// By ordinal, the vectors in which one section alone has another price. All least prices are asked for at once.
+// By ordinal, the vectors in which one section alone has another price. All least prices are asked
+// for at once.
 pub(crate) fn push_alone<R: Threads + Wait + Sync, D: Demands>(
     rt: &R,
     alloc: Global,
@@ -64,7 +69,13 @@ pub(crate) fn push_alone<R: Threads + Wait + Sync, D: Demands>(
     requires prices { ArePricesFor (D.crowd demands.old) prices.now }
     requires counts { counts.now ≡ counts_of (D.crowd demands.old) (price_in prices.now) }
     ensures crowd { D.crowd demands.new ≡ D.crowd demands.old }
-    ensures value { IfOk result (λ done. map (λ vector. vector.items) vectors.new.items ≡ map (λ vector. vector.items) vectors.old.items ++ flat_map (alone (least_fewer (D.crowd demands.old) (price_in prices.now)) (count (D.crowd demands.old) (price_in prices.now)) seats.now prices.now) (range_with_len 0 (length prices.now))) }
+    ensures value { IfOk result
+        (λ done. map (λ vector. vector.items) vectors.new.items
+        ≡ map (λ vector. vector.items) vectors.old.items
+        ++ flat_map
+        (alone (least_fewer (D.crowd demands.old) (price_in prices.now))
+        (count (D.crowd demands.old) (price_in prices.now)) seats.now prices.now)
+        (range_with_len 0 (length prices.now))) }
 {
     let pairs = pairs_over(alloc, counts, seats)?;
     let least = demands.least_prices(rt, alloc, prices, &pairs)?;

@@ -15,7 +15,9 @@ fn amounts(alloc: Global, prices: &[Tokens]) -> Result<Vec<u32>, NoMemory>
 
 // Each vector once, at its first place.
 pub(crate) fn once(alloc: Global, vectors: Vec<Vec<Tokens>>) -> Result<Vec<Vec<Tokens>>, NoMemory>
-    ensures { IfOk result (λ kept. map (λ vector. vector.items) kept.items ≡ once same_prices (map (λ vector. vector.items) vectors.items)) }
+    ensures { IfOk result
+        (λ kept. map (λ vector. vector.items) kept.items
+        ≡ once same_prices (map (λ vector. vector.items) vectors.items)) }
 {
     let mut seen = IndexSet::new(alloc);
     let mut kept = Vec::new(alloc);

@@ -14,12 +14,13 @@ use std::alloc::Global;
 use std::sync::Wait;
 use std::thread::Threads;
 
-/// The neighbours of a vector of prices, in order. First, for each step, the vector in which every price has so many
-/// times its section's excess added, cut to the range 0 to the top. Then, by ordinal, the vectors in which one section
-/// alone has another price: where more students take the section than it has seats, the least greater price at which
-/// fewer take it; where seats are free and the price is above 0, the price 0. Equal vectors are kept once, at the first
-/// place. There are one seat number and one price for each section, each price at most the top, and the counts are
-/// those at the prices. The one error is the want of memory.
+/// The neighbours of a vector of prices, in order. First, for each step, the vector in which every
+/// price has so many times its section's excess added, cut to the range 0 to the top. Then, by
+/// ordinal, the vectors in which one section alone has another price: where more students take the
+/// section than it has seats, the least greater price at which fewer take it; where seats are free
+/// and the price is above 0, the price 0. Equal vectors are kept once, at the first place. There
+/// are one seat number and one price for each section, each price at most the top, and the counts
+/// are those at the prices. The one error is the want of memory.
 pub fn neighbours<R: Threads + Wait + Sync, D: Demands>(
     rt: &R,
     alloc: Global,
@@ -33,8 +34,11 @@ pub fn neighbours<R: Threads + Wait + Sync, D: Demands>(
     requires prices { ArePricesFor (D.crowd demands.old) prices.now }
     requires counts { counts.now ≡ counts_of (D.crowd demands.old) (price_in prices.now) }
     ensures crowd { D.crowd demands.new ≡ D.crowd demands.old }
-    ensures value { IfOk result (λ found. map (λ vector. vector.items) found.items ≡ neighbours (D.crowd demands.old) seats.now steps.now prices.now) }
-    ensures prices { IfOk result (λ found. All (λ vector. ArePricesFor (D.crowd demands.old) vector.items) found.items) }
+    ensures value { IfOk result
+        (λ found. map (λ vector. vector.items) found.items
+        ≡ neighbours (D.crowd demands.old) seats.now steps.now prices.now) }
+    ensures prices { IfOk result
+        (λ found. All (λ vector. ArePricesFor (D.crowd demands.old) vector.items) found.items) }
 {
     let top = demands.top();
     let mut vectors = Vec::new(alloc);

@@ -37,7 +37,8 @@ fn stepped(
     requires few { All (λ count. count ≤ 2000) counts.now }
     requires counts { length counts.now ≡ length prices.now }
     requires seats { length seats.now ≡ length prices.now }
-    ensures { IfOk result (λ moved. moved.items ≡ stepped top.0 (slice_index counts.now) seats.now prices.now step) }
+    ensures { IfOk result
+        (λ moved. moved.items ≡ stepped top.0 (slice_index counts.now) seats.now prices.now step) }
 {
     let mut moved = Vec::with_capacity(alloc, prices.len())?;
     for place in 0..prices.len() {
@@ -60,7 +61,10 @@ pub(crate) fn push_stepped(
     requires few { All (λ count. count ≤ 2000) counts.now }
     requires counts { length counts.now ≡ length prices.now }
     requires seats { length seats.now ≡ length prices.now }
-    ensures { IfOk result (λ done. map (λ vector. vector.items) vectors.new.items ≡ map (λ vector. vector.items) vectors.old.items ++ map (stepped top.0 (slice_index counts.now) seats.now prices.now) steps.now) }
+    ensures { IfOk result
+        (λ done. map (λ vector. vector.items) vectors.new.items
+        ≡ map (λ vector. vector.items) vectors.old.items
+        ++ map (stepped top.0 (slice_index counts.now) seats.now prices.now) steps.now) }
 {
     for step in steps {
         let vector = stepped(alloc, top, prices, counts, seats, *step)?;

@@ -107,7 +107,8 @@ fn neighbours_of_two_sections(rt: HostRuntime) -> Result<(), Fail> {
     let alloc = rt.alloc();
     let places = [rated(0, 50), rated(1, 40)];
     let crowd = two_students(&rt, alloc, &places, 2);
-    // The second student has 105 tokens: at price 5 the second section is too dear beside the first.
+    // The second student has 105 tokens: at price 5 the second section is too dear beside the
+    // first.
     let prices = [Tokens(101), Tokens(0)];
     let found = neighbours_of(&rt, alloc, crowd, &prices, &[1, 7]);
     let wanted = [[101, 1], [101, 7], [101, 5]];

@@ -24,7 +24,8 @@ at_place (row ∷ more) name (suc i) d within is before =
     rw other (at_place more name i d (omega arith) is (λ k h. before (suc k) (omega arith)))
 
 -- a section that has a place among the rows has the price there
-pub price_in-place : (rows : List Priced) (name : List ℕ) (i : ℕ) (d : Priced) → position (bytes_eq name) (sections_of rows) ≡ Some i → price_in rows name ≡ (get_or rows i d).price
+pub price_in-place : (rows : List Priced) (name : List ℕ) (i : ℕ) (d : Priced) → position (bytes_eq name) (sections_of rows) ≡ Some i
+    → price_in rows name ≡ (get_or rows i d).price
 price_in-place rows name i d is =
     let found = position-Some (bytes_eq name) (sections_of rows) i [] is in
     at_place rows name i d (omega (arith, length-map rows (λ (row : Priced). row.section))) found.1 found.2

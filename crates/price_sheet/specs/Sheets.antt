@@ -32,7 +32,8 @@ priced_of version row fields = do
   price ← number_or (refusal.Number row 2) 1000001 (field_in 2 fields)
   Ok (record { section = first_field fields; price = price })
 
--- the rules of a price sheet, where the catalogue has these names: any number of rows, each of a section of the catalogue
+-- the rules of a price sheet, where the catalogue has these names: any number of rows, each of a
+-- section of the catalogue
 abbrev pub price_rules : List (List ℕ) → Rules Priced PriceRefusal
 price_rules names = record {
   headers = (codes "section" ∷ codes "price" ∷ []) ∷ [];
@@ -47,7 +48,8 @@ abbrev pub price_in : List Priced → List ℕ → ℕ
 price_in [] name = 0
 price_in (row ∷ more) name = if bytes_eq name row.section then row.price else price_in more name
 
--- the prices of a catalogue's sections in their order that the bytes of a sheet stand for, or the first refusal
+-- the prices of a catalogue's sections in their order that the bytes of a sheet stand for, or the
+-- first refusal
 abbrev pub prices_of : List Section → List ℕ → Result (List ℕ) PriceRefusal
 prices_of sections bytes = do
   read ← reading (price_rules (names_of sections)) (records_of bytes)

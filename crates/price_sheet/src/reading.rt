@@ -29,7 +29,9 @@ fn price_of(sheet: &Rows<Entry>, name: &Name) -> Tokens
 fn in_order(alloc: Global, catalog: &Catalog, sheet: &Rows<Entry>) -> Result<Vec<Tokens>, NoMemory>
     requires names { bytes_of sheet.now.names.keys ≡ map (λ row. row.section) sheet.now.rows.items }
     requires each { All (λ row. row.price ≤ 1000001) sheet.now.rows.items }
-    ensures prices { IfOk result (λ prices. map (λ price. price.0) prices.items ≡ map (price_in sheet.now.rows.items) (names_of catalog.now.sections)) }
+    ensures prices { IfOk result
+        (λ prices. map (λ price. price.0) prices.items
+        ≡ map (price_in sheet.now.rows.items) (names_of catalog.now.sections)) }
     ensures range { IfOk result (λ prices. All (λ price. price.0 ≤ 1000001) prices.items) }
 {
     let mut prices = Vec::with_capacity(alloc, usize::from(catalog.len()))?;
@@ -39,18 +41,22 @@ fn in_order(alloc: Global, catalog: &Catalog, sheet: &Rows<Entry>) -> Result<Vec
     Ok(prices)
 }
 
-/// Reads a price sheet: one price for each section of the catalogue, in its order, or the refusal of the first bad record
-/// at its first bad column. A section without a record has price 0. `NoMemory` comes where memory is wanted, and has no
-/// other cause.
+/// Reads a price sheet: one price for each section of the catalogue, in its order, or the refusal
+/// of the first bad record at its first bad column. A section without a record has price 0.
+/// `NoMemory` comes where memory is wanted, and has no other cause.
 pub fn read_prices(
     alloc: Global,
     catalog: &Catalog,
     bytes: &[u8],
 ) -> Result<Vec<Tokens>, PriceRefusal>
     requires { length bytes.now < 2 ^ 32 - 1 }
-    ensures prices { IfOk result (λ prices. prices_of catalog.now.sections bytes.now ≡ Ok (map (λ price. price.0) prices.items)) }
+    ensures prices { IfOk result
+        (λ prices. prices_of catalog.now.sections bytes.now
+        ≡ Ok (map (λ price. price.0) prices.items)) }
     ensures range { IfOk result (λ prices. All (λ price. price.0 ≤ 1000001) prices.items) }
-    ensures refused { IfErr result (λ refusal. refusal ≢ PriceRefusal.NoMemory → prices_of catalog.now.sections bytes.now ≡ Err refusal) }
+    ensures refused { IfErr result
+        (λ refusal. refusal ≢ PriceRefusal.NoMemory
+        → prices_of catalog.now.sections bytes.now ≡ Err refusal) }
 {
     let sheet = match read_rows(alloc, &PriceRules { catalog }, bytes) {
         Ok(sheet) => sheet,

@@ -64,4 +64,5 @@ module _ (offer : Offer) (menu : IsMenu offer.menu) (champion : List ℕ) where
 
 pub trees_have_tree_bytes : TreesHaveTreeBytes
 trees_have_tree_bytes offer champion text menu is =
-    subst AreTreeBytes (sym is.2) (tree_bytes offer menu (places_of offer.menu champion) is.0 0 [] (let low : 0 ≤ length offer.menu.places = omega arith in low) is.1)
+    subst AreTreeBytes (sym is.2)
+    (tree_bytes offer menu (places_of offer.menu champion) is.0 0 [] (let low : 0 ≤ length offer.menu.places = omega arith in low) is.1)

@@ -78,10 +78,12 @@ first_or_none limit (b ∷ bs) = elim (int_order b.1 limit) [
       ]
 ]
 
-module _ (offer : Offer) (menu : IsMenu offer.menu) (required : Option ℕ) (on : IsOnMenu offer required) (champion : List ℕ) (takable : IsTakable offer champion) where
+module _ (offer : Offer) (menu : IsMenu offer.menu) (required : Option ℕ) (on : IsOnMenu offer required) (champion : List ℕ)
+    (takable : IsTakable offer champion) where
   -- a bound closes a node, or none does
   closed_or_not : (k : ℕ) (chosen : List ℕ) → IsNode offer k chosen
-      → ((leaf : Leaf) × IsFirstClosing offer k (places_of offer.menu chosen) (places_of offer.menu champion) (bounds offer k (places_of offer.menu chosen)) leaf)
+      →
+      ((leaf : Leaf) × IsFirstClosing offer k (places_of offer.menu chosen) (places_of offer.menu champion) (bounds offer k (places_of offer.menu chosen)) leaf)
       ⊎ NoneCloses offer k (places_of offer.menu chosen) (places_of offer.menu champion) (bounds offer k (places_of offer.menu chosen))
   closed_or_not k chosen node =
       let cs = places_of offer.menu chosen in
@@ -90,26 +92,38 @@ module _ (offer : Offer) (menu : IsMenu offer.menu) (required : Option ℕ) (on 
       let up' = (taken_places offer chosen menu node.takable).ascending in
       let most : ℤ = limit_of (utility (by_place offer.menu) ch) (is_ahead k ch cs) in
       elim (first_or_none most (bounds offer k cs)) [
-        | inl first ↦ inl (first.0, some_closes offer k cs ch up up' (places_low offer menu k chosen node) (base_of offer cs) most (budget_left offer cs) (credits_left offer cs) (courses_left offer cs) (prospects offer cs (open_places offer k cs)) refl refl refl refl refl refl (Some first.0) first.1)
-        | inr none ↦ inr (none_closes offer k cs ch up up' (places_low offer menu k chosen node) (base_of offer cs) most (budget_left offer cs) (credits_left offer cs) (courses_left offer cs) (prospects offer cs (open_places offer k cs)) refl refl refl refl refl refl None none)
+        | inl first ↦
+            inl (
+              first.0,
+              some_closes offer k cs ch up up' (places_low offer menu k chosen node) (base_of offer cs) most (budget_left offer cs)
+                  (credits_left offer cs) (courses_left offer cs) (prospects offer cs (open_places offer k cs)) refl refl refl refl refl refl
+                  (Some first.0) first.1,
+            )
+        | inr none ↦
+            inr
+            (none_closes offer k cs ch up up' (places_low offer menu k chosen node) (base_of offer cs) most (budget_left offer cs) (credits_left offer cs)
+            (courses_left offer cs) (prospects offer cs (open_places offer k cs)) refl refl refl refl refl refl None none)
       ]
 
   -- at the end the champion, where it is preferred to the chosen sections, is ahead of them or has more utility
-  ahead_at_end : (chosen : List ℕ) → IsTakable offer chosen → DiffersFirstIn champion chosen → IsAhead (length offer.menu.places) (places_of offer.menu champion) (places_of offer.menu chosen)
+  ahead_at_end : (chosen : List ℕ) → IsTakable offer chosen → DiffersFirstIn champion chosen
+      → IsAhead (length offer.menu.places) (places_of offer.menu champion) (places_of offer.menu chosen)
   ahead_at_end chosen may differs =
       let s = differs.0 in
       let places = offer.menu.places in
       let place : ℕ = place_in offer.menu.places differs.0 in
       let low : place_in offer.menu.places differs.0 < length offer.menu.places = on_menu offer champion takable differs.0 differs.1 in
       let back : section_at offer.menu.places (place_in offer.menu.places differs.0) ≡ differs.0 = section_at-place_in offer.menu.places differs.0 low in
-      let of_champion = λ (p : ℕ) (h : p < length offer.menu.places). has_by_place offer.menu.places champion p menu.places.ascending (on_menu offer champion takable) h in
+      let of_champion =
+      λ (p : ℕ) (h : p < length offer.menu.places). has_by_place offer.menu.places champion p menu.places.ascending (on_menu offer champion takable) h in
       let of_chosen = λ (p : ℕ) (h : p < length offer.menu.places). has_by_place offer.menu.places chosen p menu.places.ascending (on_menu offer chosen may) h in (
         place_in offer.menu.places differs.0,
         low,
         places-has offer.menu.places champion differs.0 differs.1,
         of_chosen (place_in offer.menu.places differs.0) low ∙ ap (has chosen) back ∙ differs.2,
         λ t below.
-            let rises : section_at offer.menu.places t < section_at offer.menu.places (place_in offer.menu.places differs.0) = section_at-rises offer.menu.places t (place_in offer.menu.places differs.0) menu.places.ascending below low in
+            let rises : section_at offer.menu.places t < section_at offer.menu.places (place_in offer.menu.places differs.0) =
+            section_at-rises offer.menu.places t (place_in offer.menu.places differs.0) menu.places.ascending below low in
             of_champion t (omega arith) ∙ differs.3 (section_at offer.menu.places t) (omega arith) ∙ sym (of_chosen t (omega arith)),
       )
 
@@ -148,20 +162,24 @@ module _ (offer : Offer) (menu : IsMenu offer.menu) (required : Option ℕ) (on 
   HasTreeAt k chosen = (tree : Tree) × IsTree offer required (places_of offer.menu champion) k (places_of offer.menu chosen) tree
 
   module _ (best : IsBestRequired offer required champion) where
-    mutual_end : (k : ℕ) (chosen : List ℕ) → k ≡ length offer.menu.places → IsNode offer k chosen → IsKept k chosen → places_of offer.menu chosen ≢ places_of offer.menu champion → IsPreferred (wishes_of offer.menu) champion chosen
+    mutual_end : (k : ℕ) (chosen : List ℕ) → k ≡ length offer.menu.places → IsNode offer k chosen → IsKept k chosen
+        → places_of offer.menu chosen ≢ places_of offer.menu champion → IsPreferred (wishes_of offer.menu) champion chosen
     unfolding IsKept
     mutual_end k chosen all node kept other =
         best.preferred chosen node.takable (λ place is. kept place is (let low = on place is in omega arith)) (λ e. other (ap (places_of offer.menu) e))
 
-    kept_with : (k : ℕ) (chosen : List ℕ) → IsNode offer k chosen → k < length offer.menu.places → IsKept k chosen → IsKept (k + 1) (chosen ++ section_at offer.menu.places k ∷ [])
+    kept_with : (k : ℕ) (chosen : List ℕ) → IsNode offer k chosen → k < length offer.menu.places → IsKept k chosen
+        → IsKept (k + 1) (chosen ++ section_at offer.menu.places k ∷ [])
     unfolding IsKept
     kept_with k chosen node low kept place is early = elim (cases_lt place k) [
       | inl before ↦
-          let rises : section_at offer.menu.places place < section_at offer.menu.places k = section_at-rises offer.menu.places place k menu.places.ascending before low in
+          let rises : section_at offer.menu.places place < section_at offer.menu.places k =
+          section_at-rises offer.menu.places place k menu.places.ascending before low in
           last_other chosen (section_at offer.menu.places k) (section_at offer.menu.places place) (λ e. absurd (omega arith)) ∙ kept place is before
       | inr at ↦
           let same : k ≡ place = omega arith in
-          subst (λ p. has (chosen ++ section_at offer.menu.places k ∷ []) (section_at offer.menu.places p) ≡ true) same (last_here chosen (section_at offer.menu.places k))
+          subst (λ p. has (chosen ++ section_at offer.menu.places k ∷ []) (section_at offer.menu.places p) ≡ true) same
+          (last_here chosen (section_at offer.menu.places k))
     ]
 
     kept_without : (k : ℕ) (chosen : List ℕ) → required ≢ Some k → IsKept k chosen → IsKept (k + 1) chosen
@@ -191,18 +209,23 @@ module _ (offer : Offer) (menu : IsMenu offer.menu) (required : Option ℕ) (on 
     haproof_tree (suc left) k chosen all node kept =
         let low : k < length offer.menu.places = omega arith in
         let rest : (k + 1) + left ≡ length offer.menu.places = omega arith in
-        let no_end : IsChampionsEnd offer (places_of offer.menu champion) k (places_of offer.menu chosen) → ⊥ = λ end. let e : k ≡ length offer.menu.places = end.0 in absurd (omega arith) in
+        let no_end : IsChampionsEnd offer (places_of offer.menu champion) k (places_of offer.menu chosen) → ⊥ =
+        λ end. let e : k ≡ length offer.menu.places = end.0 in absurd (omega arith) in
         elim (shut_or_not offer required k (places_of offer.menu chosen)) [
           | inl shut ↦ (Bars, (no_end, shut))
           | inr not_shut ↦ elim (closed_or_not k chosen node) [
             | inl closed ↦ (Cuts closed.0, (record { no_end = no_end; not_shut = not_shut }, closed.1))
             | inr none ↦
-                let goes : GoesOn offer required (places_of offer.menu champion) k (places_of offer.menu chosen) = record { unsettled = record { no_end = no_end; not_shut = not_shut }; none_closes = none; left = low } in
+                let goes : GoesOn offer required (places_of offer.menu champion) k (places_of offer.menu chosen) =
+                record { unsettled = record { no_end = no_end; not_shut = not_shut }; none_closes = none; left = low } in
                 elim (cases_Bool (is_open offer (places_of offer.menu chosen) k)) [
                   | inl open_ ↦
-                      let with_it = haproof_tree left (k + 1) (chosen ++ section_at offer.menu.places k ∷ []) rest (node_where_open offer menu required on champion takable k chosen node low open_) (kept_with k chosen node low kept) in
+                      let with_it =
+                      haproof_tree left (k + 1) (chosen ++ section_at offer.menu.places k ∷ []) rest
+                      (node_where_open offer menu required on champion takable k chosen node low open_) (kept_with k chosen node low kept) in
                       let below : IsTree offer required (places_of offer.menu champion) (k + 1) (places_of offer.menu chosen ++ k ∷ []) with_it.0 =
-                      subst (λ cs. IsTree offer required (places_of offer.menu champion) (k + 1) cs with_it.0) (places_with offer menu k chosen low) with_it.1 in
+                      subst (λ cs. IsTree offer required (places_of offer.menu champion) (k + 1) cs with_it.0) (places_with offer menu k chosen low)
+                      with_it.1 in
                       elim (required_or_not required k) [
                         | inl forced ↦ (Takes with_it.0, ((goes, forced), below))
                         | inr other ↦
@@ -256,5 +279,6 @@ trees_prove_the_best offer champion menu takable =
     let on : IsOnMenu offer None = λ p is. absurd (cc is) in
     let none : (bundle : List ℕ) → HasRequired offer None bundle = λ bundle p is. absurd (cc is) in (
       λ tree. let best = best_of_tree offer menu None on champion takable (none champion) tree in record { choice = takable; preferred = λ other may apart. best.preferred other may (none other) apart },
-      λ best. tree_of_best offer menu None on champion takable record { takable = takable; has_required = none champion; preferred = λ other may has_it apart. best.preferred other may apart },
+      λ best. tree_of_best offer menu None on champion takable
+          record { takable = takable; has_required = none champion; preferred = λ other may has_it apart. best.preferred other may apart },
     )

@@ -9,7 +9,8 @@ use Rattle.proof_tree.specs.Texts.{IsDigit, NoDigitFirst}
 pub two_digits : (n : ℕ) → 10 ≤ n → n < 100 → decimal n ≡ (48 + n / 10) ∷ (48 + n % 10) ∷ []
 two_digits n high low = decimal_step n high (omega arith) ∙ ap (λ ds. ds ++ (48 + n % 10) ∷ []) (decimal_digit (n / 10) (omega arith))
 
-pub two_of : (first second : ℕ) → 49 ≤ first → first ≤ 57 → 48 ≤ second → second ≤ 57 → (rest : List ℕ) → first ∷ second ∷ rest ≡ decimal ((first - 48) * 10 + (second - 48)) ++ rest
+pub two_of : (first second : ℕ) → 49 ≤ first → first ≤ 57 → 48 ≤ second → second ≤ 57 → (rest : List ℕ)
+    → first ∷ second ∷ rest ≡ decimal ((first - 48) * 10 + (second - 48)) ++ rest
 two_of first second low high low' high' rest =
     let n : ℕ = (first - 48) * 10 + (second - 48) in
     let a : 48 + n / 10 ≡ first = omega arith in
@@ -28,7 +29,8 @@ record IsRead (place : ℕ) (text rest : List ℕ) : Type 0 where
   more : List ℕ
   front : text ≡ digit ∷ more
   is_digit : IsDigit digit
-  cases : ((more ≡ rest) × (place ≡ digit - 48)) ⊎ ((second : ℕ) × IsDigit second × (more ≡ second ∷ rest) × (49 ≤ digit) × (place ≡ (digit - 48) * 10 + (second - 48)))
+  cases : ((more ≡ rest) × (place ≡ digit - 48))
+      ⊎ ((second : ℕ) × IsDigit second × (more ≡ second ∷ rest) × (49 ≤ digit) × (place ≡ (digit - 48) * 10 + (second - 48)))
 
 is_read : (place : ℕ) (text rest : List ℕ) → place < 100 → text ≡ decimal place ++ rest → IsRead place text rest
 is_read place text rest low whole = elim (cases_lt place 10) [

@@ -49,11 +49,15 @@ module _ (offer : Offer) (required : Option ℕ) (champion text : List ℕ) wher
 
   module _ (nodes : List (ℕ × List ℕ)) (rest : List ℕ) (come : HasCome offer required champion text nodes rest) where
     -- and goes on where the symbol of the canonical sign stands
-    pub come_more : (sign : Sign) (others : List (ℕ × List ℕ)) (later : List ℕ) → IsStep offer required (places_of offer.menu champion) nodes (Signed sign) others → Stands sign rest later → HasCome offer required champion text others later
+    pub come_more : (sign : Sign) (others : List (ℕ × List ℕ)) (later : List ℕ)
+        → IsStep offer required (places_of offer.menu champion) nodes (Signed sign) others → Stands sign rest later
+        → HasCome offer required champion text others later
     come_more sign others later step stands =
         let here = subst (λ ns. HasCome offer required champion text ns rest) step.1.1 come in
-        subst (λ ns. HasCome offer required champion text ns later) (sym step.1.3)
-        (here.0 ++ sign ∷ [], comes_more offer required (places_of offer.menu champion) here.0 ((0, []) ∷ []) text step.0 step.1.0 rest sign later here.1 step.1.2 stands)
+        subst (λ ns. HasCome offer required champion text ns later) (sym step.1.3) (
+          here.0 ++ sign ∷ [],
+          comes_more offer required (places_of offer.menu champion) here.0 ((0, []) ∷ []) text step.0 step.1.0 rest sign later here.1 step.1.2 stands,
+        )
 
     -- it ends with the tree's text
     pub text_where_ended : nodes ≡ [] → rest ≡ [] → IsTreeText offer required champion text
@@ -66,7 +70,8 @@ module _ (offer : Offer) (required : Option ℕ) (champion text : List ℕ) wher
     fails_where_ended at ended some is = ([], (rest, subst (λ ns. HasCome offer required champion text ns rest) ended come, is, some))
 
     -- or at a node with no canonical sign
-    pub fails_unsigned : (at : ℕ) (others : List (ℕ × List ℕ)) → IsStep offer required (places_of offer.menu champion) nodes Unsigned others → at ≡ offset text rest → FirstFailsAt offer required champion text at
+    pub fails_unsigned : (at : ℕ) (others : List (ℕ × List ℕ)) → IsStep offer required (places_of offer.menu champion) nodes Unsigned others
+        → at ≡ offset text rest → FirstFailsAt offer required champion text at
     fails_unsigned at others step is = (
       step.0 ∷ step.1.0,
       (
@@ -78,7 +83,8 @@ module _ (offer : Offer) (required : Option ℕ) (champion text : List ℕ) wher
     )
 
     -- or at one whose symbol does not stand
-    pub fails_signed : (at : ℕ) (sign : Sign) (others : List (ℕ × List ℕ)) → IsStep offer required (places_of offer.menu champion) nodes (Signed sign) others → ((later : List ℕ) → ¬ Stands sign rest later) → at ≡ offset text rest
+    pub fails_signed : (at : ℕ) (sign : Sign) (others : List (ℕ × List ℕ)) → IsStep offer required (places_of offer.menu champion) nodes (Signed sign) others
+        → ((later : List ℕ) → ¬ Stands sign rest later) → at ≡ offset text rest
         → FirstFailsAt offer required champion text at
     fails_signed at sign others step stuck is = (
       step.0 ∷ step.1.0,
@@ -86,30 +92,74 @@ module _ (offer : Offer) (required : Option ℕ) (champion text : List ℕ) wher
         rest,
         subst (λ ns. HasCome offer required champion text ns rest) step.1.1 come,
         is,
-        λ other later has stands. stuck later (subst (λ s. Stands s rest later) (one_sign offer required (places_of offer.menu champion) step.0.0 step.0.1 other sign has step.1.2) stands),
+        λ other later has stands. stuck later
+            (subst (λ s. Stands s rest later) (one_sign offer required (places_of offer.menu champion) step.0.0 step.0.1 other sign has step.1.2) stands),
       ),
     )
 
 module _ (offer : Offer) (champion text : List ℕ) (nodes : List (ℕ × List ℕ)) (rest : List ℕ) (come : HasCome offer None champion text nodes rest) where
   -- the defect by what is wrong at the node
-  pub defect_unsigned : (defect : TreeDefect) (others : List (ℕ × List ℕ)) → IsStep offer None (places_of offer.menu champion) nodes Unsigned others → IsUnsigned rest defect → offset_in defect ≡ offset text rest → IsDefect offer champion text defect
-  defect_unsigned (Syntax at) others step unsigned is = (step.0.0, (step.0.1, (step.1.0, (rest, subst (λ ns. HasCome offer None champion text ns rest) step.1.1 come, is, unsigned))))
-  defect_unsigned (NotClosed at) others step unsigned is = (step.0.0, (step.0.1, (step.1.0, (rest, subst (λ ns. HasCome offer None champion text ns rest) step.1.1 come, is, inl (unsigned, step.1.2)))))
+  pub defect_unsigned : (defect : TreeDefect) (others : List (ℕ × List ℕ)) → IsStep offer None (places_of offer.menu champion) nodes Unsigned others
+      → IsUnsigned rest defect → offset_in defect ≡ offset text rest → IsDefect offer champion text defect
+  defect_unsigned (Syntax at) others step unsigned is =
+      (step.0.0, (step.0.1, (step.1.0, (rest, subst (λ ns. HasCome offer None champion text ns rest) step.1.1 come, is, unsigned))))
+  defect_unsigned (NotClosed at) others step unsigned is =
+      (step.0.0, (step.0.1, (step.1.0, (rest, subst (λ ns. HasCome offer None champion text ns rest) step.1.1 come, is, inl (unsigned, step.1.2)))))
   defect_unsigned (Redundant at) others step unsigned is = absurd unsigned
   defect_unsigned (WrongLeaf at) others step unsigned is = absurd unsigned
   defect_unsigned (WrongBranch at) others step unsigned is = absurd unsigned
   defect_unsigned (Rest at) others step unsigned is = absurd unsigned
 
-  pub defect_signed : (defect : TreeDefect) (sign : Sign) (others : List (ℕ × List ℕ)) → IsStep offer None (places_of offer.menu champion) nodes (Signed sign) others → IsMismatch sign rest defect → offset_in defect ≡ offset text rest → IsDefect offer champion text defect
-  defect_signed (Syntax at) sign others step wrong is = (step.0.0, (step.0.1, (step.1.0, (rest, subst (λ ns. HasCome offer None champion text ns rest) step.1.1 come, is, wrong))))
-  defect_signed (NotClosed at) sign others step wrong is =
-      (step.0.0, (step.0.1, (step.1.0, (rest, subst (λ ns. HasCome offer None champion text ns rest) step.1.1 come, is, inr (wrong.0, wrong.1, (sign, step.1.2, wrong.2, wrong.3))))))
-  defect_signed (Redundant at) sign others step wrong is =
-      (step.0.0, (step.0.1, (step.1.0, (rest, subst (λ ns. HasCome offer None champion text ns rest) step.1.1 come, is, (wrong.0, wrong.1, (sign, step.1.2, wrong.2, wrong.3))))))
-  defect_signed (WrongLeaf at) sign others step wrong is =
-      (step.0.0, (step.0.1, (step.1.0, (rest, subst (λ ns. HasCome offer None champion text ns rest) step.1.1 come, is, (wrong.0, wrong.1, (sign, step.1.2, wrong.2, wrong.3))))))
-  defect_signed (WrongBranch at) sign others step wrong is =
-      (step.0.0, (step.0.1, (step.1.0, (rest, subst (λ ns. HasCome offer None champion text ns rest) step.1.1 come, is, (wrong.0, wrong.1, (sign, step.1.2, wrong.2, wrong.3))))))
+  pub defect_signed : (defect : TreeDefect) (sign : Sign) (others : List (ℕ × List ℕ))
+      → IsStep offer None (places_of offer.menu champion) nodes (Signed sign) others → IsMismatch sign rest defect → offset_in defect ≡ offset text rest
+      → IsDefect offer champion text defect
+  defect_signed (Syntax at) sign others step wrong is =
+      (step.0.0, (step.0.1, (step.1.0, (rest, subst (λ ns. HasCome offer None champion text ns rest) step.1.1 come, is, wrong))))
+  defect_signed (NotClosed at) sign others step wrong is = (
+    step.0.0,
+    (
+      step.0.1,
+      (
+        step.1.0,
+        (
+          rest,
+          subst (λ ns. HasCome offer None champion text ns rest) step.1.1 come,
+          is,
+          inr (wrong.0, wrong.1, (sign, step.1.2, wrong.2, wrong.3)),
+        ),
+      ),
+    ),
+  )
+  defect_signed (Redundant at) sign others step wrong is = (
+    step.0.0,
+    (
+      step.0.1,
+      (
+        step.1.0,
+        (rest, subst (λ ns. HasCome offer None champion text ns rest) step.1.1 come, is, (wrong.0, wrong.1, (sign, step.1.2, wrong.2, wrong.3))),
+      ),
+    ),
+  )
+  defect_signed (WrongLeaf at) sign others step wrong is = (
+    step.0.0,
+    (
+      step.0.1,
+      (
+        step.1.0,
+        (rest, subst (λ ns. HasCome offer None champion text ns rest) step.1.1 come, is, (wrong.0, wrong.1, (sign, step.1.2, wrong.2, wrong.3))),
+      ),
+    ),
+  )
+  defect_signed (WrongBranch at) sign others step wrong is = (
+    step.0.0,
+    (
+      step.0.1,
+      (
+        step.1.0,
+        (rest, subst (λ ns. HasCome offer None champion text ns rest) step.1.1 come, is, (wrong.0, wrong.1, (sign, step.1.2, wrong.2, wrong.3))),
+      ),
+    ),
+  )
   defect_signed (Rest at) sign others step wrong is = absurd wrong.3
 
   pub defect_where_ended : (at : ℕ) → nodes ≡ [] → rest ≢ [] → at ≡ offset text rest → IsDefect offer champion text (Rest at)

@@ -17,7 +17,8 @@ low_number n (Credits other) few low place some = let same : other ≡ place = c
 low_number n (Number other) few low place some = let same : other ≡ place = cc some in let below : other < n = low in omega arith
 
 -- so a canonical symbol has a number of one or two digits at most
-pub short_sign : (offer : Offer) (required : Option ℕ) (champion : List ℕ) (k : ℕ) (cs : List ℕ) (sign : Sign) → IsMenu offer.menu → k ≤ length offer.menu.places → IsSign offer required champion k cs sign → IsShort sign
+pub short_sign : (offer : Offer) (required : Option ℕ) (champion : List ℕ) (k : ℕ) (cs : List ℕ) (sign : Sign) → IsMenu offer.menu
+    → k ≤ length offer.menu.places → IsSign offer required champion k cs sign → IsShort sign
 short_sign offer required champion k cs Champion menu within is place some = absurd (cc some)
 short_sign offer required champion k cs Shut menu within is place some = absurd (cc some)
 short_sign offer required champion k cs (Closed leaf) menu within is place some =

@@ -25,7 +25,8 @@ module _ (offer : Offer) (menu : IsMenu offer.menu) (required : Option ℕ) (cha
   AreWithin [] = ⊤
   AreWithin (node ∷ nodes) = (node.0 ≤ length offer.menu.places) × AreWithin nodes
 
-  within_below : (sign : Sign) (k : ℕ) (cs : List ℕ) (nodes : List (ℕ × List ℕ)) → IsSign offer required champion k cs sign → AreWithin nodes → AreWithin (below sign k cs ++ nodes)
+  within_below : (sign : Sign) (k : ℕ) (cs : List ℕ) (nodes : List (ℕ × List ℕ)) → IsSign offer required champion k cs sign → AreWithin nodes
+      → AreWithin (below sign k cs ++ nodes)
   within_below Champion k cs nodes is within = within
   within_below Shut k cs nodes is within = within
   within_below (Closed leaf) k cs nodes is within = within
@@ -33,10 +34,12 @@ module _ (offer : Offer) (menu : IsMenu offer.menu) (required : Option ℕ) (cha
   within_below Open k cs nodes is within = (low_next k (length offer.menu.places) is.0.left, (low_next k (length offer.menu.places) is.0.left, within))
   within_below Passed k cs nodes is within = (low_next k (length offer.menu.places) is.0.left, within)
 
-  walk_within : (signs : List Sign) (nodes : List (ℕ × List ℕ)) (text : List ℕ) (others : List (ℕ × List ℕ)) (rest : List ℕ) → ComesTo offer required champion signs nodes text others rest → AreWithin nodes → AreWithin others
+  walk_within : (signs : List Sign) (nodes : List (ℕ × List ℕ)) (text : List ℕ) (others : List (ℕ × List ℕ)) (rest : List ℕ)
+      → ComesTo offer required champion signs nodes text others rest → AreWithin nodes → AreWithin others
   walk_within [] nodes text others rest come within = subst AreWithin come.0 within
   walk_within (sign ∷ signs) [] text others rest come within = absurd come
-  walk_within (sign ∷ signs) (node ∷ nodes) text others rest come within = walk_within signs (below sign node.0 node.1 ++ nodes) come.1.0 others rest come.1.2 (within_below sign node.0 node.1 nodes come.0 within.1)
+  walk_within (sign ∷ signs) (node ∷ nodes) text others rest come within =
+      walk_within signs (below sign node.0 node.1 ++ nodes) come.1.0 others rest come.1.2 (within_below sign node.0 node.1 nodes come.0 within.1)
 
   -- what follows a symbol begins with no digit
   no_digit : (nodes : List (ℕ × List ℕ)) (text : List ℕ) → AreSpelled offer required champion nodes text → NoDigitFirst text
@@ -46,7 +49,8 @@ module _ (offer : Offer) (menu : IsMenu offer.menu) (required : Option ℕ) (cha
       no_digit_after (sign_of are.0) text split.rest split.front
 
   -- where the text is that of the trees, the symbol of the first node's canonical sign stands first
-  stands_first : (node : ℕ × List ℕ) (nodes : List (ℕ × List ℕ)) (text : List ℕ) (sign : Sign) → node.0 ≤ length offer.menu.places → IsSign offer required champion node.0 node.1 sign → AreSpelled offer required champion (node ∷ nodes) text
+  stands_first : (node : ℕ × List ℕ) (nodes : List (ℕ × List ℕ)) (text : List ℕ) (sign : Sign) → node.0 ≤ length offer.menu.places
+      → IsSign offer required champion node.0 node.1 sign → AreSpelled offer required champion (node ∷ nodes) text
       → (rest : List ℕ) × Stands sign text rest
   stands_first node nodes text sign within is are =
       let split = split_node offer required champion node.0 node.1 nodes sign text is are in (
@@ -73,10 +77,14 @@ module _ (offer : Offer) (menu : IsMenu offer.menu) (champion text : List ℕ) (
 
   module _ (k : ℕ) (cs : List ℕ) (nodes : List (ℕ × List ℕ)) (rest : List ℕ) (come : HasCome offer None champion text ((k, cs) ∷ nodes) rest) where
     left : AreSpelled offer None (places_of offer.menu champion) ((k, cs) ∷ nodes) rest
-    left = walk_leaves offer None (places_of offer.menu champion) come.0 ((0, []) ∷ []) text ((k, cs) ∷ nodes) rest come.1 (text_spelled offer None champion text is_text)
+    left =
+        walk_leaves offer None (places_of offer.menu champion) come.0 ((0, []) ∷ []) text ((k, cs) ∷ nodes) rest come.1
+        (text_spelled offer None champion text is_text)
 
     within : k ≤ length offer.menu.places
-    within = (walk_within offer menu None (places_of offer.menu champion) come.0 ((0, []) ∷ []) text ((k, cs) ∷ nodes) rest come.1 ((let low : 0 ≤ length offer.menu.places = omega arith in low), tt)).0
+    within =
+        (walk_within offer menu None (places_of offer.menu champion) come.0 ((0, []) ∷ []) text ((k, cs) ∷ nodes) rest come.1
+        ((let low : 0 ≤ length offer.menu.places = omega arith in low), tt)).0
 
     own : Sign
     own = sign_of left.0
@@ -85,7 +93,10 @@ module _ (offer : Offer) (menu : IsMenu offer.menu) (champion text : List ℕ) (
     own_is = sign_is offer None (places_of offer.menu champion) k cs left.0 left.1
 
     reads_own : Reads rest (sign_of left.0)
-    reads_own = (canonical_sign offer (places_of offer.menu champion) k cs (sign_of left.0) own_is, stands_first offer menu None (places_of offer.menu champion) (k, cs) nodes rest (sign_of left.0) within own_is left)
+    reads_own = (
+      canonical_sign offer (places_of offer.menu champion) k cs (sign_of left.0) own_is,
+      stands_first offer menu None (places_of offer.menu champion) (k, cs) nodes rest (sign_of left.0) within own_is left,
+    )
 
     has_symbol : ((read : Sign) → ¬ Reads rest read) → ⊥
     has_symbol none = none (sign_of left.0) reads_own
@@ -100,25 +111,39 @@ module _ (offer : Offer) (menu : IsMenu offer.menu) (champion text : List ℕ) (
         differs.2.2 (read ∙ same)
 
 pub no_defect_in_a_tree : NoDefectInATree
-no_defect_in_a_tree offer champion text (Syntax at) menu is defect = has_symbol offer menu champion text is defect.0 defect.1.0 defect.1.1.0 defect.1.1.1.0 defect.1.1.1.1 defect.1.1.1.3
+no_defect_in_a_tree offer champion text (Syntax at) menu is defect =
+    has_symbol offer menu champion text is defect.0 defect.1.0 defect.1.1.0 defect.1.1.1.0 defect.1.1.1.1 defect.1.1.1.3
 no_defect_in_a_tree offer champion text (NotClosed at) menu is defect = elim defect.1.1.1.3 [
   | inl without ↦ not_without offer menu champion text is defect.0 defect.1.0 defect.1.1.0 defect.1.1.1.0 defect.1.1.1.1 without.1
   | inr other ↦ not_other offer menu champion text is defect.0 defect.1.0 defect.1.1.0 defect.1.1.1.0 defect.1.1.1.1 _ other
 ]
-no_defect_in_a_tree offer champion text (Redundant at) menu is defect = not_other offer menu champion text is defect.0 defect.1.0 defect.1.1.0 defect.1.1.1.0 defect.1.1.1.1 _ defect.1.1.1.3
-no_defect_in_a_tree offer champion text (WrongLeaf at) menu is defect = not_other offer menu champion text is defect.0 defect.1.0 defect.1.1.0 defect.1.1.1.0 defect.1.1.1.1 _ defect.1.1.1.3
-no_defect_in_a_tree offer champion text (WrongBranch at) menu is defect = not_other offer menu champion text is defect.0 defect.1.0 defect.1.1.0 defect.1.1.1.0 defect.1.1.1.1 _ defect.1.1.1.3
+no_defect_in_a_tree offer champion text (Redundant at) menu is defect =
+    not_other offer menu champion text is defect.0 defect.1.0 defect.1.1.0 defect.1.1.1.0 defect.1.1.1.1 _ defect.1.1.1.3
+no_defect_in_a_tree offer champion text (WrongLeaf at) menu is defect =
+    not_other offer menu champion text is defect.0 defect.1.0 defect.1.1.0 defect.1.1.1.0 defect.1.1.1.1 _ defect.1.1.1.3
+no_defect_in_a_tree offer champion text (WrongBranch at) menu is defect =
+    not_other offer menu champion text is defect.0 defect.1.0 defect.1.1.0 defect.1.1.1.0 defect.1.1.1.1 _ defect.1.1.1.3
 no_defect_in_a_tree offer champion text (Rest at) menu is defect =
-    defect.2 (walk_leaves offer None (places_of offer.menu champion) defect.1.0 ((0, []) ∷ []) text [] defect.0 defect.1.1 (text_spelled offer None champion text is))
+    defect.2
+    (walk_leaves offer None (places_of offer.menu champion) defect.1.0 ((0, []) ∷ []) text [] defect.0 defect.1.1
+    (text_spelled offer None champion text is))
 
 pub no_failure_in_a_tree : NoFailureInATree
 no_failure_in_a_tree offer required champion text at menu is fails = stuck fails.0 fails.1.0 fails.1.1 fails.1.3
   where
-    stuck : (nodes : List (ℕ × List ℕ)) (rest : List ℕ) → HasCome offer required champion text nodes rest → IsStuck offer required (places_of offer.menu champion) nodes rest → ⊥
-    stuck [] rest come more = more (walk_leaves offer required (places_of offer.menu champion) come.0 ((0, []) ∷ []) text [] rest come.1 (text_spelled offer required champion text is))
+    stuck : (nodes : List (ℕ × List ℕ)) (rest : List ℕ) → HasCome offer required champion text nodes rest
+        → IsStuck offer required (places_of offer.menu champion) nodes rest → ⊥
+    stuck [] rest come more =
+        more
+        (walk_leaves offer required (places_of offer.menu champion) come.0 ((0, []) ∷ []) text [] rest come.1
+        (text_spelled offer required champion text is))
     stuck (node ∷ nodes) rest come none =
-        let left = walk_leaves offer required (places_of offer.menu champion) come.0 ((0, []) ∷ []) text (node ∷ nodes) rest come.1 (text_spelled offer required champion text is) in
-        let within = (walk_within offer menu required (places_of offer.menu champion) come.0 ((0, []) ∷ []) text (node ∷ nodes) rest come.1 ((let low : 0 ≤ length offer.menu.places = omega arith in low), tt)).0 in
+        let left =
+        walk_leaves offer required (places_of offer.menu champion) come.0 ((0, []) ∷ []) text (node ∷ nodes) rest come.1
+        (text_spelled offer required champion text is) in
+        let within =
+        (walk_within offer menu required (places_of offer.menu champion) come.0 ((0, []) ∷ []) text (node ∷ nodes) rest come.1
+        ((let low : 0 ≤ length offer.menu.places = omega arith in low), tt)).0 in
         let own = sign_is offer required (places_of offer.menu champion) node.0 node.1 left.0 left.1 in
         let stands = stands_first offer menu required (places_of offer.menu champion) node nodes rest (sign_of left.0) within own left in
         none (sign_of left.0) stands.0 own stands.1

@@ -33,18 +33,22 @@ last_other (x ∷ xs) s t apart = rw (last_other xs s t apart) refl
 -- the sections of a bundle's places are the bundle
 sections_back : (places : List Rated) (ss : List ℕ) → AllOnMenu places ss → map (section_at places) (map (place_in places) ss) ≡ ss
 sections_back places [] all = refl
-sections_back places (s ∷ ss) all = rw (section_at-place_in places s (all s (has-here s ss)), sections_back places ss (λ t is. all t (has-there s ss t is))) refl
+sections_back places (s ∷ ss) all =
+    rw (section_at-place_in places s (all s (has-here s ss)), sections_back places ss (λ t is. all t (has-there s ss t is))) refl
 
 module _ (offer : Offer) (menu : IsMenu offer.menu) where
   -- bundles of the same places are the same
   pub same_bundle : (a b : List ℕ) → IsTakable offer a → IsTakable offer b → places_of offer.menu a ≡ places_of offer.menu b → a ≡ b
   same_bundle a b may may' same =
-      sym (sections_back offer.menu.places a (on_menu offer a may)) ∙ ap (map (section_at offer.menu.places)) same ∙ sections_back offer.menu.places b (on_menu offer b may')
+      sym (sections_back offer.menu.places a (on_menu offer a may)) ∙ ap (map (section_at offer.menu.places)) same
+      ∙ sections_back offer.menu.places b (on_menu offer b may')
 
   -- the places with one more section
-  pub places_with : (k : ℕ) (chosen : List ℕ) → k < length offer.menu.places → places_of offer.menu (chosen ++ section_at offer.menu.places k ∷ []) ≡ places_of offer.menu chosen ++ k ∷ []
+  pub places_with : (k : ℕ) (chosen : List ℕ) → k < length offer.menu.places
+      → places_of offer.menu (chosen ++ section_at offer.menu.places k ∷ []) ≡ places_of offer.menu chosen ++ k ∷ []
   places_with k chosen low =
-      map-append (place_in offer.menu.places) chosen (section_at offer.menu.places k ∷ []) ∙ ap (λ p. places_of offer.menu chosen ++ p ∷ []) (place_in-section_at offer.menu.places k menu.places.ascending low)
+      map-append (place_in offer.menu.places) chosen (section_at offer.menu.places k ∷ [])
+      ∙ ap (λ p. places_of offer.menu chosen ++ p ∷ []) (place_in-section_at offer.menu.places k menu.places.ascending low)
 
   none_past : (p : ℕ) (ss : List ℕ) → IsTakable offer ss → length offer.menu.places ≤ p → has (places_of offer.menu ss) p ≡ false
   none_past p ss take off =
@@ -72,23 +76,28 @@ module _ (offer : Offer) (menu : IsMenu offer.menu) where
       -- the places of what completes a node are the chosen ones, and undecided ones after them
       front : (ds : List ℕ) × (places_of offer.menu bundle ≡ places_of offer.menu chosen ++ ds) × ((d : ℕ) → has ds d ≡ true → k ≤ d)
       front =
-          front_of k (places_of offer.menu chosen) (places_of offer.menu bundle) (taken_places offer chosen menu node.takable).ascending (taken_places offer bundle menu may).ascending places_low (same_below offer k chosen bundle menu node.takable may completes)
+          front_of k (places_of offer.menu chosen) (places_of offer.menu bundle) (taken_places offer chosen menu node.takable).ascending
+          (taken_places offer bundle menu may).ascending places_low (same_below offer k chosen bundle menu node.takable may completes)
 
       -- an undecided section of it is at an open place
-      pub open_where_more : (p : ℕ) → k ≤ p → p < length offer.menu.places → has bundle (section_at offer.menu.places p) ≡ true → is_open offer (places_of offer.menu chosen) p ≡ true
+      pub open_where_more : (p : ℕ) → k ≤ p → p < length offer.menu.places → has bundle (section_at offer.menu.places p) ≡ true
+          → is_open offer (places_of offer.menu chosen) p ≡ true
       open_where_more p past low is =
           let in_all : has (places_of offer.menu chosen ++ front.0) p ≡ true =
           ap (λ ps. has ps p) (sym front.1) ∙ has_by_place offer.menu.places bundle p menu.places.ascending (on_menu offer bundle may) low ∙ is in
           elim (has_either (places_of offer.menu chosen) front.0 p in_all) [
             | inl decided ↦ let below : p < k = places_low p decided in absurd (omega arith)
-            | inr later ↦ is_open-more offer k (places_of offer.menu chosen) front.0 (subst (MayBeTaken offer) front.1 (taken_places offer bundle menu may)) places_low front.2 p later
+            | inr later ↦
+                is_open-more offer k (places_of offer.menu chosen) front.0 (subst (MayBeTaken offer) front.1 (taken_places offer bundle menu may)) places_low
+                front.2 p later
           ]
 
       -- where all places are decided it has the chosen places alone
       pub chosen_where_none_left : k ≡ length offer.menu.places → places_of offer.menu bundle ≡ places_of offer.menu chosen
       chosen_where_none_left all = none_after front.0 front.1 front.2
         where
-          none_after : (ds : List ℕ) → places_of offer.menu bundle ≡ places_of offer.menu chosen ++ ds → ((d : ℕ) → has ds d ≡ true → k ≤ d) → places_of offer.menu bundle ≡ places_of offer.menu chosen
+          none_after : (ds : List ℕ) → places_of offer.menu bundle ≡ places_of offer.menu chosen ++ ds → ((d : ℕ) → has ds d ≡ true → k ≤ d)
+              → places_of offer.menu bundle ≡ places_of offer.menu chosen
           none_after [] whole high = whole ∙ append-nil (places_of offer.menu chosen)
           none_after (d ∷ ds) whole high =
               let past : k ≤ d = high d (has-here d ds) in
@@ -100,15 +109,19 @@ module _ (offer : Offer) (menu : IsMenu offer.menu) where
               in_second (x ∷ xs) ys s is = has-there x (xs ++ ys) s (in_second xs ys s is)
 
       -- what has the next section completes the node with it, and what lacks it the node without it
-      pub completes_with : k < length offer.menu.places → has bundle (section_at offer.menu.places k) ≡ true → Completes offer (k + 1) (chosen ++ section_at offer.menu.places k ∷ []) bundle
+      pub completes_with : k < length offer.menu.places → has bundle (section_at offer.menu.places k) ≡ true
+          → Completes offer (k + 1) (chosen ++ section_at offer.menu.places k ∷ []) bundle
       completes_with low is place early on =
           elim (cases_lt place k) [
             | inl before ↦
-                let rises : section_at offer.menu.places place < section_at offer.menu.places k = section_at-rises offer.menu.places place k menu.places.ascending before low in
-                completes place before on ∙ sym (last_other chosen (section_at offer.menu.places k) (section_at offer.menu.places place) (λ e. absurd (omega arith)))
+                let rises : section_at offer.menu.places place < section_at offer.menu.places k =
+                section_at-rises offer.menu.places place k menu.places.ascending before low in
+                completes place before on
+                ∙ sym (last_other chosen (section_at offer.menu.places k) (section_at offer.menu.places place) (λ e. absurd (omega arith)))
             | inr at ↦
                 let same : k ≡ place = omega arith in
-                subst (λ p. has bundle (section_at offer.menu.places p) ≡ has (chosen ++ section_at offer.menu.places k ∷ []) (section_at offer.menu.places p)) same (is ∙ sym (last_here chosen (section_at offer.menu.places k)))
+                subst (λ p. has bundle (section_at offer.menu.places p) ≡ has (chosen ++ section_at offer.menu.places k ∷ []) (section_at offer.menu.places p))
+                same (is ∙ sym (last_here chosen (section_at offer.menu.places k)))
           ]
 
       pub completes_without : k < length offer.menu.places → has bundle (section_at offer.menu.places k) ≡ false → Completes offer (k + 1) chosen bundle

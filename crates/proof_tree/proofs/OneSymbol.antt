@@ -29,7 +29,9 @@ is_lettered : ℕ → Bool
 is_lettered byte = byte == 98 || (byte == 99 || byte == 109)
 
 single_by : ℕ → Sign
-single_by byte = if byte == 42 then Champion else (if byte == 120 then Shut else (if byte == 110 then Closed Plain else (if byte == 33 then Forced else (if byte == 43 then Open else Passed))))
+single_by byte =
+    if byte == 42 then Champion
+    else (if byte == 120 then Shut else (if byte == 110 then Closed Plain else (if byte == 33 then Forced else (if byte == 43 then Open else Passed))))
 
 -- the sign of a letter and a number
 sign_by : ℕ → Option ℕ → Sign
@@ -60,12 +62,14 @@ by_letter sign = (lettered sign).spelled
 same_sign : (a b : Sign) → letter_of a ≡ letter_of b → number_of a ≡ number_of b → a ≡ b
 same_sign a b letter number = sym (lettered a).back ∙ ap (λ l. sign_by l (number_of a)) letter ∙ ap (sign_by (letter_of b)) number ∙ (lettered b).back
 
-same_number : (m n : Option ℕ) (r s : List ℕ) → is_some m ≡ is_some n → ((p : ℕ) → m ≡ Some p → (p < 100) × NoDigitFirst r) → ((p : ℕ) → n ≡ Some p → (p < 100) × NoDigitFirst s) → digits_of m ++ r ≡ digits_of n ++ s → m ≡ n
+same_number : (m n : Option ℕ) (r s : List ℕ) → is_some m ≡ is_some n → ((p : ℕ) → m ≡ Some p → (p < 100) × NoDigitFirst r)
+    → ((p : ℕ) → n ≡ Some p → (p < 100) × NoDigitFirst s) → digits_of m ++ r ≡ digits_of n ++ s → m ≡ n
 unfolding digits_of
 same_number None None r s both first second e = refl
 same_number None (Some q) r s both first second e = absurd (false≢true both)
 same_number (Some p) None r s both first second e = absurd (false≢true (sym both))
-same_number (Some p) (Some q) r s both first second e = ap (λ n. Some n) (same_place p q r s (first p refl).0 (second q refl).0 (first p refl).1 (second q refl).1 e)
+same_number (Some p) (Some q) r s both first second e =
+    ap (λ n. Some n) (same_place p q r s (first p refl).0 (second q refl).0 (first p refl).1 (second q refl).1 e)
 
 pub one_symbol : (a b : Sign) (text r s : List ℕ) → Stands a text r → Stands b text s → a ≡ b
 one_symbol a b text r s first second =
@@ -75,7 +79,9 @@ one_symbol a b text r s first second =
     let letter : letter_of a ≡ letter_of b = cc whole in
     let later : digits_of (number_of a) ++ r ≡ digits_of (number_of b) ++ s = cc whole in
     let both : is_some (number_of a) ≡ is_some (number_of b) = (lettered a).numbered ∙ ap is_lettered letter ∙ sym (lettered b).numbered in
-    same_sign a b letter (same_number (number_of a) (number_of b) r s both (λ p some. (first.short p some, first.whole p some)) (λ p some. (second.short p some, second.whole p some)) later)
+    same_sign a b letter
+    (same_number (number_of a) (number_of b) r s both (λ p some. (first.short p some, first.whole p some))
+    (λ p some. (second.short p some, second.whole p some)) later)
 
 -- a symbol's first byte is no digit
 not_digit : (sign : Sign) → letter_of sign ≤ 47 ⊎ 58 ≤ letter_of sign
@@ -92,12 +98,15 @@ not_digit Passed = inl (omega arith)
 
 pub no_digit_after : (sign : Sign) (text rest : List ℕ) → text ≡ symbol sign ++ rest → NoDigitFirst text
 no_digit_after sign text rest whole =
-    subst NoDigitFirst (sym (whole ∙ ap (λ t. t ++ rest) (by_letter sign))) (λ digit. (let low : 48 ≤ letter_of sign = digit.0 in let high : letter_of sign ≤ 57 = digit.1 in elim (not_digit sign) [ inl below ↦ absurd (omega arith) | inr above ↦ absurd (omega arith) ]))
+    subst NoDigitFirst (sym (whole ∙ ap (λ t. t ++ rest) (by_letter sign)))
+    (λ digit. (let low : 48 ≤ letter_of sign = digit.0 in let high : letter_of sign
+    ≤ 57 = digit.1 in elim (not_digit sign) [ inl below ↦ absurd (omega arith) | inr above ↦ absurd (omega arith) ]))
 
 -- it is shorter than the text
 pub shorter : (sign : Sign) (text rest : List ℕ) → text ≡ symbol sign ++ rest → length rest < length text
 shorter sign text rest whole =
     let all : text ≡ letter_of sign ∷ (digits_of (number_of sign) ++ rest) = whole ∙ ap (λ t. t ++ rest) (by_letter sign) in
     let size : length text ≡ suc (length (digits_of (number_of sign) ++ rest)) = ap length all in
-    let split : length (digits_of (number_of sign) ++ rest) ≡ length (digits_of (number_of sign)) + length rest = length-append (digits_of (number_of sign)) rest in
+    let split : length (digits_of (number_of sign) ++ rest) ≡ length (digits_of (number_of sign)) + length rest =
+    length-append (digits_of (number_of sign)) rest in
     omega arith

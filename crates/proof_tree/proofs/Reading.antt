@@ -15,12 +15,15 @@ IsLetter letter = (letter ≡ 98) ⊎ ((letter ≡ 99) ⊎ (letter ≡ 109))
 -- the symbol is the byte alone, or it is a letter and a number
 abbrev pub Begins : Sign → ℕ → List ℕ → List ℕ → Type 0
 Begins sign letter text rest =
-    ((number_of sign ≡ None) × (symbol sign ≡ letter ∷ [])) ⊎ ((place : ℕ) × (place < 100) × NoDigitFirst rest × IsLetter letter × (text ≡ decimal place ++ rest))
+    ((number_of sign ≡ None) × (symbol sign ≡ letter ∷ []))
+    ⊎ ((place : ℕ) × (place < 100) × NoDigitFirst rest × IsLetter letter × (text ≡ decimal place ++ rest))
 
-single : (sign : Sign) (letter byte : ℕ) (text rest : List ℕ) → number_of sign ≡ None → symbol sign ≡ byte ∷ [] → letter ∷ text ≡ byte ∷ rest → Begins sign letter text rest
+single : (sign : Sign) (letter byte : ℕ) (text rest : List ℕ) → number_of sign ≡ None → symbol sign ≡ byte ∷ [] → letter ∷ text ≡ byte ∷ rest
+    → Begins sign letter text rest
 single sign letter byte text rest none is whole = inl (none, (let same : letter ≡ byte = cc whole in is ∙ ap (λ b. b ∷ []) (sym same)))
 
-numbered : (sign : Sign) (letter byte place : ℕ) (text rest : List ℕ) → number_of sign ≡ Some place → IsLetter byte → Stands sign (letter ∷ text) rest → letter ∷ text ≡ byte ∷ (decimal place ++ rest) → Begins sign letter text rest
+numbered : (sign : Sign) (letter byte place : ℕ) (text rest : List ℕ) → number_of sign ≡ Some place → IsLetter byte → Stands sign (letter ∷ text) rest
+    → letter ∷ text ≡ byte ∷ (decimal place ++ rest) → Begins sign letter text rest
 numbered sign letter byte place text rest some is stands whole =
     let same : letter ≡ byte = cc whole in
     let later : text ≡ decimal place ++ rest = cc whole in
@@ -31,7 +34,8 @@ begins Champion letter text rest stands = single Champion letter 42 text rest re
 begins Shut letter text rest stands = single Shut letter 120 text rest refl refl stands.spelled
 begins (Closed Plain) letter text rest stands = single (Closed Plain) letter 110 text rest refl refl stands.spelled
 begins (Closed (Budget place)) letter text rest stands = numbered (Closed (Budget place)) letter 98 place text rest refl (inl refl) stands stands.spelled
-begins (Closed (Credits place)) letter text rest stands = numbered (Closed (Credits place)) letter 99 place text rest refl (inr (inl refl)) stands stands.spelled
+begins (Closed (Credits place)) letter text rest stands =
+    numbered (Closed (Credits place)) letter 99 place text rest refl (inr (inl refl)) stands stands.spelled
 begins (Closed (Number place)) letter text rest stands = numbered (Closed (Number place)) letter 109 place text rest refl (inr (inr refl)) stands stands.spelled
 begins Forced letter text rest stands = single Forced letter 33 text rest refl refl stands.spelled
 begins Open letter text rest stands = single Open letter 43 text rest refl refl stands.spelled
@@ -64,14 +68,17 @@ module _ (letter : ℕ) (text : List ℕ) (not_single : (sign : Sign) → number
     | inr with_place ↦ elim with_place.3 [ inl b ↦ other.0 b | inr more ↦ elim more [ inl c ↦ other.1 c | inr m ↦ other.2 m ] ]
   ]
 
-pub single_stands : (sign : Sign) (letter : ℕ) (text rest : List ℕ) → symbol sign ≡ letter ∷ [] → number_of sign ≡ None → text ≡ letter ∷ rest → Stands sign text rest
+pub single_stands : (sign : Sign) (letter : ℕ) (text rest : List ℕ) → symbol sign ≡ letter ∷ [] → number_of sign ≡ None → text ≡ letter ∷ rest
+    → Stands sign text rest
 single_stands sign letter text rest is none whole = record {
   spelled = whole ∙ ap (λ s. s ++ rest) (sym is);
   short = λ place some. (let e : Some place ≡ None = sym some ∙ none in absurd (cc e));
   whole = λ place some. (let e : Some place ≡ None = sym some ∙ none in absurd (cc e));
 }
 
-pub numbered_stands : (leaf : Leaf) (letter place : ℕ) (text more rest : List ℕ) → leaf_text leaf ≡ letter ∷ decimal place → number_of (Closed leaf) ≡ Some place → text ≡ letter ∷ more → more ≡ decimal place ++ rest → place < 100 → NoDigitFirst rest → Stands (Closed leaf) text rest
+pub numbered_stands : (leaf : Leaf) (letter place : ℕ) (text more rest : List ℕ) → leaf_text leaf ≡ letter ∷ decimal place
+    → number_of (Closed leaf) ≡ Some place → text ≡ letter ∷ more → more ≡ decimal place ++ rest → place < 100 → NoDigitFirst rest
+    → Stands (Closed leaf) text rest
 numbered_stands leaf letter place text more rest is some whole later low ends = record {
   spelled = whole ∙ ap (λ l. letter ∷ l) later ∙ ap (λ s. s ++ rest) (sym is);
   short = λ other some'. (let e : Some place ≡ Some other = sym some ∙ some' in let same : place ≡ other = cc e in subst (λ n. n < 100) same low);

@@ -17,16 +17,20 @@ cancel (x ∷ xs) ys zs e = cancel xs ys zs (let f : xs ++ ys ≡ xs ++ zs = cc 
 -- the text is that of trees of these nodes, one after another
 abbrev pub AreSpelled : Offer → Option ℕ → List ℕ → List (ℕ × List ℕ) → List ℕ → Type 0
 AreSpelled offer required champion [] text = text ≡ []
-AreSpelled offer required champion (node ∷ nodes) text = (tree : Tree) × IsTree offer required champion node.0 node.1 tree × ((rest : List ℕ) × (text ≡ spelled tree ++ rest) × AreSpelled offer required champion nodes rest)
+AreSpelled offer required champion (node ∷ nodes) text =
+    (tree : Tree) × IsTree offer required champion node.0 node.1 tree
+    × ((rest : List ℕ) × (text ≡ spelled tree ++ rest) × AreSpelled offer required champion nodes rest)
 
 -- the text after the symbol of a node is that of the nodes below it, and those after them
-pub record IsSplit (offer : Offer) (required : Option ℕ) (champion : List ℕ) (sign : Sign) (k : ℕ) (chosen : List ℕ) (nodes : List (ℕ × List ℕ)) (text : List ℕ) : Type 0 where
+pub record IsSplit (offer : Offer) (required : Option ℕ) (champion : List ℕ) (sign : Sign) (k : ℕ) (chosen : List ℕ) (nodes : List (ℕ × List ℕ)) (text : List ℕ)
+    : Type 0 where
   pub rest : List ℕ
   pub front : text ≡ symbol sign ++ rest
   pub are : AreSpelled offer required champion (below sign k chosen ++ nodes) rest
 
 module _ (offer : Offer) (required : Option ℕ) (champion : List ℕ) (k : ℕ) (chosen : List ℕ) (nodes : List (ℕ × List ℕ)) where
-  split_tree : (tree : Tree) (text rest : List ℕ) → IsTree offer required champion k chosen tree → text ≡ spelled tree ++ rest → AreSpelled offer required champion nodes rest → IsSplit offer required champion (sign_of tree) k chosen nodes text
+  split_tree : (tree : Tree) (text rest : List ℕ) → IsTree offer required champion k chosen tree → text ≡ spelled tree ++ rest
+      → AreSpelled offer required champion nodes rest → IsSplit offer required champion (sign_of tree) k chosen nodes text
   split_tree Wins text rest is whole are = record { rest = rest; front = whole; are = are }
   split_tree Bars text rest is whole are = record { rest = rest; front = whole; are = are }
   split_tree (Cuts leaf) text rest is whole are = record { rest = rest; front = whole; are = are }
@@ -38,13 +42,16 @@ module _ (offer : Offer) (required : Option ℕ) (champion : List ℕ) (k : ℕ)
   }
   split_tree (Passes without) text rest is whole are = record { rest = spelled without ++ rest; front = whole; are = (without, is.1, (rest, refl, are)) }
 
-  pub split_node : (sign : Sign) (text : List ℕ) → IsSign offer required champion k chosen sign → AreSpelled offer required champion ((k, chosen) ∷ nodes) text → IsSplit offer required champion sign k chosen nodes text
+  pub split_node : (sign : Sign) (text : List ℕ) → IsSign offer required champion k chosen sign → AreSpelled offer required champion ((k, chosen) ∷ nodes) text
+      → IsSplit offer required champion sign k chosen nodes text
   split_node sign text is are =
-      let same : sign_of are.0 ≡ sign = one_sign offer required champion k chosen (sign_of are.0) sign (sign_is offer required champion k chosen are.0 are.1) is in
+      let same : sign_of are.0 ≡ sign =
+      one_sign offer required champion k chosen (sign_of are.0) sign (sign_is offer required champion k chosen are.0 are.1) is in
       subst (λ s. IsSplit offer required champion s k chosen nodes text) same (split_tree are.0 text are.2.0 are.1 are.2.1 are.2.2)
 
   -- and the other way round
-  pub join_node : (sign : Sign) (rest : List ℕ) → IsSign offer required champion k chosen sign → AreSpelled offer required champion (below sign k chosen ++ nodes) rest → AreSpelled offer required champion ((k, chosen) ∷ nodes) (symbol sign ++ rest)
+  pub join_node : (sign : Sign) (rest : List ℕ) → IsSign offer required champion k chosen sign
+      → AreSpelled offer required champion (below sign k chosen ++ nodes) rest → AreSpelled offer required champion ((k, chosen) ∷ nodes) (symbol sign ++ rest)
   join_node Champion rest is are = (Wins, is, (rest, refl, are))
   join_node Shut rest is are = (Bars, is, (rest, refl, are))
   join_node (Closed leaf) rest is are = (Cuts leaf, is, (rest, refl, are))
@@ -76,18 +83,21 @@ module _ (offer : Offer) (required : Option ℕ) (champion : List ℕ) (k : ℕ)
 
 module _ (offer : Offer) (required : Option ℕ) (champion : List ℕ) where
   -- the walk goes on by one node
-  pub comes_more : (signs : List Sign) (nodes : List (ℕ × List ℕ)) (text : List ℕ) (node : ℕ × List ℕ) (later : List (ℕ × List ℕ)) (rest : List ℕ) (sign : Sign) (after : List ℕ)
+  pub comes_more : (signs : List Sign) (nodes : List (ℕ × List ℕ)) (text : List ℕ) (node : ℕ × List ℕ) (later : List (ℕ × List ℕ)) (rest : List ℕ) (sign : Sign)
+      (after : List ℕ)
       → ComesTo offer required champion signs nodes text (node ∷ later) rest → IsSign offer required champion node.0 node.1 sign → Stands sign rest after
       → ComesTo offer required champion (signs ++ sign ∷ []) nodes text (below sign node.0 node.1 ++ later) after
   comes_more [] nodes text node later rest sign after come is stands =
       subst (λ ns. ComesTo offer required champion (sign ∷ []) ns text (below sign node.0 node.1 ++ later) after) (sym come.0)
-      (subst (λ t. ComesTo offer required champion (sign ∷ []) (node ∷ later) t (below sign node.0 node.1 ++ later) after) (sym come.1) (is, (after, stands, (refl, refl))))
+      (subst (λ t. ComesTo offer required champion (sign ∷ []) (node ∷ later) t (below sign node.0 node.1 ++ later) after) (sym come.1)
+      (is, (after, stands, (refl, refl))))
   comes_more (s ∷ signs) [] text node later rest sign after come is stands = absurd come
   comes_more (s ∷ signs) (n ∷ nodes) text node later rest sign after come is stands =
       (come.0, (come.1.0, come.1.1, comes_more signs (below s n.0 n.1 ++ nodes) come.1.0 node later rest sign after come.1.2 is stands))
 
   -- a whole walk reads the text of the trees
-  pub walk_spells : (signs : List Sign) (nodes : List (ℕ × List ℕ)) (text : List ℕ) → ComesTo offer required champion signs nodes text [] [] → AreSpelled offer required champion nodes text
+  pub walk_spells : (signs : List Sign) (nodes : List (ℕ × List ℕ)) (text : List ℕ) → ComesTo offer required champion signs nodes text [] []
+      → AreSpelled offer required champion nodes text
   walk_spells [] nodes text come = subst (λ ns. AreSpelled offer required champion ns text) (sym come.0) come.1
   walk_spells (sign ∷ signs) [] text come = absurd come
   walk_spells (sign ∷ signs) (node ∷ nodes) text come =
@@ -95,17 +105,23 @@ module _ (offer : Offer) (required : Option ℕ) (champion : List ℕ) where
       (join_node offer required champion node.0 node.1 nodes sign come.1.0 come.0 (walk_spells signs (below sign node.0 node.1 ++ nodes) come.1.0 come.1.2))
 
   -- and where the text is that of the trees, what is left is that of the trees of the nodes that are left
-  pub walk_leaves : (signs : List Sign) (nodes : List (ℕ × List ℕ)) (text : List ℕ) (others : List (ℕ × List ℕ)) (rest : List ℕ) → ComesTo offer required champion signs nodes text others rest → AreSpelled offer required champion nodes text → AreSpelled offer required champion others rest
-  walk_leaves [] nodes text others rest come are = subst (λ ns. AreSpelled offer required champion ns rest) come.0 (subst (AreSpelled offer required champion nodes) come.1 are)
+  pub walk_leaves : (signs : List Sign) (nodes : List (ℕ × List ℕ)) (text : List ℕ) (others : List (ℕ × List ℕ)) (rest : List ℕ)
+      → ComesTo offer required champion signs nodes text others rest → AreSpelled offer required champion nodes text
+      → AreSpelled offer required champion others rest
+  walk_leaves [] nodes text others rest come are =
+      subst (λ ns. AreSpelled offer required champion ns rest) come.0 (subst (AreSpelled offer required champion nodes) come.1 are)
   walk_leaves (sign ∷ signs) [] text others rest come are = absurd come
   walk_leaves (sign ∷ signs) (node ∷ nodes) text others rest come are =
       let split = split_node offer required champion node.0 node.1 nodes sign text come.0 are in
       let same : split.rest ≡ come.1.0 = cancel (symbol sign) split.rest come.1.0 (sym split.front ∙ come.1.1.spelled) in
-      walk_leaves signs (below sign node.0 node.1 ++ nodes) come.1.0 others rest come.1.2 (subst (AreSpelled offer required champion (below sign node.0 node.1 ++ nodes)) same split.are)
+      walk_leaves signs (below sign node.0 node.1 ++ nodes) come.1.0 others rest come.1.2
+      (subst (AreSpelled offer required champion (below sign node.0 node.1 ++ nodes)) same split.are)
 
 -- the text of one tree
-pub text_spelled : (offer : Offer) (required : Option ℕ) (champion text : List ℕ) → IsTreeText offer required champion text → AreSpelled offer required (places_of offer.menu champion) ((0, []) ∷ []) text
+pub text_spelled : (offer : Offer) (required : Option ℕ) (champion text : List ℕ) → IsTreeText offer required champion text
+    → AreSpelled offer required (places_of offer.menu champion) ((0, []) ∷ []) text
 text_spelled offer required champion text is = (is.0, is.1, ([], is.2 ∙ sym (append-nil (spelled is.0)), refl))
 
-pub spelled_text : (offer : Offer) (required : Option ℕ) (champion text : List ℕ) → AreSpelled offer required (places_of offer.menu champion) ((0, []) ∷ []) text → IsTreeText offer required champion text
+pub spelled_text : (offer : Offer) (required : Option ℕ) (champion text : List ℕ)
+    → AreSpelled offer required (places_of offer.menu champion) ((0, []) ∷ []) text → IsTreeText offer required champion text
 spelled_text offer required champion text are = (are.0, are.1, are.2.1 ∙ ap (λ r. spelled are.0 ++ r) are.2.2 ∙ append-nil (spelled are.0))

@@ -14,30 +14,40 @@ use Rattle.proof_tree.specs.declared.walk.Walk.{Walk}
 use Rattle.proof_tree.specs.Standing.{IsStemAt, HaveStems}
 
 -- other stems are behind the waiting ones
-pub stems_behind : (offer : Offer) (champion : List ℕ) (walk : Walk) (stems : List Stem) → HaveStems offer champion walk → length stems ≡ length walk.stems → ((i : ℕ) (d : Stem) → i < walk.count → get_or stems i d ≡ get_or walk.stems i d)
+pub stems_behind : (offer : Offer) (champion : List ℕ) (walk : Walk) (stems : List Stem) → HaveStems offer champion walk → length stems ≡ length walk.stems
+    → ((i : ℕ) (d : Stem) → i < walk.count → get_or stems i d ≡ get_or walk.stems i d)
     → HaveStems offer champion (record walk { stems = stems })
 stems_behind offer champion walk stems have size same = record {
   whole = size ∙ have.whole;
-  each = λ i d low e. subst (IsStem offer champion (get_or walk.waiting i d).place (sections_of (get_or walk.waiting i d).chosen)) (sym (same i e low)) (have.each i d low e);
+  each =
+      λ i d low e. subst (IsStem offer champion (get_or walk.waiting i d).place (sections_of (get_or walk.waiting i d).chosen)) (sym (same i e low))
+      (have.each i d low e);
 }
 
 -- the last of the waiting nodes is taken
-pub stems_less : (offer : Offer) (champion : List ℕ) (walk less : Walk) → HaveStems offer champion walk → less.stems ≡ walk.stems → less.waiting ≡ walk.waiting → walk.count ≡ less.count + 1 → HaveStems offer champion less
+pub stems_less : (offer : Offer) (champion : List ℕ) (walk less : Walk) → HaveStems offer champion walk → less.stems ≡ walk.stems → less.waiting ≡ walk.waiting
+    → walk.count ≡ less.count + 1 → HaveStems offer champion less
 stems_less offer champion walk less have stems waiting count = record {
   whole = ap length stems ∙ have.whole;
   each = λ i d low e.
       subst (λ (ns : List Node). IsStem offer champion (get_or ns i d).place (sections_of (get_or ns i d).chosen) (get_or less.stems i e)) (sym waiting)
-      (subst (λ (ss : List Stem). IsStem offer champion (get_or walk.waiting i d).place (sections_of (get_or walk.waiting i d).chosen) (get_or ss i e)) (sym stems) (have.each i d (omega arith) e));
+      (subst (λ (ss : List Stem). IsStem offer champion (get_or walk.waiting i d).place (sections_of (get_or walk.waiting i d).chosen) (get_or ss i e))
+      (sym stems) (have.each i d (omega arith) e));
 }
 
-pub stem_taken : (offer : Offer) (champion : List ℕ) (walk less : Walk) (node : Node) → HaveStems offer champion walk → less.stems ≡ walk.stems → walk.count ≡ less.count + 1 → node ≡ get_or walk.waiting less.count node
+pub stem_taken : (offer : Offer) (champion : List ℕ) (walk less : Walk) (node : Node) → HaveStems offer champion walk → less.stems ≡ walk.stems
+    → walk.count ≡ less.count + 1 → node ≡ get_or walk.waiting less.count node
     → IsStemAt offer champion less.stems less.count node.place (sections_of node.chosen)
 stem_taken offer champion walk less node have stems count is = λ e.
     subst (λ (n : Node). IsStem offer champion n.place (sections_of n.chosen) (get_or less.stems less.count e)) (sym is)
-    (subst (λ (ss : List Stem). IsStem offer champion (get_or walk.waiting less.count node).place (sections_of (get_or walk.waiting less.count node).chosen) (get_or ss less.count e)) (sym stems) (have.each less.count node (omega arith) e))
+    (subst
+    (λ (ss : List Stem). IsStem offer champion (get_or walk.waiting less.count node).place (sections_of (get_or walk.waiting less.count node).chosen)
+    (get_or ss less.count e))
+    (sym stems) (have.each less.count node (omega arith) e))
 
 -- one more node waits, whose stem stands there
-pub stems_more : (offer : Offer) (champion : List ℕ) (walk more : Walk) (node : Node) → HaveStems offer champion walk → more.stems ≡ walk.stems → more.count ≡ walk.count + 1
+pub stems_more : (offer : Offer) (champion : List ℕ) (walk more : Walk) (node : Node) → HaveStems offer champion walk → more.stems ≡ walk.stems
+    → more.count ≡ walk.count + 1
     → ((i : ℕ) (d : Node) → i ≢ walk.count → get_or more.waiting i d ≡ get_or walk.waiting i d) → ((d : Node) → get_or more.waiting walk.count d ≡ node)
     → IsStemAt offer champion walk.stems walk.count node.place (sections_of node.chosen) → HaveStems offer champion more
 stems_more offer champion walk more node have stems count others here stem = record {
@@ -54,12 +64,15 @@ stems_more offer champion walk more node have stems count others here stem = rec
 }
 
 -- the stem of a node under another name
-pub stem_same : (offer : Offer) (champion : List ℕ) (stems others : List Stem) (at k j : ℕ) (chosen sections : List ℕ) → stems ≡ others → k ≡ j → chosen ≡ sections → IsStemAt offer champion stems at k chosen → IsStemAt offer champion others at j sections
+pub stem_same : (offer : Offer) (champion : List ℕ) (stems others : List Stem) (at k j : ℕ) (chosen sections : List ℕ) → stems ≡ others → k ≡ j
+    → chosen ≡ sections → IsStemAt offer champion stems at k chosen → IsStemAt offer champion others at j sections
 stem_same offer champion stems others at k j chosen sections same places bundles is = λ e.
-    subst (λ (ss : List Stem). IsStem offer champion j sections (get_or ss at e)) same (subst (λ n. IsStem offer champion n sections (get_or stems at e)) places (subst (λ l. IsStem offer champion k l (get_or stems at e)) bundles (is e)))
+    subst (λ (ss : List Stem). IsStem offer champion j sections (get_or ss at e)) same
+    (subst (λ n. IsStem offer champion n sections (get_or stems at e)) places (subst (λ l. IsStem offer champion k l (get_or stems at e)) bundles (is e)))
 
 -- where a place is open fewer than 8 sections are chosen
-pub few_where_open : (offer : Offer) (k : ℕ) (chosen : List ℕ) → IsMenu offer.menu → IsNode offer k chosen → k < length offer.menu.places → is_open offer (places_of offer.menu chosen) k ≡ true → length chosen < 8
+pub few_where_open : (offer : Offer) (k : ℕ) (chosen : List ℕ) → IsMenu offer.menu → IsNode offer k chosen → k < length offer.menu.places
+    → is_open offer (places_of offer.menu chosen) k ≡ true → length chosen < 8
 unfolding wishes_of
 few_where_open offer k chosen menu node low opened =
     let takable = takable_where_open offer menu k chosen node low (open_facts offer (places_of offer.menu chosen) k opened) in

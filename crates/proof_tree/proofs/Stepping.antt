@@ -20,7 +20,8 @@ count_within nodes n few whole waits low =
     omega arith
 
 -- so there is room for two more where fewer than 8 sections are chosen
-pub room_for_two : (nodes old : List Node) (n : ℕ) (next : Node) (chosen : ℕ) → length nodes ≡ 9 → reverse (take n nodes) ≡ next ∷ old → length old ≤ chosen → chosen < 8 → n ≤ 8
+pub room_for_two : (nodes old : List Node) (n : ℕ) (next : Node) (chosen : ℕ) → length nodes ≡ 9 → reverse (take n nodes) ≡ next ∷ old → length old ≤ chosen
+    → chosen < 8 → n ≤ 8
 room_for_two nodes old n next chosen whole is waits room =
     let one_more : length (reverse (take n nodes)) ≡ suc (length old) = ap length is in count_within nodes n 8 whole (omega arith) (omega arith)
 
@@ -28,7 +29,8 @@ room_for_two nodes old n next chosen whole is waits room =
 pub next_of : (nodes : List Node) (n : ℕ) (d : Node) → n < length nodes → reverse (take (n + 1) nodes) ≡ get_or nodes n d ∷ reverse (take n nodes)
 next_of nodes n d low = ap reverse (take_more nodes n d low) ∙ reverse-append (take n nodes) (get_or nodes n d ∷ [])
 
-pub next_waits : (nodes : List Node) (n : ℕ) (node : Node) → 0 < n → n ≤ length nodes → node ≡ get_or nodes (n - 1) node → reverse (take n nodes) ≡ node ∷ reverse (take (n - 1) nodes)
+pub next_waits : (nodes : List Node) (n : ℕ) (node : Node) → 0 < n → n ≤ length nodes → node ≡ get_or nodes (n - 1) node
+    → reverse (take n nodes) ≡ node ∷ reverse (take (n - 1) nodes)
 next_waits nodes n node some low is =
     let one_less : n ≡ (n - 1) + 1 = omega arith in
     ap (λ m. reverse (take m nodes)) one_less ∙ next_of nodes (n - 1) node (omega arith) ∙ ap (λ x. x ∷ reverse (take (n - 1) nodes)) (sym is)
@@ -44,16 +46,20 @@ module _ (offer : Offer) (required : Option ℕ) (champion : List ℕ) (k : ℕ)
 
 module _ (offer : Offer) (node : Node) (under : List Node) (waits : MayWait offer (node ∷ under)) (low : node.place < length offer.menu.places) where
   -- the node with the next place, and the one without it, may wait
-  pub wait_with : IsMenu offer.menu → (next : Node) (others : List Node) → next.place ≡ node.place + 1 → sections_of next.chosen ≡ sections_of node.chosen ++ section_at offer.menu.places node.place ∷ []
-      → is_open offer (places_of offer.menu (sections_of node.chosen)) node.place ≡ true → length others ≤ length (sections_of node.chosen) + 1 → MayWait offer others → MayWait offer (next ∷ others)
+  pub wait_with : IsMenu offer.menu → (next : Node) (others : List Node) → next.place ≡ node.place + 1
+      → sections_of next.chosen ≡ sections_of node.chosen ++ section_at offer.menu.places node.place ∷ []
+      → is_open offer (places_of offer.menu (sections_of node.chosen)) node.place ≡ true → length others ≤ length (sections_of node.chosen) + 1
+      → MayWait offer others → MayWait offer (next ∷ others)
   wait_with menu next others place chosen open_ few are =
       let k : ℕ = node.place in
-      let more : length (sections_of next.chosen) ≡ length (sections_of node.chosen) + 1 = ap length chosen ∙ length-append (sections_of node.chosen) (section_at offer.menu.places node.place ∷ []) in
+      let more : length (sections_of next.chosen) ≡ length (sections_of node.chosen) + 1 =
+      ap length chosen ∙ length-append (sections_of node.chosen) (section_at offer.menu.places node.place ∷ []) in
       let next_place : next.place ≡ k + 1 = place in
       let takable = takable_where_open offer menu node.place (sections_of node.chosen) waits.2 low (open_facts offer (places_of offer.menu (sections_of node.chosen)) node.place open_) in (
         omega arith,
         omega arith,
-        node_same offer (node.place + 1) next.place (sections_of node.chosen ++ section_at offer.menu.places node.place ∷ []) (sections_of next.chosen) (sym place) (sym chosen) (node_with offer node.place (sections_of node.chosen) menu low waits.2 takable),
+        node_same offer (node.place + 1) next.place (sections_of node.chosen ++ section_at offer.menu.places node.place ∷ []) (sections_of next.chosen)
+            (sym place) (sym chosen) (node_with offer node.place (sections_of node.chosen) menu low waits.2 takable),
         are,
       )
 
@@ -65,15 +71,19 @@ module _ (offer : Offer) (node : Node) (under : List Node) (waits : MayWait offe
       let next_place : next.place ≡ k + 1 = place in (
         omega arith,
         omega arith,
-        node_same offer (node.place + 1) next.place (sections_of node.chosen) (sections_of next.chosen) (sym place) (sym chosen) (node_without offer node.place (sections_of node.chosen) waits.2),
+        node_same offer (node.place + 1) next.place (sections_of node.chosen) (sections_of next.chosen) (sym place) (sym chosen)
+            (node_without offer node.place (sections_of node.chosen) waits.2),
         waits.3,
       )
 
-  pub spot_with : IsMenu offer.menu → (next : Node) → next.place ≡ node.place + 1 → sections_of next.chosen ≡ sections_of node.chosen ++ section_at offer.menu.places node.place ∷ []
+  pub spot_with : IsMenu offer.menu → (next : Node) → next.place ≡ node.place + 1
+      → sections_of next.chosen ≡ sections_of node.chosen ++ section_at offer.menu.places node.place ∷ []
       → spot offer.menu next ≡ (node.place + 1, places_of offer.menu (sections_of node.chosen) ++ node.place ∷ [])
   spot_with menu next place chosen =
-      let split : places_of offer.menu (sections_of next.chosen) ≡ places_of offer.menu (sections_of node.chosen) ++ node.place ∷ [] = ap (places_of offer.menu) chosen ∙ places_with offer menu node.place (sections_of node.chosen) low in
+      let split : places_of offer.menu (sections_of next.chosen) ≡ places_of offer.menu (sections_of node.chosen) ++ node.place ∷ [] =
+      ap (places_of offer.menu) chosen ∙ places_with offer menu node.place (sections_of node.chosen) low in
       λ i. (place i, split i)
 
-  pub spot_without : (next : Node) → next.place ≡ node.place + 1 → sections_of next.chosen ≡ sections_of node.chosen → spot offer.menu next ≡ (node.place + 1, places_of offer.menu (sections_of node.chosen))
+  pub spot_without : (next : Node) → next.place ≡ node.place + 1 → sections_of next.chosen ≡ sections_of node.chosen
+      → spot offer.menu next ≡ (node.place + 1, places_of offer.menu (sections_of node.chosen))
   spot_without next place chosen = λ i. (place i, places_of offer.menu (chosen i))

@@ -11,7 +11,8 @@ use Rattle.proof_tree.specs.Trees.{Tree, Wins, Bars, Cuts, Takes, Splits, Passes
 use Rattle.proof_tree.specs.Laws.{OneTree}
 
 module _ (offer : Offer) (required : Option ℕ) (champion : List ℕ) where
-  pub one_first : (k : ℕ) (cs : List ℕ) (bs : List (Leaf × ℤ)) (a b : Leaf) → IsFirstClosing offer k cs champion bs a → IsFirstClosing offer k cs champion bs b → a ≡ b
+  pub one_first : (k : ℕ) (cs : List ℕ) (bs : List (Leaf × ℤ)) (a b : Leaf) → IsFirstClosing offer k cs champion bs a → IsFirstClosing offer k cs champion bs b
+      → a ≡ b
   one_first k cs [] a b first second = absurd first
   one_first k cs (x ∷ bs) a b (inl here) (inl here') = sym here.1 ∙ here'.1
   one_first k cs (x ∷ bs) a b (inl here) (inr later) = absurd (later.0 here.0)
@@ -85,7 +86,8 @@ module _ (offer : Offer) (required : Option ℕ) (champion : List ℕ) where
   pub same_tree : (a b : Tree) (k : ℕ) (cs : List ℕ) → IsTree offer required champion k cs a → IsTree offer required champion k cs b → a ≡ b
   same_tree Wins Wins k cs is is' = refl
   same_tree Bars Bars k cs is is' = refl
-  same_tree (Cuts leaf) (Cuts other) k cs is is' = let e : Closed leaf ≡ Closed other = same_sign k cs (Cuts leaf) (Cuts other) is is' in ap (λ l. Cuts l) (let f : leaf ≡ other = cc e in f)
+  same_tree (Cuts leaf) (Cuts other) k cs is is' =
+      let e : Closed leaf ≡ Closed other = same_sign k cs (Cuts leaf) (Cuts other) is is' in ap (λ l. Cuts l) (let f : leaf ≡ other = cc e in f)
   same_tree (Takes a) (Takes b) k cs is is' = ap (λ t. Takes t) (same_tree a b (k + 1) (cs ++ k ∷ []) is.1 is'.1)
   same_tree (Splits a b) (Splits c d) k cs is is' =
       let first : a ≡ c = same_tree a c (k + 1) (cs ++ k ∷ []) is.1 is'.1 in

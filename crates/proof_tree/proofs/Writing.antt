@@ -44,7 +44,8 @@ module _ (offer : Offer) (required : Option ℕ) (champion : List ℕ) where
 
   module _ (written : List ℕ) (nodes : List (ℕ × List ℕ)) (so_far : IsWritten offer required champion written nodes) where
     -- one more symbol is written
-    pub written_more : (sign : Sign) (others : List (ℕ × List ℕ)) → IsStep offer required (places_of offer.menu champion) nodes (Signed sign) others → IsWritten offer required champion (written ++ symbol sign) others
+    pub written_more : (sign : Sign) (others : List (ℕ × List ℕ)) → IsStep offer required (places_of offer.menu champion) nodes (Signed sign) others
+        → IsWritten offer required champion (written ++ symbol sign) others
     written_more sign others step =
         let here = subst (λ ns. AreSpelled offer required (places_of offer.menu champion) ns so_far.left) step.1.1 so_far.are in
         let split = split_node offer required (places_of offer.menu champion) step.0.0 step.0.1 step.1.0 sign so_far.left step.1.2 here in
@@ -69,13 +70,15 @@ module _ (offer : Offer) (required : Option ℕ) (champion : List ℕ) where
         no_tree offer required (places_of offer.menu champion) step.0.0 step.0.1 step.1.0 here.0 step.1.2 here.1
 
     -- what does not fit is longer
-    pub longer : (sign : Sign) (others : List (ℕ × List ℕ)) → IsStep offer required (places_of offer.menu champion) nodes (Signed sign) others → (text : List ℕ) → IsTreeText offer required champion text → length written + length (symbol sign) ≤ length text
+    pub longer : (sign : Sign) (others : List (ℕ × List ℕ)) → IsStep offer required (places_of offer.menu champion) nodes (Signed sign) others → (text : List ℕ)
+        → IsTreeText offer required champion text → length written + length (symbol sign) ≤ length text
     longer sign others step text is =
         let more = written_more sign others step in
         let one : more.tree ≡ is.0 = same_tree offer required (places_of offer.menu champion) more.tree is.0 0 [] more.is is.1 in
         let whole : text ≡ (written ++ symbol sign) ++ more.left = is.2 ∙ ap spelled (sym one) ∙ more.whole in
         let size : length text ≡ length ((written ++ symbol sign) ++ more.left) = ap length whole in
-        let split : length ((written ++ symbol sign) ++ more.left) ≡ length (written ++ symbol sign) + length more.left = length-append (written ++ symbol sign) more.left in
+        let split : length ((written ++ symbol sign) ++ more.left) ≡ length (written ++ symbol sign) + length more.left =
+        length-append (written ++ symbol sign) more.left in
         let split' : length (written ++ symbol sign) ≡ length written + length (symbol sign) = length-append written (symbol sign) in
         omega arith
 
@@ -87,13 +90,18 @@ one_at_least zero = omega arith
 one_at_least (suc n) = omega arith
 
 -- a step leaves fewer nodes
-pub fewer_below : (offer : Offer) (required : Option ℕ) (ch : List ℕ) (k : ℕ) (cs : List ℕ) (sign : Sign) (later : List (ℕ × List ℕ)) → IsSign offer required ch k cs sign → nodes_left offer (below sign k cs ++ later) < nodes_left offer ((k, cs) ∷ later)
-fewer_below offer required ch k cs Champion later is = let some : 0 < nodes_below (length offer.menu.places - k) = one_at_least (length offer.menu.places - k) in omega arith
-fewer_below offer required ch k cs Shut later is = let some : 0 < nodes_below (length offer.menu.places - k) = one_at_least (length offer.menu.places - k) in omega arith
-fewer_below offer required ch k cs (Closed leaf) later is = let some : 0 < nodes_below (length offer.menu.places - k) = one_at_least (length offer.menu.places - k) in omega arith
+pub fewer_below : (offer : Offer) (required : Option ℕ) (ch : List ℕ) (k : ℕ) (cs : List ℕ) (sign : Sign) (later : List (ℕ × List ℕ))
+    → IsSign offer required ch k cs sign → nodes_left offer (below sign k cs ++ later) < nodes_left offer ((k, cs) ∷ later)
+fewer_below offer required ch k cs Champion later is =
+    let some : 0 < nodes_below (length offer.menu.places - k) = one_at_least (length offer.menu.places - k) in omega arith
+fewer_below offer required ch k cs Shut later is =
+    let some : 0 < nodes_below (length offer.menu.places - k) = one_at_least (length offer.menu.places - k) in omega arith
+fewer_below offer required ch k cs (Closed leaf) later is =
+    let some : 0 < nodes_below (length offer.menu.places - k) = one_at_least (length offer.menu.places - k) in omega arith
 fewer_below offer required ch k cs Forced later is = rw (left_less k (length offer.menu.places) is.0.left) (omega arith)
 fewer_below offer required ch k cs Open later is = rw (left_less k (length offer.menu.places) is.0.left) (omega arith)
 fewer_below offer required ch k cs Passed later is = rw (left_less k (length offer.menu.places) is.0.left) (omega arith)
 
-pub fewer : (offer : Offer) (required : Option ℕ) (ch : List ℕ) (nodes others : List (ℕ × List ℕ)) (sign : Sign) → IsStep offer required ch nodes (Signed sign) others → nodes_left offer others < nodes_left offer nodes
+pub fewer : (offer : Offer) (required : Option ℕ) (ch : List ℕ) (nodes others : List (ℕ × List ℕ)) (sign : Sign)
+    → IsStep offer required ch nodes (Signed sign) others → nodes_left offer others < nodes_left offer nodes
 fewer offer required ch nodes others sign step = rw (step.1.3, step.1.1) (fewer_below offer required ch step.0.0 step.0.1 sign step.1.0 step.1.2)

@@ -7,7 +7,9 @@ use Rattle.proof_tree.specs.Texts.{IsTreeText}
 
 -- `*`, `n`, `b`, `c`, `m`, `+`, `-`, or a digit
 abbrev pub is_tree_byte : ℕ → Bool
-is_tree_byte byte = is_ascii_digit byte || byte == 42 || byte == 110 || byte == 98 || byte == 99 || byte == 109 || byte == 43 || byte == 45
+is_tree_byte byte =
+    is_ascii_digit byte || byte == 42 || byte == 110 || byte == 98 || byte == 99 || byte == 109
+    || byte == 43 || byte == 45
 
 -- one such byte or more
 pub record AreTreeBytes (text : List ℕ) : Type 0 where
@@ -16,4 +18,6 @@ pub record AreTreeBytes (text : List ℕ) : Type 0 where
 
 -- the text of a canonical tree has one such byte or more, and no other ones
 abbrev pub TreesHaveTreeBytes : Type 0
-TreesHaveTreeBytes = (offer : Offer) (champion text : List ℕ) → IsMenu offer.menu → IsTreeText offer None champion text → AreTreeBytes text
+TreesHaveTreeBytes =
+    (offer : Offer) (champion text : List ℕ) → IsMenu offer.menu
+    → IsTreeText offer None champion text → AreTreeBytes text

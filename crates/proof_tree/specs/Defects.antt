@@ -28,34 +28,58 @@ IsCanonical sign = ⊤
 abbrev pub Reads : List ℕ → Sign → Type 0
 Reads rest sign = IsCanonical sign × ((later : List ℕ) × Stands sign rest later)
 
--- the walk of the canonical tree comes to a node, and what is left of the text there is not as it should be
+-- the walk of the canonical tree comes to a node, and what is left of the text there is not as it
+-- should be
 abbrev pub FailsAt : Offer → List ℕ → List ℕ → ℕ → (ℕ → List ℕ → List ℕ → Type 0) → Type 0
 FailsAt offer champion text at fault =
-    (k : ℕ) × ((chosen : List ℕ) × ((nodes : List (ℕ × List ℕ)) × ((rest : List ℕ) × HasCome offer None champion text ((k, chosen) ∷ nodes) rest × (at ≡ offset text rest) × fault k chosen rest)))
+    (k : ℕ)
+    × ((chosen : List ℕ)
+    × ((nodes : List (ℕ × List ℕ))
+    × ((rest : List ℕ) × HasCome offer None champion text ((k, chosen) ∷ nodes) rest
+    × (at ≡ offset text rest) × fault k chosen rest)))
 
 -- another symbol stands first than that of the canonical sign, and the two are so
 abbrev pub Differs : Offer → List ℕ → (Sign → Sign → Type 0) → ℕ → List ℕ → List ℕ → Type 0
 Differs offer champion are k chosen rest =
-    (read : Sign) × Reads rest read × ((canonical : Sign) × IsSign offer None (places_of offer.menu champion) k chosen canonical × (read ≢ canonical) × are read canonical)
+    (read : Sign) × Reads rest read
+    × ((canonical : Sign) × IsSign offer None (places_of offer.menu champion) k chosen canonical
+    × (read ≢ canonical) × are read canonical)
 
--- the first defect of a text: no symbol stands; the node has no canonical sign, or a leaf stands and the canonical sign is none; none stands and
--- it is one; another leaf; another of *, +, -; or the walk ends and bytes are left
+-- the first defect of a text: no symbol stands; the node has no canonical sign, or a leaf stands
+-- and the canonical sign is none; none stands and it is one; another leaf; another of *, +, -; or
+-- the walk ends and bytes are left
 abbrev pub IsDefect : Offer → List ℕ → List ℕ → TreeDefect → Type 0
-IsDefect offer champion text (Syntax at) = FailsAt offer champion text at (λ k chosen rest. (read : Sign) → ¬ Reads rest read)
+IsDefect offer champion text (Syntax at) =
+    FailsAt offer champion text at (λ k chosen rest. (read : Sign) → ¬ Reads rest read)
 IsDefect offer champion text (NotClosed at) = FailsAt offer champion text at (λ k chosen rest.
-    (((read : Sign) × Reads rest read) × HasNoSign offer None (places_of offer.menu champion) k chosen)
+    (((read : Sign) × Reads rest read)
+    × HasNoSign offer None (places_of offer.menu champion) k chosen)
     ⊎ Differs offer champion (λ read canonical. IsLeaf read × (¬ IsLeaf canonical)) k chosen rest)
-IsDefect offer champion text (Redundant at) = FailsAt offer champion text at (Differs offer champion (λ read canonical. (¬ IsLeaf read) × IsLeaf canonical))
-IsDefect offer champion text (WrongLeaf at) = FailsAt offer champion text at (Differs offer champion (λ read canonical. IsLeaf read × IsLeaf canonical))
-IsDefect offer champion text (WrongBranch at) = FailsAt offer champion text at (Differs offer champion (λ read canonical. (¬ IsLeaf read) × (¬ IsLeaf canonical)))
-IsDefect offer champion text (Rest at) = (rest : List ℕ) × HasCome offer None champion text [] rest × (rest ≢ []) × (at ≡ offset text rest)
+IsDefect offer champion text (Redundant at) =
+    FailsAt offer champion text at
+    (Differs offer champion (λ read canonical. (¬ IsLeaf read) × IsLeaf canonical))
+IsDefect offer champion text (WrongLeaf at) =
+    FailsAt offer champion text at
+    (Differs offer champion (λ read canonical. IsLeaf read × IsLeaf canonical))
+IsDefect offer champion text (WrongBranch at) =
+    FailsAt offer champion text at
+    (Differs offer champion (λ read canonical. (¬ IsLeaf read) × (¬ IsLeaf canonical)))
+IsDefect offer champion text (Rest at) =
+    (rest : List ℕ) × HasCome offer None champion text [] rest × (rest ≢ [])
+    × (at ≡ offset text rest)
 
--- the walk can't go on: no node is left but bytes are, or the symbol of the next node's canonical sign does not stand first, or it has no such sign
+-- the walk can't go on: no node is left but bytes are, or the symbol of the next node's canonical
+-- sign does not stand first, or it has no such sign
 abbrev pub IsStuck : Offer → Option ℕ → List ℕ → List (ℕ × List ℕ) → List ℕ → Type 0
 IsStuck offer required champion [] rest = rest ≢ []
-IsStuck offer required champion (node ∷ nodes) rest = (sign : Sign) (later : List ℕ) → IsSign offer required champion node.0 node.1 sign → ¬ Stands sign rest later
+IsStuck offer required champion (node ∷ nodes) rest =
+    (sign : Sign) (later : List ℕ) → IsSign offer required champion node.0 node.1 sign
+    → ¬ Stands sign rest later
 
 -- the walk of the tree with this text first fails at this offset
 abbrev pub FirstFailsAt : Offer → Option ℕ → List ℕ → List ℕ → ℕ → Type 0
 FirstFailsAt offer required champion text at =
-    (nodes : List (ℕ × List ℕ)) × ((rest : List ℕ) × HasCome offer required champion text nodes rest × (at ≡ offset text rest) × IsStuck offer required (places_of offer.menu champion) nodes rest)
+    (nodes : List (ℕ × List ℕ))
+    × ((rest : List ℕ) × HasCome offer required champion text nodes rest
+    × (at ≡ offset text rest)
+    × IsStuck offer required (places_of offer.menu champion) nodes rest)

@@ -14,32 +14,49 @@ use Rattle.proof_tree.specs.Defects.{IsDefect, FirstFailsAt}
 
 -- the champion has a tree at the root
 abbrev pub HasTree : Offer → Option ℕ → List ℕ → Type 0
-HasTree offer required champion = (tree : Tree) × IsTree offer required (places_of offer.menu champion) 0 [] tree
+HasTree offer required champion =
+    (tree : Tree) × IsTree offer required (places_of offer.menu champion) 0 [] tree
 
 -- a takable champion has a canonical tree exactly where it is the best bundle
 abbrev pub TreesProveTheBest : Type 0
-TreesProveTheBest = (offer : Offer) (champion : List ℕ) → IsMenu offer.menu → IsTakable offer champion
-    → HasTree offer None champion ↔ IsBest (wishes_of offer.menu) offer.price offer.budget offer.allowed champion
+TreesProveTheBest =
+    (offer : Offer) (champion : List ℕ) → IsMenu offer.menu → IsTakable offer champion
+    → HasTree offer None champion
+    ↔ IsBest (wishes_of offer.menu) offer.price offer.budget offer.allowed champion
 
--- a takable champion with the section of a place has a forced tree exactly where it is the best bundle with that section
+-- a takable champion with the section of a place has a forced tree exactly where it is the best
+-- bundle with that section
 abbrev pub TreesProveTheBestWith : Type 0
-TreesProveTheBestWith = (offer : Offer) (place : ℕ) (champion : List ℕ) → IsMenu offer.menu → place < length offer.menu.places → IsTakable offer champion
+TreesProveTheBestWith =
+    (offer : Offer) (place : ℕ) (champion : List ℕ) → IsMenu offer.menu
+    → place < length offer.menu.places → IsTakable offer champion
     → has champion (section_at offer.menu.places place) ≡ true
-    → HasTree offer (Some place) champion ↔ IsBestWith (wishes_of offer.menu) offer.price offer.budget offer.allowed (section_at offer.menu.places place) champion
+    → HasTree offer (Some place) champion
+    ↔ IsBestWith (wishes_of offer.menu) offer.price offer.budget offer.allowed
+    (section_at offer.menu.places place) champion
 
 -- a node has at most one canonical sign, and at most one tree
-pub record AreOne (offer : Offer) (required : Option ℕ) (champion : List ℕ) (k : ℕ) (chosen : List ℕ) : Type 0 where
-  pub sign : (a b : Sign) → IsSign offer required champion k chosen a → IsSign offer required champion k chosen b → a ≡ b
-  pub tree : (a b : Tree) → IsTree offer required champion k chosen a → IsTree offer required champion k chosen b → a ≡ b
+pub record AreOne (offer : Offer) (required : Option ℕ) (champion : List ℕ) (k : ℕ)
+    (chosen : List ℕ) : Type 0 where
+  pub sign : (a b : Sign) → IsSign offer required champion k chosen a
+      → IsSign offer required champion k chosen b → a ≡ b
+  pub tree : (a b : Tree) → IsTree offer required champion k chosen a
+      → IsTree offer required champion k chosen b → a ≡ b
 
 -- and so at every node
 abbrev pub OneTree : Type 0
-OneTree = (offer : Offer) (required : Option ℕ) (champion : List ℕ) (k : ℕ) (chosen : List ℕ) → AreOne offer required champion k chosen
+OneTree =
+    (offer : Offer) (required : Option ℕ) (champion : List ℕ) (k : ℕ) (chosen : List ℕ)
+    → AreOne offer required champion k chosen
 
 -- the text of the canonical tree has no defect
 abbrev pub NoDefectInATree : Type 0
-NoDefectInATree = (offer : Offer) (champion text : List ℕ) (defect : TreeDefect) → IsMenu offer.menu → IsTreeText offer None champion text → ¬ IsDefect offer champion text defect
+NoDefectInATree =
+    (offer : Offer) (champion text : List ℕ) (defect : TreeDefect) → IsMenu offer.menu
+    → IsTreeText offer None champion text → ¬ IsDefect offer champion text defect
 
 -- the walk of a tree with its text fails nowhere
 abbrev pub NoFailureInATree : Type 0
-NoFailureInATree = (offer : Offer) (required : Option ℕ) (champion text : List ℕ) (at : ℕ) → IsMenu offer.menu → IsTreeText offer required champion text → ¬ FirstFailsAt offer required champion text at
+NoFailureInATree =
+    (offer : Offer) (required : Option ℕ) (champion text : List ℕ) (at : ℕ) → IsMenu offer.menu
+    → IsTreeText offer required champion text → ¬ FirstFailsAt offer required champion text at

@@ -23,10 +23,12 @@ IsOther read sign (WrongBranch at) = (¬ IsLeaf read) × (¬ IsLeaf sign)
 IsOther read sign (Syntax at) = ⊥
 IsOther read sign (Rest at) = ⊥
 
--- what is wrong where the symbol of the canonical sign does not stand first: no symbol of canonical trees does, or another one
+-- what is wrong where the symbol of the canonical sign does not stand first: no symbol of canonical
+-- trees does, or another one
 abbrev pub IsMismatch : Sign → List ℕ → TreeDefect → Type 0
 IsMismatch sign rest (Syntax at) = (read : Sign) → ¬ Reads rest read
-IsMismatch sign rest defect = (read : Sign) × Reads rest read × (read ≢ sign) × IsOther read sign defect
+IsMismatch sign rest defect =
+    (read : Sign) × Reads rest read × (read ≢ sign) × IsOther read sign defect
 
 -- what is wrong where the node has no canonical sign
 abbrev pub IsUnsigned : List ℕ → TreeDefect → Type 0

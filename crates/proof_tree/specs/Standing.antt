@@ -12,17 +12,26 @@ use Rattle.proof_tree.specs.declared.walk.Walk.{Walk}
 
 -- the stem at this index is at this node, for the champion
 abbrev pub IsStemAt : Offer → List ℕ → List Stem → ℕ → ℕ → List ℕ → Type 0
-IsStemAt offer champion stems at k chosen = (d : Stem) → IsStem offer champion k chosen (slice_index_or stems at d)
+IsStemAt offer champion stems at k chosen =
+    (d : Stem) → IsStem offer champion k chosen (slice_index_or stems at d)
 
 -- each waiting node has its stem
 pub record HaveStems (offer : Offer) (champion : List ℕ) (walk : Walk) : Type 0 where
   pub whole : length walk.stems ≡ 9
-  pub each : (i : ℕ) (d : Node) → i < walk.count → IsStemAt offer champion walk.stems i (slice_index_or walk.waiting i d).place (sections_of (slice_index_or walk.waiting i d).chosen)
+  pub each : (i : ℕ) (d : Node) → i < walk.count
+      → IsStemAt offer champion walk.stems i (slice_index_or walk.waiting i d).place
+      (sections_of (slice_index_or walk.waiting i d).chosen)
 
--- the stems of the nodes below a node of this sign, from this index on: without the next place, and behind that with it, or one of them alone
+-- the stems of the nodes below a node of this sign, from this index on: without the next place, and
+-- behind that with it, or one of them alone
 abbrev pub AreStanding : Offer → List ℕ → Node → Sign → List Stem → ℕ → Type 0
-AreStanding offer champion node Forced stems at = IsStemAt offer champion stems at (node.place + 1) (sections_of node.chosen ++ section_at offer.menu.places node.place ∷ [])
+AreStanding offer champion node Forced stems at =
+    IsStemAt offer champion stems at (node.place + 1)
+    (sections_of node.chosen ++ section_at offer.menu.places node.place ∷ [])
 AreStanding offer champion node Open stems at =
-    IsStemAt offer champion stems at (node.place + 1) (sections_of node.chosen) × IsStemAt offer champion stems (at + 1) (node.place + 1) (sections_of node.chosen ++ section_at offer.menu.places node.place ∷ [])
-AreStanding offer champion node Passed stems at = IsStemAt offer champion stems at (node.place + 1) (sections_of node.chosen)
+    IsStemAt offer champion stems at (node.place + 1) (sections_of node.chosen)
+    × IsStemAt offer champion stems (at + 1) (node.place + 1)
+    (sections_of node.chosen ++ section_at offer.menu.places node.place ∷ [])
+AreStanding offer champion node Passed stems at =
+    IsStemAt offer champion stems at (node.place + 1) (sections_of node.chosen)
 AreStanding offer champion node sign stems at = ⊤

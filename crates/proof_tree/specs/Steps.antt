@@ -23,21 +23,32 @@ spot menu node = (node.place, places_of menu (sections_of node.chosen))
 abbrev pub spots_of : MenuData → List Node → List (ℕ × List ℕ)
 spots_of menu nodes = map (spot menu) nodes
 
--- nodes that may wait, the next first: each has chosen at least as many sections as nodes wait under it
+-- nodes that may wait, the next first: each has chosen at least as many sections as nodes wait
+-- under it
 abbrev pub MayWait : Offer → List Node → Type 0
 MayWait offer [] = ⊤
-MayWait offer (node ∷ under) = (length under ≤ length (sections_of node.chosen)) × (node.place ≤ length offer.menu.places) × IsNode offer node.place (sections_of node.chosen) × MayWait offer under
+MayWait offer (node ∷ under) =
+    (length under ≤ length (sections_of node.chosen)) × (node.place ≤ length offer.menu.places)
+    × IsNode offer node.place (sections_of node.chosen) × MayWait offer under
 
 -- what waits in a walk
 pub record AreWaiting (offer : Offer) (walk : Walk) : Type 0 where
   pub few : walk.count ≤ 9
   pub nodes : MayWait offer (waiting_of walk)
 
--- the step from these nodes to those: the first of them with its canonical sign and the nodes below it, or it has none, or no node is left
-abbrev pub IsStep : Offer → Option ℕ → List ℕ → List (ℕ × List ℕ) → Step → List (ℕ × List ℕ) → Type 0
+-- the step from these nodes to those: the first of them with its canonical sign and the nodes below
+-- it, or it has none, or no node is left
+abbrev pub IsStep : Offer → Option ℕ → List ℕ → List (ℕ × List ℕ) → Step → List (ℕ × List ℕ)
+    → Type 0
 IsStep offer required champion before (Signed sign) after =
-    (node : ℕ × List ℕ) × ((later : List (ℕ × List ℕ)) × (before ≡ node ∷ later) × IsSign offer required champion node.0 node.1 sign × (after ≡ below sign node.0 node.1 ++ later))
-IsStep offer required champion before Unsigned after = (node : ℕ × List ℕ) × ((later : List (ℕ × List ℕ)) × (before ≡ node ∷ later) × HasNoSign offer required champion node.0 node.1)
+    (node : ℕ × List ℕ)
+    × ((later : List (ℕ × List ℕ)) × (before ≡ node ∷ later)
+    × IsSign offer required champion node.0 node.1 sign
+    × (after ≡ below sign node.0 node.1 ++ later))
+IsStep offer required champion before Unsigned after =
+    (node : ℕ × List ℕ)
+    × ((later : List (ℕ × List ℕ)) × (before ≡ node ∷ later)
+    × HasNoSign offer required champion node.0 node.1)
 IsStep offer required champion before Ended after = before ≡ []
 
 -- how many nodes a node with so many undecided places has below it at most, with itself
@@ -48,4 +59,5 @@ nodes_below (suc undecided) = suc (nodes_below undecided + nodes_below undecided
 -- how many nodes are left to visit at most
 abbrev pub nodes_left : Offer → List (ℕ × List ℕ) → ℕ
 nodes_left offer [] = 0
-nodes_left offer (node ∷ nodes) = nodes_below (length offer.menu.places - node.0) + nodes_left offer nodes
+nodes_left offer (node ∷ nodes) =
+    nodes_below (length offer.menu.places - node.0) + nodes_left offer nodes

@@ -24,7 +24,8 @@ symbol Forced = 33 ∷ []
 symbol Open = 43 ∷ []
 symbol Passed = 45 ∷ []
 
--- the text of a tree: the symbol of its first node, and the texts of the trees below it in their order
+-- the text of a tree: the symbol of its first node, and the texts of the trees below it in their
+-- order
 abbrev pub spelled : Tree → List ℕ
 spelled Wins = symbol Champion
 spelled Bars = symbol Shut
@@ -33,9 +34,12 @@ spelled (Takes with_it) = symbol Forced ++ spelled with_it
 spelled (Splits with_it without) = symbol Open ++ (spelled with_it ++ spelled without)
 spelled (Passes without) = symbol Passed ++ spelled without
 
--- the text is that of the champion's tree: the canonical one, or with a required place the forced one
+-- the text is that of the champion's tree: the canonical one, or with a required place the forced
+-- one
 abbrev pub IsTreeText : Offer → Option ℕ → List ℕ → List ℕ → Type 0
-IsTreeText offer required champion text = (tree : Tree) × IsTree offer required (places_of offer.menu champion) 0 [] tree × (text ≡ spelled tree)
+IsTreeText offer required champion text =
+    (tree : Tree) × IsTree offer required (places_of offer.menu champion) 0 [] tree
+    × (text ≡ spelled tree)
 
 -- a byte that is a decimal digit
 abbrev pub IsDigit : ℕ → Type 0
@@ -57,7 +61,8 @@ number_of sign = None
 abbrev pub IsShort : Sign → Type 0
 IsShort sign = (place : ℕ) → number_of sign ≡ Some place → place < 100
 
--- the symbol of the sign stands first in the text, before this rest: as many digits are taken as follow, one or two
+-- the symbol of the sign stands first in the text, before this rest: as many digits are taken as
+-- follow, one or two
 pub record Stands (sign : Sign) (text rest : List ℕ) : Type 0 where
   pub spelled : text ≡ symbol sign ++ rest
   pub short : IsShort sign

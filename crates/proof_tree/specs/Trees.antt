@@ -1,4 +1,5 @@
--- Trees that prove a champion best: the canonical tree, and with a required place, one that must be taken, the forced tree.
+-- Trees that prove a champion best: the canonical tree, and with a required place, one that must be
+-- taken, the forced tree.
 use Rattle.std.specs.Prelude.{ℕ, ◌+◌, ◌≤◌, ◌<◌, ◌≡◌, ◌≢◌, true, false, Option, Some, List, [], ◌∷◌, ◌++◌, length}
 use Rattle.bundle_bounds.specs.declared.nodes.Leaf.{Leaf}
 use Rattle.bundle_bounds.specs.Offers.{Offer}
@@ -31,15 +32,18 @@ IsChampionsEnd offer champion k chosen = (k ≡ length offer.menu.places) × (ch
 
 -- the required place is undecided and not open
 abbrev pub IsShut : Offer → Option ℕ → ℕ → List ℕ → Type 0
-IsShut offer required k chosen = (place : ℕ) × (required ≡ Some place) × (k ≤ place) × (is_open offer chosen place ≡ false)
+IsShut offer required k chosen =
+    (place : ℕ) × (required ≡ Some place) × (k ≤ place) × (is_open offer chosen place ≡ false)
 
 -- neither of these: the bounds are asked
-pub record IsUnsettled (offer : Offer) (required : Option ℕ) (champion : List ℕ) (k : ℕ) (chosen : List ℕ) : Type 0 where
+pub record IsUnsettled (offer : Offer) (required : Option ℕ) (champion : List ℕ) (k : ℕ)
+    (chosen : List ℕ) : Type 0 where
   pub no_end : ¬ IsChampionsEnd offer champion k chosen
   pub not_shut : ¬ IsShut offer required k chosen
 
 -- nor does a bound close the node, and a place is left
-pub record GoesOn (offer : Offer) (required : Option ℕ) (champion : List ℕ) (k : ℕ) (chosen : List ℕ) : Type 0 where
+pub record GoesOn (offer : Offer) (required : Option ℕ) (champion : List ℕ) (k : ℕ)
+    (chosen : List ℕ) : Type 0 where
   pub unsettled : IsUnsettled offer required champion k chosen
   pub none_closes : NoneCloses offer k chosen champion (bounds offer k chosen)
   pub left : k < length offer.menu.places
@@ -47,24 +51,40 @@ pub record GoesOn (offer : Offer) (required : Option ℕ) (champion : List ℕ) 
 -- the canonical sign of a node: the first that fits, also where a node below it has no tree
 abbrev pub IsSign : Offer → Option ℕ → List ℕ → ℕ → List ℕ → Sign → Type 0
 IsSign offer required champion k chosen Champion = IsChampionsEnd offer champion k chosen
-IsSign offer required champion k chosen Shut = (¬ IsChampionsEnd offer champion k chosen) × IsShut offer required k chosen
-IsSign offer required champion k chosen (Closed leaf) = IsUnsettled offer required champion k chosen × IsFirstClosing offer k chosen champion (bounds offer k chosen) leaf
-IsSign offer required champion k chosen Forced = GoesOn offer required champion k chosen × (required ≡ Some k)
-IsSign offer required champion k chosen Open = GoesOn offer required champion k chosen × (required ≢ Some k) × (is_open offer chosen k ≡ true)
-IsSign offer required champion k chosen Passed = GoesOn offer required champion k chosen × (required ≢ Some k) × (is_open offer chosen k ≡ false)
+IsSign offer required champion k chosen Shut =
+    (¬ IsChampionsEnd offer champion k chosen) × IsShut offer required k chosen
+IsSign offer required champion k chosen (Closed leaf) =
+    IsUnsettled offer required champion k chosen
+    × IsFirstClosing offer k chosen champion (bounds offer k chosen) leaf
+IsSign offer required champion k chosen Forced =
+    GoesOn offer required champion k chosen × (required ≡ Some k)
+IsSign offer required champion k chosen Open =
+    GoesOn offer required champion k chosen × (required ≢ Some k) × (is_open offer chosen k ≡ true)
+IsSign offer required champion k chosen Passed =
+    GoesOn offer required champion k chosen × (required ≢ Some k) × (is_open offer chosen k ≡ false)
 
--- the tree of a champion at a node, where these places are chosen: the canonical sign, and below it the trees of the nodes below
+-- the tree of a champion at a node, where these places are chosen: the canonical sign, and below it
+-- the trees of the nodes below
 abbrev pub IsTree : Offer → Option ℕ → List ℕ → ℕ → List ℕ → Tree → Type 0
 IsTree offer required champion k chosen Wins = IsSign offer required champion k chosen Champion
 IsTree offer required champion k chosen Bars = IsSign offer required champion k chosen Shut
-IsTree offer required champion k chosen (Cuts leaf) = IsSign offer required champion k chosen (Closed leaf)
-IsTree offer required champion k chosen (Takes with_it) = IsSign offer required champion k chosen Forced × IsTree offer required champion (k + 1) (chosen ++ k ∷ []) with_it
+IsTree offer required champion k chosen (Cuts leaf) =
+    IsSign offer required champion k chosen (Closed leaf)
+IsTree offer required champion k chosen (Takes with_it) =
+    IsSign offer required champion k chosen Forced
+    × IsTree offer required champion (k + 1) (chosen ++ k ∷ []) with_it
 IsTree offer required champion k chosen (Splits with_it without) =
-    IsSign offer required champion k chosen Open × IsTree offer required champion (k + 1) (chosen ++ k ∷ []) with_it × IsTree offer required champion (k + 1) chosen without
-IsTree offer required champion k chosen (Passes without) = IsSign offer required champion k chosen Passed × IsTree offer required champion (k + 1) chosen without
+    IsSign offer required champion k chosen Open
+    × IsTree offer required champion (k + 1) (chosen ++ k ∷ []) with_it
+    × IsTree offer required champion (k + 1) chosen without
+IsTree offer required champion k chosen (Passes without) =
+    IsSign offer required champion k chosen Passed
+    × IsTree offer required champion (k + 1) chosen without
 
--- a node without a sign: all places are decided, the chosen ones are not the champion's, and no bound closes it
-pub record HasNoSign (offer : Offer) (required : Option ℕ) (champion : List ℕ) (k : ℕ) (chosen : List ℕ) : Type 0 where
+-- a node without a sign: all places are decided, the chosen ones are not the champion's, and no
+-- bound closes it
+pub record HasNoSign (offer : Offer) (required : Option ℕ) (champion : List ℕ) (k : ℕ)
+    (chosen : List ℕ) : Type 0 where
   pub unsettled : IsUnsettled offer required champion k chosen
   pub none_closes : NoneCloses offer k chosen champion (bounds offer k chosen)
   pub all : k ≡ length offer.menu.places

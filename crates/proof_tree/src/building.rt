@@ -16,8 +16,8 @@ use bundle_rules::{Bundle, Menu};
 use market_units::{NoMemory, SectionNo, SectionSet, Tokens};
 use std::alloc::Global;
 
-/// The text of the canonical tree of a champion that is the best bundle, or `NoMemory`, for want of memory alone. There is
-/// a price for each section of the menu, each at most 1,000,001.
+/// The text of the canonical tree of a champion that is the best bundle, or `NoMemory`, for want of
+/// memory alone. There is a price for each section of the menu, each at most 1,000,001.
 pub fn build(
     alloc: Global,
     menu: &Menu,
@@ -27,15 +27,19 @@ pub fn build(
     champion: &Bundle,
 ) -> Result<Vec<u8>, NoMemory>
     requires prices { HasPrices menu.now prices.now }
-    requires best { IsBest (wishes_of menu.now) (price_in prices.now) budget.0 (set.contains allowed.now) (sections_of champion.now) }
-    ensures { IfOk result (λ text. IsTreeText (offer_of menu.now prices.now budget.0 allowed.now) None (sections_of champion.now) text.items) }
+    requires best { IsBest (wishes_of menu.now) (price_in prices.now) budget.0
+        (set.contains allowed.now) (sections_of champion.now) }
+    ensures { IfOk result
+        (λ text. IsTreeText (offer_of menu.now prices.now budget.0 allowed.now) None
+        (sections_of champion.now) text.items) }
 {
     prove!(menu.len() <= 60);
     written(alloc, menu, prices, budget, allowed, None, champion)
 }
 
-/// The text of the forced tree of a champion that is the best bundle with the section, or `NoMemory`, for want of memory
-/// alone. There is a price for each section of the menu, each at most 1,000,001.
+/// The text of the forced tree of a champion that is the best bundle with the section, or
+/// `NoMemory`, for want of memory alone. There is a price for each section of the menu, each at
+/// most 1,000,001.
 pub fn build_forced(
     alloc: Global,
     menu: &Menu,
@@ -46,8 +50,11 @@ pub fn build_forced(
     champion: &Bundle,
 ) -> Result<Vec<u8>, NoMemory>
     requires prices { HasPrices menu.now prices.now }
-    requires best { IsBestWith (wishes_of menu.now) (price_in prices.now) budget.0 (set.contains allowed.now) section.0 (sections_of champion.now) }
-    ensures { IfOk result (λ text. IsTreeText (offer_of menu.now prices.now budget.0 allowed.now) (Some (place_in menu.now.places section.0)) (sections_of champion.now) text.items) }
+    requires best { IsBestWith (wishes_of menu.now) (price_in prices.now) budget.0
+        (set.contains allowed.now) section.0 (sections_of champion.now) }
+    ensures { IfOk result
+        (λ text. IsTreeText (offer_of menu.now prices.now budget.0 allowed.now)
+        (Some (place_in menu.now.places section.0)) (sections_of champion.now) text.items) }
 {
     prove!(menu.len() <= 60);
     let place = menu.place(section);
@@ -66,9 +73,13 @@ fn written(
 ) -> Result<Vec<u8>, NoMemory>
     requires prices { HasPrices menu.now prices.now }
     requires required { IfSome required (λ place. place < length menu.now.places) }
-    requires champion { IsTakable (offer_of menu.now prices.now budget.0 allowed.now) (sections_of champion.now) }
-    requires tree { HasTree (offer_of menu.now prices.now budget.0 allowed.now) required (sections_of champion.now) }
-    ensures { IfOk result (λ text. IsTreeText (offer_of menu.now prices.now budget.0 allowed.now) required (sections_of champion.now) text.items) }
+    requires champion { IsTakable (offer_of menu.now prices.now budget.0 allowed.now)
+        (sections_of champion.now) }
+    requires tree { HasTree (offer_of menu.now prices.now budget.0 allowed.now) required
+        (sections_of champion.now) }
+    ensures { IfOk result
+        (λ text. IsTreeText (offer_of menu.now prices.now budget.0 allowed.now) required
+        (sections_of champion.now) text.items) }
 {
     let mut text = Vec::new(alloc);
     let mut walk = Walk::start(menu, prices, budget, allowed, champion);
@@ -97,9 +108,10 @@ fn put_behind(text: &mut Vec<u8>, bytes: &[u8]) -> Result<(), NoMemory>
     Ok(())
 }
 
-/// Writes the text of the canonical tree of a champion that is the best bundle to the front of the room, and gives how
-/// many bytes it has; `None` exactly where it is longer than the room, which then holds no tree. It takes no memory. There is
-/// a price for each section of the menu, each at most 1,000,001.
+/// Writes the text of the canonical tree of a champion that is the best bundle to the front of the
+/// room, and gives how many bytes it has; `None` exactly where it is longer than the room, which
+/// then holds no tree. It takes no memory. There is a price for each section of the menu, each at
+/// most 1,000,001.
 pub fn build_into(
     menu: &Menu,
     prices: &[Tokens],
@@ -109,10 +121,18 @@ pub fn build_into(
     room: &mut [u8],
 ) -> Option<usize>
     requires prices { HasPrices menu.now prices.now }
-    requires best { IsBest (wishes_of menu.now) (price_in prices.now) budget.0 (set.contains allowed.now) (sections_of champion.now) }
-    ensures some { IfSome result (λ count. (count ≤ length room.old) × IsTreeText (offer_of menu.now prices.now budget.0 allowed.now) None (sections_of champion.now) (take count room.new)) }
+    requires best { IsBest (wishes_of menu.now) (price_in prices.now) budget.0
+        (set.contains allowed.now) (sections_of champion.now) }
+    ensures some { IfSome result
+        (λ count. (count ≤ length room.old)
+        × IsTreeText (offer_of menu.now prices.now budget.0 allowed.now) None
+        (sections_of champion.now) (take count room.new)) }
     ensures same { IfSome result (λ count. drop count room.new ≡ drop count room.old) }
-    ensures none { IfNone result ((text : List ℕ) → IsTreeText (offer_of menu.now prices.now budget.0 allowed.now) None (sections_of champion.now) text → length room.old < length text) }
+    ensures none { IfNone result
+        ((text : List ℕ)
+        → IsTreeText (offer_of menu.now prices.now budget.0 allowed.now) None
+        (sections_of champion.now) text
+        → length room.old < length text) }
 {
     prove!(menu.len() <= 60);
     let mut count = 0;
@@ -129,12 +149,15 @@ pub fn build_into(
     }
 }
 
-// Writes the bytes behind the first ones of the room, and gives how many these are then; `None` exactly where there is
-// not so much room.
+// Writes the bytes behind the first ones of the room, and gives how many these are then; `None`
+// exactly where there is not so much room.
 fn put_at(room: &mut [u8], count: usize, bytes: &[u8]) -> Option<usize>
     requires { count ≤ length room.old }
     ensures size { length room.new ≡ length room.old }
-    ensures some { IfSome result (λ next. (next ≡ count + length bytes.now) × (next ≤ length room.old) × (take next room.new ≡ take count room.old ++ bytes.now) × (drop next room.new ≡ drop next room.old)) }
+    ensures some { IfSome result
+        (λ next. (next ≡ count + length bytes.now) × (next ≤ length room.old)
+        × (take next room.new ≡ take count room.old ++ bytes.now)
+        × (drop next room.new ≡ drop next room.old)) }
     ensures none { IfNone result (length room.old < count + length bytes.now) }
 {
     if bytes.len() > room.len() - count {

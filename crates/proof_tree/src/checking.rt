@@ -123,7 +123,8 @@ fn ended(rest: &[u8], at: u32) -> Result<(), TreeDefect>
     }
 }
 
-// Walks the tree of a champion along a text: the symbol of each node's canonical sign has to stand first.
+// Walks the tree of a champion along a text: the symbol of each node's canonical sign has to stand
+// first.
 fn follow(
     menu: &Menu,
     prices: &[Tokens],
@@ -135,10 +136,18 @@ fn follow(
 ) -> Result<(), TreeDefect>
     requires prices { HasPrices menu.now prices.now }
     requires required { IfSome required (λ place. place < length menu.now.places) }
-    requires champion { IsTakable (offer_of menu.now prices.now budget.0 allowed.now) (sections_of champion.now) }
-    ensures ok { OnOk result (IsTreeText (offer_of menu.now prices.now budget.0 allowed.now) required (sections_of champion.now) text.now) }
-    ensures fails { IfErr result (λ defect. FirstFailsAt (offer_of menu.now prices.now budget.0 allowed.now) required (sections_of champion.now) text.now (offset_in defect)) }
-    ensures defect { IfErr result (λ defect. required ≡ None → IsDefect (offer_of menu.now prices.now budget.0 allowed.now) (sections_of champion.now) text.now defect) }
+    requires champion { IsTakable (offer_of menu.now prices.now budget.0 allowed.now)
+        (sections_of champion.now) }
+    ensures ok { OnOk result
+        (IsTreeText (offer_of menu.now prices.now budget.0 allowed.now) required
+        (sections_of champion.now) text.now) }
+    ensures fails { IfErr result
+        (λ defect. FirstFailsAt (offer_of menu.now prices.now budget.0 allowed.now) required
+        (sections_of champion.now) text.now (offset_in defect)) }
+    ensures defect { IfErr result
+        (λ defect. required ≡ None
+        → IsDefect (offer_of menu.now prices.now budget.0 allowed.now)
+        (sections_of champion.now) text.now defect) }
 {
     let mut walk = Walk::start(menu, prices, budget, allowed, champion);
     let mut rest = text;
@@ -152,9 +161,10 @@ fn follow(
     }
 }
 
-/// Whether the text is the canonical tree of a champion that is the best bundle: `Ok` exactly there, and else the first
-/// defect of the walk of its nodes with the text. It takes no memory. There is a price for each section of the menu,
-/// each at most 1,000,001; the champion is feasible, within the budget and of allowed sections.
+/// Whether the text is the canonical tree of a champion that is the best bundle: `Ok` exactly
+/// there, and else the first defect of the walk of its nodes with the text. It takes no memory.
+/// There is a price for each section of the menu, each at most 1,000,001; the champion is feasible,
+/// within the budget and of allowed sections.
 pub fn check_tree(
     menu: &Menu,
     prices: &[Tokens],
@@ -164,18 +174,26 @@ pub fn check_tree(
     text: &[u8],
 ) -> Result<(), TreeDefect>
     requires prices { HasPrices menu.now prices.now }
-    requires champion { IsTakable (offer_of menu.now prices.now budget.0 allowed.now) (sections_of champion.now) }
-    ensures ok { IsOk result ↔ (IsBest (wishes_of menu.now) (price_in prices.now) budget.0 (set.contains allowed.now) (sections_of champion.now) × IsTreeText (offer_of menu.now prices.now budget.0 allowed.now) None (sections_of champion.now) text.now) }
-    ensures defect { IfErr result (IsDefect (offer_of menu.now prices.now budget.0 allowed.now) (sections_of champion.now) text.now) }
+    requires champion { IsTakable (offer_of menu.now prices.now budget.0 allowed.now)
+        (sections_of champion.now) }
+    ensures ok { IsOk result
+        ↔ (IsBest (wishes_of menu.now) (price_in prices.now) budget.0 (set.contains allowed.now)
+        (sections_of champion.now)
+        × IsTreeText (offer_of menu.now prices.now budget.0 allowed.now) None
+        (sections_of champion.now) text.now) }
+    ensures defect { IfErr result
+        (IsDefect (offer_of menu.now prices.now budget.0 allowed.now) (sections_of champion.now)
+        text.now) }
 {
     prove!(menu.len() <= 60);
     follow(menu, prices, budget, allowed, None, champion, text)
 }
 
-/// Whether the text is the forced tree of a champion that is the best bundle with the section: `Ok` exactly there, and
-/// else the offset, in bytes, at which the walk of its nodes with the text first fails, told as 4,294,967,295 where it
-/// is greater. It takes no memory. There is a price for each section of the menu, each at most 1,000,001; the champion
-/// is feasible, within the budget, of allowed sections, and has the section.
+/// Whether the text is the forced tree of a champion that is the best bundle with the section: `Ok`
+/// exactly there, and else the offset, in bytes, at which the walk of its nodes with the text first
+/// fails, told as 4,294,967,295 where it is greater. It takes no memory. There is a price for each
+/// section of the menu, each at most 1,000,001; the champion is feasible, within the budget, of
+/// allowed sections, and has the section.
 pub fn check_forced(
     menu: &Menu,
     prices: &[Tokens],
@@ -186,10 +204,17 @@ pub fn check_forced(
     text: &[u8],
 ) -> Result<(), u32>
     requires prices { HasPrices menu.now prices.now }
-    requires champion { IsTakable (offer_of menu.now prices.now budget.0 allowed.now) (sections_of champion.now) }
+    requires champion { IsTakable (offer_of menu.now prices.now budget.0 allowed.now)
+        (sections_of champion.now) }
     requires section { has (sections_of champion.now) section.0 ≡ true }
-    ensures ok { IsOk result ↔ (IsBestWith (wishes_of menu.now) (price_in prices.now) budget.0 (set.contains allowed.now) section.0 (sections_of champion.now) × IsTreeText (offer_of menu.now prices.now budget.0 allowed.now) (Some (place_in menu.now.places section.0)) (sections_of champion.now) text.now) }
-    ensures at { IfErr result (FirstFailsAt (offer_of menu.now prices.now budget.0 allowed.now) (Some (place_in menu.now.places section.0)) (sections_of champion.now) text.now) }
+    ensures ok { IsOk result
+        ↔ (IsBestWith (wishes_of menu.now) (price_in prices.now) budget.0 (set.contains allowed.now)
+        section.0 (sections_of champion.now)
+        × IsTreeText (offer_of menu.now prices.now budget.0 allowed.now)
+        (Some (place_in menu.now.places section.0)) (sections_of champion.now) text.now) }
+    ensures at { IfErr result
+        (FirstFailsAt (offer_of menu.now prices.now budget.0 allowed.now)
+        (Some (place_in menu.now.places section.0)) (sections_of champion.now) text.now) }
 {
     prove!(menu.len() <= 60);
     let place = menu.place(section);

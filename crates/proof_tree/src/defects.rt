@@ -1,13 +1,13 @@
 // What is wrong with a text that is not a canonical tree.
 
-/// The first place at which a text is not the canonical tree of a champion, by the offset of a byte, which is told as
-/// 4,294,967,295 where it is greater.
+/// The first place at which a text is not the canonical tree of a champion, by the offset of a
+/// byte, which is told as 4,294,967,295 where it is greater.
 #[derive(Clone, Copy, Debug, PartialEq, Eq)]
 pub enum TreeDefect {
     /// No symbol stands there.
     Syntax(u32),
-    /// No bound closes the node: a leaf stands there and the canonical symbol is none, or all places are decided, and the
-    /// chosen sections are not the champion.
+    /// No bound closes the node: a leaf stands there and the canonical symbol is none, or all
+    /// places are decided, and the chosen sections are not the champion.
     NotClosed(u32),
     /// A bound closes the node, and no leaf stands there.
     Redundant(u32),

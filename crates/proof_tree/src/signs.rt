@@ -36,7 +36,9 @@ pub enum Sign {
 fn is_end(menu: &Menu, champion: &Bundle, node: &Node) -> bool
     requires { node.now.place ≤ length menu.now.places }
     ensures menu { IsMenu menu.now }
-    ensures end { IsTrue result ↔ ((node.now.place ≡ length menu.now.places) × (sections_of node.now.chosen ≡ sections_of champion.now)) }
+    ensures end { IsTrue result
+        ↔ ((node.now.place ≡ length menu.now.places)
+        × (sections_of node.now.chosen ≡ sections_of champion.now)) }
 {
     node.place >= menu.len() && node.chosen == *champion
 }
@@ -51,9 +53,12 @@ fn is_shut(
     node: &Node,
 ) -> bool
     requires prices { HasPrices menu.now prices.now }
-    requires node { IsNode (offer_of menu.now prices.now budget.0 allowed.now) node.now.place (sections_of node.now.chosen) }
+    requires node { IsNode (offer_of menu.now prices.now budget.0 allowed.now) node.now.place
+        (sections_of node.now.chosen) }
     requires required { IfSome required (λ place. place < length menu.now.places) }
-    ensures { IsTrue result ↔ IsShut (offer_of menu.now prices.now budget.0 allowed.now) required node.now.place (places_of menu.now (sections_of node.now.chosen)) }
+    ensures { IsTrue result
+        ↔ IsShut (offer_of menu.now prices.now budget.0 allowed.now) required node.now.place
+        (places_of menu.now (sections_of node.now.chosen)) }
 {
     match required {
         Some(place) => {
@@ -68,7 +73,10 @@ fn is_shut(
 
 // The sign of a node that goes on, by whether its next place is open.
 fn next_sign(required: Option<u8>, node: &Node, is_next_open: bool) -> Sign
-    ensures { (offer : Offer) (champion places : List ℕ) → is_next_open ≡ is_open offer places node.now.place → GoesOn offer required champion node.now.place places → IsSign offer required champion node.now.place places result }
+    ensures { (offer : Offer) (champion places : List ℕ)
+        → is_next_open ≡ is_open offer places node.now.place
+        → GoesOn offer required champion node.now.place places
+        → IsSign offer required champion node.now.place places result }
 {
     if is_place(required, node.place) {
         return Sign::Forced;
@@ -90,8 +98,8 @@ fn is_place(required: Option<u8>, place: u8) -> bool
     }
 }
 
-// The canonical sign of a node, or `None` where it has none: all places are decided, the chosen sections are not the
-// champion, and no bound closes it.
+// The canonical sign of a node, or `None` where it has none: all places are decided, the chosen
+// sections are not the champion, and no bound closes it.
 #[inline(always)]
 pub(crate) fn sign_at(
     menu: &Menu,
@@ -105,18 +113,29 @@ pub(crate) fn sign_at(
     at: usize,
 ) -> Option<Sign>
     requires prices { HasPrices menu.now prices.now }
-    requires node { IsNode (offer_of menu.now prices.now budget.0 allowed.now) node.now.place (sections_of node.now.chosen) }
+    requires node { IsNode (offer_of menu.now prices.now budget.0 allowed.now) node.now.place
+        (sections_of node.now.chosen) }
     requires within { node.now.place ≤ length menu.now.places }
     requires required { IfSome required (λ place. place < length menu.now.places) }
-    requires champion { IsTakable (offer_of menu.now prices.now budget.0 allowed.now) (sections_of champion.now) }
+    requires champion { IsTakable (offer_of menu.now prices.now budget.0 allowed.now)
+        (sections_of champion.now) }
     requires at { at < length stems.old }
-    requires stem { IsStemAt (offer_of menu.now prices.now budget.0 allowed.now) (sections_of champion.now) stems.old at node.now.place (sections_of node.now.chosen) }
+    requires stem { IsStemAt (offer_of menu.now prices.now budget.0 allowed.now)
+        (sections_of champion.now) stems.old at node.now.place (sections_of node.now.chosen) }
     ensures size { length stems.new ≡ length stems.old }
-    ensures stem { IsStemAt (offer_of menu.now prices.now budget.0 allowed.now) (sections_of champion.now) stems.new at node.now.place (sections_of node.now.chosen) }
-    ensures others { (i : ℕ) (d : Stem) → i ≢ at → slice_index_or stems.new i d ≡ slice_index_or stems.old i d }
+    ensures stem { IsStemAt (offer_of menu.now prices.now budget.0 allowed.now)
+        (sections_of champion.now) stems.new at node.now.place (sections_of node.now.chosen) }
+    ensures others { (i : ℕ) (d : Stem) → i ≢ at
+        → slice_index_or stems.new i d ≡ slice_index_or stems.old i d }
     ensures menu { IsMenu menu.now }
-    ensures some { IfSome result (IsSign (offer_of menu.now prices.now budget.0 allowed.now) required (places_of menu.now (sections_of champion.now)) node.now.place (places_of menu.now (sections_of node.now.chosen))) }
-    ensures none { IfNone result (HasNoSign (offer_of menu.now prices.now budget.0 allowed.now) required (places_of menu.now (sections_of champion.now)) node.now.place (places_of menu.now (sections_of node.now.chosen))) }
+    ensures some { IfSome result
+        (IsSign (offer_of menu.now prices.now budget.0 allowed.now) required
+        (places_of menu.now (sections_of champion.now)) node.now.place
+        (places_of menu.now (sections_of node.now.chosen))) }
+    ensures none { IfNone result
+        (HasNoSign (offer_of menu.now prices.now budget.0 allowed.now) required
+        (places_of menu.now (sections_of champion.now)) node.now.place
+        (places_of menu.now (sections_of node.now.chosen))) }
 {
     if is_end(menu, champion, node) {
         return Some(Sign::Champion);

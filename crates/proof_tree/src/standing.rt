@@ -27,16 +27,20 @@ pub(crate) fn closing_at(
     node: &Node,
 ) -> Option<Leaf>
     requires at { at < length stems.old }
-    requires node { IsNode (offer_of menu.now prices.now budget.0 allowed.now) node.now.place (sections_of node.now.chosen) }
+    requires node { IsNode (offer_of menu.now prices.now budget.0 allowed.now) node.now.place
+        (sections_of node.now.chosen) }
     requires champion { IsFeasible (wishes_of menu.now) (sections_of champion.now) }
-    requires stem { IsStemAt (offer_of menu.now prices.now budget.0 allowed.now) (sections_of champion.now) stems.old at node.now.place (sections_of node.now.chosen) }
+    requires stem { IsStemAt (offer_of menu.now prices.now budget.0 allowed.now)
+        (sections_of champion.now) stems.old at node.now.place (sections_of node.now.chosen) }
     ensures first { IfSome result (IsFirstClosing (offer_of menu.now prices.now budget.0 allowed.now) node.now.place (places_of menu.now (sections_of node.now.chosen)) (places_of menu.now (sections_of champion.now))
         (bounds (offer_of menu.now prices.now budget.0 allowed.now) node.now.place (places_of menu.now (sections_of node.now.chosen)))) }
     ensures none { IfNone result (NoneCloses (offer_of menu.now prices.now budget.0 allowed.now) node.now.place (places_of menu.now (sections_of node.now.chosen)) (places_of menu.now (sections_of champion.now))
         (bounds (offer_of menu.now prices.now budget.0 allowed.now) node.now.place (places_of menu.now (sections_of node.now.chosen)))) }
     ensures size { length stems.new ≡ length stems.old }
-    ensures stem { IsStemAt (offer_of menu.now prices.now budget.0 allowed.now) (sections_of champion.now) stems.new at node.now.place (sections_of node.now.chosen) }
-    ensures others { (i : ℕ) (d : Stem) → i ≢ at → slice_index_or stems.new i d ≡ slice_index_or stems.old i d }
+    ensures stem { IsStemAt (offer_of menu.now prices.now budget.0 allowed.now)
+        (sections_of champion.now) stems.new at node.now.place (sections_of node.now.chosen) }
+    ensures others { (i : ℕ) (d : Stem) → i ≢ at
+        → slice_index_or stems.new i d ≡ slice_index_or stems.old i d }
 {
     stems[at].closing(menu, prices, budget, allowed, champion, node)
 }
@@ -54,11 +58,14 @@ pub(crate) fn pass_at(
     node: &Node,
 )
     requires at { at < length stems.old }
-    requires stem { IsStemAt (offer_of menu.now prices.now budget.0 allowed.now) (sections_of champion.now) stems.old at node.now.place (sections_of node.now.chosen) }
+    requires stem { IsStemAt (offer_of menu.now prices.now budget.0 allowed.now)
+        (sections_of champion.now) stems.old at node.now.place (sections_of node.now.chosen) }
     requires left { node.now.place < length menu.now.places }
     ensures size { length stems.new ≡ length stems.old }
-    ensures stem { IsStemAt (offer_of menu.now prices.now budget.0 allowed.now) (sections_of champion.now) stems.new at (node.now.place + 1) (sections_of node.now.chosen) }
-    ensures others { (i : ℕ) (d : Stem) → i ≢ at → slice_index_or stems.new i d ≡ slice_index_or stems.old i d }
+    ensures stem { IsStemAt (offer_of menu.now prices.now budget.0 allowed.now)
+        (sections_of champion.now) stems.new at (node.now.place + 1) (sections_of node.now.chosen) }
+    ensures others { (i : ℕ) (d : Stem) → i ≢ at
+        → slice_index_or stems.new i d ≡ slice_index_or stems.old i d }
 {
     stems[at].pass(menu, prices, budget, allowed, champion, node);
 }
@@ -76,13 +83,20 @@ pub(crate) fn take_at(
     node: &Node,
 )
     requires at { at + 1 < length stems.old }
-    requires node { IsNode (offer_of menu.now prices.now budget.0 allowed.now) node.now.place (sections_of node.now.chosen) }
-    requires stem { IsStemAt (offer_of menu.now prices.now budget.0 allowed.now) (sections_of champion.now) stems.old at node.now.place (sections_of node.now.chosen) }
+    requires node { IsNode (offer_of menu.now prices.now budget.0 allowed.now) node.now.place
+        (sections_of node.now.chosen) }
+    requires stem { IsStemAt (offer_of menu.now prices.now budget.0 allowed.now)
+        (sections_of champion.now) stems.old at node.now.place (sections_of node.now.chosen) }
     requires left { node.now.place < length menu.now.places }
-    requires open { is_open (offer_of menu.now prices.now budget.0 allowed.now) (places_of menu.now (sections_of node.now.chosen)) node.now.place ≡ true }
+    requires open { is_open (offer_of menu.now prices.now budget.0 allowed.now)
+        (places_of menu.now (sections_of node.now.chosen)) node.now.place
+        ≡ true }
     ensures size { length stems.new ≡ length stems.old }
-    ensures stem { IsStemAt (offer_of menu.now prices.now budget.0 allowed.now) (sections_of champion.now) stems.new (at + 1) (node.now.place + 1) (sections_of node.now.chosen ++ section_at menu.now.places node.now.place ∷ []) }
-    ensures others { (i : ℕ) (d : Stem) → i ≢ at + 1 → slice_index_or stems.new i d ≡ slice_index_or stems.old i d }
+    ensures stem { IsStemAt (offer_of menu.now prices.now budget.0 allowed.now)
+        (sections_of champion.now) stems.new (at + 1) (node.now.place + 1)
+        (sections_of node.now.chosen ++ section_at menu.now.places node.now.place ∷ []) }
+    ensures others { (i : ℕ) (d : Stem) → i ≢ at + 1
+        → slice_index_or stems.new i d ≡ slice_index_or stems.old i d }
 {
     let (front, back) = stems.split_at_mut(at + 1);
     front[at].take(menu, prices, budget, allowed, champion, node, &mut back[0]);
@@ -92,8 +106,10 @@ pub(crate) fn take_at(
 pub(crate) fn put_back(stems: &mut [Stem], at: usize)
     requires { at + 1 < length stems.old }
     ensures size { length stems.new ≡ length stems.old }
-    ensures stem { (d : Stem) → slice_index_or stems.new at d ≡ slice_index_or stems.old (at + 1) d }
-    ensures others { (i : ℕ) (d : Stem) → i ≢ at → slice_index_or stems.new i d ≡ slice_index_or stems.old i d }
+    ensures stem { (d : Stem)
+        → slice_index_or stems.new at d ≡ slice_index_or stems.old (at + 1) d }
+    ensures others { (i : ℕ) (d : Stem) → i ≢ at
+        → slice_index_or stems.new i d ≡ slice_index_or stems.old i d }
 {
     stems[at] = stems[at + 1];
 }
@@ -110,9 +126,12 @@ pub(crate) fn is_open_at(
     node: &Node,
 ) -> bool
     requires at { at < length stems.now }
-    requires stem { IsStemAt (offer_of menu.now prices.now budget.0 allowed.now) (sections_of champion.now) stems.now at node.now.place (sections_of node.now.chosen) }
+    requires stem { IsStemAt (offer_of menu.now prices.now budget.0 allowed.now)
+        (sections_of champion.now) stems.now at node.now.place (sections_of node.now.chosen) }
     requires left { node.now.place < length menu.now.places }
-    ensures { result ≡ is_open (offer_of menu.now prices.now budget.0 allowed.now) (places_of menu.now (sections_of node.now.chosen)) node.now.place }
+    ensures { result
+        ≡ is_open (offer_of menu.now prices.now budget.0 allowed.now)
+        (places_of menu.now (sections_of node.now.chosen)) node.now.place }
 {
     stems[at].is_next_open(menu, prices, budget, allowed, champion, node)
 }

@@ -27,10 +27,15 @@ fn ends_here(text: &[u8]) -> bool
     }
 }
 
-// The number of one or two digits that stands first, and what is left: as many digits are taken as follow.
+// The number of one or two digits that stands first, and what is left: as many digits are taken as
+// follow.
 fn read_place(text: &[u8]) -> Option<(u8, &[u8])>
-    ensures some { IfSome result (λ read. (text.now ≡ decimal read.0 ++ read.1.now) × (read.0 < 100) × NoDigitFirst read.1.now) }
-    ensures none { IfNone result ((place : ℕ) (rest : List ℕ) → place < 100 → NoDigitFirst rest → text.now ≢ decimal place ++ rest) }
+    ensures some { IfSome result
+        (λ read. (text.now ≡ decimal read.0 ++ read.1.now) × (read.0 < 100)
+        × NoDigitFirst read.1.now) }
+    ensures none { IfNone result
+        ((place : ℕ) (rest : List ℕ) → place < 100 → NoDigitFirst rest
+        → text.now ≢ decimal place ++ rest) }
 {
     match text {
         [] => None,
@@ -49,13 +54,17 @@ fn read_place(text: &[u8]) -> Option<(u8, &[u8])>
     }
 }
 
-// The number of two digits of which this is the first, where another one stands first in the text and no third one
-// after it.
+// The number of two digits of which this is the first, where another one stands first in the text
+// and no third one after it.
 fn read_second(first: u8, text: &[u8]) -> Option<(u8, &[u8])>
     requires first { (49 ≤ first) × (first ≤ 57) }
     requires second { ¬ NoDigitFirst text.now }
-    ensures some { IfSome result (λ read. (first ∷ text.now ≡ decimal read.0 ++ read.1.now) × (read.0 < 100) × NoDigitFirst read.1.now) }
-    ensures none { IfNone result ((place : ℕ) (rest : List ℕ) → place < 100 → NoDigitFirst rest → first ∷ text.now ≢ decimal place ++ rest) }
+    ensures some { IfSome result
+        (λ read. (first ∷ text.now ≡ decimal read.0 ++ read.1.now) × (read.0 < 100)
+        × NoDigitFirst read.1.now) }
+    ensures none { IfNone result
+        ((place : ℕ) (rest : List ℕ) → place < 100 → NoDigitFirst rest
+        → first ∷ text.now ≢ decimal place ++ rest) }
 {
     match text {
         [] => None,
@@ -89,7 +98,9 @@ fn single_sign(byte: u8) -> Option<Sign>
 
 // The leaf with this letter and this number.
 fn numbered_leaf(letter: u8, place: u8) -> Option<Leaf>
-    ensures some { IfSome result (λ leaf. (leaf_text leaf ≡ letter ∷ decimal place) × (number_of (Closed leaf) ≡ Some place)) }
+    ensures some { IfSome result
+        (λ leaf. (leaf_text leaf ≡ letter ∷ decimal place)
+        × (number_of (Closed leaf) ≡ Some place)) }
     ensures none { IfNone result ((letter ≢ 98) × (letter ≢ 99) × (letter ≢ 109)) }
 {
     match letter {

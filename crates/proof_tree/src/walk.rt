@@ -55,10 +55,12 @@ impl Walk {
         champion: &Bundle,
     ) -> Walk
         requires prices { HasPrices menu.now prices.now }
-        requires champion { IsTakable (offer_of menu.now prices.now budget.0 allowed.now) (sections_of champion.now) }
+        requires champion { IsTakable (offer_of menu.now prices.now budget.0 allowed.now)
+            (sections_of champion.now) }
         ensures waiting { (menu : MenuData) → spots_of menu (waiting_of result) ≡ (0, []) ∷ [] }
         ensures may_wait { (offer : Offer) → AreWaiting offer result }
-        ensures stems { HaveStems (offer_of menu.now prices.now budget.0 allowed.now) (sections_of champion.now) result }
+        ensures stems { HaveStems (offer_of menu.now prices.now budget.0 allowed.now)
+            (sections_of champion.now) result }
     {
         let root = Node {
             place: 0,
@@ -71,7 +73,8 @@ impl Walk {
         }
     }
 
-    // Visits the next node, where one is left: its canonical sign, where it has one, and then the nodes below it wait.
+    // Visits the next node, where one is left: its canonical sign, where it has one, and then the
+    // nodes below it wait.
     #[inline(always)]
     pub(crate) fn step(
         &mut self,
@@ -84,13 +87,19 @@ impl Walk {
     ) -> Step
         requires prices { HasPrices menu.now prices.now }
         requires required { IfSome required (λ place. place < length menu.now.places) }
-        requires champion { IsTakable (offer_of menu.now prices.now budget.0 allowed.now) (sections_of champion.now) }
+        requires champion { IsTakable (offer_of menu.now prices.now budget.0 allowed.now)
+            (sections_of champion.now) }
         requires waiting { AreWaiting (offer_of menu.now prices.now budget.0 allowed.now) self.old }
-        requires stems { HaveStems (offer_of menu.now prices.now budget.0 allowed.now) (sections_of champion.now) self.old }
-        ensures stems { HaveStems (offer_of menu.now prices.now budget.0 allowed.now) (sections_of champion.now) self.new }
+        requires stems { HaveStems (offer_of menu.now prices.now budget.0 allowed.now)
+            (sections_of champion.now) self.old }
+        ensures stems { HaveStems (offer_of menu.now prices.now budget.0 allowed.now)
+            (sections_of champion.now) self.new }
         ensures waiting { AreWaiting (offer_of menu.now prices.now budget.0 allowed.now) self.new }
         ensures short { (sign : Sign) → result ≡ Signed sign → IsShort sign }
-        ensures step { IsStep (offer_of menu.now prices.now budget.0 allowed.now) required (places_of menu.now (sections_of champion.now)) (spots_of menu.now (waiting_of self.old)) result (spots_of menu.now (waiting_of self.new)) }
+        ensures step { IsStep (offer_of menu.now prices.now budget.0 allowed.now) required
+            (places_of menu.now (sections_of champion.now))
+            (spots_of menu.now (waiting_of self.old)) result
+            (spots_of menu.now (waiting_of self.new)) }
     {
         let Some(node) = self.take() else {
             return Step::Ended;
@@ -104,7 +113,8 @@ impl Walk {
         Step::Signed(sign)
     }
 
-    // The canonical sign of a node that was taken, whose stem stands behind those of the nodes that wait.
+    // The canonical sign of a node that was taken, whose stem stands behind those of the nodes that
+    // wait.
     #[inline(always)]
     fn sign_of(
         &mut self,
@@ -117,20 +127,34 @@ impl Walk {
         node: &Node,
     ) -> Option<Sign>
         requires prices { HasPrices menu.now prices.now }
-        requires node { IsNode (offer_of menu.now prices.now budget.0 allowed.now) node.now.place (sections_of node.now.chosen) }
+        requires node { IsNode (offer_of menu.now prices.now budget.0 allowed.now) node.now.place
+            (sections_of node.now.chosen) }
         requires within { node.now.place ≤ length menu.now.places }
         requires required { IfSome required (λ place. place < length menu.now.places) }
-        requires champion { IsTakable (offer_of menu.now prices.now budget.0 allowed.now) (sections_of champion.now) }
+        requires champion { IsTakable (offer_of menu.now prices.now budget.0 allowed.now)
+            (sections_of champion.now) }
         requires count { self.old.count < 9 }
-        requires stems { HaveStems (offer_of menu.now prices.now budget.0 allowed.now) (sections_of champion.now) self.old }
-        requires stem { IsStemAt (offer_of menu.now prices.now budget.0 allowed.now) (sections_of champion.now) self.old.stems self.old.count node.now.place (sections_of node.now.chosen) }
+        requires stems { HaveStems (offer_of menu.now prices.now budget.0 allowed.now)
+            (sections_of champion.now) self.old }
+        requires stem { IsStemAt (offer_of menu.now prices.now budget.0 allowed.now)
+            (sections_of champion.now) self.old.stems self.old.count node.now.place
+            (sections_of node.now.chosen) }
         ensures menu { IsMenu menu.now }
-        ensures some { IfSome result (IsSign (offer_of menu.now prices.now budget.0 allowed.now) required (places_of menu.now (sections_of champion.now)) node.now.place (places_of menu.now (sections_of node.now.chosen))) }
-        ensures none { IfNone result (HasNoSign (offer_of menu.now prices.now budget.0 allowed.now) required (places_of menu.now (sections_of champion.now)) node.now.place (places_of menu.now (sections_of node.now.chosen))) }
+        ensures some { IfSome result
+            (IsSign (offer_of menu.now prices.now budget.0 allowed.now) required
+            (places_of menu.now (sections_of champion.now)) node.now.place
+            (places_of menu.now (sections_of node.now.chosen))) }
+        ensures none { IfNone result
+            (HasNoSign (offer_of menu.now prices.now budget.0 allowed.now) required
+            (places_of menu.now (sections_of champion.now)) node.now.place
+            (places_of menu.now (sections_of node.now.chosen))) }
         ensures count { self.new.count ≡ self.old.count }
         ensures same { self.new.waiting ≡ self.old.waiting }
-        ensures stems { HaveStems (offer_of menu.now prices.now budget.0 allowed.now) (sections_of champion.now) self.new }
-        ensures stem { IsStemAt (offer_of menu.now prices.now budget.0 allowed.now) (sections_of champion.now) self.new.stems self.new.count node.now.place (sections_of node.now.chosen) }
+        ensures stems { HaveStems (offer_of menu.now prices.now budget.0 allowed.now)
+            (sections_of champion.now) self.new }
+        ensures stem { IsStemAt (offer_of menu.now prices.now budget.0 allowed.now)
+            (sections_of champion.now) self.new.stems self.new.count node.now.place
+            (sections_of node.now.chosen) }
     {
         let at = self.count;
         sign_at(
@@ -158,16 +182,25 @@ impl Walk {
         node: &Node,
         sign: Sign,
     )
-        requires node { IsNode (offer_of menu.now prices.now budget.0 allowed.now) node.now.place (sections_of node.now.chosen) }
+        requires node { IsNode (offer_of menu.now prices.now budget.0 allowed.now) node.now.place
+            (sections_of node.now.chosen) }
         requires few { self.old.count ≤ 8 }
         requires count { self.old.count ≤ length (sections_of node.now.chosen) }
-        requires sign { (required : Option ℕ) × IsSign (offer_of menu.now prices.now budget.0 allowed.now) required (places_of menu.now (sections_of champion.now)) node.now.place (places_of menu.now (sections_of node.now.chosen)) sign }
-        requires stems { HaveStems (offer_of menu.now prices.now budget.0 allowed.now) (sections_of champion.now) self.old }
-        requires stem { IsStemAt (offer_of menu.now prices.now budget.0 allowed.now) (sections_of champion.now) self.old.stems self.old.count node.now.place (sections_of node.now.chosen) }
+        requires sign { (required : Option ℕ)
+            × IsSign (offer_of menu.now prices.now budget.0 allowed.now) required
+            (places_of menu.now (sections_of champion.now)) node.now.place
+            (places_of menu.now (sections_of node.now.chosen)) sign }
+        requires stems { HaveStems (offer_of menu.now prices.now budget.0 allowed.now)
+            (sections_of champion.now) self.old }
+        requires stem { IsStemAt (offer_of menu.now prices.now budget.0 allowed.now)
+            (sections_of champion.now) self.old.stems self.old.count node.now.place
+            (sections_of node.now.chosen) }
         ensures count { self.new.count ≡ self.old.count }
         ensures same { self.new.waiting ≡ self.old.waiting }
-        ensures stems { HaveStems (offer_of menu.now prices.now budget.0 allowed.now) (sections_of champion.now) self.new }
-        ensures below { AreStanding (offer_of menu.now prices.now budget.0 allowed.now) (sections_of champion.now) node.now sign self.new.stems self.new.count }
+        ensures stems { HaveStems (offer_of menu.now prices.now budget.0 allowed.now)
+            (sections_of champion.now) self.new }
+        ensures below { AreStanding (offer_of menu.now prices.now budget.0 allowed.now)
+            (sections_of champion.now) node.now sign self.new.stems self.new.count }
     {
         prove!(menu.len() <= 60);
         let at = self.count;
@@ -192,7 +225,8 @@ impl Walk {
         ensures some { IfSome result (λ node. waiting_of self.old ≡ node ∷ waiting_of self.new) }
         ensures few { OnSome result (self.new.count ≤ 8) }
         ensures one { OnSome result (self.old.count ≡ self.new.count + 1) }
-        ensures node { IfSome result (λ node. node ≡ slice_index_or self.old.waiting self.new.count node) }
+        ensures node { IfSome result
+            (λ node. node ≡ slice_index_or self.old.waiting self.new.count node) }
         ensures nodes { self.new.waiting ≡ self.old.waiting }
         ensures stems { self.new.stems ≡ self.old.stems }
         ensures none { IfNone result (waiting_of self.old ≡ []) }
@@ -212,7 +246,8 @@ impl Walk {
         ensures whole { length self.new.waiting ≡ 9 }
         ensures waiting { waiting_of self.new ≡ node ∷ waiting_of self.old }
         ensures here { (d : Node) → slice_index_or self.new.waiting self.old.count d ≡ node }
-        ensures others { (i : ℕ) (d : Node) → i ≢ self.old.count → slice_index_or self.new.waiting i d ≡ slice_index_or self.old.waiting i d }
+        ensures others { (i : ℕ) (d : Node) → i ≢ self.old.count
+            → slice_index_or self.new.waiting i d ≡ slice_index_or self.old.waiting i d }
         ensures stems { self.new.stems ≡ self.old.stems }
     {
         self.waiting[self.count] = node;
@@ -230,7 +265,9 @@ impl Walk {
             → AreWaiting (offer_of menu.now prices budget allowed) self.new }
         ensures stems { (prices : List Tokens) (budget : ℕ) (allowed : set.FinSet nat_cmp) (champion : List ℕ) → HaveStems (offer_of menu.now prices budget allowed) champion self.old
             → AreStanding (offer_of menu.now prices budget allowed) champion node.now sign self.old.stems self.old.count → HaveStems (offer_of menu.now prices budget allowed) champion self.new }
-        ensures below { spots_of menu.now (waiting_of self.new) ≡ below sign node.now.place (places_of menu.now (sections_of node.now.chosen)) ++ spots_of menu.now (waiting_of self.old) }
+        ensures below { spots_of menu.now (waiting_of self.new)
+            ≡ below sign node.now.place (places_of menu.now (sections_of node.now.chosen))
+            ++ spots_of menu.now (waiting_of self.old) }
     {
         match sign {
             Sign::Champion => {}
@@ -249,11 +286,17 @@ impl Walk {
 // The node with the section of the next place, where that is open.
 pub(crate) fn with_next(menu: &Menu, node: &Node) -> Node
     requires left { node.now.place < length menu.now.places }
-    requires open { (prices : List Tokens) × (budget : ℕ) × (allowed : set.FinSet nat_cmp) × IsNode (offer_of menu.now prices budget allowed) node.now.place (sections_of node.now.chosen) × (is_open (offer_of menu.now prices budget allowed) (places_of menu.now (sections_of node.now.chosen)) node.now.place ≡ true) }
+    requires open { (prices : List Tokens) × (budget : ℕ) × (allowed : set.FinSet nat_cmp)
+        × IsNode (offer_of menu.now prices budget allowed) node.now.place
+        (sections_of node.now.chosen)
+        × (is_open (offer_of menu.now prices budget allowed)
+        (places_of menu.now (sections_of node.now.chosen)) node.now.place
+        ≡ true) }
     ensures menu { IsMenu menu.now }
     ensures room { length (sections_of node.now.chosen) < 8 }
     ensures place { result.place ≡ node.now.place + 1 }
-    ensures chosen { sections_of result.chosen ≡ sections_of node.now.chosen ++ section_at menu.now.places node.now.place ∷ [] }
+    ensures chosen { sections_of result.chosen
+        ≡ sections_of node.now.chosen ++ section_at menu.now.places node.now.place ∷ [] }
 {
     prove!(node.place < menu.len());
     let rated = menu.rated(node.place);

@@ -19,5 +19,7 @@ found_has P test (y ∷ xs) x each is = elim (test y) as (λ b. cond b (Some y) 
 ] is
 
 -- they may be asked
-pub found_prices : (crowd : CrowdData) (seats : List ℕ) (settings : Settings) (prices : List Tokens) (error turns : ℕ) → IsFound crowd seats settings prices error turns → ArePricesFor crowd prices
-found_prices crowd seats settings prices error turns is = found_has (ArePricesFor crowd) _ (after_turns crowd seats settings turns).visited prices (visited_are_prices crowd seats settings turns) is.best.best
+pub found_prices : (crowd : CrowdData) (seats : List ℕ) (settings : Settings) (prices : List Tokens) (error turns : ℕ)
+    → IsFound crowd seats settings prices error turns → ArePricesFor crowd prices
+found_prices crowd seats settings prices error turns is =
+    found_has (ArePricesFor crowd) _ (after_turns crowd seats settings turns).visited prices (visited_are_prices crowd seats settings turns) is.best.best

@@ -12,9 +12,12 @@ use Rattle.published_market.proofs.Ranges.{prices_in_range}
 use Rattle.published_market.proofs.Settled.{settled_prices}
 
 -- the last prices may be asked, and are in range
-pub last_priced : (crowd : CrowdData) (seats : List ℕ) (start prices : List Tokens) (rounds : ℕ) → IsCrowd crowd → ArePricesFor crowd start → IsSettled crowd seats start prices rounds → AreSectionPrices crowd.sections prices
+pub last_priced : (crowd : CrowdData) (seats : List ℕ) (start prices : List Tokens) (rounds : ℕ) → IsCrowd crowd → ArePricesFor crowd start
+    → IsSettled crowd seats start prices rounds → AreSectionPrices crowd.sections prices
 last_priced crowd seats start prices rounds known are is = prices_in_range crowd prices known (settled_prices crowd seats start prices rounds are is)
 
 -- no section is above its seats in the demands at the last prices
-pub last_within : (crowd : CrowdData) (seats : List ℕ) (start prices : List Tokens) (rounds : ℕ) (bundles : List (List ℕ)) → IsSettled crowd seats start prices rounds → bundles ≡ demands crowd (price_in prices) → AreHeldWithin crowd.sections seats bundles
-last_within crowd seats start prices rounds bundles is taken = subst (AreHeldWithin crowd.sections seats) (sym taken) (settled_within_seats crowd seats start prices rounds is)
+pub last_within : (crowd : CrowdData) (seats : List ℕ) (start prices : List Tokens) (rounds : ℕ) (bundles : List (List ℕ))
+    → IsSettled crowd seats start prices rounds → bundles ≡ demands crowd (price_in prices) → AreHeldWithin crowd.sections seats bundles
+last_within crowd seats start prices rounds bundles is taken =
+    subst (AreHeldWithin crowd.sections seats) (sym taken) (settled_within_seats crowd seats start prices rounds is)

@@ -92,22 +92,26 @@ low_rating : (n : ℤ) → int_le (pos 0) n ≡ true → int_le n (pos 100) ≡ 
 low_rating (pos m) low high = grind (arith, ints, nat_tests)
 low_rating (negsuc m) low high = grind (arith, ints, nat_tests)
 
-keeps_rating : (ratings : FinMap {K = ℕ} nat_cmp ℕ) (section rating : ℕ) → KeepsRatings ratings → rating ≤ 100 → (nat_lt 0 rating && not (contains_key ratings section) && nat_le 60 (len ratings)) ≡ false → KeepsRatings (with_rating ratings section rating)
+keeps_rating : (ratings : FinMap {K = ℕ} nat_cmp ℕ) (section rating : ℕ) → KeepsRatings ratings → rating ≤ 100
+    → (nat_lt 0 rating && not (contains_key ratings section) && nat_le 60 (len ratings)) ≡ false → KeepsRatings (with_rating ratings section rating)
 keeps_rating ratings section rating keeps low room =
     elim (rating == 0) as (λ b. (rating == 0) ≡ b → KeepsRatings (cond b (remove ratings section) (insert ratings section rating))) [
       | true ↦ λ e. keeps_without nat_cmp nat_cmp_total nat_cmp-IsAntisymmetric IsRating 60 ratings section keeps
       | false ↦ λ e.
           let some : 1 ≤ rating = grind (arith, nat_tests) in
-          keeps_with nat_cmp nat_cmp_total nat_cmp-IsAntisymmetric IsRating 60 ratings section rating keeps (some, low) (room_for 60 rating (len ratings) (contains_key ratings section) room e)
+          keeps_with nat_cmp nat_cmp_total nat_cmp-IsAntisymmetric IsRating 60 ratings section rating keeps (some, low)
+          (room_for 60 rating (len ratings) (contains_key ratings section) room e)
     ] refl
 
-keeps_pair : (pairs : FinMap {K = ℕ × ℕ} pair_cmp ℤ) (pair : ℕ × ℕ) (n : ℤ) → KeepsPairs pairs → unsigned_abs n ≤ 200 → (nat_lt 0 (unsigned_abs n) && not (contains_key pairs pair) && nat_le 200 (len pairs)) ≡ false → KeepsPairs (with_pair pairs pair n)
+keeps_pair : (pairs : FinMap {K = ℕ × ℕ} pair_cmp ℤ) (pair : ℕ × ℕ) (n : ℤ) → KeepsPairs pairs → unsigned_abs n ≤ 200
+    → (nat_lt 0 (unsigned_abs n) && not (contains_key pairs pair) && nat_le 200 (len pairs)) ≡ false → KeepsPairs (with_pair pairs pair n)
 keeps_pair pairs pair n keeps low room =
     elim (unsigned_abs n == 0) as (λ b. (unsigned_abs n == 0) ≡ b → KeepsPairs (cond b (remove pairs pair) (insert pairs pair n))) [
       | true ↦ λ e. keeps_without pair_cmp pair_cmp_total pair_cmp_same IsAdjustment 200 pairs pair keeps
       | false ↦ λ e.
           let some : 1 ≤ unsigned_abs n = grind (arith, nat_tests) in
-          keeps_with pair_cmp pair_cmp_total pair_cmp_same IsAdjustment 200 pairs pair n keeps (some, low) (room_for 200 (unsigned_abs n) (len pairs) (contains_key pairs pair) room e)
+          keeps_with pair_cmp pair_cmp_total pair_cmp_same IsAdjustment 200 pairs pair n keeps (some, low)
+          (room_for 200 (unsigned_abs n) (len pairs) (contains_key pairs pair) room e)
     ] refl
 
 -- nobody wants anything at first
@@ -120,17 +124,23 @@ nothing_limited = record {
 }
 
 -- a command that is carried out leaves a student within the limits
-changed_limited : (names : DeskNames) (state : DeskState) (command : Command) → All IsLimited state.preferences → is_done (reply_to names state command) ≡ true → All IsLimited (changed names state command).preferences
+changed_limited : (names : DeskNames) (state : DeskState) (command : Command) → All IsLimited state.preferences → is_done (reply_to names state command) ≡ true
+    → All IsLimited (changed names state command).preferences
 changed_limited names state (Rate student section n) each done =
     let open' = done_skips state.closed _ _ refl done in
     let known = done_skips (not (has_name names.students student)) _ _ refl open'.1 in
     let listed = done_skips (not (has_name names.sections section)) _ _ refl known.1 in
     let range = done_skips (is_out_of_range (Rate student section n)) _ _ refl listed.1 in
-    let room = done_skips (has_no_room_to_rate (preferences_at state (ordinal_of names.students student)) (ordinal_of names.sections section) (unsigned_abs n)) _ _ refl range.1 in
+    let room =
+    done_skips (has_no_room_to_rate (preferences_at state (ordinal_of names.students student)) (ordinal_of names.sections section) (unsigned_abs n)) _ _ refl
+    range.1 in
     let ends = and_parts _ _ (not-false _ range.0) in
     let at = at_or_default IsLimited state.preferences (ordinal_of names.students student) no_preferences each nothing_limited in
-    let new = keeps_rating (preferences_at state (ordinal_of names.students student)).ratings (ordinal_of names.sections section) (unsigned_abs n) (record { few = at.few_ratings; values = at.ratings }) (low_rating n ends.0 ends.1) room.0 in
-    All-set IsLimited state.preferences _ _ (record { few_ratings = new.few; ratings = new.values; few_pairs = at.few_pairs; adjustments = at.adjustments }) each
+    let new =
+    keeps_rating (preferences_at state (ordinal_of names.students student)).ratings (ordinal_of names.sections section) (unsigned_abs n)
+    (record { few = at.few_ratings; values = at.ratings }) (low_rating n ends.0 ends.1) room.0 in
+    All-set IsLimited state.preferences _ _ (record { few_ratings = new.few; ratings = new.values; few_pairs = at.few_pairs; adjustments = at.adjustments })
+    each
 changed_limited names state (Pair student first second n) each done =
     let open' = done_skips state.closed _ _ refl done in
     let known = done_skips (not (has_name names.students student)) _ _ refl open'.1 in
@@ -142,7 +152,8 @@ changed_limited names state (Pair student first second n) each done =
     let far : nat_lt 200 (unsigned_abs n) ≡ false = range.0 in
     let low : unsigned_abs n ≤ 200 = grind (arith, nat_tests) in
     let at = at_or_default IsLimited state.preferences (ordinal_of names.students student) no_preferences each nothing_limited in
-    let new = keeps_pair (preferences_at state (ordinal_of names.students student)).pairs pair n (record { few = at.few_pairs; values = at.adjustments }) low room.0 in
+    let new =
+    keeps_pair (preferences_at state (ordinal_of names.students student)).pairs pair n (record { few = at.few_pairs; values = at.adjustments }) low room.0 in
     All-set IsLimited state.preferences _ _ (record { few_ratings = at.few_ratings; ratings = at.ratings; few_pairs = new.few; adjustments = new.values }) each
 changed_limited names state (Clear student) each done = All-set IsLimited state.preferences _ no_preferences nothing_limited each
 changed_limited names state Close each done = each
@@ -159,20 +170,29 @@ changed_rows names state (Clear student) = length-set state.preferences (ordinal
 changed_rows names state Close = refl
 changed_rows names state Unreadable = refl
 
-step_rows : (names : DeskNames) (state : DeskState) (command : Command) (b : Bool) → length (cond b (changed names state command) state).preferences ≡ length state.preferences
+step_rows : (names : DeskNames) (state : DeskState) (command : Command) (b : Bool)
+    → length (cond b (changed names state command) state).preferences ≡ length state.preferences
 step_rows names state command true = changed_rows names state command
 step_rows names state command false = refl
 
-rows_after : (names : DeskNames) (state : DeskState) (journal : List Entry) → length (state_after_all names state journal).preferences ≡ length state.preferences
+rows_after : (names : DeskNames) (state : DeskState) (journal : List Entry)
+    → length (state_after_all names state journal).preferences ≡ length state.preferences
 rows_after names state [] = refl
-rows_after names state (entry ∷ more) = rows_after names (state_after names state entry.command) more ∙ step_rows names state entry.command (is_done (reply_to names state entry.command))
+rows_after names state (entry ∷ more) =
+    rows_after names (state_after names state entry.command) more ∙ step_rows names state entry.command (is_done (reply_to names state entry.command))
 
 pub wanted_long : (market : Market) (journal : List Entry) → length (wanted_in market journal) ≡ length market.roll.students
 wanted_long market journal =
-    rows_after (names_in market) (opening (names_in market)) journal ∙ length-replicate (length (names_in market).students) no_preferences ∙ length-map market.roll.students _
+    rows_after (names_in market) (opening (names_in market)) journal ∙ length-replicate (length (names_in market).students) no_preferences
+    ∙ length-map market.roll.students _
 
 -- what each student wants in the end, a desk lets it have
 pub wanted_limited : (market : Market) (journal : List Entry) → All (MayBeHad (length market.catalog.sections)) (wanted_in market journal)
 wanted_limited market journal = λ k d inside.
-    let known = sections_known (names_in market) market.catalog.sections market.roll.students (wanted_in market journal) refl (closed_below (names_in market) journal) in
-    record { known = known k d inside; lower_first = closed_lower (names_in market) journal k d inside; limits = closed_limited (names_in market) journal k d inside }
+    let known =
+    sections_known (names_in market) market.catalog.sections market.roll.students (wanted_in market journal) refl (closed_below (names_in market) journal) in
+    record {
+      known = known k d inside;
+      lower_first = closed_lower (names_in market) journal k d inside;
+      limits = closed_limited (names_in market) journal k d inside;
+    }

@@ -33,17 +33,20 @@ same_item : {A : Type 0} (xs : List A) (i : ℕ) (x y : A) → i < length xs →
 same_item xs i x y low is too = is ∙ get_or_default xs i x y low ∙ sym too
 
 -- a room that was filled for the menu, the budget and the bundle at a place
-pub room_of_student : (crowd : Crowd) (prices : List Tokens) (allowed : set.FinSet nat_cmp) (bundles : List Bundle) (place : ℕ) (menu : MenuData) (budget : Tokens) (bundle : Bundle) (room : Room)
+pub room_of_student : (crowd : Crowd) (prices : List Tokens) (allowed : set.FinSet nat_cmp) (bundles : List Bundle) (place : ℕ) (menu : MenuData)
+    (budget : Tokens) (bundle : Bundle) (room : Room)
     → place < length crowd.menus.items → place < length crowd.budgets.items → place < length bundles
     → menu ≡ get_or crowd.menus.items place menu → budget ≡ get_or crowd.budgets.items place budget → bundle ≡ get_or bundles place bundle
     → IsRoomOf (offer_of menu prices budget.0 allowed) (sections_of bundle) room → IsRoomOfStudent crowd prices allowed bundles place room
 room_of_student crowd prices allowed bundles place menu budget bundle room listed paid low menu_is budget_is bundle_is holds = λ m b u m_is b_is u_is.
-    subst (λ (other : MenuData). IsRoomOf (offer_of other prices b.0 allowed) (sections_of u) room) (same_item crowd.menus.items place menu m listed menu_is m_is)
+    subst (λ (other : MenuData). IsRoomOf (offer_of other prices b.0 allowed) (sections_of u) room)
+    (same_item crowd.menus.items place menu m listed menu_is m_is)
     (subst (λ (other : Tokens). IsRoomOf (offer_of menu prices other.0 allowed) (sections_of u) room) (same_item crowd.budgets.items place budget b paid budget_is b_is)
     (subst (λ (other : Bundle). IsRoomOf (offer_of menu prices budget.0 allowed) (sections_of other) room) (same_item bundles place bundle u low bundle_is u_is) holds))
 
 -- what the room at a place holds, by the menu, the budget and the bundle there
-pub room_at : (crowd : Crowd) (prices : List Tokens) (allowed : set.FinSet nat_cmp) (bundles : List Bundle) (first k place : ℕ) (rooms : List Room) (room : Room) (menu : MenuData) (budget : Tokens) (bundle : Bundle)
+pub room_at : (crowd : Crowd) (prices : List Tokens) (allowed : set.FinSet nat_cmp) (bundles : List Bundle) (first k place : ℕ) (rooms : List Room)
+    (room : Room) (menu : MenuData) (budget : Tokens) (bundle : Bundle)
     → AreRoomsOfStudents crowd prices allowed bundles first rooms → k < length rooms → room ≡ get_or rooms k room → place ≡ first + k
     → menu ≡ get_or crowd.menus.items place menu → budget ≡ get_or crowd.budgets.items place budget → bundle ≡ get_or bundles place bundle
     → IsRoomOf (offer_of menu prices budget.0 allowed) (sections_of bundle) room
@@ -53,10 +56,12 @@ room_at crowd prices allowed bundles first k place rooms room menu budget bundle
     (subst (λ n. bundle ≡ get_or bundles n bundle) at bundle_is))
 
 -- a room that was filled for the menu and the budget of the student of the turn at a place
-pub room_of_turn : (crowd : Crowd) (prices : List Tokens) (raise : ℕ) (turns : List Turn) (place : ℕ) (turn : Turn) (i : ℕ) (menu : MenuData) (budget : Tokens) (room : Room)
+pub room_of_turn : (crowd : Crowd) (prices : List Tokens) (raise : ℕ) (turns : List Turn) (place : ℕ) (turn : Turn) (i : ℕ) (menu : MenuData) (budget : Tokens)
+    (room : Room)
     → place < length turns → turn ≡ get_or turns place turn → i ≡ turn.student.0 → i < length crowd.menus.items → i < length crowd.budgets.items
     → menu ≡ get_or crowd.menus.items i menu → budget ≡ get_or crowd.budgets.items i budget
-    → IsRoomOf (offer_of menu prices (raised_by raise budget.0) turn.allowed) (sections_of turn.bundle) room → IsRoomOfTurnAt crowd prices raise turns place room
+    → IsRoomOf (offer_of menu prices (raised_by raise budget.0) turn.allowed) (sections_of turn.bundle) room
+    → IsRoomOfTurnAt crowd prices raise turns place room
 room_of_turn crowd prices raise turns place turn i menu budget room low turn_is at listed paid menu_is budget_is holds =
     let for_it : IsRoomOfTurn crowd prices raise turn room = λ m b m_is b_is.
     subst (λ (other : MenuData). IsRoomOf (offer_of other prices (raised_by raise b.0) turn.allowed) (sections_of turn.bundle) room)
@@ -73,7 +78,8 @@ turn_room crowd prices raise turn i menu budget room at menu_is budget_is is =
     is menu budget (subst (λ n. menu ≡ get_or crowd.menus.items n menu) at menu_is) (subst (λ n. budget ≡ get_or crowd.budgets.items n budget) at budget_is)
 
 -- the turn at a place, as plain data
-pub turn_at : (turns : List Turn) (i : ℕ) (turn : Turn) → i < length turns → turn ≡ get_or turns i turn → get_or (turns_of turns) i (turn_of turn) ≡ turn_of turn
+pub turn_at : (turns : List Turn) (i : ℕ) (turn : Turn) → i < length turns → turn ≡ get_or turns i turn
+    → get_or (turns_of turns) i (turn_of turn) ≡ turn_of turn
 turn_at turns i turn low is = get_or-map turn_of turns i turn (turn_of turn) low ∙ ap turn_of (sym is)
 
 one_longer : {A : Type 0} (all : List A) (one : A) (later : List A) → later ≡ all ++ one ∷ [] → length later ≡ length all + 1
@@ -82,24 +88,30 @@ one_longer all one later more = ap length more ∙ length-append all (one ∷ []
 -- one more student's bundle is shown with its tree
 pub proved_more : (crowd : Crowd) (prices : List Tokens) (all : List proved.Proved) (one : proved.Proved) (later : List proved.Proved)
     → length all < length (students_of crowd.menus.items crowd.budgets.items) → later ≡ all ++ one ∷ [] → AreProved crowd prices all
-    → IsProvedDemand crowd.sections (price_in prices) (get_or (students_of crowd.menus.items crowd.budgets.items) (length all) nobody) (proved_of one) → HasForm (sections_of one.bundle) one.tree.items
+    → IsProvedDemand crowd.sections (price_in prices) (get_or (students_of crowd.menus.items crowd.budgets.items) (length all) nobody) (proved_of one)
+    → HasForm (sections_of one.bundle) one.tree.items
     → AreProved crowd prices later
 proved_more crowd prices all one later low more are is form =
     let students = students_of crowd.menus.items crowd.budgets.items in
     record {
-      proved = subst (λ n. AllZip (IsProvedDemand crowd.sections (price_in prices)) (take n students) (map proved_of later)) (sym (one_longer all one later more))
+      proved =
+          subst (λ n. AllZip (IsProvedDemand crowd.sections (price_in prices)) (take n students) (map proved_of later)) (sym (one_longer all one later more))
           (zip_more (IsProvedDemand crowd.sections (price_in prices)) proved_of students (length all) nobody all one later low more are.proved is);
       form = all_more (λ (shown : Proved). HasForm shown.bundle shown.tree) proved_of all one later more are.form form;
     }
 
 -- one more turn is shown with its tree
-pub turns_more : (crowd : Crowd) (prices : List Tokens) (raise : ℕ) (turns : List Turn) (d : TurnData) (all : List turn.ProvedTurn) (one : turn.ProvedTurn) (later : List turn.ProvedTurn)
+pub turns_more : (crowd : Crowd) (prices : List Tokens) (raise : ℕ) (turns : List Turn) (d : TurnData) (all : List turn.ProvedTurn) (one : turn.ProvedTurn)
+    (later : List turn.ProvedTurn)
     → length all < length (turns_of turns) → later ≡ all ++ one ∷ [] → AreProvedTurns crowd prices raise turns all
-    → IsPublishedTurn (crowd_of crowd.menus.items crowd.budgets.items crowd.sections) prices raise (get_or (turns_of turns) (length all) d) (published_of one) → HasTurnForm (published_of one)
+    → IsPublishedTurn (crowd_of crowd.menus.items crowd.budgets.items crowd.sections) prices raise (get_or (turns_of turns) (length all) d) (published_of one)
+    → HasTurnForm (published_of one)
     → AreProvedTurns crowd prices raise turns later
 turns_more crowd prices raise turns d all one later low more are is form =
     let wanted = IsPublishedTurn (crowd_of crowd.menus.items crowd.budgets.items crowd.sections) prices raise in
     record {
-      published = subst (λ n. AllZip wanted (take n (turns_of turns)) (map published_of later)) (sym (one_longer all one later more)) (zip_more wanted published_of (turns_of turns) (length all) d all one later low more are.published is);
+      published =
+          subst (λ n. AllZip wanted (take n (turns_of turns)) (map published_of later)) (sym (one_longer all one later more))
+          (zip_more wanted published_of (turns_of turns) (length all) d all one later low more are.published is);
       form = all_more HasTurnForm published_of all one later more are.form form;
     }

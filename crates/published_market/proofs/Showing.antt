@@ -23,7 +23,8 @@ abbrev pub asked : MenuData → Tokens → Student
 asked menu budget = record { menu = menu; budget = budget.0 }
 
 -- the student at a place has the menu and the budget at that place
-pub asked_at : (menus : List MenuData) (budgets : List Tokens) (i : ℕ) (d : Student) (menu : MenuData) (budget : Tokens) → length budgets ≡ length menus → i < length menus → menu ≡ get_or menus i menu → budget ≡ get_or budgets i budget
+pub asked_at : (menus : List MenuData) (budgets : List Tokens) (i : ℕ) (d : Student) (menu : MenuData) (budget : Tokens) → length budgets ≡ length menus
+    → i < length menus → menu ≡ get_or menus i menu → budget ≡ get_or budgets i budget
     → get_or (students_of menus budgets) i d ≡ asked menu budget
 asked_at [] budgets i d menu budget same low is has_it = absurd (omega arith)
 asked_at (x ∷ xs) [] i d menu budget same low is has_it = absurd (omega arith)
@@ -31,34 +32,46 @@ asked_at (x ∷ xs) (y ∷ ys) zero d menu budget same low is has_it = λ k. rec
 asked_at (x ∷ xs) (y ∷ ys) (suc i) d menu budget same low is has_it = asked_at xs ys i d menu budget (omega arith) (omega arith) is has_it
 
 -- there is a bundle for each menu
-pub taken_count : (menus : List MenuData) (budgets : List Tokens) (sections : ℕ) (prices : List Tokens) (bundles : List Bundle) → length budgets ≡ length menus → AreTaken (crowd_of menus budgets sections) prices bundles → length bundles ≡ length menus
+pub taken_count : (menus : List MenuData) (budgets : List Tokens) (sections : ℕ) (prices : List Tokens) (bundles : List Bundle) → length budgets ≡ length menus
+    → AreTaken (crowd_of menus budgets sections) prices bundles → length bundles ≡ length menus
 taken_count menus budgets sections prices bundles same taken =
     sym (length-map bundles sections_of) ∙ ap (λ (all : List (List ℕ)). length all) taken ∙ demands_length menus budgets sections (price_in prices) same
 
 -- the bundle at a place is the best of the menu and the budget at that place
-pub taken_best : (menus : List MenuData) (budgets : List Tokens) (sections : ℕ) (prices : List Tokens) (bundles : List Bundle) (i : ℕ) (menu : MenuData) (budget : Tokens) (bundle : Bundle) (allowed : ℕ → Bool) → length budgets ≡ length menus
-    → AreTaken (crowd_of menus budgets sections) prices bundles → i < length bundles → menu ≡ get_or menus i menu → budget ≡ get_or budgets i budget → bundle ≡ get_or bundles i bundle → ((s : ℕ) → allowed s ≡ nat_lt s sections)
+pub taken_best : (menus : List MenuData) (budgets : List Tokens) (sections : ℕ) (prices : List Tokens) (bundles : List Bundle) (i : ℕ) (menu : MenuData)
+    (budget : Tokens) (bundle : Bundle) (allowed : ℕ → Bool)
+    → length budgets ≡ length menus
+    → AreTaken (crowd_of menus budgets sections) prices bundles → i < length bundles → menu ≡ get_or menus i menu → budget ≡ get_or budgets i budget
+    → bundle ≡ get_or bundles i bundle → ((s : ℕ) → allowed s ≡ nat_lt s sections)
     → IsBest (wishes_of menu) (price_in prices) budget.0 allowed (sections_of bundle)
 taken_best menus budgets sections prices bundles i menu budget bundle allowed same taken low is has_it at told =
     let count : length bundles ≡ length menus = taken_count menus budgets sections prices bundles same taken in
     let there : sections_of bundle ≡ get_or (map sections_of bundles) i [] = ap sections_of at ∙ sym (get_or-map sections_of bundles i bundle [] low) in
-    let demanded : get_or (map sections_of bundles) i [] ≡ demand_of (crowd_of menus budgets sections) (price_in prices) i = ap (λ all. get_or all i []) taken in
-    let whose : demand_of (crowd_of menus budgets sections) (price_in prices) i ≡ demand sections (price_in prices) (asked (get_or menus i menu) (get_or budgets i budget)) =
+    let demanded : get_or (map sections_of bundles) i [] ≡ demand_of (crowd_of menus budgets sections) (price_in prices) i =
+    ap (λ all. get_or all i []) taken in
+    let whose : demand_of (crowd_of menus budgets sections) (price_in prices) i
+    ≡ demand sections (price_in prices) (asked (get_or menus i menu) (get_or budgets i budget)) =
     demand_at menus budgets sections (price_in prices) i menu budget same (omega arith) in
-    let own : demand sections (price_in prices) (asked (get_or menus i menu) (get_or budgets i budget)) ≡ demand sections (price_in prices) (asked menu budget) =
+    let own : demand sections (price_in prices) (asked (get_or menus i menu) (get_or budgets i budget))
+    ≡ demand sections (price_in prices) (asked menu budget) =
     λ k. demand sections (price_in prices) (asked (sym is k) (sym has_it k)) in
-    let best : IsBest (wishes_of menu) (price_in prices) budget.0 (λ s. nat_lt s sections) (demand sections (price_in prices) (asked menu budget)) = best-is menu (price_in prices) budget.0 (λ s. nat_lt s sections) in
+    let best : IsBest (wishes_of menu) (price_in prices) budget.0 (λ s. nat_lt s sections) (demand sections (price_in prices) (asked menu budget)) =
+    best-is menu (price_in prices) budget.0 (λ s. nat_lt s sections) in
     let sections_are : (λ s. nat_lt s sections) ≡ allowed = λ k s. sym (told s) k in
     subst (IsBest (wishes_of menu) (price_in prices) budget.0 allowed) (sym (there ∙ demanded ∙ whose ∙ own))
     (subst (λ among. IsBest (wishes_of menu) (price_in prices) budget.0 among (demand sections (price_in prices) (asked menu budget))) sections_are best)
 
 -- what is proved of the menu and the budget at a place is proved of the student
-pub proved_at : (menus : List MenuData) (budgets : List Tokens) (sections : ℕ) (price : ℕ → ℕ) (i : ℕ) (d : Student) (menu : MenuData) (budget : Tokens) (allowed : ℕ → Bool) (bundle tree : List ℕ) → length budgets ≡ length menus → i < length menus
-    → menu ≡ get_or menus i menu → budget ≡ get_or budgets i budget → ((s : ℕ) → allowed s ≡ nat_lt s sections) → IsProvedBest (record { menu = menu; price = price; budget = budget.0; allowed = allowed }) bundle tree
+pub proved_at : (menus : List MenuData) (budgets : List Tokens) (sections : ℕ) (price : ℕ → ℕ) (i : ℕ) (d : Student) (menu : MenuData) (budget : Tokens)
+    (allowed : ℕ → Bool) (bundle tree : List ℕ)
+    → length budgets ≡ length menus → i < length menus
+    → menu ≡ get_or menus i menu → budget ≡ get_or budgets i budget → ((s : ℕ) → allowed s ≡ nat_lt s sections)
+    → IsProvedBest (record { menu = menu; price = price; budget = budget.0; allowed = allowed }) bundle tree
     → IsProvedBest (offer_to (get_or (students_of menus budgets) i d) price (get_or (students_of menus budgets) i d).budget (all_sections sections)) bundle tree
 proved_at menus budgets sections price i d menu budget allowed bundle tree same low is has_it told proved =
     let sections_are : allowed ≡ all_sections sections = λ k s. told s k in
-    subst (λ (student : Student). IsProvedBest (offer_to student price student.budget (all_sections sections)) bundle tree) (sym (asked_at menus budgets i d menu budget same low is has_it))
+    subst (λ (student : Student). IsProvedBest (offer_to student price student.budget (all_sections sections)) bundle tree)
+    (sym (asked_at menus budgets i d menu budget same low is has_it))
     (subst (λ among. IsProvedBest (offer_to (asked menu budget) price budget.0 among) bundle tree) sections_are proved)
 
 zip_push : {A B : Type 0} (R : A → B → Type 0) (xs : List A) (ys : List B) (x : A) (y : B) → AllZip R xs ys → R x y → AllZip R (xs ++ x ∷ []) (ys ++ y ∷ [])
@@ -68,17 +81,20 @@ zip_push R [] (b ∷ ys) x y are is = absurd are
 zip_push R (a ∷ xs) [] x y are is = absurd are
 
 -- one more pair of items, where the second list is seen through f
-pub zip_more : {A B C : Type 0} (R : A → B → Type 0) (f : C → B) (xs : List A) (i : ℕ) (d : A) (shown : List C) (y : C) (later : List C) → i < length xs → later ≡ shown ++ y ∷ [] → AllZip R (take i xs) (map f shown) → R (get_or xs i d) (f y)
+pub zip_more : {A B C : Type 0} (R : A → B → Type 0) (f : C → B) (xs : List A) (i : ℕ) (d : A) (shown : List C) (y : C) (later : List C) → i < length xs
+    → later ≡ shown ++ y ∷ [] → AllZip R (take i xs) (map f shown) → R (get_or xs i d) (f y)
     → AllZip R (take (i + 1) xs) (map f later)
 zip_more R f xs i d shown y later low more are is =
     rw (more, take_more xs i d low, map-append f shown (y ∷ [])) (zip_push R (take i xs) (map f shown) (get_or xs i d) (f y) are is)
 
 -- one more item of which P holds
-pub all_more : {B C : Type 0} (P : B → Type 0) (f : C → B) (shown : List C) (y : C) (later : List C) → later ≡ shown ++ y ∷ [] → All P (map f shown) → P (f y) → All P (map f later)
+pub all_more : {B C : Type 0} (P : B → Type 0) (f : C → B) (shown : List C) (y : C) (later : List C) → later ≡ shown ++ y ∷ [] → All P (map f shown) → P (f y)
+    → All P (map f later)
 all_more P f shown y later more are is = rw (more, map-append f shown (y ∷ [])) (All-append P (map f shown) (f y ∷ []) are (All-cons P (f y) [] is (All-nil P)))
 
 -- one more pair of a zip
-pub zip_next : (xs ys : List ℕ) (i : ℕ) → i < length xs → i < length ys → zip (take (i + 1) xs) (take (i + 1) ys) ≡ zip (take i xs) (take i ys) ++ (get_or xs i 0, get_or ys i 0) ∷ []
+pub zip_next : (xs ys : List ℕ) (i : ℕ) → i < length xs → i < length ys
+    → zip (take (i + 1) xs) (take (i + 1) ys) ≡ zip (take i xs) (take i ys) ++ (get_or xs i 0, get_or ys i 0) ∷ []
 zip_next [] ys i low small = absurd (omega arith)
 zip_next (x ∷ xs) [] i low small = absurd (omega arith)
 zip_next (x ∷ xs) (y ∷ ys) zero low small = refl
@@ -87,16 +103,20 @@ zip_next (x ∷ xs) (y ∷ ys) (suc i) low small =
     rw one_more (ap (λ rest. (x, y) ∷ rest) (zip_next xs ys i (omega arith) (omega arith)))
 
 -- the student of a turn is at its place
-pub turn_inside : (menus : List MenuData) (budgets : List Tokens) (sections : ℕ) (prices : List Tokens) (raise i : ℕ) (turn : TurnData) → length budgets ≡ length menus → i ≡ turn.student → IsBestTurn (crowd_of menus budgets sections) prices raise turn → i < length menus
+pub turn_inside : (menus : List MenuData) (budgets : List Tokens) (sections : ℕ) (prices : List Tokens) (raise i : ℕ) (turn : TurnData)
+    → length budgets ≡ length menus → i ≡ turn.student → IsBestTurn (crowd_of menus budgets sections) prices raise turn → i < length menus
 turn_inside menus budgets sections prices raise i turn same at is =
     let inside : turn.student < length (students_of menus budgets) = slice_get_within (students_of menus budgets) turn.student is.who is.listed in
     let count : length (students_of menus budgets) ≡ length menus = students_length menus budgets same in
     omega arith
 
 -- and has the menu and the budget there
-pub turn_student : (menus : List MenuData) (budgets : List Tokens) (sections : ℕ) (prices : List Tokens) (raise i : ℕ) (turn : TurnData) (menu : MenuData) (budget : Tokens) → length budgets ≡ length menus → i ≡ turn.student → menu ≡ get_or menus i menu
+pub turn_student : (menus : List MenuData) (budgets : List Tokens) (sections : ℕ) (prices : List Tokens) (raise i : ℕ) (turn : TurnData) (menu : MenuData)
+    (budget : Tokens)
+    → length budgets ≡ length menus → i ≡ turn.student → menu ≡ get_or menus i menu
     → budget ≡ get_or budgets i budget → (is : IsBestTurn (crowd_of menus budgets sections) prices raise turn) → is.who ≡ asked menu budget
 turn_student menus budgets sections prices raise i turn menu budget same at here has_it is =
-    let listed : slice_get (students_of menus budgets) i ≡ Some is.who = subst (λ n. slice_get (students_of menus budgets) n ≡ Some is.who) (sym at) is.listed in
+    let listed : slice_get (students_of menus budgets) i ≡ Some is.who =
+    subst (λ n. slice_get (students_of menus budgets) n ≡ Some is.who) (sym at) is.listed in
     sym (get_or_from_slice_get (students_of menus budgets) i is.who is.who listed)
     ∙ asked_at menus budgets i is.who menu budget same (turn_inside menus budgets sections prices raise i turn same at is) here has_it

@@ -20,20 +20,25 @@ use Rattle.published_market.specs.Publishing.{terms_at}
 use Rattle.published_market.proofs.Turning.{made_each}
 
 -- the budgets of a made crowd
-pub budgets_told : (menus : List MenuData) (budgets : List Tokens) → length budgets ≡ length menus → map (λ (budget : Tokens). budget.0) budgets ≡ map (λ (student : Student). student.budget) (students_of menus budgets)
+pub budgets_told : (menus : List MenuData) (budgets : List Tokens) → length budgets ≡ length menus
+    → map (λ (budget : Tokens). budget.0) budgets ≡ map (λ (student : Student). student.budget) (students_of menus budgets)
 budgets_told [] [] same = refl
 budgets_told [] (budget ∷ budgets) same = absurd (omega arith)
 budgets_told (menu ∷ menus) [] same = absurd (omega arith)
 budgets_told (menu ∷ menus) (budget ∷ budgets) same = ap (λ rest. budget.0 ∷ rest) (budgets_told menus budgets (omega arith))
 
-each_best : (crowd : CrowdData) (seats : List ℕ) (prices : List Tokens) (raise : ℕ) (held : List (List ℕ)) (turns : List TurnData) → EachTurn (IsTurn (terms_at crowd seats prices raise)) held turns → All (IsBestTurn crowd prices raise) turns
+each_best : (crowd : CrowdData) (seats : List ℕ) (prices : List Tokens) (raise : ℕ) (held : List (List ℕ)) (turns : List TurnData)
+    → EachTurn (IsTurn (terms_at crowd seats prices raise)) held turns → All (IsBestTurn crowd prices raise) turns
 each_best crowd seats prices raise held [] are = All-nil (IsBestTurn crowd prices raise)
 each_best crowd seats prices raise held (turn ∷ turns) are =
-    All-cons (IsBestTurn crowd prices raise) turn turns (record { who = are.0.who; listed = are.0.listed; best = are.0.best }) (each_best crowd seats prices raise (after_turn held turn) turns are.1)
+    All-cons (IsBestTurn crowd prices raise) turn turns (record { who = are.0.who; listed = are.0.listed; best = are.0.best })
+    (each_best crowd seats prices raise (after_turn held turn) turns are.1)
 
 -- each turn that was made is to the best of what was offered
-pub turns_best : (crowd : CrowdData) (seats : List ℕ) (prices : List Tokens) (raise : ℕ) (held : List (List ℕ)) (turns : List TurnData) (passes : ℕ) → IsAftermarket (terms_at crowd seats prices raise) held turns passes → All (IsBestTurn crowd prices raise) turns
-turns_best crowd seats prices raise held turns passes is = each_best crowd seats prices raise held turns (made_each (IsTurn (terms_at crowd seats prices raise)) crowd held turns passes is)
+pub turns_best : (crowd : CrowdData) (seats : List ℕ) (prices : List Tokens) (raise : ℕ) (held : List (List ℕ)) (turns : List TurnData) (passes : ℕ)
+    → IsAftermarket (terms_at crowd seats prices raise) held turns passes → All (IsBestTurn crowd prices raise) turns
+turns_best crowd seats prices raise held turns passes is =
+    each_best crowd seats prices raise held turns (made_each (IsTurn (terms_at crowd seats prices raise)) crowd held turns passes is)
 
 places_count : (first n : ℕ) → length (places_from first n) ≡ n
 places_count first zero = refl
@@ -44,10 +49,13 @@ pub used_count : (used : List ℕ) (held : List (List ℕ)) (n m : ℕ) → used
 used_count used held n m is same = ap (λ (all : List ℕ). length all) is ∙ length-map (places_from 0 n) (λ s. holders s held) ∙ places_count 0 n ∙ sym same
 
 -- the sessions of the entries are sessions
-pub order_told : (journal : List Entry) (order : List ℕ) → order ≡ sessions_of journal → All (λ (entry : Entry). IsSession entry.session) journal → All IsSession order
+pub order_told : (journal : List Entry) (order : List ℕ) → order ≡ sessions_of journal → All (λ (entry : Entry). IsSession entry.session) journal
+    → All IsSession order
 order_told journal order is are = subst (All IsSession) (sym is) (All-map IsSession (λ (entry : Entry). entry.session) journal are)
 
 -- no section of a catalogue has more than 9,999 seats
-pub seats_low : (catalog : CatalogData) (seats : List ℕ) → seats ≡ map (λ (section : Section). section.seats) catalog.sections → IsCatalog catalog → All (λ count. count ≤ 9999) seats
+pub seats_low : (catalog : CatalogData) (seats : List ℕ) → seats ≡ map (λ (section : Section). section.seats) catalog.sections → IsCatalog catalog
+    → All (λ count. count ≤ 9999) seats
 seats_low catalog seats same is =
-    subst (All (λ count. count ≤ 9999)) (sym same) (All-map (λ count. count ≤ 9999) (λ (section : Section). section.seats) catalog.sections (λ k d inside. (is.each k d inside).is_section.few_seats))
+    subst (All (λ count. count ≤ 9999)) (sym same)
+    (All-map (λ count. count ≤ 9999) (λ (section : Section). section.seats) catalog.sections (λ k d inside. (is.each k d inside).is_section.few_seats))

@@ -26,12 +26,14 @@ cut_like R (x ∷ xs) (y ∷ front) later are =
     record { ahead = x ∷ rest.ahead; behind = rest.behind; whole = ap (λ all. x ∷ all) rest.whole; first = (are.0, rest.first); second = rest.second }
 
 -- what is held after turns is held after the published ones
-pub same_held : (crowd : CrowdData) (prices : List Tokens) (raise : ℕ) (held : List (List ℕ)) (turns : List TurnData) (published : List ProvedTurn) → AllZip (IsPublishedTurn crowd prices raise) turns published → held_after held published ≡ after_turns held turns
+pub same_held : (crowd : CrowdData) (prices : List Tokens) (raise : ℕ) (held : List (List ℕ)) (turns : List TurnData) (published : List ProvedTurn)
+    → AllZip (IsPublishedTurn crowd prices raise) turns published → held_after held published ≡ after_turns held turns
 same_held crowd prices raise held [] [] are = refl
 same_held crowd prices raise held (turn ∷ turns) (proved ∷ published) are =
     let place : proved.student ≡ turn.student = are.0.student in
     let bundle : proved.bundle ≡ turn.bundle = are.0.bundle in
-    let next : slice_set held proved.student proved.bundle ≡ after_turn held turn = ap (λ s. slice_set held s proved.bundle) place ∙ ap (slice_set held turn.student) bundle in
+    let next : slice_set held proved.student proved.bundle ≡ after_turn held turn =
+    ap (λ s. slice_set held s proved.bundle) place ∙ ap (slice_set held turn.student) bundle in
     ap (λ now. held_after now published) next ∙ same_held crowd prices raise (after_turn held turn) turns published are.1
 same_held crowd prices raise held [] (proved ∷ published) are = absurd are
 same_held crowd prices raise held (turn ∷ turns) [] are = absurd are
@@ -40,20 +42,24 @@ after_both : (held : List (List ℕ)) (front later : List TurnData) → after_tu
 after_both held [] later = refl
 after_both held (turn ∷ front) later = after_both (after_turn held turn) front later
 
-each_both : (Wanted : List (List ℕ) → TurnData → Type 0) (held : List (List ℕ)) (front later : List TurnData) → EachTurn Wanted held front → EachTurn Wanted (after_turns held front) later → EachTurn Wanted held (front ++ later)
+each_both : (Wanted : List (List ℕ) → TurnData → Type 0) (held : List (List ℕ)) (front later : List TurnData) → EachTurn Wanted held front
+    → EachTurn Wanted (after_turns held front) later → EachTurn Wanted held (front ++ later)
 each_both Wanted held [] later are so = so
 each_both Wanted held (turn ∷ front) later are so = (are.0, each_both Wanted (after_turn held turn) front later are.1 so)
 
 -- a turn is as wanted where it stands
-pub each_there : (Wanted : List (List ℕ) → TurnData → Type 0) (held : List (List ℕ)) (front later : List TurnData) (turn : TurnData) → EachTurn Wanted held (front ++ turn ∷ later) → Wanted (after_turns held front) turn
+pub each_there : (Wanted : List (List ℕ) → TurnData → Type 0) (held : List (List ℕ)) (front later : List TurnData) (turn : TurnData)
+    → EachTurn Wanted held (front ++ turn ∷ later) → Wanted (after_turns held front) turn
 each_there Wanted held [] later turn are = are.0
 each_there Wanted held (first ∷ front) later turn are = each_there Wanted (after_turn held first) front later turn are.1
 
-passes_each : (Wanted : List (List ℕ) → TurnData → Type 0) (crowd : CrowdData) (number : ℕ) (held : List (List ℕ)) (by_pass : List (List TurnData)) → ArePasses Wanted crowd number held by_pass → EachTurn Wanted held (flat_map (λ pass. pass) by_pass)
+passes_each : (Wanted : List (List ℕ) → TurnData → Type 0) (crowd : CrowdData) (number : ℕ) (held : List (List ℕ)) (by_pass : List (List TurnData))
+    → ArePasses Wanted crowd number held by_pass → EachTurn Wanted held (flat_map (λ pass. pass) by_pass)
 passes_each Wanted crowd number held [] are = tt
 passes_each Wanted crowd number held (turns ∷ later) are =
     each_both Wanted held turns (flat_map (λ pass. pass) later) are.0.each (passes_each Wanted crowd (number + 1) (after_turns held turns) later are.2)
 
 -- all turns are as wanted where they stand
-pub made_each : (Wanted : List (List ℕ) → TurnData → Type 0) (crowd : CrowdData) (held : List (List ℕ)) (turns : List TurnData) (passes : ℕ) → IsMadeOf Wanted crowd held turns passes → EachTurn Wanted held turns
+pub made_each : (Wanted : List (List ℕ) → TurnData → Type 0) (crowd : CrowdData) (held : List (List ℕ)) (turns : List TurnData) (passes : ℕ)
+    → IsMadeOf Wanted crowd held turns passes → EachTurn Wanted held turns
 made_each Wanted crowd held turns passes is = subst (EachTurn Wanted held) is.joined (passes_each Wanted crowd 1 held is.by_pass is.whole)

@@ -32,20 +32,27 @@ pub record HasTurnForm (turn : ProvedTurn) : Type 0 where
 
 -- the bundle is the best of an offer
 abbrev pub IsBestOfOffer : Offer → List ℕ → Type 0
-IsBestOfOffer offer bundle = IsBest (wishes_of offer.menu) offer.price offer.budget offer.allowed bundle
+IsBestOfOffer offer bundle =
+    IsBest (wishes_of offer.menu) offer.price offer.budget offer.allowed bundle
 
 -- a turn of a student of the crowd, to the best of what is offered to it
-pub record IsBestTurn (crowd : CrowdData) (prices : List Tokens) (raise : ℕ) (turn : TurnData) : Type 0 where
+pub record IsBestTurn (crowd : CrowdData) (prices : List Tokens) (raise : ℕ)
+    (turn : TurnData) : Type 0 where
   pub who : Student
   pub listed : slice_get crowd.students turn.student ≡ Some who
   pub best : IsBestOfOffer (offer_at prices raise who turn) turn.bundle
 
 -- what the first students take at the prices, with its trees
-pub record AreProved (crowd : Crowd) (prices : List Tokens) (all : List proved.Proved) : Type 0 where
-  pub proved : AllZip (IsProvedDemand crowd.sections (price_in prices)) (take (length all) (students_of crowd.menus.items crowd.budgets.items)) (map proved_of all)
+pub record AreProved (crowd : Crowd) (prices : List Tokens)
+    (all : List proved.Proved) : Type 0 where
+  pub proved : AllZip (IsProvedDemand crowd.sections (price_in prices))
+      (take (length all) (students_of crowd.menus.items crowd.budgets.items)) (map proved_of all)
   pub form : All (λ (proved : Proved). HasForm proved.bundle proved.tree) (map proved_of all)
 
 -- the first turns, each with the tree of its bundle
-pub record AreProvedTurns (crowd : Crowd) (prices : List Tokens) (raise : ℕ) (turns : List Turn) (all : List turn.ProvedTurn) : Type 0 where
-  pub published : AllZip (IsPublishedTurn (crowd_of crowd.menus.items crowd.budgets.items crowd.sections) prices raise) (take (length all) (turns_of turns)) (map published_of all)
+pub record AreProvedTurns (crowd : Crowd) (prices : List Tokens) (raise : ℕ) (turns : List Turn)
+    (all : List turn.ProvedTurn) : Type 0 where
+  pub published : AllZip
+      (IsPublishedTurn (crowd_of crowd.menus.items crowd.budgets.items crowd.sections) prices raise)
+      (take (length all) (turns_of turns)) (map published_of all)
   pub form : All HasTurnForm (map published_of all)

@@ -15,28 +15,44 @@ use Rattle.published_market.specs.declared.rooms.Room.{Room}
 
 -- where something was written to the room, it is the tree of the bundle in the offer
 abbrev pub IsRoomOf : Offer → List ℕ → Room → Type 0
-IsRoomOf offer bundle room = IfSome room.written (λ count. (count ≤ length room.bytes.items) × IsTreeText offer None bundle (take count room.bytes.items))
+IsRoomOf offer bundle room =
+    IfSome room.written
+    (λ count. (count ≤ length room.bytes.items)
+    × IsTreeText offer None bundle (take count room.bytes.items))
 
 -- a room of the bundle at a place, of the menu and the budget there
-abbrev pub IsRoomOfStudent : Crowd → List Tokens → set.FinSet nat_cmp → List Bundle → ℕ → Room → Type 0
-IsRoomOfStudent crowd prices allowed bundles place room = (menu : MenuData) (budget : Tokens) (bundle : Bundle)
-    → menu ≡ slice_index_or crowd.menus.items place menu → budget ≡ slice_index_or crowd.budgets.items place budget → bundle ≡ slice_index_or bundles place bundle
+abbrev pub IsRoomOfStudent : Crowd → List Tokens → set.FinSet nat_cmp → List Bundle → ℕ → Room
+    → Type 0
+IsRoomOfStudent crowd prices allowed bundles place room =
+    (menu : MenuData) (budget : Tokens) (bundle : Bundle)
+    → menu ≡ slice_index_or crowd.menus.items place menu
+    → budget ≡ slice_index_or crowd.budgets.items place budget
+    → bundle ≡ slice_index_or bundles place bundle
     → IsRoomOf (offer_of menu prices budget.0 allowed) (sections_of bundle) room
 
 -- rooms of the bundles from a place on
-abbrev pub AreRoomsOfStudents : Crowd → List Tokens → set.FinSet nat_cmp → List Bundle → ℕ → List Room → Type 0
-AreRoomsOfStudents crowd prices allowed bundles first rooms = (k : ℕ) (d : Room) → k < length rooms → IsRoomOfStudent crowd prices allowed bundles (first + k) (slice_index_or rooms k d)
+abbrev pub AreRoomsOfStudents : Crowd → List Tokens → set.FinSet nat_cmp → List Bundle → ℕ
+    → List Room → Type 0
+AreRoomsOfStudents crowd prices allowed bundles first rooms =
+    (k : ℕ) (d : Room) → k < length rooms
+    → IsRoomOfStudent crowd prices allowed bundles (first + k) (slice_index_or rooms k d)
 
 -- a room of a turn's bundle, of its student's menu and raised budget
 abbrev pub IsRoomOfTurn : Crowd → List Tokens → ℕ → Turn → Room → Type 0
 IsRoomOfTurn crowd prices raise turn room = (menu : MenuData) (budget : Tokens)
-    → menu ≡ slice_index_or crowd.menus.items turn.student.0 menu → budget ≡ slice_index_or crowd.budgets.items turn.student.0 budget
-    → IsRoomOf (offer_of menu prices (raised_by raise budget.0) turn.allowed) (sections_of turn.bundle) room
+    → menu ≡ slice_index_or crowd.menus.items turn.student.0 menu
+    → budget ≡ slice_index_or crowd.budgets.items turn.student.0 budget
+    → IsRoomOf (offer_of menu prices (raised_by raise budget.0) turn.allowed)
+    (sections_of turn.bundle) room
 
 -- a room of the turn at a place
 abbrev pub IsRoomOfTurnAt : Crowd → List Tokens → ℕ → List Turn → ℕ → Room → Type 0
-IsRoomOfTurnAt crowd prices raise turns place room = (turn : Turn) → turn ≡ slice_index_or turns place turn → IsRoomOfTurn crowd prices raise turn room
+IsRoomOfTurnAt crowd prices raise turns place room =
+    (turn : Turn) → turn ≡ slice_index_or turns place turn
+    → IsRoomOfTurn crowd prices raise turn room
 
 -- rooms of the turns from a place on
 abbrev pub AreRoomsOfTurns : Crowd → List Tokens → ℕ → List Turn → ℕ → List Room → Type 0
-AreRoomsOfTurns crowd prices raise turns first rooms = (k : ℕ) (d : Room) → k < length rooms → IsRoomOfTurnAt crowd prices raise turns (first + k) (slice_index_or rooms k d)
+AreRoomsOfTurns crowd prices raise turns first rooms =
+    (k : ℕ) (d : Room) → k < length rooms
+    → IsRoomOfTurnAt crowd prices raise turns (first + k) (slice_index_or rooms k d)

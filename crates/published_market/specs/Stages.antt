@@ -16,8 +16,8 @@ use Rattle.held_seats.specs.Choices.{AreHeldWithin}
 use Rattle.published_market.specs.declared.publishing.Stages.{Stages}
 use Rattle.published_market.specs.Publishing.{Lengths, lengths_of, terms_at}
 
--- what the stages come to: the found prices and their error, the last prices, the bundles at these, the turns, what is held after them, and
--- how many hold each section
+-- what the stages come to: the found prices and their error, the last prices, the bundles at these,
+-- the turns, what is held after them, and how many hold each section
 pub record StageData : Type 0 where
   pub start : List Tokens
   pub error : ℕ
@@ -41,11 +41,13 @@ stages_of stages = record {
 }
 
 -- these are the stages of a crowd
-pub record AreStages (crowd : CrowdData) (seats : List ℕ) (settings : Settings) (stages : StageData) : Type 0 where
+pub record AreStages (crowd : CrowdData) (seats : List ℕ) (settings : Settings)
+    (stages : StageData) : Type 0 where
   pub found : IsFound crowd seats settings stages.start stages.error stages.lengths.turns
   pub settled : IsSettled crowd seats stages.start stages.prices stages.lengths.rounds
   pub bundles : stages.bundles ≡ demands crowd (price_in stages.prices)
-  pub made : IsAftermarket (terms_at crowd seats stages.prices settings.raise) stages.bundles stages.turns stages.lengths.passes
+  pub made : IsAftermarket (terms_at crowd seats stages.prices settings.raise) stages.bundles
+      stages.turns stages.lengths.passes
   pub held : stages.held ≡ after_turns stages.bundles stages.turns
   pub used : stages.used ≡ map (λ s. holders s stages.held) (places_from 0 crowd.sections)
   pub within : AreHeldWithin crowd.sections seats stages.held

@@ -9,12 +9,16 @@ use Rattle.aftermarket_stage.specs.Turns.{TurnData}
 use Rattle.market_certificate.specs.Publications.{ProvedTurn}
 use Rattle.published_parts.specs.Offers.{IsProvedBest, offer_to}
 
--- what is offered to a student at a turn: the sections that it may choose, at the same prices, with its raised budget
+-- what is offered to a student at a turn: the sections that it may choose, at the same prices, with
+-- its raised budget
 abbrev pub offer_at : List Tokens → ℕ → Student → TurnData → Offer
-offer_at prices raise student turn = offer_to student (price_in prices) (raised_by raise student.budget) turn.allowed
+offer_at prices raise student turn =
+    offer_to student (price_in prices) (raised_by raise student.budget) turn.allowed
 
--- a turn as it is published: its pass, its student and its bundle, which is the best of what is offered, with the bundle's tree
-pub record IsPublishedTurn (crowd : CrowdData) (prices : List Tokens) (raise : ℕ) (turn : TurnData) (published : ProvedTurn) : Type 0 where
+-- a turn as it is published: its pass, its student and its bundle, which is the best of what is
+-- offered, with the bundle's tree
+pub record IsPublishedTurn (crowd : CrowdData) (prices : List Tokens) (raise : ℕ) (turn : TurnData)
+    (published : ProvedTurn) : Type 0 where
   pub pass : published.pass ≡ turn.pass
   pub student : published.student ≡ turn.student
   pub bundle : published.bundle ≡ turn.bundle

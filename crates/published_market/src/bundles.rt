@@ -34,10 +34,14 @@ pub(crate) fn prove_bundle(
     room: &Room,
 ) -> Result<Proved, NoMemory>
     requires prices { HasPrices menu.now prices.now }
-    requires best { IsBest (wishes_of menu.now) (price_in prices.now) budget.0 (set.contains allowed.now) (sections_of bundle.now) }
-    requires room { IsRoomOf (offer_of menu.now prices.now budget.0 allowed.now) (sections_of bundle.now) room.now }
+    requires best { IsBest (wishes_of menu.now) (price_in prices.now) budget.0
+        (set.contains allowed.now) (sections_of bundle.now) }
+    requires room { IsRoomOf (offer_of menu.now prices.now budget.0 allowed.now)
+        (sections_of bundle.now) room.now }
     ensures bundle { IfOk result (λ proved. sections_of proved.bundle ≡ sections_of bundle.now) }
-    ensures proved { IfOk result (λ proved. IsProvedBest (offer_of menu.now prices.now budget.0 allowed.now) (sections_of proved.bundle) proved.tree.items) }
+    ensures proved { IfOk result
+        (λ proved. IsProvedBest (offer_of menu.now prices.now budget.0 allowed.now)
+        (sections_of proved.bundle) proved.tree.items) }
     ensures form { IfOk result (λ proved. HasForm (sections_of proved.bundle) proved.tree.items) }
 {
     prove!(menu.len() <= 60);
@@ -59,9 +63,12 @@ fn fill_room(
     room: &mut Room,
 )
     requires crowd { MakeCrowd crowd.now.menus.items crowd.now.budgets.items crowd.now.sections }
-    requires prices { ArePricesFor (crowd_of crowd.now.menus.items crowd.now.budgets.items crowd.now.sections) prices.now }
+    requires prices { ArePricesFor
+        (crowd_of crowd.now.menus.items crowd.now.budgets.items crowd.now.sections) prices.now }
     requires allowed { (s : ℕ) → set.contains allowed.now s ≡ nat_lt s crowd.now.sections }
-    requires bundles { AreTaken (crowd_of crowd.now.menus.items crowd.now.budgets.items crowd.now.sections) prices.now bundles.now }
+    requires bundles { AreTaken
+        (crowd_of crowd.now.menus.items crowd.now.budgets.items crowd.now.sections) prices.now
+        bundles.now }
     requires place { place < length bundles.now }
     ensures { IsRoomOfStudent crowd.now prices.now allowed.now bundles.now place room.new }
 {
@@ -71,7 +78,8 @@ fn fill_room(
     room.fill(menu, prices, budget, allowed, bundle);
 }
 
-// Writes the trees of what the students from the first on take to the rooms, one to each, in threads.
+// Writes the trees of what the students from the first on take to the rooms, one to each, in
+// threads.
 fn fill_rooms<R: Threads + Sync>(
     rt: &R,
     workers: u16,
@@ -83,12 +91,16 @@ fn fill_rooms<R: Threads + Sync>(
     rooms: &mut [Room],
 )
     requires crowd { MakeCrowd crowd.now.menus.items crowd.now.budgets.items crowd.now.sections }
-    requires prices { ArePricesFor (crowd_of crowd.now.menus.items crowd.now.budgets.items crowd.now.sections) prices.now }
+    requires prices { ArePricesFor
+        (crowd_of crowd.now.menus.items crowd.now.budgets.items crowd.now.sections) prices.now }
     requires allowed { (s : ℕ) → set.contains allowed.now s ≡ nat_lt s crowd.now.sections }
-    requires bundles { AreTaken (crowd_of crowd.now.menus.items crowd.now.budgets.items crowd.now.sections) prices.now bundles.now }
+    requires bundles { AreTaken
+        (crowd_of crowd.now.menus.items crowd.now.budgets.items crowd.now.sections) prices.now
+        bundles.now }
     requires places { first + length rooms.old ≤ length bundles.now }
     ensures count { length rooms.new ≡ length rooms.old }
-    ensures rooms { AreRoomsOfStudents crowd.now prices.now allowed.now bundles.now first rooms.new }
+    ensures rooms { AreRoomsOfStudents crowd.now prices.now allowed.now bundles.now first
+        rooms.new }
 {
     let threads = workers_for(workers, rooms.len());
     thread::for_each_mut(
@@ -100,7 +112,8 @@ fn fill_rooms<R: Threads + Sync>(
                 × ArePricesFor (crowd_of crowd.now.menus.items crowd.now.budgets.items crowd.now.sections) prices.now
                 × ((s : ℕ) → set.contains allowed.now s ≡ nat_lt s crowd.now.sections)
                 × AreTaken (crowd_of crowd.now.menus.items crowd.now.budgets.items crowd.now.sections) prices.now bundles.now }
-            ensures { IsRoomOfStudent crowd.entry.now prices.entry.now allowed.entry.now bundles.entry.now (first + n) room.exit.now }
+            ensures { IsRoomOfStudent crowd.entry.now prices.entry.now allowed.entry.now
+                bundles.entry.now (first + n) room.exit.now }
         { fill_room(crowd, prices, allowed, bundles, first + n, room) },
     );
 }
@@ -116,11 +129,15 @@ fn put_bundles(
     all: &mut Vec<Proved>,
 ) -> Result<(), NoMemory>
     requires crowd { MakeCrowd crowd.now.menus.items crowd.now.budgets.items crowd.now.sections }
-    requires prices { ArePricesFor (crowd_of crowd.now.menus.items crowd.now.budgets.items crowd.now.sections) prices.now }
+    requires prices { ArePricesFor
+        (crowd_of crowd.now.menus.items crowd.now.budgets.items crowd.now.sections) prices.now }
     requires allowed { (s : ℕ) → set.contains allowed.now s ≡ nat_lt s crowd.now.sections }
-    requires bundles { AreTaken (crowd_of crowd.now.menus.items crowd.now.budgets.items crowd.now.sections) prices.now bundles.now }
+    requires bundles { AreTaken
+        (crowd_of crowd.now.menus.items crowd.now.budgets.items crowd.now.sections) prices.now
+        bundles.now }
     requires places { length all.old.items + length rooms.now ≤ length bundles.now }
-    requires rooms { AreRoomsOfStudents crowd.now prices.now allowed.now bundles.now (length all.old.items) rooms.now }
+    requires rooms { AreRoomsOfStudents crowd.now prices.now allowed.now bundles.now
+        (length all.old.items) rooms.now }
     requires proved { AreProved crowd.now prices.now all.old.items }
     ensures count { OnOk result (length all.new.items ≡ length all.old.items + length rooms.now) }
     ensures proved { OnOk result (AreProved crowd.now prices.now all.new.items) }
@@ -135,8 +152,8 @@ fn put_bundles(
     Ok(())
 }
 
-// What each student of the crowd takes at the prices, with its tree. So many workers write the trees to rooms of this size,
-// group after group; one that does not fit is built afterwards.
+// What each student of the crowd takes at the prices, with its tree. So many workers write the
+// trees to rooms of this size, group after group; one that does not fit is built afterwards.
 pub(crate) fn prove_bundles<R: Threads + Sync>(
     rt: &R,
     alloc: Global,
@@ -147,10 +164,17 @@ pub(crate) fn prove_bundles<R: Threads + Sync>(
     bundles: &[Bundle],
 ) -> Result<Vec<Proved>, NoMemory>
     requires crowd { MakeCrowd crowd.now.menus.items crowd.now.budgets.items crowd.now.sections }
-    requires prices { ArePricesFor (crowd_of crowd.now.menus.items crowd.now.budgets.items crowd.now.sections) prices.now }
-    requires bundles { AreTaken (crowd_of crowd.now.menus.items crowd.now.budgets.items crowd.now.sections) prices.now bundles.now }
-    ensures proved { IfOk result (λ all. AllZip (IsProvedDemand crowd.now.sections (price_in prices.now)) (crowd_of crowd.now.menus.items crowd.now.budgets.items crowd.now.sections).students (map proved_of all.items)) }
-    ensures form { IfOk result (λ all. All (λ proved. HasForm proved.bundle proved.tree) (map proved_of all.items)) }
+    requires prices { ArePricesFor
+        (crowd_of crowd.now.menus.items crowd.now.budgets.items crowd.now.sections) prices.now }
+    requires bundles { AreTaken
+        (crowd_of crowd.now.menus.items crowd.now.budgets.items crowd.now.sections) prices.now
+        bundles.now }
+    ensures proved { IfOk result
+        (λ all. AllZip (IsProvedDemand crowd.now.sections (price_in prices.now))
+        (crowd_of crowd.now.menus.items crowd.now.budgets.items crowd.now.sections).students
+        (map proved_of all.items)) }
+    ensures form { IfOk result
+        (λ all. All (λ proved. HasForm proved.bundle proved.tree) (map proved_of all.items)) }
 {
     let allowed = SectionSet::full(crowd.sections);
     let mut all = Vec::with_capacity(alloc, bundles.len())?;

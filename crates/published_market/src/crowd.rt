@@ -15,8 +15,8 @@ use preference_desk::Desk;
 use std::alloc::Global;
 use student_roll::Roll;
 
-/// The crowd of the market after the journal of a desk for this catalogue and this roll. The one error is the want of
-/// memory.
+/// The crowd of the market after the journal of a desk for this catalogue and this roll. The one
+/// error is the want of memory.
 pub fn crowd_after(
     alloc: Global,
     catalog: &Catalog,
@@ -26,8 +26,11 @@ pub fn crowd_after(
 ) -> Result<Crowd, NoMemory>
     requires names { names_of desk.now ≡ names_in (market_of catalog.now roll.now settings.now) }
     requires settings { AreInRange settings.now }
-    ensures crowd { IfOk result (λ crowd. IsCrowdIn (market_of catalog.now roll.now settings.now) (entries_of desk.now) (crowd_of crowd.menus.items crowd.budgets.items crowd.sections)) }
-    ensures whole { IfOk result (λ crowd. MakeCrowd crowd.menus.items crowd.budgets.items crowd.sections) }
+    ensures crowd { IfOk result
+        (λ crowd. IsCrowdIn (market_of catalog.now roll.now settings.now) (entries_of desk.now)
+        (crowd_of crowd.menus.items crowd.budgets.items crowd.sections)) }
+    ensures whole { IfOk result
+        (λ crowd. MakeCrowd crowd.menus.items crowd.budgets.items crowd.sections) }
 {
     make_crowd(
         alloc,

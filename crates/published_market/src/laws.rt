@@ -1,5 +1,5 @@
-//! What holds of published markets: each call here does nothing, and its contract is a law. First come the sentences on
-//! what a published text says of students and sections.
+//! What holds of published markets: each call here does nothing, and its contract is a law. First
+//! come the sentences on what a published text says of students and sections.
 ghost use Rattle.published_market.specs.Laws.{AllocatedInPasses, AllocationWithinSeats, BestAtItsTurn, BestWithinBudget, BudgetsAreDrawn, OneLeastError, OnePublication, OnePublishedText, OrderMergesStreams, PublishedIsPriced, PublishedIsPublication, PublishedOrUnpriced, StageTwoWithinSeats, TurnsWithinSeats};
 
 use aftermarket_stage::laws::{aftermarket_ends, one_aftermarket, stays_within_seats};
@@ -13,18 +13,20 @@ pub fn order_merges_streams()
     ensures { OrderMergesStreams }
 {}
 
-/// Each budget is the base, what was carried over, and the spread times the rank that the seed draws.
+/// Each budget is the base, what was carried over, and the spread times the rank that the seed
+/// draws.
 pub fn budgets_are_drawn()
     ensures { BudgetsAreDrawn }
 {}
 
-/// Each student's bundle of stage two is the best feasible one within its budget at the published prices.
+/// Each student's bundle of stage two is the best feasible one within its budget at the published
+/// prices.
 pub fn best_within_budget()
     ensures { BestWithinBudget }
 {}
 
-/// Each turn's bundle is the best one within the raised budget of the sections that the student holds and of those that
-/// are free.
+/// Each turn's bundle is the best one within the raised budget of the sections that the student
+/// holds and of those that are free.
 pub fn best_at_its_turn()
     ensures { BestAtItsTurn }
 {}
@@ -48,16 +50,17 @@ pub fn allocation_within_seats()
     stays_within_seats();
 }
 
-/// The turns come in passes, in each of which each student has one turn, by budget before any raise; in the last pass, and in no
-/// other, nobody changes anything. Each student's final bundle is what its last turn left, and the best that it may have in the
-/// end, of what it holds and of what is free. The used seats are those that the final bundles take.
+/// The turns come in passes, in each of which each student has one turn, by budget before any
+/// raise; in the last pass, and in no other, nobody changes anything. Each student's final bundle
+/// is what its last turn left, and the best that it may have in the end, of what it holds and of
+/// what is free. The used seats are those that the final bundles take.
 pub fn allocated_in_passes()
     ensures { AllocatedInPasses }
 {}
 
-/// What is published for catalogue, roll and settings in their ranges and at most 64 sessions is a publication in the ranges of
-/// the text, where its text is not of 2 ^ 64 bytes or more: a turn's pass is to be below 2 ^ 64, and no pass has a greater
-/// number than the text has bytes.
+/// What is published for catalogue, roll and settings in their ranges and at most 64 sessions is a
+/// publication in the ranges of the text, where its text is not of 2 ^ 64 bytes or more: a turn's
+/// pass is to be below 2 ^ 64, and no pass has a greater number than the text has bytes.
 pub fn published_is_publication()
     ensures { PublishedIsPublication }
 {}
@@ -85,15 +88,16 @@ pub fn one_least_error()
     tabu_search::laws::one_least_error();
 }
 
-/// What is published has prices: no order has both a publication and a least error that is not accepted.
+/// What is published has prices: no order has both a publication and a least error that is not
+/// accepted.
 pub fn published_is_priced()
     ensures { PublishedIsPriced }
 {
     not_both_are_searched();
 }
 
-/// For catalogue, roll and settings in their ranges and at most 64 sessions, an order with a journal that merges the streams has
-/// something published, or a least error that is not accepted.
+/// For catalogue, roll and settings in their ranges and at most 64 sessions, an order with a
+/// journal that merges the streams has something published, or a least error that is not accepted.
 pub fn published_or_unpriced()
     ensures { PublishedOrUnpriced }
 {

@@ -75,10 +75,11 @@ struct Stages {
     after: After,
 }
 
-/// Holds the market after a journal, and gives what it publishes: the budgets; the prices that the search finds; the
-/// prices at which the elimination ends, with each student's best bundle at them; the turns of the aftermarket; and what
-/// is held at the end. Each bundle has its tree. So many workers write the trees, and one where that is 0; their number
-/// changes nothing that is published. The crowd is that of the market after the journal, and is the one whose demands are
+/// Holds the market after a journal, and gives what it publishes: the budgets; the prices that the
+/// search finds; the prices at which the elimination ends, with each student's best bundle at them;
+/// the turns of the aftermarket; and what is held at the end. Each bundle has its tree. So many
+/// workers write the trees, and one where that is 0; their number changes nothing that is
+/// published. The crowd is that of the market after the journal, and is the one whose demands are
 /// asked. `NoPrices` comes exactly where the search's least error exceeds what the settings accept.
 pub fn publish<R: Threads + Wait + Sync, D: Demands>(
     rt: &R,
@@ -93,14 +94,19 @@ pub fn publish<R: Threads + Wait + Sync, D: Demands>(
 ) -> Result<Published, PublishEnd>
     requires sessions { All (λ entry. IsSession entry.session) journal.now }
     requires crowd { MakeCrowd crowd.now.menus.items crowd.now.budgets.items crowd.now.sections }
-    requires is_crowd { IsCrowdIn (market_of catalog.now roll.now settings.now) journal.now (crowd_of crowd.now.menus.items crowd.now.budgets.items crowd.now.sections) }
-    requires asked { D.crowd demands.old ≡ crowd_of crowd.now.menus.items crowd.now.budgets.items crowd.now.sections }
+    requires is_crowd { IsCrowdIn (market_of catalog.now roll.now settings.now) journal.now
+        (crowd_of crowd.now.menus.items crowd.now.budgets.items crowd.now.sections) }
+    requires asked { D.crowd demands.old
+        ≡ crowd_of crowd.now.menus.items crowd.now.budgets.items crowd.now.sections }
     requires settings { AreInRange settings.now }
     ensures crowd { D.crowd demands.new ≡ D.crowd demands.old }
     ensures published { IfOk result (λ published. IsPublicationOf (market_of catalog.now roll.now settings.now) journal.now
         (lengths_of published.turns published.rounds published.passes) (publication_of published.publication)) }
-    ensures in_range { IfOk result (λ published. IsPublication (tables_of catalog.now roll.now) (publication_of published.publication)) }
-    ensures no_prices { (least : ℕ) → result ≡ Err (PublishEnd.NoPrices least) → HasNoPrices (market_of catalog.now roll.now settings.now) journal.now least }
+    ensures in_range { IfOk result
+        (λ published. IsPublication (tables_of catalog.now roll.now)
+        (publication_of published.publication)) }
+    ensures no_prices { (least : ℕ) → result ≡ Err (PublishEnd.NoPrices least)
+        → HasNoPrices (market_of catalog.now roll.now settings.now) journal.now least }
 {
     publish_by(
         rt, alloc, workers, ROOM, catalog, roll, settings, journal, crowd, demands,
@@ -122,14 +128,19 @@ pub(crate) fn publish_by<R: Threads + Wait + Sync, D: Demands>(
 ) -> Result<Published, PublishEnd>
     requires sessions { All (λ entry. IsSession entry.session) journal.now }
     requires crowd { MakeCrowd crowd.now.menus.items crowd.now.budgets.items crowd.now.sections }
-    requires is_crowd { IsCrowdIn (market_of catalog.now roll.now settings.now) journal.now (crowd_of crowd.now.menus.items crowd.now.budgets.items crowd.now.sections) }
-    requires asked { D.crowd demands.old ≡ crowd_of crowd.now.menus.items crowd.now.budgets.items crowd.now.sections }
+    requires is_crowd { IsCrowdIn (market_of catalog.now roll.now settings.now) journal.now
+        (crowd_of crowd.now.menus.items crowd.now.budgets.items crowd.now.sections) }
+    requires asked { D.crowd demands.old
+        ≡ crowd_of crowd.now.menus.items crowd.now.budgets.items crowd.now.sections }
     requires settings { AreInRange settings.now }
     ensures crowd { D.crowd demands.new ≡ D.crowd demands.old }
     ensures published { IfOk result (λ published. IsPublicationOf (market_of catalog.now roll.now settings.now) journal.now
         (lengths_of published.turns published.rounds published.passes) (publication_of published.publication)) }
-    ensures in_range { IfOk result (λ published. IsPublication (tables_of catalog.now roll.now) (publication_of published.publication)) }
-    ensures no_prices { (least : ℕ) → result ≡ Err (PublishEnd.NoPrices least) → HasNoPrices (market_of catalog.now roll.now settings.now) journal.now least }
+    ensures in_range { IfOk result
+        (λ published. IsPublication (tables_of catalog.now roll.now)
+        (publication_of published.publication)) }
+    ensures no_prices { (least : ℕ) → result ≡ Err (PublishEnd.NoPrices least)
+        → HasNoPrices (market_of catalog.now roll.now settings.now) journal.now least }
 {
     let _few_sections = catalog.len();
     let seats = catalog.all_seats();
@@ -150,11 +161,17 @@ fn hold_stages<R: Threads + Wait + Sync, D: Demands>(
 ) -> Result<Stages, PublishEnd>
     requires seats { length seats.now ≡ crowd.now.sections }
     requires crowd { MakeCrowd crowd.now.menus.items crowd.now.budgets.items crowd.now.sections }
-    requires asked { D.crowd demands.old ≡ crowd_of crowd.now.menus.items crowd.now.budgets.items crowd.now.sections }
+    requires asked { D.crowd demands.old
+        ≡ crowd_of crowd.now.menus.items crowd.now.budgets.items crowd.now.sections }
     requires settings { AreInRange settings.now }
     ensures crowd { D.crowd demands.new ≡ D.crowd demands.old }
-    ensures stages { IfOk result (λ stages. AreStages (crowd_of crowd.now.menus.items crowd.now.budgets.items crowd.now.sections) seats.now settings.now (stages_of stages)) }
-    ensures no_prices { (least : ℕ) → result ≡ Err (PublishEnd.NoPrices least) → FindsNone (crowd_of crowd.now.menus.items crowd.now.budgets.items crowd.now.sections) seats.now settings.now least }
+    ensures stages { IfOk result
+        (λ stages. AreStages
+        (crowd_of crowd.now.menus.items crowd.now.budgets.items crowd.now.sections) seats.now
+        settings.now (stages_of stages)) }
+    ensures no_prices { (least : ℕ) → result ≡ Err (PublishEnd.NoPrices least)
+        → FindsNone (crowd_of crowd.now.menus.items crowd.now.budgets.items crowd.now.sections)
+        seats.now settings.now least }
 {
     let found = find_prices(rt, alloc, demands, seats, settings)?;
     let settled = settle(rt, alloc, demands, seats, &found.prices)?;
@@ -183,8 +200,11 @@ fn find_prices<R: Threads + Wait + Sync, D: Demands>(
 ) -> Result<Found, PublishEnd>
     requires { length seats.now ≡ (D.crowd demands.old).sections }
     ensures crowd { D.crowd demands.new ≡ D.crowd demands.old }
-    ensures found { IfOk result (λ found. IsFound (D.crowd demands.old) seats.now settings.now found.prices.items found.error found.turns) }
-    ensures none { (least : ℕ) → result ≡ Err (PublishEnd.NoPrices least) → FindsNone (D.crowd demands.old) seats.now settings.now least }
+    ensures found { IfOk result
+        (λ found. IsFound (D.crowd demands.old) seats.now settings.now found.prices.items
+        found.error found.turns) }
+    ensures none { (least : ℕ) → result ≡ Err (PublishEnd.NoPrices least)
+        → FindsNone (D.crowd demands.old) seats.now settings.now least }
 {
     match search(rt, alloc, demands, seats, settings) {
         Ok(found) => Ok(found),
@@ -210,8 +230,11 @@ fn put_together<R: Threads + Sync>(
     requires low { All (λ count. count ≤ 9999) seats.now }
     requires crowd { MakeCrowd crowd.now.menus.items crowd.now.budgets.items crowd.now.sections }
     requires settings { AreInRange settings.now }
-    requires stages { AreStages (crowd_of crowd.now.menus.items crowd.now.budgets.items crowd.now.sections) seats.now settings.now (stages_of stages) }
-    ensures order { IfOk result (λ published. published.publication.order.items ≡ sessions_of journal.now) }
+    requires stages { AreStages
+        (crowd_of crowd.now.menus.items crowd.now.budgets.items crowd.now.sections) seats.now
+        settings.now (stages_of stages) }
+    ensures order { IfOk result
+        (λ published. published.publication.order.items ≡ sessions_of journal.now) }
     ensures outcome { IfOk result (λ published. IsOutcome (crowd_of crowd.now.menus.items crowd.now.budgets.items crowd.now.sections) seats.now settings.now
         (lengths_of published.turns published.rounds published.passes) (publication_of published.publication)) }
     ensures in_range { IfOk result (λ published. (tables : Tables) → length tables.students ≡ length crowd.now.menus.items → length tables.sections ≡ crowd.now.sections

@@ -13,17 +13,20 @@ use market_units::{NoMemory, SectionSet, Tokens};
 use proof_tree::{build, build_into};
 use std::alloc::Global;
 
-// The bytes of a room. Of the 18,000 trees of a large market one is longer; at half of this 306 would be, which are an
-// eighth of all bytes.
+// The bytes of a room. Of the 18,000 trees of a large market one is longer; at half of this 306
+// would be, which are an eighth of all bytes.
 pub(crate) const ROOM: usize = 16_384;
 
-// The rooms that are filled before their trees are copied out: 4 MB. With twice as many the workers are hardly better parted.
+// The rooms that are filled before their trees are copied out: 4 MB. With twice as many the workers
+// are hardly better parted.
 const GROUP: usize = 256;
 
-// For so many trees each one more worker is started: a start and its end take about as long as several trees.
+// For so many trees each one more worker is started: a start and its end take about as long as
+// several trees.
 const SHARE: usize = 16;
 
-// A room, and how many bytes of it are the tree that was written to it; none where the tree did not fit.
+// A room, and how many bytes of it are the tree that was written to it; none where the tree did not
+// fit.
 #[derive(Drop)]
 pub(crate) struct Room {
     bytes: Vec<u8>,
@@ -41,8 +44,10 @@ impl Room {
         bundle: &Bundle,
     )
         requires prices { HasPrices menu.now prices.now }
-        requires best { IsBest (wishes_of menu.now) (price_in prices.now) budget.0 (set.contains allowed.now) (sections_of bundle.now) }
-        ensures { IsRoomOf (offer_of menu.now prices.now budget.0 allowed.now) (sections_of bundle.now) self.new }
+        requires best { IsBest (wishes_of menu.now) (price_in prices.now) budget.0
+            (set.contains allowed.now) (sections_of bundle.now) }
+        ensures { IsRoomOf (offer_of menu.now prices.now budget.0 allowed.now)
+            (sections_of bundle.now) self.new }
     {
         self.written = build_into(menu, prices, budget, allowed, bundle, &mut self.bytes);
     }
@@ -58,9 +63,13 @@ impl Room {
         bundle: &Bundle,
     ) -> Result<Vec<u8>, NoMemory>
         requires prices { HasPrices menu.now prices.now }
-        requires best { IsBest (wishes_of menu.now) (price_in prices.now) budget.0 (set.contains allowed.now) (sections_of bundle.now) }
-        requires room { IsRoomOf (offer_of menu.now prices.now budget.0 allowed.now) (sections_of bundle.now) self.now }
-        ensures { IfOk result (λ tree. IsTreeText (offer_of menu.now prices.now budget.0 allowed.now) None (sections_of bundle.now) tree.items) }
+        requires best { IsBest (wishes_of menu.now) (price_in prices.now) budget.0
+            (set.contains allowed.now) (sections_of bundle.now) }
+        requires room { IsRoomOf (offer_of menu.now prices.now budget.0 allowed.now)
+            (sections_of bundle.now) self.now }
+        ensures { IfOk result
+            (λ tree. IsTreeText (offer_of menu.now prices.now budget.0 allowed.now) None
+            (sections_of bundle.now) tree.items) }
     {
         match self.written {
             Some(count) => Ok(self.bytes[..count].to_vec(alloc)?),

@@ -5,7 +5,8 @@ ghost use Rattle.market_certificate.specs.Publications.{IsSession};
 use market_units::MAX_SESSIONS;
 use preference_desk::Entry;
 
-/// Whether each entry is of a session from 1 to 64, as a journal is after which a market can be published.
+/// Whether each entry is of a session from 1 to 64, as a journal is after which a market can be
+/// published.
 pub fn are_sessions(journal: &[Entry]) -> bool
     ensures { IsTrue result ↔ All (λ entry. IsSession entry.session) journal.now }
 {

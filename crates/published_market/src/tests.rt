@@ -41,8 +41,8 @@ fn say_each(rt: &impl Abort, desk: &mut Desk, commands: &[Command])
     }
 }
 
-// The text that the market publishes after the desk's journal, or the least error where no prices are found. So many
-// workers write trees to rooms of this size.
+// The text that the market publishes after the desk's journal, or the least error where no prices
+// are found. So many workers write trees to rooms of this size.
 fn text_of<R: Abort + Threads + Wait + Sync>(
     rt: &R,
     alloc: Global,
@@ -129,7 +129,8 @@ fn try_market<R: Abort + Threads + Wait + Sync>(rt: &R, alloc: Global, market: &
     assert_eq!(rt; text.as_slice(), market.term.text.as_bytes());
 }
 
-// The text with a line for each of the forty students: what stands before its name, the name, and what stands behind.
+// The text with a line for each of the forty students: what stands before its name, the name, and
+// what stands behind.
 fn with_lines<R: Abort>(
     rt: &R,
     alloc: Global,
@@ -146,7 +147,8 @@ fn with_lines<R: Abort>(
     whole
 }
 
-// What the market of forty students and four sections publishes, where so many workers write trees to rooms of this size.
+// What the market of forty students and four sections publishes, where so many workers write trees
+// to rooms of this size.
 fn forty_by<R: Abort + Threads + Wait + Sync>(
     rt: &R,
     alloc: Global,

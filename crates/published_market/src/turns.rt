@@ -23,7 +23,13 @@ use std::thread::Threads;
 
 // The bundle with its tree as that of a turn.
 fn of_turn(pass: u64, student: StudentNo, proved: Proved) -> ProvedTurn
-    ensures turn { published_of result ≡ record { pass = pass; student = student.0; bundle = sections_of proved.bundle; tree = proved.tree.items } }
+    ensures turn { published_of result
+        ≡ record {
+          pass = pass;
+          student = student.0;
+          bundle = sections_of proved.bundle;
+          tree = proved.tree.items;
+        } }
     ensures pass { result.pass < 2 ^ 64 }
 {
     ProvedTurn {
@@ -44,11 +50,17 @@ fn prove_turn(
     room: &Room,
 ) -> Result<ProvedTurn, NoMemory>
     requires crowd { MakeCrowd crowd.now.menus.items crowd.now.budgets.items crowd.now.sections }
-    requires prices { ArePricesFor (crowd_of crowd.now.menus.items crowd.now.budgets.items crowd.now.sections) prices.now }
+    requires prices { ArePricesFor
+        (crowd_of crowd.now.menus.items crowd.now.budgets.items crowd.now.sections) prices.now }
     requires raise { raise ≤ 50 }
-    requires best { IsBestTurn (crowd_of crowd.now.menus.items crowd.now.budgets.items crowd.now.sections) prices.now raise (turn_of turn.now) }
+    requires best { IsBestTurn
+        (crowd_of crowd.now.menus.items crowd.now.budgets.items crowd.now.sections) prices.now raise
+        (turn_of turn.now) }
     requires room { IsRoomOfTurn crowd.now prices.now raise turn.now room.now }
-    ensures published { IfOk result (λ proved. IsPublishedTurn (crowd_of crowd.now.menus.items crowd.now.budgets.items crowd.now.sections) prices.now raise (turn_of turn.now) (published_of proved)) }
+    ensures published { IfOk result
+        (λ proved. IsPublishedTurn
+        (crowd_of crowd.now.menus.items crowd.now.budgets.items crowd.now.sections) prices.now
+        raise (turn_of turn.now) (published_of proved)) }
     ensures form { IfOk result (λ proved. HasTurnForm (published_of proved)) }
 {
     let student = usize::from(turn.student.0);
@@ -76,9 +88,13 @@ fn fill_room(
     room: &mut Room,
 )
     requires crowd { MakeCrowd crowd.now.menus.items crowd.now.budgets.items crowd.now.sections }
-    requires prices { ArePricesFor (crowd_of crowd.now.menus.items crowd.now.budgets.items crowd.now.sections) prices.now }
+    requires prices { ArePricesFor
+        (crowd_of crowd.now.menus.items crowd.now.budgets.items crowd.now.sections) prices.now }
     requires raise { raise ≤ 50 }
-    requires best { All (IsBestTurn (crowd_of crowd.now.menus.items crowd.now.budgets.items crowd.now.sections) prices.now raise) (turns_of turns.now) }
+    requires best { All
+        (IsBestTurn (crowd_of crowd.now.menus.items crowd.now.budgets.items crowd.now.sections)
+        prices.now raise)
+        (turns_of turns.now) }
     requires place { place < length turns.now }
     ensures { IsRoomOfTurnAt crowd.now prices.now raise turns.now place room.new }
 {
@@ -101,9 +117,13 @@ fn fill_rooms<R: Threads + Sync>(
     rooms: &mut [Room],
 )
     requires crowd { MakeCrowd crowd.now.menus.items crowd.now.budgets.items crowd.now.sections }
-    requires prices { ArePricesFor (crowd_of crowd.now.menus.items crowd.now.budgets.items crowd.now.sections) prices.now }
+    requires prices { ArePricesFor
+        (crowd_of crowd.now.menus.items crowd.now.budgets.items crowd.now.sections) prices.now }
     requires raise { raise ≤ 50 }
-    requires best { All (IsBestTurn (crowd_of crowd.now.menus.items crowd.now.budgets.items crowd.now.sections) prices.now raise) (turns_of turns.now) }
+    requires best { All
+        (IsBestTurn (crowd_of crowd.now.menus.items crowd.now.budgets.items crowd.now.sections)
+        prices.now raise)
+        (turns_of turns.now) }
     requires places { first + length rooms.old ≤ length turns.now }
     ensures count { length rooms.new ≡ length rooms.old }
     ensures rooms { AreRoomsOfTurns crowd.now prices.now raise turns.now first rooms.new }
@@ -118,7 +138,8 @@ fn fill_rooms<R: Threads + Sync>(
                 × ArePricesFor (crowd_of crowd.now.menus.items crowd.now.budgets.items crowd.now.sections) prices.now
                 × (raise ≤ 50)
                 × All (IsBestTurn (crowd_of crowd.now.menus.items crowd.now.budgets.items crowd.now.sections) prices.now raise) (turns_of turns.now) }
-            ensures { IsRoomOfTurnAt crowd.entry.now prices.entry.now raise turns.entry.now (first + n) room.exit.now }
+            ensures { IsRoomOfTurnAt crowd.entry.now prices.entry.now raise turns.entry.now
+                (first + n) room.exit.now }
         { fill_room(crowd, prices, raise, turns, first + n, room) },
     );
 }
@@ -134,14 +155,20 @@ fn put_turns(
     all: &mut Vec<ProvedTurn>,
 ) -> Result<(), NoMemory>
     requires crowd { MakeCrowd crowd.now.menus.items crowd.now.budgets.items crowd.now.sections }
-    requires prices { ArePricesFor (crowd_of crowd.now.menus.items crowd.now.budgets.items crowd.now.sections) prices.now }
+    requires prices { ArePricesFor
+        (crowd_of crowd.now.menus.items crowd.now.budgets.items crowd.now.sections) prices.now }
     requires raise { raise ≤ 50 }
-    requires best { All (IsBestTurn (crowd_of crowd.now.menus.items crowd.now.budgets.items crowd.now.sections) prices.now raise) (turns_of turns.now) }
+    requires best { All
+        (IsBestTurn (crowd_of crowd.now.menus.items crowd.now.budgets.items crowd.now.sections)
+        prices.now raise)
+        (turns_of turns.now) }
     requires places { length all.old.items + length rooms.now ≤ length turns.now }
-    requires rooms { AreRoomsOfTurns crowd.now prices.now raise turns.now (length all.old.items) rooms.now }
+    requires rooms { AreRoomsOfTurns crowd.now prices.now raise turns.now (length all.old.items)
+        rooms.now }
     requires proved { AreProvedTurns crowd.now prices.now raise turns.now all.old.items }
     ensures count { OnOk result (length all.new.items ≡ length all.old.items + length rooms.now) }
-    ensures proved { OnOk result (AreProvedTurns crowd.now prices.now raise turns.now all.new.items) }
+    ensures proved { OnOk result
+        (AreProvedTurns crowd.now prices.now raise turns.now all.new.items) }
 {
     'rooms: for room in rooms {
         let turn = &turns[all.len()];
@@ -150,8 +177,8 @@ fn put_turns(
     Ok(())
 }
 
-// The turns, each with the tree of its bundle. So many workers write the trees to rooms of this size, group after group;
-// one that does not fit is built afterwards.
+// The turns, each with the tree of its bundle. So many workers write the trees to rooms of this
+// size, group after group; one that does not fit is built afterwards.
 pub(crate) fn prove_turns<R: Threads + Sync>(
     rt: &R,
     alloc: Global,
@@ -163,10 +190,19 @@ pub(crate) fn prove_turns<R: Threads + Sync>(
     turns: &[Turn],
 ) -> Result<Vec<ProvedTurn>, NoMemory>
     requires crowd { MakeCrowd crowd.now.menus.items crowd.now.budgets.items crowd.now.sections }
-    requires prices { ArePricesFor (crowd_of crowd.now.menus.items crowd.now.budgets.items crowd.now.sections) prices.now }
+    requires prices { ArePricesFor
+        (crowd_of crowd.now.menus.items crowd.now.budgets.items crowd.now.sections) prices.now }
     requires raise { raise ≤ 50 }
-    requires best { All (IsBestTurn (crowd_of crowd.now.menus.items crowd.now.budgets.items crowd.now.sections) prices.now raise) (turns_of turns.now) }
-    ensures published { IfOk result (λ all. AllZip (IsPublishedTurn (crowd_of crowd.now.menus.items crowd.now.budgets.items crowd.now.sections) prices.now raise) (turns_of turns.now) (map published_of all.items)) }
+    requires best { All
+        (IsBestTurn (crowd_of crowd.now.menus.items crowd.now.budgets.items crowd.now.sections)
+        prices.now raise)
+        (turns_of turns.now) }
+    ensures published { IfOk result
+        (λ all. AllZip
+        (IsPublishedTurn
+        (crowd_of crowd.now.menus.items crowd.now.budgets.items crowd.now.sections)
+        prices.now raise)
+        (turns_of turns.now) (map published_of all.items)) }
     ensures form { IfOk result (λ all. All HasTurnForm (map published_of all.items)) }
 {
     let mut all = Vec::with_capacity(alloc, turns.len())?;

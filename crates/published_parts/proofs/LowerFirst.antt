@@ -24,9 +24,11 @@ nothing_lower = rw (entries-nothing {K = ℕ × ℕ} {X = ℤ} pair_cmp) (All-ni
 lower_of : (a b : ℕ) → a ≢ b → min a b < max a b
 lower_of a b apart = omega arith
 
-changed_lower : (names : DeskNames) (state : DeskState) (command : Command) → All HasLowerFirst state.preferences → is_done (reply_to names state command) ≡ true → All HasLowerFirst (changed names state command).preferences
+changed_lower : (names : DeskNames) (state : DeskState) (command : Command) → All HasLowerFirst state.preferences
+    → is_done (reply_to names state command) ≡ true → All HasLowerFirst (changed names state command).preferences
 changed_lower names state (Rate student section n) each done =
-    All-set HasLowerFirst state.preferences _ _ (at_or_default HasLowerFirst state.preferences (ordinal_of names.students student) no_preferences each nothing_lower) each
+    All-set HasLowerFirst state.preferences _ _
+    (at_or_default HasLowerFirst state.preferences (ordinal_of names.students student) no_preferences each nothing_lower) each
 changed_lower names state (Pair student first second n) each done =
     let open' = done_skips state.closed _ _ refl done in
     let known = done_skips (not (has_name names.students student)) _ _ refl open'.1 in
@@ -37,7 +39,9 @@ changed_lower names state (Pair student first second n) each done =
     other_ordinals names.sections first second (ordinal_of names.sections first) (ordinal_of names.sections second) have.0 have.1 refl refl apart.0 in
     let at = at_or_default HasLowerFirst state.preferences (ordinal_of names.students student) no_preferences each nothing_lower in
     All-set HasLowerFirst state.preferences _ _
-    (pair_keeps (λ (pair : ℕ × ℕ). pair.0 < pair.1) _ (pair_of (ordinal_of names.sections first) (ordinal_of names.sections second)) n at (lower_of (ordinal_of names.sections first) (ordinal_of names.sections second) other)) each
+    (pair_keeps (λ (pair : ℕ × ℕ). pair.0 < pair.1) _ (pair_of (ordinal_of names.sections first) (ordinal_of names.sections second)) n at
+    (lower_of (ordinal_of names.sections first) (ordinal_of names.sections second) other))
+    each
 changed_lower names state (Clear student) each done = All-set HasLowerFirst state.preferences _ no_preferences nothing_lower each
 changed_lower names state Close each done = each
 changed_lower names state Unreadable each done = each
@@ -47,4 +51,5 @@ closed_lower names = closed_keep HasLowerFirst names nothing_lower (changed_lowe
 
 -- what a student wants has the lower section of each pair first
 pub wanted_lower : (names : DeskNames) (journal : List Entry) (student : ℕ) → HasLowerFirst (get_or (closed_preferences names journal) student no_preferences)
-wanted_lower names journal student = at_or_default HasLowerFirst (closed_preferences names journal) student no_preferences (closed_lower names journal) nothing_lower
+wanted_lower names journal student =
+    at_or_default HasLowerFirst (closed_preferences names journal) student no_preferences (closed_lower names journal) nothing_lower

@@ -23,7 +23,8 @@ one_proof offer one other tree alike is so =
     one_text offer other tree alike (subst (λ bundle. IsTreeText offer None bundle tree) (one_best offer one other tree alike is so) is.proved) so.proved
 
 -- lists whose items are fixed by those of another list are one
-pub one_by_items : {A B : Type 0} (R : A → B → Type 0) → ((a : A) (x y : B) → R a x → R a y → x ≡ y) → (as' : List A) (xs ys : List B) → AllZip R as' xs → AllZip R as' ys → xs ≡ ys
+pub one_by_items : {A B : Type 0} (R : A → B → Type 0) → ((a : A) (x y : B) → R a x → R a y → x ≡ y) → (as' : List A) (xs ys : List B) → AllZip R as' xs
+    → AllZip R as' ys → xs ≡ ys
 one_by_items R one [] [] [] is so = refl
 one_by_items R one (a ∷ as') (x ∷ xs) (y ∷ ys) is so =
     let head : x ≡ y = one a x y is.0 so.0 in
@@ -35,7 +36,8 @@ one_by_items R one (a ∷ as') [] ys is so = absurd is
 one_by_items R one (a ∷ as') (x ∷ xs) [] is so = absurd so
 
 -- the demands of a crowd with their trees are one list
-pub one_list_of_demands : (sections : ℕ) (price : ℕ → ℕ) (students : List Student) (one other : List Proved) → AllZip (IsProvedDemand sections price) students one → AllZip (IsProvedDemand sections price) students other → one ≡ other
+pub one_list_of_demands : (sections : ℕ) (price : ℕ → ℕ) (students : List Student) (one other : List Proved)
+    → AllZip (IsProvedDemand sections price) students one → AllZip (IsProvedDemand sections price) students other → one ≡ other
 one_list_of_demands sections price = one_by_items (IsProvedDemand sections price) (λ student x y is so.
     let offer = offer_to student price student.budget (all_sections sections) in
     let bundle : x.bundle ≡ y.bundle = one_best offer x.bundle y.bundle x.tree y.tree is so in

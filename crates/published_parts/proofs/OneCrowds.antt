@@ -28,13 +28,17 @@ same_students (x ∷ one) (y ∷ other) menus budgets =
     let tail : one ≡ other = same_students one other more rest in
     cc
 
-pub one_crowd : (catalog : List Section) (roll : List Student) (wanted : List StudentPreferences) (seed spread : ℕ) (one other : CrowdData) → IsCrowdOf catalog roll wanted seed spread one → IsCrowdOf catalog roll wanted seed spread other → one ≡ other
+pub one_crowd : (catalog : List Section) (roll : List Student) (wanted : List StudentPreferences) (seed spread : ℕ) (one other : CrowdData)
+    → IsCrowdOf catalog roll wanted seed spread one → IsCrowdOf catalog roll wanted seed spread other → one ≡ other
 one_crowd catalog roll wanted seed spread one other is so =
-    let students : one.students ≡ other.students = same_students one.students other.students (one_list catalog roll wanted _ _ is.menus so.menus) (is.budgets ∙ sym so.budgets) in
+    let students : one.students ≡ other.students =
+    same_students one.students other.students (one_list catalog roll wanted _ _ is.menus so.menus) (is.budgets ∙ sym so.budgets) in
     let sections : one.sections ≡ other.sections = is.sections ∙ sym so.sections in
     λ i. record { students = students i; sections = sections i }
 
-pub one_crowd_after : (market : Market) (streams : List (List Command)) (order : List ℕ) (one other : CrowdData) → IsCrowdAfter market streams order one → IsCrowdAfter market streams order other → one ≡ other
+pub one_crowd_after : (market : Market) (streams : List (List Command)) (order : List ℕ) (one other : CrowdData) → IsCrowdAfter market streams order one
+    → IsCrowdAfter market streams order other → one ≡ other
 one_crowd_after market streams order one other is so =
     let journal : is.journal ≡ so.journal = one_journal (names_in market) streams order is.journal so.journal is.is_journal so.is_journal in
-    one_crowd market.catalog.sections market.roll.students (wanted_in market so.journal) market.settings.seed market.settings.spread one other (subst (λ (j : List Entry). IsCrowdIn market j one) journal is.is_crowd) so.is_crowd
+    one_crowd market.catalog.sections market.roll.students (wanted_in market so.journal) market.settings.seed market.settings.spread one other
+    (subst (λ (j : List Entry). IsCrowdIn market j one) journal is.is_crowd) so.is_crowd

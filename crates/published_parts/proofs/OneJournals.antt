@@ -19,20 +19,28 @@ IsOf count entry = (1 ≤ entry.session) × (entry.session ≤ count)
 pub own_first : (x : Entry) (more : List Entry) (n : ℕ) → x.session ≡ n → commands_of_session n (x ∷ more) ≡ x.command ∷ commands_of_session n more
 own_first x more n own =
     let test : nat_eq x.session n ≡ true = grind (arith, nat_tests) in
-    ap (λ t. map (λ (entry : Entry). entry.command) (cond t (x ∷ part_of (λ (entry : Entry). entry.session) n more) (part_of (λ (entry : Entry). entry.session) n more))) test
+    ap
+    (λ t. map (λ (entry : Entry). entry.command)
+    (cond t (x ∷ part_of (λ (entry : Entry). entry.session) n more) (part_of (λ (entry : Entry). entry.session) n more)))
+    test
 
 -- and any other says nothing
 pub others_none : (x : Entry) (more : List Entry) (n : ℕ) → nat_eq x.session n ≡ false → commands_of_session n (x ∷ more) ≡ commands_of_session n more
 others_none x more n test =
-    ap (λ t. map (λ (entry : Entry). entry.command) (cond t (x ∷ part_of (λ (entry : Entry). entry.session) n more) (part_of (λ (entry : Entry). entry.session) n more))) test
+    ap
+    (λ t. map (λ (entry : Entry). entry.command)
+    (cond t (x ∷ part_of (λ (entry : Entry). entry.session) n more) (part_of (λ (entry : Entry). entry.session) n more)))
+    test
 
 -- what is left to say behind entries of one session
-same_rest : (x y : Entry) (as' bs : List Entry) (n : ℕ) → x.session ≡ y.session → commands_of_session n (x ∷ as') ≡ commands_of_session n (y ∷ bs) → commands_of_session n as' ≡ commands_of_session n bs
+same_rest : (x y : Entry) (as' bs : List Entry) (n : ℕ) → x.session ≡ y.session → commands_of_session n (x ∷ as') ≡ commands_of_session n (y ∷ bs)
+    → commands_of_session n as' ≡ commands_of_session n bs
 same_rest x y as' bs n one so =
     elim (nat_eq x.session n) as (λ t. nat_eq x.session n ≡ t → commands_of_session n as' ≡ commands_of_session n bs) [
       | true ↦ λ test.
           let own : x.session ≡ n = grind (arith, nat_tests) in
-          let both : x.command ∷ commands_of_session n as' ≡ y.command ∷ commands_of_session n bs = sym (own_first x as' n own) ∙ so ∙ own_first y bs n (sym one ∙ own) in
+          let both : x.command ∷ commands_of_session n as' ≡ y.command ∷ commands_of_session n bs =
+          sym (own_first x as' n own) ∙ so ∙ own_first y bs n (sym one ∙ own) in
           cc
       | false ↦ λ test. sym (others_none x as' n test) ∙ so ∙ others_none y bs n (ap (λ s. nat_eq s n) (sym one) ∙ test)
     ] refl
@@ -52,11 +60,14 @@ same_entries names state count (x ∷ as') (y ∷ bs) order are so legal lawful 
     let command : x.command ≡ y.command = cc in
     let reply : x.reply ≡ y.reply = legal.0 ∙ ap (reply_to names state) command ∙ sym lawful.0 in
     let entry : x ≡ y = λ i. record { session = one i; command = command i; reply = reply i } in
-    let rest : as' ≡ bs = same_entries names (state_after names state x.command) count as' bs orders (All-tail (IsOf count) x as' are) (λ n low high. same_rest x y as' bs n one (so n low high)) legal.1
+    let rest : as' ≡ bs =
+    same_entries names (state_after names state x.command) count as' bs orders (All-tail (IsOf count) x as' are)
+    (λ n low high. same_rest x y as' bs n one (so n low high)) legal.1
     (subst (λ c. IsLegalFrom names (state_after names state c) bs) (sym command) lawful.1) in
     cc
 
-pub one_journal : (names : DeskNames) (streams : List (List Command)) (order : List ℕ) (one other : List Entry) → IsJournalOf names streams order one → IsJournalOf names streams order other → one ≡ other
+pub one_journal : (names : DeskNames) (streams : List (List Command)) (order : List ℕ) (one other : List Entry) → IsJournalOf names streams order one
+    → IsJournalOf names streams order other → one ≡ other
 one_journal names streams order one other is so =
     same_entries names (opening names) (length streams) one other (is.sessions ∙ sym so.sessions) is.merges.given
     (λ n low high.

@@ -20,7 +20,8 @@ in_order budgets student low =
     let all : List ℕ = range_with_len 0 (length budgets) in
     let many : length all ≡ length budgets = length-range_with_len 0 (length budgets) in
     let number : 0 + student ≡ student = omega arith in
-    Contains-permutation all (after_order_of budgets) student (after_order_law budgets).each (student, omega arith, get_or-range_with_len 0 (length budgets) student student low ∙ number)
+    Contains-permutation all (after_order_of budgets) student (after_order_law budgets).each
+    (student, omega arith, get_or-range_with_len 0 (length budgets) student student low ∙ number)
 
 module _ (market : Market) (journal : List Entry) (p : Publication) (many : length p.budgets ≡ length market.roll.students)
     (passes : ComeInPasses (after_order_of p.budgets) (demanded p) p.turns) (turns : AreBestAtTheirTurns market journal p)

@@ -22,7 +22,8 @@ held_after held (turn ∷ turns) = held_after (slice_set held turn.student turn.
 
 -- no more of these bundles have a section than it has seats
 abbrev pub AreWithinSeats : Market → List (List ℕ) → Type 0
-AreWithinSeats market bundles = AreHeldWithin (length market.catalog.sections) (seats_in market) bundles
+AreWithinSeats market bundles =
+    AreHeldWithin (length market.catalog.sections) (seats_in market) bundles
 
 -- of each section how many of these bundles have it, and its seats
 abbrev pub used_of : List ℕ → List (List ℕ) → List (ℕ × ℕ)

@@ -13,7 +13,8 @@ all_sections count s = nat_lt s count
 
 -- what is offered to a student at given prices, with this budget and these sections
 abbrev pub offer_to : Student → (ℕ → ℕ) → ℕ → (ℕ → Bool) → Offer
-offer_to student price budget allowed = record { menu = student.menu; price = price; budget = budget; allowed = allowed }
+offer_to student price budget allowed =
+    record { menu = student.menu; price = price; budget = budget; allowed = allowed }
 
 -- the best bundle of an offer, and the text of its canonical tree
 pub record IsProvedBest (offer : Offer) (bundle tree : List ℕ) : Type 0 where
@@ -22,4 +23,6 @@ pub record IsProvedBest (offer : Offer) (bundle tree : List ℕ) : Type 0 where
 
 -- the student's best bundle at the prices within the budget, of all sections, with its tree
 abbrev pub IsProvedDemand : ℕ → (ℕ → ℕ) → Student → Proved → Type 0
-IsProvedDemand sections price student proved = IsProvedBest (offer_to student price student.budget (all_sections sections)) proved.bundle proved.tree
+IsProvedDemand sections price student proved =
+    IsProvedBest (offer_to student price student.budget (all_sections sections)) proved.bundle
+    proved.tree

@@ -8,24 +8,29 @@ use Rattle.published_parts.specs.Holdings.{held_after}
 abbrev pub turns_of : List (List ProvedTurn) → List ProvedTurn
 turns_of passes = flat_map (λ pass. pass) passes
 
--- nobody changes anything in a pass: at each of its turns the student gets what it held before the pass
+-- nobody changes anything in a pass: at each of its turns the student gets what it held before the
+-- pass
 abbrev pub ChangesNothing : List (List ℕ) → List ProvedTurn → Type 0
-ChangesNothing held pass = All (λ (turn : ProvedTurn). slice_index_or held turn.student [] ≡ turn.bundle) pass
+ChangesNothing held pass =
+    All (λ (turn : ProvedTurn). slice_index_or held turn.student [] ≡ turn.bundle) pass
 
--- A pass behind earlier ones and before later ones, where students have turns in this order and hold these bundles at the start: its turns
--- have its number, counted from 1; each student has one turn in it, in the order; and nobody changes anything in it exactly where it is the
--- last one.
-pub record IsPassBetween (order : List ℕ) (start : List (List ℕ)) (earlier later : List (List ProvedTurn)) (pass : List ProvedTurn) : Type 0 where
+-- A pass behind earlier ones and before later ones, where students have turns in this order and
+-- hold these bundles at the start: its turns have its number, counted from 1; each student has one
+-- turn in it, in the order; and nobody changes anything in it exactly where it is the last one.
+pub record IsPassBetween (order : List ℕ) (start : List (List ℕ))
+    (earlier later : List (List ProvedTurn)) (pass : List ProvedTurn) : Type 0 where
   pub numbered : All (λ (turn : ProvedTurn). turn.pass ≡ length earlier + 1) pass
   pub students : map (λ (turn : ProvedTurn). turn.student) pass ≡ order
   pub last : ChangesNothing (held_after start (turns_of earlier)) pass ↔ (later ≡ [])
 
 -- the turns come in passes, and there is a pass exactly where there are students
-pub record ComeInPasses (order : List ℕ) (start : List (List ℕ)) (turns : List ProvedTurn) : Type 0 where
+pub record ComeInPasses (order : List ℕ) (start : List (List ℕ))
+    (turns : List ProvedTurn) : Type 0 where
   pub passes : List (List ProvedTurn)
   pub joined : turns_of passes ≡ turns
   pub none : (passes ≡ []) ↔ (order ≡ [])
-  pub each : (earlier later : List (List ProvedTurn)) (pass : List ProvedTurn) → passes ≡ earlier ++ pass ∷ later → IsPassBetween order start earlier later pass
+  pub each : (earlier later : List (List ProvedTurn)) (pass : List ProvedTurn)
+      → passes ≡ earlier ++ pass ∷ later → IsPassBetween order start earlier later pass
 
 -- a turn of the student, behind which there is none of it
 pub record IsLastTurn (student : ℕ) (turns : List ProvedTurn) (turn : ProvedTurn) : Type 0 where

@@ -18,7 +18,8 @@ module _ {T : Type 0} where
       let count : spare_of (rows_of r) ≡ r.spare = spare_count r kept in
       let same : spare_of (rows_of r) ≡ spare_of v = ap spare_of is in
       let some_spare : 0 < r.spare = omega arith in
-      let within : r.spare - 1 < length r.spare_ids.items = omega (arith, kept.all, kept.places) in (some_spare, sym (get_or_read r.spare_ids.items (r.spare - 1) id within read 0))
+      let within : r.spare - 1 < length r.spare_ids.items = omega (arith, kept.all, kept.places) in
+      (some_spare, sym (get_or_read r.spare_ids.items (r.spare - 1) id within read 0))
 
   pub record Takes (r : Inside T) (v : Rows T) (id : ℕ) (row : Vec T Global) : Type 0 where
     pub kept : IsKept (taken r id row)
@@ -26,7 +27,8 @@ module _ {T : Type 0} where
     pub filled : rows_of (taken r id row) ≡ with_row v id (replicate v.width v.fill)
     pub spare : spare_of (rows_of (taken r id row)) + 1 ≡ spare_of v
 
-  pub takes : (r : Inside T) (v : Rows T) (id : ℕ) (row : Vec T Global) (old cells : List T) → IsKept r → rows_of r ≡ v → 0 < spare_of v → id ≡ get_or r.spare_ids.items (r.spare - 1) id
+  pub takes : (r : Inside T) (v : Rows T) (id : ℕ) (row : Vec T Global) (old cells : List T) → IsKept r → rows_of r ≡ v → 0 < spare_of v
+      → id ≡ get_or r.spare_ids.items (r.spare - 1) id
       → row ≡ get_or r.rows.items id row → old ≡ row.items → cells ≡ replicate (length old) r.fill → Takes r v id (with_items row cells)
   takes r v id row old cells kept is some read at_id old_is cells_are =
       let next = next_from r v id kept is some read in
@@ -41,7 +43,8 @@ module _ {T : Type 0} where
       record {
         kept = kept_after;
         was_spare = ap (λ x. map.get x.live id) (sym is) ∙ next_not_live r id kept next;
-        filled = rows_of-taken r id (with_items row cells) kept next ∙ ap (with_row (rows_of r) id) items ∙ ap (λ x. with_row x id (replicate x.width x.fill)) is;
+        filled =
+            rows_of-taken r id (with_items row cells) kept next ∙ ap (with_row (rows_of r) id) items ∙ ap (λ x. with_row x id (replicate x.width x.fill)) is;
         spare = omega arith;
       }
 
@@ -59,7 +62,12 @@ module _ {T : Type 0} where
       let before : spare_of (rows_of r) ≡ r.spare = spare_count r kept in
       let after : spare_of (rows_of (given r id)) ≡ r.spare + 1 = spare_count (given r id) kept_after in
       let same : spare_of (rows_of r) ≡ spare_of v = ap spare_of is in
-      record { room = omega (arith, kept.places); kept = kept_after; back = rows_of-given r id kept is_live ∙ ap (λ x. without_row x id) is; spare = omega arith }
+      record {
+        room = omega (arith, kept.places);
+        kept = kept_after;
+        back = rows_of-given r id kept is_live ∙ ap (λ x. without_row x id) is;
+        spare = omega arith;
+      }
 
   pub record Shows (r : Inside T) (v : Rows T) (id : ℕ) (row : Vec T Global) : Type 0 where
     pub row_is : map.get v.live id ≡ Some row.items
@@ -67,9 +75,11 @@ module _ {T : Type 0} where
 
   pub within_rows : (r : Inside T) (v : Rows T) (id : ℕ) → rows_of r ≡ v → IsLive v id → id < length r.rows.items
   within_rows r v id is live =
-      let is_live : IsLive (rows_of r) id = ap (λ x. is_some (map.get x.live id)) is ∙ live in (place_of r.rows.items (take r.spare r.spare_ids.items) id is_live).1
+      let is_live : IsLive (rows_of r) id = ap (λ x. is_some (map.get x.live id)) is ∙ live in
+      (place_of r.rows.items (take r.spare r.spare_ids.items) id is_live).1
 
-  pub shows : (r : Inside T) (v : Rows T) (id : ℕ) (row : Vec T Global) → IsKept r → rows_of r ≡ v → IsLive v id → row ≡ get_or r.rows.items id row → Shows r v id row
+  pub shows : (r : Inside T) (v : Rows T) (id : ℕ) (row : Vec T Global) → IsKept r → rows_of r ≡ v → IsLive v id → row ≡ get_or r.rows.items id row
+      → Shows r v id row
   shows r v id row kept is live at_id =
       let is_live : IsLive (rows_of r) id = ap (λ x. is_some (map.get x.live id)) is ∙ live in
       let place = place_of r.rows.items (take r.spare r.spare_ids.items) id is_live in
@@ -84,12 +94,15 @@ module _ {T : Type 0} where
     pub kept : IsKept (written r id (with_items row cells))
     pub back : rows_of (written r id (with_items row cells)) ≡ with_row v id (rewritten row.items cells)
 
-  pub writes : (r : Inside T) (v : Rows T) (id : ℕ) (row : Vec T Global) (cells : List T) → IsKept r → rows_of r ≡ v → IsLive v id → row ≡ get_or r.rows.items id row → Writes r v id row cells
+  pub writes : (r : Inside T) (v : Rows T) (id : ℕ) (row : Vec T Global) (cells : List T) → IsKept r → rows_of r ≡ v → IsLive v id
+      → row ≡ get_or r.rows.items id row → Writes r v id row cells
   writes r v id row cells kept is live at_id =
       let is_live : IsLive (rows_of r) id = ap (λ x. is_some (map.get x.live id)) is ∙ live in
       let place = place_of r.rows.items (take r.spare r.spare_ids.items) id is_live in
       let wide : length row.items ≡ r.width = wide_at r.rows.items id r.width row kept.wide place.1 at_id in
       record {
         kept = kept-written r id (with_items row cells) kept is_live (length-with_items row cells ∙ wide);
-        back = rows_of-written r id (with_items row cells) is_live ∙ ap (with_row (rows_of r) id) (items-with_items row cells) ∙ ap (λ x. with_row x id (rewritten row.items cells)) is;
+        back =
+            rows_of-written r id (with_items row cells) is_live ∙ ap (with_row (rows_of r) id) (items-with_items row cells)
+            ∙ ap (λ x. with_row x id (rewritten row.items cells)) is;
       }

@@ -12,13 +12,15 @@ module _ {T : Type 0} where
   rewritten_same row cells same = ap (λ n. take n (cells ++ drop (length cells) row)) (sym same) ∙ take-append_seam cells (drop (length cells) row)
 
   -- a row of the region is as wide as the region
-  pub wide_at : (rows : List (Vec T Global)) (id width : ℕ) (row : Vec T Global) → All (λ x. length x.items ≡ width) rows → id < length rows → row ≡ get_or rows id row → length row.items ≡ width
+  pub wide_at : (rows : List (Vec T Global)) (id width : ℕ) (row : Vec T Global) → All (λ x. length x.items ≡ width) rows → id < length rows
+      → row ≡ get_or rows id row → length row.items ≡ width
   wide_at rows id width row wide within is = ap (λ x. length x.items) is ∙ wide id row within
 
   pub items-with_items : (row : Vec T Global) (cells : List T) → (with_items row cells).items ≡ rewritten row.items cells
   items-with_items row cells = ap (λ n. take n (cells ++ drop (length cells) row.items)) row.ok.0
 
-  pub filled_again : (row : Vec T Global) (fill : T) (width : ℕ) → length row.items ≡ width → (with_items row (replicate (length row.items) fill)).items ≡ replicate width fill
+  pub filled_again : (row : Vec T Global) (fill : T) (width : ℕ) → length row.items ≡ width
+      → (with_items row (replicate (length row.items) fill)).items ≡ replicate width fill
   filled_again row fill width wide =
       items-with_items row (replicate (length row.items) fill)
       ∙ rewritten_same row.items (replicate (length row.items) fill) (length-replicate (length row.items) fill)

@@ -22,10 +22,12 @@ last_spare ids s id some within is =
     ap (λ n. take n ids) (sym e) ∙ take-suc ids (s - 1) 0 (omega arith) ∙ ap (λ x. take (s - 1) ids ++ x ∷ []) is
 
 -- it stands at no earlier place
-no_repeat : (ids : List ℕ) (s id : ℕ) → ((i j : ℕ) → i < j → j < s → get_or ids i 0 ≢ get_or ids j 0) → 0 < s → s ≤ length ids → get_or ids (s - 1) 0 ≡ id → has (take (s - 1) ids) id ≡ false
+no_repeat : (ids : List ℕ) (s id : ℕ) → ((i j : ℕ) → i < j → j < s → get_or ids i 0 ≢ get_or ids j 0) → 0 < s → s ≤ length ids → get_or ids (s - 1) 0 ≡ id
+    → has (take (s - 1) ids) id ≡ false
 no_repeat ids s id distinct some within is =
     let short : length (take (s - 1) ids) ≡ s - 1 = length-take-le (s - 1) ids (omega arith) in
-    has_none (take (s - 1) ids) id (λ k h e. let low : k < s - 1 = omega arith in distinct k (s - 1) low (omega arith) (sym (get_or-take (s - 1) ids k 0 low) ∙ e ∙ sym is))
+    has_none (take (s - 1) ids) id
+    (λ k h e. let low : k < s - 1 = omega arith in distinct k (s - 1) low (omega arith) (sym (get_or-take (s - 1) ids k 0 low) ∙ e ∙ sym is))
 
 module _ {T : Type 0} where
   within_of : (rows : List (Vec T Global)) (q : ℕ) → IsSome (items_at rows q) → q < length rows
@@ -72,7 +74,8 @@ module _ {T : Type 0} where
   IsNext r id = (0 < r.spare) × (get_or r.spare_ids.items (r.spare - 1) 0 ≡ id)
 
   pub next_within : (r : Inside T) (id : ℕ) → IsKept r → IsNext r id → id < length r.rows.items
-  next_within r id kept next = let low : get_or r.spare_ids.items (r.spare - 1) 0 < length r.rows.items = kept.in_range (r.spare - 1) (omega arith) in rw next.1 at low
+  next_within r id kept next =
+      let low : get_or r.spare_ids.items (r.spare - 1) 0 < length r.rows.items = kept.in_range (r.spare - 1) (omega arith) in rw next.1 at low
 
   pub next_not_live : (r : Inside T) (id : ℕ) → IsKept r → IsNext r id → map.get (rows_of r).live id ≡ None
   next_not_live r id kept next =
@@ -85,8 +88,11 @@ module _ {T : Type 0} where
       let ids = r.spare_ids.items in
       let last : take r.spare ids ≡ take (r.spare - 1) ids ++ id ∷ [] = last_spare ids r.spare id next.0 (spare_within r kept) next.1 in
       let live : live_of (set r.rows.items id row) (take (r.spare - 1) ids) ≡ map.insert (live_of r.rows.items (take r.spare ids)) id row.items =
-      live_of-taken r.rows.items (take (r.spare - 1) ids) id row (next_within r id kept next) (no_repeat ids r.spare id kept.distinct next.0 (spare_within r kept) next.1) ∙ ap (λ l. map.insert (live_of r.rows.items l) id row.items) (sym last) in
-      let reserved : length (set r.rows.items id row) ≡ length r.rows.items = length-set r.rows.items id row in λ i. record { width = r.width; fill = r.fill; reserved = reserved i; live = live i }
+      live_of-taken r.rows.items (take (r.spare - 1) ids) id row (next_within r id kept next)
+      (no_repeat ids r.spare id kept.distinct next.0 (spare_within r kept) next.1)
+      ∙ ap (λ l. map.insert (live_of r.rows.items l) id row.items) (sym last) in
+      let reserved : length (set r.rows.items id row) ≡ length r.rows.items = length-set r.rows.items id row in
+      λ i. record { width = r.width; fill = r.fill; reserved = reserved i; live = live i }
 
   pub kept-taken : (r : Inside T) (id : ℕ) (row : Vec T Global) → IsKept r → IsNext r id → length row.items ≡ r.width → IsKept (taken r id row)
   kept-taken r id row kept next wide =
@@ -113,9 +119,11 @@ module _ {T : Type 0} where
   pub rows_of-written : (r : Inside T) (id : ℕ) (row : Vec T Global) → IsLive (rows_of r) id → rows_of (written r id row) ≡ with_row (rows_of r) id row.items
   rows_of-written r id row is_live =
       let place = place_of r.rows.items (take r.spare r.spare_ids.items) id is_live in
-      let live : live_of (set r.rows.items id row) (take r.spare r.spare_ids.items) ≡ map.insert (live_of r.rows.items (take r.spare r.spare_ids.items)) id row.items =
+      let live : live_of (set r.rows.items id row) (take r.spare r.spare_ids.items)
+      ≡ map.insert (live_of r.rows.items (take r.spare r.spare_ids.items)) id row.items =
       live_of-written r.rows.items (take r.spare r.spare_ids.items) id row place.1 place.0 in
-      let reserved : length (set r.rows.items id row) ≡ length r.rows.items = length-set r.rows.items id row in λ i. record { width = r.width; fill = r.fill; reserved = reserved i; live = live i }
+      let reserved : length (set r.rows.items id row) ≡ length r.rows.items = length-set r.rows.items id row in
+      λ i. record { width = r.width; fill = r.fill; reserved = reserved i; live = live i }
 
   pub kept-written : (r : Inside T) (id : ℕ) (row : Vec T Global) → IsKept r → IsLive (rows_of r) id → length row.items ≡ r.width → IsKept (written r id row)
   kept-written r id row kept is_live wide =
@@ -141,7 +149,8 @@ module _ {T : Type 0} where
   rows_of-given r id kept is_live =
       let ids = r.spare_ids.items in
       let room : r.spare < length r.rows.items = room_of r id kept is_live in
-      let more : take (r.spare + 1) (set ids r.spare id) ≡ take r.spare ids ++ id ∷ [] = rw (add-one r.spare) (take-suc-set ids r.spare id (omega (arith, kept.places))) in
+      let more : take (r.spare + 1) (set ids r.spare id) ≡ take r.spare ids ++ id ∷ [] =
+      rw (add-one r.spare) (take-suc-set ids r.spare id (omega (arith, kept.places))) in
       let live : live_of r.rows.items (take (r.spare + 1) (set ids r.spare id)) ≡ map.remove (live_of r.rows.items (take r.spare ids)) id =
       ap (live_of r.rows.items) more ∙ live_of-given r.rows.items (take r.spare ids) id in λ i. record { width = r.width; fill = r.fill; reserved = length r.rows.items; live = live i }
 
@@ -157,7 +166,8 @@ module _ {T : Type 0} where
       ap (λ v. map.len v.live) (rows_of-given r id kept is_live) ∙ map.len-remove nat_cmp_total (rows_of r).live id ∙ rw here refl in
       let all : map.len (rows_of r).live + r.spare ≡ length r.rows.items = kept.all in
       let other : (k : ℕ) → k < r.spare → get_or ids k 0 ≢ id = λ k low e.
-      let front : has (take r.spare ids) (get_or (take r.spare ids) k 0) ≡ true = has_at (take r.spare ids) k (rw (length-take-le r.spare ids (omega arith)) low) in
+      let front : has (take r.spare ids) (get_or (take r.spare ids) k 0) ≡ true =
+      has_at (take r.spare ids) k (rw (length-take-le r.spare ids (omega arith)) low) in
       false≢true (sym place.0 ∙ ap (has (take r.spare ids)) (sym e ∙ sym (get_or-take r.spare ids k 0 low)) ∙ front) in
       record {
         wide = kept.wide;
@@ -168,8 +178,11 @@ module _ {T : Type 0} where
           | inr (inr high) ↦ absurd (omega arith)
         ];
         distinct = λ i j h k. elim (cases_order j r.spare) [
-          | inl last ↦ rw (last, get_or-set_same ids r.spare id 0 within, get_or-set_other ids r.spare i id 0 (λ e. absurd (omega arith))) (other i (omega arith))
-          | inr (inl low) ↦ rw (get_or-set_other ids r.spare i id 0 (λ e. absurd (omega arith)), get_or-set_other ids r.spare j id 0 (λ e. absurd (omega arith))) (kept.distinct i j h low)
+          | inl last ↦
+              rw (last, get_or-set_same ids r.spare id 0 within, get_or-set_other ids r.spare i id 0 (λ e. absurd (omega arith))) (other i (omega arith))
+          | inr (inl low) ↦
+              rw (get_or-set_other ids r.spare i id 0 (λ e. absurd (omega arith)), get_or-set_other ids r.spare j id 0 (λ e. absurd (omega arith)))
+              (kept.distinct i j h low)
           | inr (inr high) ↦ absurd (omega arith)
         ];
         all = let goal : map.len (rows_of (given r id)).live + (r.spare + 1) ≡ length r.rows.items = rw fewer (omega arith) in goal;
@@ -183,7 +196,8 @@ module _ {T : Type 0} where
   past (row ∷ rows) zero high = absurd (omega arith)
   past (row ∷ rows) (suc q) high = past rows q (omega arith)
 
-  pub none_live : (rows : List (Vec T Global)) (ids : List ℕ) → length ids ≡ length rows → ((k : ℕ) → k < length rows → get_or ids k 0 ≡ k) → live_of rows (take (length rows) ids) ≡ map.empty
+  pub none_live : (rows : List (Vec T Global)) (ids : List ℕ) → length ids ≡ length rows → ((k : ℕ) → k < length rows → get_or ids k 0 ≡ k)
+      → live_of rows (take (length rows) ids) ≡ map.empty
   none_live rows ids places identity = map.same_map nat_cmp_total nat_cmp-IsAntisymmetric _ _ same
     where
       here : (q : ℕ) → q < length rows → has (take (length rows) ids) q ≡ true
@@ -201,10 +215,12 @@ module _ {T : Type 0} where
           ]
 
   -- where the numbers are 0, 1, 2 and so on, and all are spare
-  pub kept_whole : (r : Inside T) → All (λ row. length row.items ≡ r.width) r.rows.items → length r.spare_ids.items ≡ length r.rows.items → ((k : ℕ) → k < length r.rows.items → get_or r.spare_ids.items k 0 ≡ k) → r.spare ≡ length r.rows.items
+  pub kept_whole : (r : Inside T) → All (λ row. length row.items ≡ r.width) r.rows.items → length r.spare_ids.items ≡ length r.rows.items
+      → ((k : ℕ) → k < length r.rows.items → get_or r.spare_ids.items k 0 ≡ k) → r.spare ≡ length r.rows.items
       → length r.rows.items < 2 ^ 32 → IsKept r
   kept_whole r wide places identity all_spare fits =
-      let live : (rows_of r).live ≡ map.empty = ap (λ n. live_of r.rows.items (take n r.spare_ids.items)) all_spare ∙ none_live r.rows.items r.spare_ids.items places identity in
+      let live : (rows_of r).live ≡ map.empty =
+      ap (λ n. live_of r.rows.items (take n r.spare_ids.items)) all_spare ∙ none_live r.rows.items r.spare_ids.items places identity in
       let none : map.len (rows_of r).live ≡ 0 = ap map.len live ∙ map.len-empty nat_cmp (List T) in
       record {
         wide = wide;
@@ -215,7 +231,10 @@ module _ {T : Type 0} where
         fits = fits;
       }
 
-  pub rows_of-whole : (r : Inside T) → length r.spare_ids.items ≡ length r.rows.items → ((k : ℕ) → k < length r.rows.items → get_or r.spare_ids.items k 0 ≡ k) → r.spare ≡ length r.rows.items
+  pub rows_of-whole : (r : Inside T) → length r.spare_ids.items ≡ length r.rows.items → ((k : ℕ) → k < length r.rows.items → get_or r.spare_ids.items k 0 ≡ k)
+      → r.spare ≡ length r.rows.items
       → rows_of r ≡ record { width = r.width; fill = r.fill; reserved = length r.rows.items; live = map.empty }
   rows_of-whole r places identity all_spare =
-      let live : (rows_of r).live ≡ map.empty = ap (λ n. live_of r.rows.items (take n r.spare_ids.items)) all_spare ∙ none_live r.rows.items r.spare_ids.items places identity in λ i. record { width = r.width; fill = r.fill; reserved = length r.rows.items; live = live i }
+      let live : (rows_of r).live ≡ map.empty =
+      ap (λ n. live_of r.rows.items (take n r.spare_ids.items)) all_spare ∙ none_live r.rows.items r.spare_ids.items places identity in
+      λ i. record { width = r.width; fill = r.fill; reserved = length r.rows.items; live = live i }

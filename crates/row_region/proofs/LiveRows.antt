@@ -30,7 +30,8 @@ module _ {T : Type 0} where
         | inr not_spare ↦ rw (not_spare, tie_apart q id (λ e. absurd (omega arith))) later
       ]
 
-  find_from : (rows : List (Vec T Global)) (spare : List ℕ) (id k : ℕ) → map.find nat_cmp (id + k) (live_from id rows spare) ≡ (if has spare (id + k) then None else items_at rows k)
+  find_from : (rows : List (Vec T Global)) (spare : List ℕ) (id k : ℕ)
+      → map.find nat_cmp (id + k) (live_from id rows spare) ≡ (if has spare (id + k) then None else items_at rows k)
   find_from [] spare id k = nothing (has spare (id + k))
   find_from (row ∷ rows) spare id zero =
       let here : id + 0 ≡ id = add-zero id in
@@ -78,7 +79,14 @@ module _ {T : Type 0} where
             | inr other ↦
                 let apart : q ≢ id = λ e. elim other [ inl below ↦ absurd (omega arith) | inr above ↦ absurd (omega arith) ] in
                 get_live (set rows id row) spare q
-                ∙ rw (map.get-insert nat_cmp_total (live_of rows (spare ++ id ∷ [])) id row.items q, tie_apart q id apart, get_live rows (spare ++ id ∷ []) q, has_push_other spare id q (λ e. apart (sym e)), items_at-set_other rows id row q apart) refl
+                ∙ rw (
+                  map.get-insert nat_cmp_total (live_of rows (spare ++ id ∷ [])) id row.items q,
+                  tie_apart q id apart,
+                  get_live rows (spare ++ id ∷ []) q,
+                  has_push_other spare id q (λ e. apart (sym e)),
+                  items_at-set_other rows id row q apart,
+                )
+                refl
           ]
 
   -- a live row gets another content
@@ -93,7 +101,13 @@ module _ {T : Type 0} where
             | inr other ↦
                 let apart : q ≢ id = λ e. elim other [ inl below ↦ absurd (omega arith) | inr above ↦ absurd (omega arith) ] in
                 get_live (set rows id row) spare q
-                ∙ rw (map.get-insert nat_cmp_total (live_of rows spare) id row.items q, tie_apart q id apart, get_live rows spare q, items_at-set_other rows id row q apart) refl
+                ∙ rw (
+                  map.get-insert nat_cmp_total (live_of rows spare) id row.items q,
+                  tie_apart q id apart,
+                  get_live rows spare q,
+                  items_at-set_other rows id row q apart,
+                )
+                refl
           ]
 
   -- a row is given back
@@ -107,5 +121,11 @@ module _ {T : Type 0} where
             | inr other ↦
                 let apart : q ≢ id = λ e. elim other [ inl below ↦ absurd (omega arith) | inr above ↦ absurd (omega arith) ] in
                 get_live rows (spare ++ id ∷ []) q
-                ∙ rw (map.get-remove nat_cmp_total (live_of rows spare) id q, tie_apart q id apart, get_live rows spare q, has_push_other spare id q (λ e. apart (sym e))) refl
+                ∙ rw (
+                  map.get-remove nat_cmp_total (live_of rows spare) id q,
+                  tie_apart q id apart,
+                  get_live rows spare q,
+                  has_push_other spare id q (λ e. apart (sym e)),
+                )
+                refl
           ]

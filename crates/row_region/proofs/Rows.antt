@@ -14,7 +14,8 @@ module _ {T : Type 0} where
   row_here live id row = map.get-insert nat_cmp_total live id row id ∙ rw (tie_same id) refl
 
   -- the others hold what they held
-  pub row_there : (live : map.FinMap nat_cmp (List T)) (id : ℕ) (row : List T) (other : ℕ) → other ≢ id → map.get (map.insert live id row) other ≡ map.get live other
+  pub row_there : (live : map.FinMap nat_cmp (List T)) (id : ℕ) (row : List T) (other : ℕ) → other ≢ id
+      → map.get (map.insert live id row) other ≡ map.get live other
   row_there live id row other apart = map.get-insert nat_cmp_total live id row other ∙ rw (tie_apart other id apart) refl
 
   pub row_left : (live : map.FinMap nat_cmp (List T)) (id other : ℕ) → other ≢ id → map.get (map.remove live id) other ≡ map.get live other
@@ -28,8 +29,10 @@ module _ {T : Type 0} where
   some_or false row o h = h
 
   -- to hand out or write a row leaves the live ones live
-  pub live_there : (live : map.FinMap nat_cmp (List T)) (id : ℕ) (row : List T) (other : ℕ) → IsSome (map.get live other) → IsSome (map.get (map.insert live id row) other)
-  live_there live id row other is = ap is_some (map.get-insert nat_cmp_total live id row other) ∙ some_or (eq_by_cmp nat_cmp other id) row (map.get live other) is
+  pub live_there : (live : map.FinMap nat_cmp (List T)) (id : ℕ) (row : List T) (other : ℕ) → IsSome (map.get live other)
+      → IsSome (map.get (map.insert live id row) other)
+  live_there live id row other is =
+      ap is_some (map.get-insert nat_cmp_total live id row other) ∙ some_or (eq_by_cmp nat_cmp other id) row (map.get live other) is
 
   -- so does giving another back
   pub live_left : (live : map.FinMap nat_cmp (List T)) (id other : ℕ) → other ≢ id → IsSome (map.get live other) → IsSome (map.get (map.remove live id) other)

@@ -1,4 +1,5 @@
--- What a region is seen as: the width and the fill of its rows, how many are reserved, and the live ones.
+-- What a region is seen as: the width and the fill of its rows, how many are reserved, and the live
+-- ones.
 use Rattle.std.specs.Prelude.{ℕ, ◌-◌, List, length, IsSome, refl}
 use Rattle.std.specs.List.{refill}
 use Rattle.std.specs.Ordering.{nat_cmp}
@@ -15,8 +16,10 @@ pub record Rows (T : Type 0) : Type 0 where
 -- a region is stored as its fields
 abbrev pub rows_code : {T : Type 0} → Coded T → Coded (Rows T)
 rows_code {T} code =
-    code_by (ℕ × (T × (ℕ × map.FinMap nat_cmp (List T)))) (coded× coded_ℕ (coded× code (coded× coded_ℕ (map.code coded_ℕ (coded_list code)))))
-    (λ r. (r.width, (r.fill, (r.reserved, r.live)))) (λ p. record { width = p.0; fill = p.1.0; reserved = p.1.1.0; live = p.1.1.1 }) (λ _. refl)
+    code_by (ℕ × (T × (ℕ × map.FinMap nat_cmp (List T))))
+    (coded× coded_ℕ (coded× code (coded× coded_ℕ (map.code coded_ℕ (coded_list code)))))
+    (λ r. (r.width, (r.fill, (r.reserved, r.live))))
+    (λ p. record { width = p.0; fill = p.1.0; reserved = p.1.1.0; live = p.1.1.1 }) (λ _. refl)
 
 module _ {T : Type 0} where
   -- the row with this number is handed out

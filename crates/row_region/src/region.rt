@@ -45,7 +45,9 @@ impl<T: Copy> Region<T> {
     /// A region of this many spare rows of this width. What a row holds when it is handed out is
     /// `fill`.
     pub fn reserve(alloc: Global, rows: u32, width: u32, fill: T) -> Result<Region<T>, NoMemory>
-        ensures { IfOk result (λ region. region ≡ record { width = width; fill = fill; reserved = rows; live = map.empty }) }
+        ensures { IfOk result
+            (λ region. region
+            ≡ record { width = width; fill = fill; reserved = rows; live = map.empty }) }
     {
         let mut all_rows = Vec::with_capacity(alloc, rows as usize)?;
         let mut spare_ids = Vec::with_capacity(alloc, rows as usize)?;
@@ -74,7 +76,8 @@ impl<T: Copy> Region<T> {
     pub fn take(&mut self) -> RowId
         requires { 0 < spare_of self.old }
         ensures was_spare { map.get self.old.live result.0 ≡ None }
-        ensures filled { self.new ≡ with_row self.old result.0 (replicate self.old.width self.old.fill) }
+        ensures filled { self.new
+            ≡ with_row self.old result.0 (replicate self.old.width self.old.fill) }
         ensures spare { spare_of self.new + 1 ≡ spare_of self.old }
     {
         self.spare -= 1;

@@ -28,7 +28,8 @@ session_is_seat k (step ∷ more) =
     ]
 
 -- where the steps merge the streams, so do their entries
-pub entries_merge : (streams : List (Vec Command Global)) (history : List (StepOf Command Reply)) → MergesCalls (lists_of streams) history → MergesStreams (command_lists streams) (map entry_of_step history)
+pub entries_merge : (streams : List (Vec Command Global)) (history : List (StepOf Command Reply)) → MergesCalls (lists_of streams) history
+    → MergesStreams (command_lists streams) (map entry_of_step history)
 entries_merge streams history merges = record {
   given = All-map (λ (entry : Entry). (1 ≤ entry.session) × (entry.session ≤ length (command_lists streams))) entry_of_step history (λ k d below.
       let step = slice_index_or history k d in
@@ -38,14 +39,18 @@ entries_merge streams history merges = record {
 }
 
 -- the entries of the closed desk are the steps
-pub entries_are_steps : (known : Known) (opened closed : Told) (history : List (StepOf Command Reply)) → IsLegal is_sound told_after told_reply known opened history
+pub entries_are_steps : (known : Known) (opened closed : Told) (history : List (StepOf Command Reply))
+    → IsLegal is_sound told_after told_reply known opened history
     → closed ≡ state_after_steps told_after known opened history → opened.entries ≡ [] → closed.entries ≡ map entry_of_step history
 entries_are_steps known opened closed history legal last none =
-    ap (λ (told : Told). told.entries) last ∙ (steps_are_entries_law known opened history legal).entries ∙ ap (λ entries. entries ++ map entry_of_step history) none
+    ap (λ (told : Told). told.entries) last ∙ (steps_are_entries_law known opened history legal).entries
+    ∙ ap (λ entries. entries ++ map entry_of_step history) none
 
 -- and they are a legal journal
-pub steps_are_legal : (names : DeskNames) (known : Known) (opened : Told) (history : List (StepOf Command Reply)) → IsLegal is_sound told_after told_reply known opened history
+pub steps_are_legal : (names : DeskNames) (known : Known) (opened : Told) (history : List (StepOf Command Reply))
+    → IsLegal is_sound told_after told_reply known opened history
     → known.names ≡ names → opened.state ≡ opening names → IsLegalJournal names (map entry_of_step history)
 steps_are_legal names known opened history legal named state =
     let entries = map entry_of_step history in
-    subst (λ (n : DeskNames). IsLegalFrom n (opening n) entries) named (subst (λ s. IsLegalFrom known.names s entries) (state ∙ ap opening (sym named)) (steps_are_entries_law known opened history legal).legal)
+    subst (λ (n : DeskNames). IsLegalFrom n (opening n) entries) named
+    (subst (λ s. IsLegalFrom known.names s entries) (state ∙ ap opening (sym named)) (steps_are_entries_law known opened history legal).legal)

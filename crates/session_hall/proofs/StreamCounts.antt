@@ -22,12 +22,14 @@ count-take-suc (suc k) (first ∷ more) stream below is =
     let h : longer ≡ front + m = rest in
     let goal : n + longer ≡ n + front + m = omega arith in goal
 
-pub command_count-take : (k : ℕ) (streams : List (Vec Command Global)) (stream : Vec Command Global) → k < length streams → stream ≡ slice_index_or streams k stream
+pub command_count-take : (k : ℕ) (streams : List (Vec Command Global)) (stream : Vec Command Global) → k < length streams
+    → stream ≡ slice_index_or streams k stream
     → command_count (take (k + 1) streams) ≡ command_count (take k streams) + vec_len stream
 command_count-take k streams stream below is = let next : k + 1 ≡ suc k = omega arith in rw next (count-take-suc k streams stream below is)
 
 -- the streams so far and one more have no more commands than all
-pub command_count-within : (k : ℕ) (streams : List (Vec Command Global)) (stream : Vec Command Global) → k < length streams → stream ≡ slice_index_or streams k stream
+pub command_count-within : (k : ℕ) (streams : List (Vec Command Global)) (stream : Vec Command Global) → k < length streams
+    → stream ≡ slice_index_or streams k stream
     → command_count (take k streams) + vec_len stream ≤ command_count streams
 command_count-within k [] stream below is = absurd (omega arith)
 command_count-within zero (first ∷ more) stream below is =

@@ -27,9 +27,10 @@ pub struct ClosedDesk {
     pub journal: Journal<Desk>,
 }
 
-/// Holds a desk for the sections of the catalogue and the students of the roll. Session n posts the n-th stream in its order, from a
-/// thread of its own where one can be started; sessions are numbered from 1. Each passes the gate before its first command and after
-/// each reply. All memory is taken before a session starts, and `NoMemory` is the only error.
+/// Holds a desk for the sections of the catalogue and the students of the roll. Session n posts the
+/// n-th stream in its order, from a thread of its own where one can be started; sessions are
+/// numbered from 1. Each passes the gate before its first command and after each reply. All memory
+/// is taken before a session starts, and `NoMemory` is the only error.
 pub fn hold<R: Threads + Wait + Sync, G: Gate + Sync>(
     rt: &R,
     alloc: Global,
@@ -40,10 +41,15 @@ pub fn hold<R: Threads + Wait + Sync, G: Gate + Sync>(
 ) -> Result<ClosedDesk, NoMemory>
     requires sessions { (1 ≤ length streams.now) × (length streams.now ≤ MAX_SESSIONS) }
     requires commands { command_count streams.now ≤ MAX_COMMANDS }
-    ensures names { IfOk result (λ closed. names_of closed.desk ≡ market_names catalog.now.sections roll.now.students) }
-    ensures entries { IfOk result (λ closed. entries_of closed.desk ≡ map entry_of_step closed.journal) }
-    ensures legal { IfOk result (λ closed. IsLegalJournal (market_names catalog.now.sections roll.now.students) (map entry_of_step closed.journal)) }
-    ensures merges { IfOk result (λ closed. MergesStreams (command_lists streams.now) (map entry_of_step closed.journal)) }
+    ensures names { IfOk result
+        (λ closed. names_of closed.desk ≡ market_names catalog.now.sections roll.now.students) }
+    ensures entries { IfOk result
+        (λ closed. entries_of closed.desk ≡ map entry_of_step closed.journal) }
+    ensures legal { IfOk result
+        (λ closed. IsLegalJournal (market_names catalog.now.sections roll.now.students)
+        (map entry_of_step closed.journal)) }
+    ensures merges { IfOk result
+        (λ closed. MergesStreams (command_lists streams.now) (map entry_of_step closed.journal)) }
 {
     let lines = count_commands(streams);
     let desk = Desk::prepare(alloc, catalog, roll, lines)?;

@@ -21,7 +21,8 @@ const CATALOG: &[u8] = b"section,course,seats,credits,meetings\nA,AA,1,1,\nB,BB,
 
 const ROLL: &[u8] = b"student,budget,credits,courses\nann,100,10,2\nbob,101,10,2\n";
 
-// The lines of two sessions with their replies, which are the same in every order that keeps each session's own.
+// The lines of two sessions with their replies, which are the same in every order that keeps each
+// session's own.
 const FIRST: [(&[u8], Reply); 4] = [
     (b"rate ann A 10", Reply::Done),
     (b"rate zoe A 1", Reply::NoStudent),
@@ -118,8 +119,9 @@ fn two_sessions_post_at_once(rt: HostRuntime) -> Result<(), Fail> {
     Ok(())
 }
 
-// Each session passes its gate after its reply: the first one's last pass lets the second begin, and the second one's
-// last pass lets the first go on, so the first has posted both its lines before the second posts one.
+// Each session passes its gate after its reply: the first one's last pass lets the second begin,
+// and the second one's last pass lets the first go on, so the first has posted both its lines
+// before the second posts one.
 #[test]
 fn a_session_is_held_after_its_reply(rt: HostRuntime) -> Result<(), Fail> {
     let gate = HoldingGate::new();

@@ -18,12 +18,16 @@ use Rattle.stream_posting.specs.Streams.{MergesCalls, lists_of, requests}
 pub record HaveAllPosted {B S Q A : Type 0} (chronicle : Origin B S) (streams : List (Vec Q Global)) (seats : List (Standing B S Q A)) : Type 0 where
   pub count : length seats ≡ length streams
   pub numbers : (n : ℕ) (d : Standing B S Q A) → n < length seats → (slice_index_or seats n d).number ≡ n
-  pub posted : (n : ℕ) (d : Standing B S Q A) (none : Vec Q Global) → n < length seats → HasPosted chronicle (slice_index_or streams n none).items (slice_index_or seats n d)
+  pub posted : (n : ℕ) (d : Standing B S Q A) (none : Vec Q Global) → n < length seats
+      → HasPosted chronicle (slice_index_or streams n none).items (slice_index_or seats n d)
 
 -- so it is with the seats that were lent whole, and came back as many
-pub all_posted : {B S Q A : Type 0} (chronicle : Origin B S) (streams : List (Vec Q Global)) (len : ℕ) (lent old new : List (Standing B S Q A)) → length lent ≡ length streams → len ≡ length lent → length new ≡ length lent
+pub all_posted : {B S Q A : Type 0} (chronicle : Origin B S) (streams : List (Vec Q Global)) (len : ℕ) (lent old new : List (Standing B S Q A))
+    → length lent ≡ length streams → len ≡ length lent → length new ≡ length lent
     → ((n : ℕ) (d : Standing B S Q A) → n < length lent → (slice_index_or new n d).number ≡ n)
-    → ((n : ℕ) (d : Standing B S Q A) (none : Vec Q Global) → n < length lent → HasPosted chronicle (slice_index_or streams n none).items (slice_index_or new n d))
+    →
+    ((n : ℕ) (d : Standing B S Q A) (none : Vec Q Global) → n < length lent
+    → HasPosted chronicle (slice_index_or streams n none).items (slice_index_or new n d))
     → HaveAllPosted chronicle streams (take len (new ++ drop (length new) old))
 all_posted {B = B} {S = S} {Q = Q} {A = A} chronicle streams len lent old new count whole back numbers posted =
     let all : HaveAllPosted chronicle streams new = record {
@@ -31,7 +35,8 @@ all_posted {B = B} {S = S} {Q = Q} {A = A} chronicle streams len lent old new co
       numbers = λ n d below. numbers n d (subst (λ m. n < m) back below);
       posted = λ n d none below. posted n d none (subst (λ m. n < m) back below);
     } in
-    let same : take len (new ++ drop (length new) old) ≡ new = ap (λ n. take n (new ++ drop (length new) old)) (whole ∙ sym back) ∙ take-append_seam new (drop (length new) old) in
+    let same : take len (new ++ drop (length new) old) ≡ new =
+    ap (λ n. take n (new ++ drop (length new) old)) (whole ∙ sym back) ∙ take-append_seam new (drop (length new) old) in
     subst (λ seats. HaveAllPosted chronicle streams seats) (sym same) all
 
 -- some item of a list that has one
@@ -39,17 +44,20 @@ item_of : {T : Type 0} (xs : List T) (k : ℕ) → k < length xs → T
 item_of [] k below = absurd (omega arith)
 item_of (x ∷ xs) k below = x
 
-module _ {B S Q A : Type 0} (chronicle : Origin B S) (streams : List (Vec Q Global)) (seats : List (Standing B S Q A)) (all : HaveAllPosted chronicle streams seats) where
+module _ {B S Q A : Type 0} (chronicle : Origin B S) (streams : List (Vec Q Global)) (seats : List (Standing B S Q A))
+    (all : HaveAllPosted chronicle streams seats) where
   pub seats_of_chronicle : All (λ (seat : Standing B S Q A). seat.chronicle ≡ Some chronicle) seats
   seats_of_chronicle = λ n d below. (all.posted n d (item_of streams n (subst (λ m. n < m) all.count below)) below).of
 
   pub every_seat : (n : ℕ) → n < length streams → Any (λ (seat : Standing B S Q A). seat.number ≡ n) seats
   every_seat n below =
       let count : length seats ≡ length streams = all.count in
-      all_at_their_numbers (length streams) seats (let goal : length streams ≤ length seats = omega arith in goal) (λ k d low. all.numbers k d (let goal : k < length seats = omega arith in goal)) n below
+      all_at_their_numbers (length streams) seats (let goal : length streams ≤ length seats = omega arith in goal)
+      (λ k d low. all.numbers k d (let goal : k < length seats = omega arith in goal)) n below
 
 -- the steps of the closed chronicle merge the streams
-pub steps_merge : {B S Q A : Type 0} (chronicle : Origin B S) (streams : List (Vec Q Global)) (seats : List (Standing B S Q A)) (history : List (StepOf Q A)) → HaveAllPosted chronicle streams seats
+pub steps_merge : {B S Q A : Type 0} (chronicle : Origin B S) (streams : List (Vec Q Global)) (seats : List (Standing B S Q A)) (history : List (StepOf Q A))
+    → HaveAllPosted chronicle streams seats
     → All (λ (step : StepOf Q A). Any (λ (seat : Standing B S Q A). seat.number ≡ step.seat) seats) history
     → All (λ (seat : Standing B S Q A). calls_by seat.number history ≡ seat.own) seats
     → MergesCalls (lists_of streams) history

@@ -4,13 +4,16 @@ use Rattle.chronicle.specs.declared.origin.Origin.{Origin}
 use Rattle.chronicle.specs.declared.standing.Standing.{Standing}
 use Rattle.stream_posting.specs.Streams.{requests}
 
--- a seat of this chronicle that may make as many calls as the stream has requests, and has made none
-pub record IsReady {B S Q A : Type 0} (chronicle : Origin B S) (stream : List Q) (seat : Standing B S Q A) : Type 0 where
+-- a seat of this chronicle that may make as many calls as the stream has requests, and has made
+-- none
+pub record IsReady {B S Q A : Type 0} (chronicle : Origin B S) (stream : List Q)
+    (seat : Standing B S Q A) : Type 0 where
   pub of : seat.chronicle ≡ Some chronicle
   pub left : seat.left ≡ length stream
   pub own : seat.own ≡ []
 
 -- a seat of this chronicle that has made the stream's requests, and no others
-pub record HasPosted {B S Q A : Type 0} (chronicle : Origin B S) (stream : List Q) (seat : Standing B S Q A) : Type 0 where
+pub record HasPosted {B S Q A : Type 0} (chronicle : Origin B S) (stream : List Q)
+    (seat : Standing B S Q A) : Type 0 where
   pub of : seat.chronicle ≡ Some chronicle
   pub own : requests seat.own ≡ stream

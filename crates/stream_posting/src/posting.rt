@@ -19,13 +19,20 @@ pub(crate) fn post_all<R: Threads + Wait + Sync, O: Object + Send, G: Gate + Syn
 where
     O::Request: Send + Sync,
     O::Reply: Send,
-    requires count { (length seats.old ≡ length streams.now) × (1 ≤ length streams.now) × (length streams.now ≤ 64) }
-    requires numbers { (n : ℕ) (d : _) → n < length seats.old → (slice_index_or seats.old n d).number ≡ n }
+    requires count { (length seats.old ≡ length streams.now) × (1 ≤ length streams.now)
+        × (length streams.now ≤ 64) }
+    requires numbers { (n : ℕ) (d : _) → n < length seats.old
+        → (slice_index_or seats.old n d).number ≡ n }
     requires sound { (request : O.Request) → O.sound chronicle.now.base request ≡ true }
-    requires ready { (n : ℕ) (d : _) (none : _) → n < length seats.old → IsReady chronicle.now (slice_index_or streams.now n none).items (slice_index_or seats.old n d) }
+    requires ready { (n : ℕ) (d : _) (none : _) → n < length seats.old
+        → IsReady chronicle.now (slice_index_or streams.now n none).items
+        (slice_index_or seats.old n d) }
     ensures count { length seats.new ≡ length seats.old }
-    ensures numbers { (n : ℕ) (d : _) → n < length seats.old → (slice_index_or seats.new n d).number ≡ n }
-    ensures posted { (n : ℕ) (d : _) (none : _) → n < length seats.old → HasPosted chronicle.now (slice_index_or streams.now n none).items (slice_index_or seats.new n d) }
+    ensures numbers { (n : ℕ) (d : _) → n < length seats.old
+        → (slice_index_or seats.new n d).number ≡ n }
+    ensures posted { (n : ℕ) (d : _) (none : _) → n < length seats.old
+        → HasPosted chronicle.now (slice_index_or streams.now n none).items
+        (slice_index_or seats.new n d) }
 {
     let threads = seats.len();
     thread::for_each_mut(
@@ -33,7 +40,10 @@ where
         seats,
         threads,
         &|n, seat|
-            requires { (n < length streams.now) × (seat.now.number < 64) × ((request : O.Request) → O.sound chronicle.now.base request ≡ true) × ((none : _) → IsReady chronicle.now (slice_index_or streams.now n none).items seat.now) }
+            requires { (n < length streams.now) × (seat.now.number < 64)
+                × ((request : O.Request) → O.sound chronicle.now.base request ≡ true)
+                × ((none : _)
+                → IsReady chronicle.now (slice_index_or streams.now n none).items seat.now) }
         { post_stream(rt, chronicle, seat, &streams[n], gate) },
     );
 }

@@ -14,9 +14,11 @@ use std::alloc::Global;
 use std::sync::Wait;
 use std::thread::Threads;
 
-/// Begins a history of calls on the object, and ends it when all sessions have posted. Session n makes the requests of the n-th stream in
-/// its order, from a thread of its own where one can be started; sessions are numbered from 1, and seat n is session n + 1. Each passes
-/// the gate before its first request and after each reply. All memory is taken before a session starts, and `NoMemory` is the only error.
+/// Begins a history of calls on the object, and ends it when all sessions have posted. Session n
+/// makes the requests of the n-th stream in its order, from a thread of its own where one can be
+/// started; sessions are numbered from 1, and seat n is session n + 1. Each passes the gate before
+/// its first request and after each reply. All memory is taken before a session starts, and
+/// `NoMemory` is the only error.
 pub fn post_streams<R: Threads + Wait + Sync, O: Object + Send, G: Gate + Sync>(
     rt: &R,
     alloc: Global,
@@ -31,9 +33,12 @@ where
     requires room { total vec_len streams.now ≤ O.room object }
     requires sound { (request : O.Request) → O.sound (O.base object) request ≡ true }
     ensures base { IfOk result (λ closed. O.base closed.0 ≡ O.base object) }
-    ensures legal { IfOk result (λ closed. IsLegal O.sound O.after O.reply (O.base object) (O.state object) closed.1) }
+    ensures legal { IfOk result
+        (λ closed. IsLegal O.sound O.after O.reply (O.base object) (O.state object) closed.1) }
     ensures merges { IfOk result (λ closed. MergesCalls (lists_of streams.now) closed.1) }
-    ensures state { IfOk result (λ closed. O.state closed.0 ≡ state_after O.after (O.base object) (O.state object) closed.1) }
+    ensures state { IfOk result
+        (λ closed. O.state closed.0
+        ≡ state_after O.after (O.base object) (O.state object) closed.1) }
 {
     let allotments = lengths_of(alloc, streams)?;
     let (chronicle, seats) = Chronicle::start(alloc, object, allotments)?;
@@ -41,7 +46,8 @@ where
     Ok((object, journal))
 }
 
-// From the first session's start to the end of the history: it is given no allocator and has no error, so no memory is taken meanwhile.
+// From the first session's start to the end of the history: it is given no allocator and has no
+// error, so no memory is taken meanwhile.
 fn post_and_close<R: Threads + Wait + Sync, O: Object + Send, G: Gate + Sync>(
     rt: &R,
     chronicle: Chronicle<O>,
@@ -54,13 +60,18 @@ where
     O::Reply: Send,
     requires sessions { (1 ≤ length streams.now) × (length streams.now ≤ MAX_SESSIONS) }
     requires sound { (request : O.Request) → O.sound chronicle.base request ≡ true }
-    requires count { (vec_len seats ≡ length streams.now) × (length chronicle.allotments ≡ length streams.now) }
-    requires numbers { (n : ℕ) (d : _) → n < vec_len seats → (slice_index_or seats.items n d).number ≡ n }
-    requires ready { (n : ℕ) (d : _) (none : _) → n < vec_len seats → IsReady chronicle (slice_index_or streams.now n none).items (slice_index_or seats.items n d) }
+    requires count { (vec_len seats ≡ length streams.now)
+        × (length chronicle.allotments ≡ length streams.now) }
+    requires numbers { (n : ℕ) (d : _) → n < vec_len seats
+        → (slice_index_or seats.items n d).number ≡ n }
+    requires ready { (n : ℕ) (d : _) (none : _) → n < vec_len seats
+        → IsReady chronicle (slice_index_or streams.now n none).items
+        (slice_index_or seats.items n d) }
     ensures base { O.base result.0 ≡ chronicle.base }
     ensures legal { IsLegal O.sound O.after O.reply chronicle.base chronicle.opening result.1 }
     ensures merges { MergesCalls (lists_of streams.now) result.1 }
-    ensures state { O.state result.0 ≡ state_after O.after chronicle.base chronicle.opening result.1 }
+    ensures state { O.state result.0
+        ≡ state_after O.after chronicle.base chronicle.opening result.1 }
 {
     post_all(rt, &chronicle, seats.as_mut_slice(), streams, gate);
     chronicle.close(seats)

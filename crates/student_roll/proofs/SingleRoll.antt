@@ -13,7 +13,8 @@ pub keeps_one : (keys : List Name) (students : List Student) (name : Name) (cred
 unfolding IsDistinct
 keeps_one keys students name credits courses few short is are =
     let only = single_student (name_bytes name) credits courses in
-    let listed : IsListed 1 only = record { is_student = record { name = name.holds.name; tokens = omega arith; credits = few; courses = short }; fresh = λ first. refl } in
+    let listed : IsListed 1 only =
+    record { is_student = record { name = name.holds.name; tokens = omega arith; credits = few; courses = short }; fresh = λ first. refl } in
     rw (is, are) (record {
       names = refl;
       is_roll = record {

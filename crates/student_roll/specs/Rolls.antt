@@ -16,24 +16,36 @@ refusal_of (fault.Fields row) = refusal.Fields row
 refusal_of (fault.Name row) = refusal.Name row 1
 refusal_of (fault.Repeated row earlier) = refusal.Repeated row earlier
 
--- the tokens that a row's student carries over: none in version 1, and in version 2 what column 5 says, with the base at most 900,000
+-- the tokens that a row's student carries over: none in version 1, and in version 2 what column 5
+-- says, with the base at most 900,000
 abbrev pub carry_in : ℕ → ℕ → ℕ → List (List ℕ) → Result ℕ RollRefusal
-carry_in version row base fields = if version == 1 then Ok 0 else number_or (refusal.Number row 5) (900000 - base) (field_in 5 fields)
+carry_in version row base fields =
+    if version == 1 then Ok 0
+    else number_or (refusal.Number row 5) (900000 - base) (field_in 5 fields)
 
--- the student of this row: columns 2 to 4 are numbers up to 900,000, 800 and 8, and then the tokens that are carried over
+-- the student of this row: columns 2 to 4 are numbers up to 900,000, 800 and 8, and then the tokens
+-- that are carried over
 abbrev pub student_of : ℕ → ℕ → List (List ℕ) → Result Student RollRefusal
 student_of version row fields = do
   base ← number_or (refusal.Number row 2) 900000 (field_in 2 fields)
   credits ← number_or (refusal.Number row 3) 800 (field_in 3 fields)
   courses ← number_or (refusal.Number row 4) 8 (field_in 4 fields)
   carry ← carry_in version row base fields
-  Ok (record { name = first_field fields; base = base; credits = credits; courses = courses; carry = carry })
+  Ok
+      (record {
+        name = first_field fields;
+        base = base;
+        credits = credits;
+        courses = courses;
+        carry = carry;
+      })
 
 -- the fields of the first record in version 1
 abbrev pub first_header : List (List ℕ)
 first_header = codes "student" ∷ codes "budget" ∷ codes "credits" ∷ codes "courses" ∷ []
 
--- the rules of a roll: its headers, the second with one column more, at most 2,000 rows, any name, and what a row is
+-- the rules of a roll: its headers, the second with one column more, at most 2,000 rows, any name,
+-- and what a row is
 abbrev pub roll_rules : Rules Student RollRefusal
 roll_rules = record {
   headers = first_header ∷ (first_header ++ codes "carry" ∷ []) ∷ [];

@@ -28,7 +28,14 @@ impl Model for Entry {
 
 impl Entry {
     pub fn new(name: Name, base: u32, credits: u16, courses: u8, carry: u32) -> Entry
-        ensures { result ≡ record { name = name_bytes name; base = base; credits = credits; courses = courses; carry = carry } }
+        ensures { result
+            ≡ record {
+              name = name_bytes name;
+              base = base;
+              credits = credits;
+              courses = courses;
+              carry = carry;
+            } }
     {
         Entry {
             name,

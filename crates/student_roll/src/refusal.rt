@@ -2,8 +2,8 @@
 
 use thiserror::Error;
 
-/// Why the bytes of a roll are refused: the first bad record, and in it the first bad column. A row is the number of a
-/// record, the header's being 1.
+/// Why the bytes of a roll are refused: the first bad record, and in it the first bad column. A row
+/// is the number of a record, the header's being 1.
 #[derive(Clone, Copy, Debug, PartialEq, Eq, Error)]
 pub enum RollRefusal {
     /// The first record is no header of a roll, or there is none.

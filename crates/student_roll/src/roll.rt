@@ -12,8 +12,8 @@ use std::alloc::Global;
 use std::marker::Model;
 use table_records::{Rows, place_of};
 
-/// The students of the market in file order: at most 2,000, each in its ranges, no two of one name; and the version of
-/// their table. A student's number is its place, from 0.
+/// The students of the market in file order: at most 2,000, each in its ranges, no two of one name;
+/// and the version of their table. A student's number is its place, from 0.
 #[derive(Drop)]
 pub struct Roll {
     version: u8,
@@ -33,11 +33,17 @@ impl Model for Roll {
 }
 
 impl Roll {
-    /// The roll of one student, with these caps, base 0 and nothing carried over, as a table of version 1 has it.
+    /// The roll of one student, with these caps, base 0 and nothing carried over, as a table of
+    /// version 1 has it.
     pub fn single(alloc: Global, name: Name, credits: u16, courses: u8) -> Result<Roll, NoMemory>
         requires credits { credits ≤ 800 }
         requires courses { courses ≤ 8 }
-        ensures { IfOk result (λ roll. roll ≡ record { version = 1; students = single_student (name_bytes name) credits courses ∷ [] }) }
+        ensures { IfOk result
+            (λ roll. roll
+            ≡ record {
+              version = 1;
+              students = single_student (name_bytes name) credits courses ∷ [];
+            }) }
     {
         let mut names = IndexSet::new(alloc);
         let mut students = Vec::new(alloc);
@@ -54,7 +60,8 @@ impl Roll {
 
     // The roll of the rows that were read.
     pub(crate) fn of_rows(rows: Rows<Entry>) -> Roll
-        requires { KeepsStudents rows.names.keys (record { version = rows.version; students = rows.rows.items }) }
+        requires { KeepsStudents rows.names.keys
+            (record { version = rows.version; students = rows.rows.items }) }
         ensures { result ≡ record { version = rows.version; students = rows.rows.items } }
     {
         Roll {
@@ -91,7 +98,8 @@ impl Roll {
     /// The student's name.
     pub fn name(&self, student: StudentNo) -> Name
         requires { student.0 < length self.now.students }
-        ensures { option_map (λ s. s.name) (slice_get self.now.students student.0) ≡ Some (name_bytes result) }
+        ensures { option_map (λ s. s.name) (slice_get self.now.students student.0)
+            ≡ Some (name_bytes result) }
     {
         self.students[usize::from(student.0)].name()
     }
@@ -99,7 +107,8 @@ impl Roll {
     /// The student's base in tokens, on which the budget is drawn: at most 900,000.
     pub fn base(&self, student: StudentNo) -> u32
         requires { student.0 < length self.now.students }
-        ensures base { option_map (λ s. s.base) (slice_get self.now.students student.0) ≡ Some result }
+        ensures base { option_map (λ s. s.base) (slice_get self.now.students student.0)
+            ≡ Some result }
         ensures range { result ≤ 900000 }
     {
         self.students[usize::from(student.0)].base()
@@ -108,8 +117,10 @@ impl Roll {
     /// The tokens that the student carries over: with the base at most 900,000.
     pub fn carry(&self, student: StudentNo) -> u32
         requires { student.0 < length self.now.students }
-        ensures carry { option_map (λ s. s.carry) (slice_get self.now.students student.0) ≡ Some result }
-        ensures range { (slice_index_or self.now.students student.0 no_student).base + result ≤ 900000 }
+        ensures carry { option_map (λ s. s.carry) (slice_get self.now.students student.0)
+            ≡ Some result }
+        ensures range { (slice_index_or self.now.students student.0 no_student).base + result
+            ≤ 900000 }
     {
         self.students[usize::from(student.0)].carry()
     }
@@ -117,7 +128,8 @@ impl Roll {
     /// The most credits that the student may have, at most 800.
     pub fn credits(&self, student: StudentNo) -> u16
         requires { student.0 < length self.now.students }
-        ensures credits { option_map (λ s. s.credits) (slice_get self.now.students student.0) ≡ Some result }
+        ensures credits { option_map (λ s. s.credits) (slice_get self.now.students student.0)
+            ≡ Some result }
         ensures range { result ≤ 800 }
     {
         self.students[usize::from(student.0)].credits()
@@ -126,7 +138,8 @@ impl Roll {
     /// The most sections that the student may have, at most 8.
     pub fn courses(&self, student: StudentNo) -> u8
         requires { student.0 < length self.now.students }
-        ensures courses { option_map (λ s. s.courses) (slice_get self.now.students student.0) ≡ Some result }
+        ensures courses { option_map (λ s. s.courses) (slice_get self.now.students student.0)
+            ≡ Some result }
         ensures range { result ≤ 8 }
     {
         self.students[usize::from(student.0)].courses()
@@ -134,8 +147,10 @@ impl Roll {
 
     /// The student of this name, or `None` exactly where no student has it.
     pub fn find(&self, name: &Name) -> Option<StudentNo>
-        ensures place { option_map (λ s. s.0) result ≡ position (bytes_eq (name_bytes name.now)) (names_of self.now.students) }
-        ensures found { IfSome result (λ s. slice_get (names_of self.now.students) s.0 ≡ Some (name_bytes name.now)) }
+        ensures place { option_map (λ s. s.0) result
+            ≡ position (bytes_eq (name_bytes name.now)) (names_of self.now.students) }
+        ensures found { IfSome result
+            (λ s. slice_get (names_of self.now.students) s.0 ≡ Some (name_bytes name.now)) }
         ensures within { IfSome result (λ s. s.0 < length self.now.students) }
     {
         match place_of(&self.names, name) {

@@ -68,12 +68,14 @@ impl Table for RollRules {
 // The number at most `max` in a column of a row.
 fn number(fields: &ByteRecord, row: u32, column: u8, max: u64) -> Result<u64, RollRefusal>
     requires { 1 ≤ column }
-    ensures { result ≡ number_or (RollRefusal.Number row column) max (field_in column (fields_of fields.now)) }
+    ensures { result
+        ≡ number_or (RollRefusal.Number row column) max (field_in column (fields_of fields.now)) }
 {
     number_in(fields, usize::from(column), max).ok_or(RollRefusal::Number { row, column })
 }
 
-// The tokens that a row's student carries over, in a table of this version: with the base at most `MAX_BASE`.
+// The tokens that a row's student carries over, in a table of this version: with the base at most
+// `MAX_BASE`.
 fn carry_in(version: usize, row: u32, base: u32, fields: &ByteRecord) -> Result<u32, RollRefusal>
     requires { base ≤ 900000 }
     ensures value { result ≡ carry_in version row base (fields_of fields.now) }

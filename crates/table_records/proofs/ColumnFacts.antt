@@ -44,7 +44,8 @@ IsName-from_test bytes test =
     }
 
 -- what `read_name` answers is the name that the bytes are
-pub is_name_of : (r : Option Name) (bytes : List ℕ) → IfSome r (λ name. name_bytes name ≡ bytes) → IfNone r (IsName bytes → ⊥) → option_map name_bytes r ≡ name_of bytes
+pub is_name_of : (r : Option Name) (bytes : List ℕ) → IfSome r (λ name. name_bytes name ≡ bytes) → IfNone r (IsName bytes → ⊥)
+    → option_map name_bytes r ≡ name_of bytes
 is_name_of None bytes is none = elim (cases_Bool (is_name bytes)) [ inl t ↦ absurd (none (IsName-from_test bytes t)) | inr f ↦ rw f refl ]
 is_name_of (Some name) bytes is none = let t : is_name bytes ≡ true = is_name-true bytes (rw is at name.holds.name) in rw t (ap Some is)
 
@@ -75,6 +76,9 @@ spelled-number_of max bytes n e =
     (grind (arith, nat_tests), spelled ∙ ap decimal value)
 
 -- what `read_number` answers is the number at most max that the bytes spell
-pub is_number_of : (r : Option ℕ) (max : ℕ) (bytes : List ℕ) → max < 2 ^ 64 → IfSome r (λ n. n ≤ max) → IfSome r (λ n. bytes ≡ decimal n) → IfNone r ((n : ℕ) → n ≤ max → bytes ≢ decimal n) → r ≡ number_of max bytes
-is_number_of None max bytes small within spelled none = elim (number_of max bytes) as (λ r. number_of max bytes ≡ r → None ≡ r) [ None ↦ λ e. refl | Some n ↦ λ e. let h = spelled-number_of max bytes n e in absurd (none n h.0 h.1) ] refl
+pub is_number_of : (r : Option ℕ) (max : ℕ) (bytes : List ℕ) → max < 2 ^ 64 → IfSome r (λ n. n ≤ max) → IfSome r (λ n. bytes ≡ decimal n)
+    → IfNone r ((n : ℕ) → n ≤ max → bytes ≢ decimal n) → r ≡ number_of max bytes
+is_number_of None max bytes small within spelled none =
+    elim (number_of max bytes) as (λ r. number_of max bytes ≡ r → None ≡ r)
+    [ None ↦ λ e. refl | Some n ↦ λ e. let h = spelled-number_of max bytes n e in absurd (none n h.0 h.1) ] refl
 is_number_of (Some n) max bytes small within spelled none = number_of-spelled max bytes n small within spelled

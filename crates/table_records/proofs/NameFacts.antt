@@ -45,7 +45,8 @@ opposite true false h = refl
 opposite false true h = refl
 opposite false false h = h
 
-differ-bytes_of : (name : Name) (names : List Name) → AllByRecursion (λ other. bytes_eq (name_bytes name) (name_bytes other) ≡ false) names → AllByRecursion (λ other. bytes_eq (name_bytes name) other ≡ false) (bytes_of names)
+differ-bytes_of : (name : Name) (names : List Name) → AllByRecursion (λ other. bytes_eq (name_bytes name) (name_bytes other) ≡ false) names
+    → AllByRecursion (λ other. bytes_eq (name_bytes name) other ≡ false) (bytes_of names)
 differ-bytes_of name [] differ = tt
 differ-bytes_of name (other ∷ more) differ = (differ.0, differ-bytes_of name more differ.1)
 
@@ -56,7 +57,9 @@ IsDistinct-bytes_of [] distinct = tt
 IsDistinct-bytes_of (name ∷ more) distinct = (differ-bytes_of name more distinct.0, IsDistinct-bytes_of more distinct.1)
 
 -- a name that is not there comes last
-pub adds_new : (old new : List Name) (name : Name) → true ≡ not (list_any (λ k. bytes_eq (name_bytes name) (name_bytes k)) old) → new ≡ cond (list_any (λ k. bytes_eq (name_bytes name) (name_bytes k)) old) old (old ++ name ∷ []) → IsDistinct (λ a b. bytes_eq (name_bytes a) (name_bytes b)) new → AddsName old new (name_bytes name) None
+pub adds_new : (old new : List Name) (name : Name) → true ≡ not (list_any (λ k. bytes_eq (name_bytes name) (name_bytes k)) old)
+    → new ≡ cond (list_any (λ k. bytes_eq (name_bytes name) (name_bytes k)) old) old (old ++ name ∷ [])
+    → IsDistinct (λ a b. bytes_eq (name_bytes a) (name_bytes b)) new → AddsName old new (name_bytes name) None
 adds_new old new name added keys distinct =
     let lacks = opposite true (list_any (λ k. bytes_eq (name_bytes name) (name_bytes k)) old) added in
     record {
@@ -66,7 +69,9 @@ adds_new old new name added keys distinct =
     }
 
 -- a name that is there has a place
-pub adds_none : (old new : List Name) (name : Name) (place : ℕ) → false ≡ not (list_any (λ k. bytes_eq (name_bytes name) (name_bytes k)) old) → place ≡ position_or_len (λ k. bytes_eq (name_bytes name) (name_bytes k)) old → IsDistinct (λ a b. bytes_eq (name_bytes a) (name_bytes b)) new → AddsName old new (name_bytes name) (Some place)
+pub adds_none : (old new : List Name) (name : Name) (place : ℕ) → false ≡ not (list_any (λ k. bytes_eq (name_bytes name) (name_bytes k)) old)
+    → place ≡ position_or_len (λ k. bytes_eq (name_bytes name) (name_bytes k)) old → IsDistinct (λ a b. bytes_eq (name_bytes a) (name_bytes b)) new
+    → AddsName old new (name_bytes name) (Some place)
 adds_none old new name place added is distinct =
     let has = opposite false (list_any (λ k. bytes_eq (name_bytes name) (name_bytes k)) old) added in
     record {
@@ -76,7 +81,8 @@ adds_none old new name place added is distinct =
     }
 
 -- where a name has a place, it stands there
-pub stands_at : (name : List ℕ) (names : List (List ℕ)) (place : Option ℕ) → place ≡ position (bytes_eq name) names → IfSome place (λ i. slice_get names i ≡ Some name)
+pub stands_at : (name : List ℕ) (names : List (List ℕ)) (place : Option ℕ) → place ≡ position (bytes_eq name) names
+    → IfSome place (λ i. slice_get names i ≡ Some name)
 stands_at name names None is = tt
 stands_at name names (Some i) is =
     let at = position-Some (bytes_eq name) names i [] (sym is) in

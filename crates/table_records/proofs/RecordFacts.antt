@@ -27,7 +27,8 @@ next-shorter cfg s f d [] p e =
 next-shorter cfg s f d (c ∷ rest) p e =
     elim (cases_Bool (is_end (step cfg s c).1)) [
       | inl t ↦ let h = rw t at e in grind arith
-      | inr n ↦ let h = next-shorter cfg (step cfg s c).0 (fields_after (step cfg s c).1 f d) (field_after (step cfg s c).1 c d) rest p (rw n at e) in grind arith
+      | inr n ↦
+          let h = next-shorter cfg (step cfg s c).0 (fields_after (step cfg s c).1 f d) (field_after (step cfg s c).1 c d) rest p (rw n at e) in grind arith
     ]
 
 next-at-end : (cfg : Config) (s : State) (f : List (List ℕ)) (d : List ℕ) (p : Read) → next_record cfg s f d [] ≡ Some p → (p.1 ≡ st.StartRecord) × (p.2 ≡ [])
@@ -79,7 +80,8 @@ unfolding records_from
 records-end cfg zero s ys e = refl
 records-end cfg (suc m) s ys e = rw e refl
 
-length-next : (n : ℕ) (more : State → List ℕ → List (List (List ℕ))) → ((s : State) (xs : List ℕ) → length (more s xs) ≤ n) → (r : Option Read) → length (records_next more r) ≤ suc n
+length-next : (n : ℕ) (more : State → List ℕ → List (List (List ℕ))) → ((s : State) (xs : List ℕ) → length (more s xs) ≤ n) → (r : Option Read)
+    → length (records_next more r) ≤ suc n
 length-next n more h None = omega arith
 length-next n more h (Some p) = omega (arith, h p.1 p.2)
 
@@ -105,7 +107,8 @@ known text = Some text.now
 
 -- one more record that was given
 pub given-more : (text : List ℕ) (old new : ByteRecordsIntoIter (Bor (List ℕ))) (given : List (List (List ℕ))) (fields : List (List ℕ))
-    → HasGiven text old given → ReadRecord known old.rdr new.rdr true fields → new.rdr.first ≡ true → 0 < new.left → new.rdr.flexible ≡ old.rdr.flexible → HasGiven text new (given ++ fields ∷ [])
+    → HasGiven text old given → ReadRecord known old.rdr new.rdr true fields → new.rdr.first ≡ true → 0 < new.left → new.rdr.flexible ≡ old.rdr.flexible
+    → HasGiven text new (given ++ fields ∷ [])
 given-more text old new given fields has reads first left flexible =
     let m = rows-more known old.rdr new.rdr fields default_config st.StartRecord (strip_bom text) has.rest given has.config has.source has.reached reads in
     record {
@@ -123,20 +126,25 @@ given-more text old new given fields has reads first left flexible =
 pub given-all : (text : List ℕ) (old new : ByteRecordsIntoIter (Bor (List ℕ))) (given : List (List (List ℕ)))
     → HasGiven text old given → ReadRecord known old.rdr new.rdr false [] → records_of text ≡ given
 given-all text old new given has reads =
-    let (m, left, is) = reached-splits default_config (length (strip_bom text) + 1) st.StartRecord old.rdr.state (strip_bom text) has.rest given (inl (omega arith)) has.reached in
+    let (m, left, is) =
+    reached-splits default_config (length (strip_bom text) + 1) st.StartRecord old.rdr.state (strip_bom text) has.rest given (inl (omega arith))
+    has.reached in
     is
-    ∙ ap (λ (t : List (List (List ℕ))). given ++ t) (records-end default_config m old.rdr.state has.rest (rows-end known old.rdr new.rdr [] default_config has.rest has.config has.source reads))
+    ∙ ap (λ (t : List (List (List ℕ))). given ++ t)
+    (records-end default_config m old.rdr.state has.rest (rows-end known old.rdr new.rdr [] default_config has.rest has.config has.source reads))
     ∙ append-nil given
 
 -- the given records begin the list of all
 pub given-begin : (text : List ℕ) (it : ByteRecordsIntoIter (Bor (List ℕ))) (given : List (List (List ℕ))) → HasGiven text it given
     → (rest : List (List (List ℕ))) × (records_of text ≡ given ++ rest)
 given-begin text it given has =
-    let (m, left, is) = reached-splits default_config (length (strip_bom text) + 1) st.StartRecord it.rdr.state (strip_bom text) has.rest given (inl (omega arith)) has.reached in
+    let (m, left, is) =
+    reached-splits default_config (length (strip_bom text) + 1) st.StartRecord it.rdr.state (strip_bom text) has.rest given (inl (omega arith)) has.reached in
     (records_from default_config m it.rdr.state has.rest, is)
 
 -- the records that are left after some rows are few enough to count
-pub given-count : (text : List ℕ) (it : ByteRecordsIntoIter (Bor (List ℕ))) (first fields : List (List ℕ)) (later : List (List (List ℕ))) → length text < 2 ^ 32 - 1
+pub given-count : (text : List ℕ) (it : ByteRecordsIntoIter (Bor (List ℕ))) (first fields : List (List ℕ)) (later : List (List (List ℕ)))
+    → length text < 2 ^ 32 - 1
     → HasGiven text it ((first ∷ later) ++ fields ∷ []) → length later + 2 < 2 ^ 32
 given-count text it first fields later short has =
     let (rest, all) = given-begin text it ((first ∷ later) ++ fields ∷ []) has in

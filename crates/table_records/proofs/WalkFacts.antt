@@ -50,12 +50,14 @@ answers-append {R = R} {E = E} rules version names (x ∷ xs) ys =
     ∙ ap (λ (n : List (List ℕ)). answers rules version (names ++ first_field x ∷ []) xs ++ answers rules version n ys) (append_assoc names (first_field x ∷ []) (map first_field xs)))
 
 -- what stands before rows are rows
-before_row : {R E : Type 0} (row : R) (read : Result (List R) E) (rows : List R) → with_row row read ≡ Ok rows → (before : List R) × (read ≡ Ok before) × (rows ≡ row ∷ before)
+before_row : {R E : Type 0} (row : R) (read : Result (List R) E) (rows : List R) → with_row row read ≡ Ok rows
+    → (before : List R) × (read ≡ Ok before) × (rows ≡ row ∷ before)
 before_row row (Ok before) rows e = (before, refl, cc)
 before_row row (Err refusal) rows e = absurd (cc)
 
 -- a row after good answers
-first-row : {R E : Type 0} (good : List (Result R E)) (rows : List R) (row : R) → rows_or_first_refusal good ≡ Ok rows → rows_or_first_refusal (good ++ Ok row ∷ []) ≡ Ok (rows ++ row ∷ [])
+first-row : {R E : Type 0} (good : List (Result R E)) (rows : List R) (row : R) → rows_or_first_refusal good ≡ Ok rows
+    → rows_or_first_refusal (good ++ Ok row ∷ []) ≡ Ok (rows ++ row ∷ [])
 first-row [] rows row e = let none : rows ≡ [] = cc in rw none refl
 first-row {R = R} (Ok one ∷ more) rows row e =
     let (before, is, all) = before_row one (rows_or_first_refusal more) rows e in
@@ -63,7 +65,8 @@ first-row {R = R} (Ok one ∷ more) rows row e =
 first-row (Err refusal ∷ more) rows row e = absurd (cc)
 
 -- a refusal after good answers is the first
-first-refusal : {R E : Type 0} (good : List (Result R E)) (rows : List R) (refusal : E) (rest : List (Result R E)) → rows_or_first_refusal good ≡ Ok rows → rows_or_first_refusal (good ++ Err refusal ∷ rest) ≡ Err refusal
+first-refusal : {R E : Type 0} (good : List (Result R E)) (rows : List R) (refusal : E) (rest : List (Result R E)) → rows_or_first_refusal good ≡ Ok rows
+    → rows_or_first_refusal (good ++ Err refusal ∷ rest) ≡ Err refusal
 first-refusal [] rows refusal rest e = refl
 first-refusal (Ok one ∷ more) rows refusal rest e =
     let (before, is, all) = before_row one (rows_or_first_refusal more) rows e in
@@ -71,7 +74,8 @@ first-refusal (Ok one ∷ more) rows refusal rest e =
 first-refusal (Err other ∷ more) rows refusal rest e = absurd (cc)
 
 -- a record that was read leaves room for it
-room : {R E : Type 0} (most : Option (ℕ × E)) (rows : ℕ) (more : List (Option E)) (answer : Result R E) (row : R) → unless (refusal_if_full most rows ∷ more) answer ≡ Ok row → IfSome most (λ m. rows + 1 ≤ m.0)
+room : {R E : Type 0} (most : Option (ℕ × E)) (rows : ℕ) (more : List (Option E)) (answer : Result R E) (row : R)
+    → unless (refusal_if_full most rows ∷ more) answer ≡ Ok row → IfSome most (λ m. rows + 1 ≤ m.0)
 room None rows more answer row e = tt
 room (Some (m, refusal)) rows more answer row e =
     elim (cases_Bool (nat_le m rows)) [
@@ -80,7 +84,8 @@ room (Some (m, refusal)) rows more answer row e =
     ]
 
 -- the header was read, and then these records as these rows
-pub record HasRead {R E : Type 0} (rules : Rules R E) (name_of : R → List ℕ) (is_row : ℕ → R → Type 0) (first : List (List ℕ)) (later : List (List (List ℕ))) (rows : Rows R) : Type 0 where
+pub record HasRead {R E : Type 0} (rules : Rules R E) (name_of : R → List ℕ) (is_row : ℕ → R → Type 0) (first : List (List ℕ)) (later : List (List (List ℕ)))
+    (rows : Rows R) : Type 0 where
   pub header : version_of rules.headers first ≡ Some rows.version
   pub known : IsVersion rules.headers rows.version
   pub read : rows_or_first_refusal (answers rules rows.version [] later) ≡ Ok rows.rows.items
@@ -91,7 +96,8 @@ pub record HasRead {R E : Type 0} (rules : Rules R E) (name_of : R → List ℕ)
   pub distinct : IsDistinct bytes_eq (bytes_of rows.names.keys)
 
 -- the version of a header is one of a table of these headers
-pub version_of-known : (headers : List (List (List ℕ))) (fields : List (List ℕ)) (version : ℕ) → version_of headers fields ≡ Some version → IsVersion headers version
+pub version_of-known : (headers : List (List (List ℕ))) (fields : List (List ℕ)) (version : ℕ) → version_of headers fields ≡ Some version
+    → IsVersion headers version
 version_of-known headers fields version is = place-within (pointwise bytes_eq fields) headers version is
 
 none_few : {E : Type 0} (most : Option (ℕ × E)) → IfSome most (λ m. 0 ≤ m.0)
@@ -114,23 +120,35 @@ read-none rules name_of is_row first rows header keys items = record {
 }
 
 -- another record than a header
-pub read-other : {R E : Type 0} (rules : Rules R E) (first : List (List ℕ)) (later : List (List (List ℕ))) → version_of rules.headers first ≡ None → reading rules (first ∷ later) ≡ Err (rules.refusal fault.Header)
+pub read-other : {R E : Type 0} (rules : Rules R E) (first : List (List ℕ)) (later : List (List (List ℕ))) → version_of rules.headers first ≡ None
+    → reading rules (first ∷ later) ≡ Err (rules.refusal fault.Header)
 read-other rules first later other = rw other refl
 
 -- a record more
-pub read-row : {R E : Type 0} (rules : Rules R E) (name_of : R → List ℕ) (is_row : ℕ → R → Type 0) (first : List (List ℕ)) (later : List (List (List ℕ))) (fields : List (List ℕ)) (old new : Rows R)
-    → HasRead rules name_of is_row first later old → TakesRow rules name_of is_row fields old new → HasRead rules name_of is_row first (later ++ fields ∷ []) new
+pub read-row : {R E : Type 0} (rules : Rules R E) (name_of : R → List ℕ) (is_row : ℕ → R → Type 0) (first : List (List ℕ)) (later : List (List (List ℕ)))
+    (fields : List (List ℕ)) (old new : Rows R)
+    → HasRead rules name_of is_row first later old → TakesRow rules name_of is_row fields old new
+    → HasRead rules name_of is_row first (later ++ fields ∷ []) new
 read-row {R = R} {E = E} rules name_of is_row first later fields old new has takes =
     let version = old.version in
     let answer : answer_to rules version (map first_field later) fields ≡ Ok takes.row = rw (← has.names) takes.answer in
     let all : answers rules version [] (later ++ fields ∷ []) ≡ answers rules version [] later ++ Ok takes.row ∷ [] =
     answers-append rules version [] later (fields ∷ []) ∙ ap (λ (a : Result R E). answers rules version [] later ++ a ∷ []) answer in
     let count : length new.rows.items ≡ length (bytes_of old.names.keys) + 1 =
-    omega (arith, ap length takes.rows, length-append old.rows.items (takes.row ∷ []), length-map old.rows.items name_of, ap length has.named, ap length has.names) in
+    omega (
+      arith,
+      ap length takes.rows,
+      length-append old.rows.items (takes.row ∷ []),
+      length-map old.rows.items name_of,
+      ap length has.named,
+      ap length has.names,
+    ) in
     record {
       header = has.header ∙ ap Some (sym takes.version);
       known = rw takes.version has.known;
-      read = rw takes.version (ap rows_or_first_refusal all ∙ first-row (answers rules version [] later) old.rows.items takes.row has.read ∙ ap Ok (sym takes.rows));
+      read =
+          rw takes.version
+          (ap rows_or_first_refusal all ∙ first-row (answers rules version [] later) old.rows.items takes.row has.read ∙ ap Ok (sym takes.rows));
       names = takes.names ∙ ap (λ (n : List (List ℕ)). n ++ first_field fields ∷ []) has.names ∙ sym (map-append first_field later (fields ∷ []));
       named =
           ap (map name_of) takes.rows
@@ -138,26 +156,32 @@ read-row {R = R} {E = E} rules name_of is_row first later fields old new has tak
           ∙ ap (λ (n : List (List ℕ)). n ++ name_of takes.row ∷ []) has.named
           ∙ ap (λ (n : List ℕ). map first_field later ++ n ∷ []) takes.named
           ∙ sym (map-append first_field later (fields ∷ []));
-      few = subst (λ (n : ℕ). IfSome rules.most (λ most. n ≤ most.0)) (sym count) (room rules.most (length (bytes_of old.names.keys)) _ _ takes.row takes.answer);
+      few =
+          subst (λ (n : ℕ). IfSome rules.most (λ most. n ≤ most.0)) (sym count) (room rules.most (length (bytes_of old.names.keys)) _ _ takes.row takes.answer);
       each = rw (takes.version, takes.rows) (All-push (is_row version) old.rows.items takes.row has.each takes.kept);
       distinct = takes.distinct;
     }
 
 -- all records were read
-pub read-all : {R E : Type 0} (rules : Rules R E) (name_of : R → List ℕ) (is_row : ℕ → R → Type 0) (first : List (List ℕ)) (later : List (List (List ℕ))) (rows : Rows R)
+pub read-all : {R E : Type 0} (rules : Rules R E) (name_of : R → List ℕ) (is_row : ℕ → R → Type 0) (first : List (List ℕ)) (later : List (List (List ℕ)))
+    (rows : Rows R)
     → HasRead rules name_of is_row first later rows → reading rules (first ∷ later) ≡ Ok (record { version = rows.version; rows = rows.rows.items })
 read-all rules name_of is_row first later rows has = rw (has.header, has.read) refl
 
 -- a record that is refused
-pub read-refused : {R E : Type 0} (rules : Rules R E) (name_of : R → List ℕ) (is_row : ℕ → R → Type 0) (first : List (List ℕ)) (later : List (List (List ℕ))) (fields : List (List ℕ)) (rest : List (List (List ℕ))) (rows : Rows R) (why : End E)
-    → HasRead rules name_of is_row first later rows → Tells (answer_to rules rows.version (bytes_of rows.names.keys) fields) why → Tells (reading rules ((first ∷ later ++ fields ∷ []) ++ rest)) why
+pub read-refused : {R E : Type 0} (rules : Rules R E) (name_of : R → List ℕ) (is_row : ℕ → R → Type 0) (first : List (List ℕ)) (later : List (List (List ℕ)))
+    (fields : List (List ℕ)) (rest : List (List (List ℕ))) (rows : Rows R) (why : End E)
+    → HasRead rules name_of is_row first later rows → Tells (answer_to rules rows.version (bytes_of rows.names.keys) fields) why
+    → Tells (reading rules ((first ∷ later ++ fields ∷ []) ++ rest)) why
 read-refused rules name_of is_row first later fields rest rows end.NoMemory has tells = tt
 read-refused {R = R} {E = E} rules name_of is_row first later fields rest rows (end.Refused refusal) has tells =
     let version = rows.version in
     let answer : answer_to rules version (map first_field later) fields ≡ Err refusal = rw (← has.names) tells in
-    let all : answers rules version [] ((later ++ fields ∷ []) ++ rest) ≡ answers rules version [] later ++ Err refusal ∷ answers rules version (map first_field later ++ first_field fields ∷ []) rest =
+    let all : answers rules version [] ((later ++ fields ∷ []) ++ rest)
+    ≡ answers rules version [] later ++ Err refusal ∷ answers rules version (map first_field later ++ first_field fields ∷ []) rest =
     ap (answers rules version []) (append_assoc later (fields ∷ []) rest)
     ∙ answers-append rules version [] later (fields ∷ rest)
     ∙ ap (λ (a : Result R E). answers rules version [] later ++ a ∷ answers rules version (map first_field later ++ first_field fields ∷ []) rest) answer in
-    let refused : rows_or_first_refusal (answers rules version [] ((later ++ fields ∷ []) ++ rest)) ≡ Err refusal = ap rows_or_first_refusal all ∙ first-refusal (answers rules version [] later) rows.rows.items refusal _ has.read in
+    let refused : rows_or_first_refusal (answers rules version [] ((later ++ fields ∷ []) ++ rest)) ≡ Err refusal =
+    ap rows_or_first_refusal all ∙ first-refusal (answers rules version [] later) rows.rows.items refusal _ has.read in
     rw (has.header, refused) refl

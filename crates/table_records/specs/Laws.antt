@@ -11,14 +11,20 @@ NameTest = (bytes : List ℕ) → (is_name bytes ≡ true) ↔ IsName bytes
 
 -- a column says a number at most max exactly where it is that number's spelling
 abbrev pub NumberSpelled : Type 0
-NumberSpelled = (max n : ℕ) (bytes : List ℕ) → max < 2 ^ 64 → (number_of max bytes ≡ Some n) ↔ ((n ≤ max) × (bytes ≡ decimal n))
+NumberSpelled =
+    (max n : ℕ) (bytes : List ℕ) → max < 2 ^ 64
+    → (number_of max bytes ≡ Some n) ↔ ((n ≤ max) × (bytes ≡ decimal n))
 
 -- rows are read exactly where every record's answer is its row
 abbrev pub RowsWhereAllAreGood : Type 0 → Type 0 → Type 0
-RowsWhereAllAreGood R E = (answers : List (Result R E)) (rows : List R) → (rows_or_first_refusal answers ≡ Ok rows) ↔ (answers ≡ map Ok rows)
+RowsWhereAllAreGood R E =
+    (answers : List (Result R E)) (rows : List R)
+    → (rows_or_first_refusal answers ≡ Ok rows) ↔ (answers ≡ map Ok rows)
 
 -- a refusal is told exactly where it is that of the first record that has one
 abbrev pub RefusalOfTheFirst : Type 0 → Type 0 → Type 0
 RefusalOfTheFirst R E =
     (answers : List (Result R E)) (refusal : E)
-    → (rows_or_first_refusal answers ≡ Err refusal) ↔ ((before : List R) × (after : List (Result R E)) × (answers ≡ map Ok before ++ Err refusal ∷ after))
+    → (rows_or_first_refusal answers ≡ Err refusal)
+    ↔ ((before : List R) × (after : List (Result R E))
+    × (answers ≡ map Ok before ++ Err refusal ∷ after))

@@ -1,4 +1,5 @@
--- What the records of a table say: its rows, or the refusal of the first bad record at its first bad column.
+-- What the records of a table say: its rows, or the refusal of the first bad record at its first
+-- bad column.
 use Rattle.std.specs.Prelude.{◌≡◌, ◌≤◌, ℕ, ◌+◌, ◌-◌, Bool, ◌&&◌, ◌==◌, if◌then◌else◌, nat_le, List, [], ◌∷◌, ◌++◌, length, map, Option, Some, None, option_map, position, slice_index_or, Result, Ok, Err}
 use Rattle.std.specs.Cmp.Lexicographic.{pointwise}
 use Rattle.std.specs.Str.{bytes_eq}
@@ -21,7 +22,8 @@ pub record Rules (R E : Type 0) : Type 0 where
   pub knows : List ℕ → Bool
   -- the refusal of a fault in no later column than the first
   pub refusal : Fault → E
-  -- the row that these fields are in a table of this version, under this number, or the refusal of their first bad column after the first
+  -- the row that these fields are in a table of this version, under this number, or the refusal of
+  -- their first bad column after the first
   pub row : ℕ → ℕ → List (List ℕ) → Result R E
 
 -- what a table says: its version, which is that of its header, and its rows
@@ -40,7 +42,8 @@ header_of headers version = slice_index_or headers (version - 1) []
 
 -- the version of the header that a record is: the first of its fields, if any
 abbrev pub version_of : List (List (List ℕ)) → List (List ℕ) → Option ℕ
-version_of headers fields = option_map (λ place. place + 1) (position (pointwise bytes_eq fields) headers)
+version_of headers fields =
+    option_map (λ place. place + 1) (position (pointwise bytes_eq fields) headers)
 
 -- the refusal of one more row, where as many came before as the table may have
 abbrev pub refusal_if_full : {E : Type 0} → Option (ℕ × E) → ℕ → Option E
@@ -81,30 +84,43 @@ module _ {R E : Type 0} (rules : Rules R E) (version : ℕ) where
 
   -- another number of fields than the header's
   abbrev pub other_width : List (List ℕ) → List (List ℕ) → Option E
-  other_width names fields = if length fields == length (header_of rules.headers version) then None else Some (rules.refusal (fault.Fields (row_after names)))
+  other_width names fields =
+      if length fields == length (header_of rules.headers version) then None
+      else Some (rules.refusal (fault.Fields (row_after names)))
 
   -- column 1 is no name that a row may have
   abbrev pub no_name : List (List ℕ) → List (List ℕ) → Option E
-  no_name names fields = if is_name (first_field fields) && rules.knows (first_field fields) then None else Some (rules.refusal (fault.Name (row_after names)))
+  no_name names fields =
+      if is_name (first_field fields) && rules.knows (first_field fields) then None
+      else Some (rules.refusal (fault.Name (row_after names)))
 
   -- column 1 is the name of an earlier row, the first of which is told
   abbrev pub repeat : List (List ℕ) → List (List ℕ) → Option E
-  repeat names fields = option_map (λ place. rules.refusal (fault.Repeated (row_after names) (place + 2))) (position (bytes_eq (first_field fields)) names)
+  repeat names fields =
+      option_map (λ place. rules.refusal (fault.Repeated (row_after names) (place + 2)))
+      (position (bytes_eq (first_field fields)) names)
 
   -- what a record says: its row, or the refusal of its first fault
   abbrev pub answer_to : List (List ℕ) → List (List ℕ) → Result R E
   answer_to names fields =
-      unless (surplus names ∷ other_width names fields ∷ no_name names fields ∷ repeat names fields ∷ []) (rules.row version (row_after names) fields)
+      unless
+      (surplus names ∷ other_width names fields ∷ no_name names fields ∷ repeat names fields
+      ∷ [])
+      (rules.row version (row_after names) fields)
 
   -- what each record says, after rows of these names and the records before it
   abbrev pub answers : List (List ℕ) → List (List (List ℕ)) → List (Result R E)
   answers names [] = []
-  answers names (fields ∷ more) = answer_to names fields ∷ answers (names ++ first_field fields ∷ []) more
+  answers names (fields ∷ more) =
+      answer_to names fields ∷ answers (names ++ first_field fields ∷ []) more
 
--- what the records after the header say, where the header is of this version; without a version there is no header
-abbrev pub reading_under : {R E : Type 0} → Rules R E → Option ℕ → List (List (List ℕ)) → Result (TableData R) E
+-- what the records after the header say, where the header is of this version; without a version
+-- there is no header
+abbrev pub reading_under : {R E : Type 0} → Rules R E → Option ℕ → List (List (List ℕ))
+    → Result (TableData R) E
 reading_under rules None later = Err (rules.refusal fault.Header)
-reading_under rules (Some version) later = with_version version (rows_or_first_refusal (answers rules version [] later))
+reading_under rules (Some version) later =
+    with_version version (rows_or_first_refusal (answers rules version [] later))
 
 -- what a table's records say: its version and rows, or the refusal of the first bad record
 abbrev pub reading : {R E : Type 0} → Rules R E → List (List (List ℕ)) → Result (TableData R) E

@@ -19,7 +19,8 @@ pub record AddsName (old new : List Name) (name : List ℕ) (place : Option ℕ)
   pub distinct : IsDistinct bytes_eq (bytes_of new)
 
 -- a record is a row after those of old, and new has it last
-pub record TakesRow {R E : Type 0} (rules : Rules R E) (name_of : R → List ℕ) (is_row : ℕ → R → Type 0) (fields : List (List ℕ)) (old new : Rows R) : Type 0 where
+pub record TakesRow {R E : Type 0} (rules : Rules R E) (name_of : R → List ℕ)
+    (is_row : ℕ → R → Type 0) (fields : List (List ℕ)) (old new : Rows R) : Type 0 where
   pub row : R
   pub answer : answer_to rules old.version (bytes_of old.names.keys) fields ≡ Ok row
   pub version : new.version ≡ old.version
@@ -30,7 +31,8 @@ pub record TakesRow {R E : Type 0} (rules : Rules R E) (name_of : R → List ℕ
   pub distinct : IsDistinct bytes_eq (bytes_of new.names.keys)
 
 -- an iterator over the records of a text has given these, in their order
-pub record HasGiven (text : List ℕ) (records : ByteRecordsIntoIter (Bor (List ℕ))) (given : List (List (List ℕ))) : Type 0 where
+pub record HasGiven (text : List ℕ) (records : ByteRecordsIntoIter (Bor (List ℕ)))
+    (given : List (List (List ℕ))) : Type 0 where
   pub untrimmed : reader_trim (owned_rows_reader records) ≡ trim.None
   pub ready : Ready (owned_rows_reader records)
   pub flexible : is_flexible (owned_rows_reader records) ≡ true
@@ -39,4 +41,5 @@ pub record HasGiven (text : List ℕ) (records : ByteRecordsIntoIter (Bor (List 
   -- the bytes that it has not read
   pub rest : List ℕ
   pub source : source_of (λ s. Some s.now) (owned_rows_reader records) ≡ Some rest
-  pub reached : Reached default_config st.StartRecord (strip_bom text) given (reader_state (owned_rows_reader records)) rest
+  pub reached : Reached default_config st.StartRecord (strip_bom text) given
+      (reader_state (owned_rows_reader records)) rest

@@ -24,7 +24,8 @@ pub fn name_in(fields: &ByteRecord, column: usize) -> Option<Name>
     read_name(field_in(fields, column))
 }
 
-/// The number at most `max` in a column, from 1, or `None` exactly where what stands there spells none.
+/// The number at most `max` in a column, from 1, or `None` exactly where what stands there spells
+/// none.
 pub fn number_in(fields: &ByteRecord, column: usize, max: u64) -> Option<u64>
     requires { 1 ≤ column }
     ensures { result ≡ number_of max (field_in column (fields_of fields.now)) }

@@ -1,4 +1,5 @@
-//! What the tables share: the records of a text, their columns, and the walk that reads rows from them.
+//! What the tables share: the records of a text, their columns, and the walk that reads rows from
+//! them.
 // Neither: that want of memory is answered only where memory was wanted.
 #![tactic(auto)]
 

@@ -27,7 +27,8 @@ pub struct Rows<R> {
 /// The place, from 0, of a name among names, or `None` exactly where it is not among them.
 pub fn place_of(names: &IndexSet<Name>, name: &Name) -> Option<usize>
     ensures place { result ≡ position (bytes_eq (name_bytes name.now)) (bytes_of names.now.keys) }
-    ensures found { IfSome result (λ place. slice_get (bytes_of names.now.keys) place ≡ Some (name_bytes name.now)) }
+    ensures found { IfSome result
+        (λ place. slice_get (bytes_of names.now.keys) place ≡ Some (name_bytes name.now)) }
     ensures within { IfSome result (λ place. place < length names.now.keys) }
 {
     names.get_index_of(name)
@@ -70,8 +71,12 @@ pub(crate) fn take_record<T: Table>(
 ) -> Result<(), End<T::Refusal>>
     requires version { IsVersion (T.rules table.now).headers rows.old.version }
     requires count { length rows.old.names.keys + 2 < 2 ^ 32 }
-    ensures taken { OnOk result (TakesRow (T.rules table.now) T.name_of T.is_row (fields_of fields.now) rows.old rows.new) }
-    ensures refused { IfErr result (Tells (answer_to (T.rules table.now) rows.old.version (bytes_of rows.old.names.keys) (fields_of fields.now))) }
+    ensures taken { OnOk result
+        (TakesRow (T.rules table.now) T.name_of T.is_row (fields_of fields.now) rows.old rows.new) }
+    ensures refused { IfErr result
+        (Tells
+        (answer_to (T.rules table.now) rows.old.version (bytes_of rows.old.names.keys)
+        (fields_of fields.now))) }
 {
     if let Some(refusal) = refusal_if_full(table, rows.names.len()) {
         return Err(End::Refused(refusal));

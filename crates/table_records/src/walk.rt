@@ -26,7 +26,8 @@ fn records_in(alloc: Global, text: &[u8]) -> ByteRecordsIntoIter<&[u8]>
         .into_byte_records()
 }
 
-// The end where the reader failed for what lies under it. Bytes in memory can be read, so memory was wanted.
+// The end where the reader failed for what lies under it. Bytes in memory can be read, so memory
+// was wanted.
 fn end_of_failure<E>(failure: &Error) -> End<E>
     requires { stops_reader (error_kind failure.now) ≡ true }
     ensures { result ≡ End.NoMemory }
@@ -51,7 +52,9 @@ fn is_header(fields: &ByteRecord, header: &[&[u8]]) -> bool
 
 // The version of the header that a record is, if it is any.
 fn version_of(fields: &ByteRecord, headers: &[&[&[u8]]]) -> Option<usize>
-    ensures { result ≡ version_of (map (λ header. map (λ f. f.now) header.now) headers.now) (fields_of fields.now) }
+    ensures { result
+        ≡ version_of (map (λ header. map (λ f. f.now) header.now) headers.now)
+        (fields_of fields.now) }
 {
     for (place, header) in headers.iter().enumerate() {
         if is_header(fields, header) {
@@ -61,19 +64,23 @@ fn version_of(fields: &ByteRecord, headers: &[&[&[u8]]]) -> Option<usize>
     None
 }
 
-/// Reads a table from a text: its version, which is that of the first of its headers that record 1 is, and every row; or
-/// the refusal of the first bad record at its first bad column, where the reading stops.
+/// Reads a table from a text: its version, which is that of the first of its headers that record 1
+/// is, and every row; or the refusal of the first bad record at its first bad column, where the
+/// reading stops.
 pub fn read_rows<T: Table>(
     alloc: Global,
     table: &T,
     text: &[u8],
 ) -> Result<Rows<T::Row>, End<T::Refusal>>
     requires { length text.now < 2 ^ 32 - 1 }
-    ensures rows { IfOk result (λ read. reading (T.rules table.now) (records_of text.now) ≡ Ok (record { version = read.version; rows = read.rows.items })) }
+    ensures rows { IfOk result
+        (λ read. reading (T.rules table.now) (records_of text.now)
+        ≡ Ok (record { version = read.version; rows = read.rows.items })) }
     ensures version { IfOk result (λ read. IsVersion (T.rules table.now).headers read.version) }
     ensures names { IfOk result (λ read. bytes_of read.names.keys ≡ map T.name_of read.rows.items) }
     ensures distinct { IfOk result (λ read. IsDistinct bytes_eq (bytes_of read.names.keys)) }
-    ensures few { IfOk result (λ read. IfSome (T.rules table.now).most (λ most. length read.rows.items ≤ most.0)) }
+    ensures few { IfOk result
+        (λ read. IfSome (T.rules table.now).most (λ most. length read.rows.items ≤ most.0)) }
     ensures each { IfOk result (λ read. All (T.is_row read.version) read.rows.items) }
     ensures refused { IfErr result (Tells (reading (T.rules table.now) (records_of text.now))) }
 {

@@ -30,7 +30,9 @@ pub drawn_are : (crowd : CrowdData) (seed restart : ℕ) → ArePricesFor crowd 
 drawn_are crowd seed restart = record {
   same = length-map-range_with_len (λ s. record { 0 = stream_word seed restart s % top crowd }) 0 crowd.sections;
   high = All-map (λ (price : Tokens). price.0 ≤ top crowd) (λ s. record { 0 = stream_word seed restart s % top crowd }) (range_with_len 0 crowd.sections)
-      (λ k d within. let some : 1 ≤ top crowd = top_some crowd in let least : stream_word seed restart (get_or (range_with_len 0 crowd.sections) k d) % top crowd < top crowd = omega arith in omega arith);
+      (λ k d within. let some : 1
+      ≤ top crowd = top_some crowd in let least : stream_word seed restart (get_or (range_with_len 0 crowd.sections) k d) % top crowd
+      < top crowd = omega arith in omega arith);
 }
 
 pub zero_are : (crowd : CrowdData) → ArePricesFor crowd (zero_prices crowd)
@@ -45,17 +47,20 @@ stale_few false stale = omega arith
 
 module _ (crowd : CrowdData) (seats : List ℕ) (settings : Settings) where
   -- a chosen vector has prices
-  pub chosen_are : (visits : Visits) (prices : List Tokens) → ArePricesFor crowd visits.current → chosen crowd seats settings visits ≡ Some prices → ArePricesFor crowd prices
+  pub chosen_are : (visits : Visits) (prices : List Tokens) → ArePricesFor crowd visits.current → chosen crowd seats settings visits ≡ Some prices
+      → ArePricesFor crowd prices
   chosen_are visits prices are is = elim (cases_Bool (nat_le settings.patience visits.stale)) [
     | inl t ↦ let none : None ≡ Some prices = rw t at is in absurd cc
     | inr f ↦
         let found : first_of_least crowd seats (candidates crowd seats settings visits) ≡ Some prices = rw f at is in
         find_holds (ArePricesFor crowd) _ (candidates crowd seats settings visits) prices found
-        (All-filter (λ other. not (is_tabu crowd settings.tabu visits.visited other)) (ArePricesFor crowd) (neighbours crowd seats settings.steps visits.current) (neighbours_are_prices crowd seats settings.steps visits.current are))
+        (All-filter (λ other. not (is_tabu crowd settings.tabu visits.visited other)) (ArePricesFor crowd)
+        (neighbours crowd seats settings.steps visits.current) (neighbours_are_prices crowd seats settings.steps visits.current are))
   ]
 
   -- where a turn goes
-  pub turned_some : (visits : Visits) (prices : List Tokens) → chosen crowd seats settings visits ≡ Some prices → after_turn crowd seats settings visits ≡ moved crowd seats visits prices
+  pub turned_some : (visits : Visits) (prices : List Tokens) → chosen crowd seats settings visits ≡ Some prices
+      → after_turn crowd seats settings visits ≡ moved crowd seats visits prices
   unfolding after_turn
   turned_some visits prices is = rw (is, after_turn) refl
 
@@ -79,9 +84,19 @@ module _ (crowd : CrowdData) (seats : List ℕ) (settings : Settings) where
     pub stale : after.stale ≤ before.stale + 1
     pub restarts : after.restarts ≤ before.restarts + 1
 
-  turned_by : (visits : Visits) (next : Option (List Tokens)) → chosen crowd seats settings visits ≡ next → IsTurned visits (after_turn crowd seats settings visits)
-  turned_by visits None is = rw (turned_none visits is) record { visited = refl; prices = λ are. drawn_are crowd settings.seed (visits.restarts + 1); stale = omega arith; restarts = omega arith }
-  turned_by visits (Some prices) is = rw (turned_some visits prices is) record { visited = refl; prices = λ are. chosen_are visits prices are is; stale = stale_few (is_better crowd seats visits.visited prices) visits.stale; restarts = omega arith }
+  turned_by : (visits : Visits) (next : Option (List Tokens)) → chosen crowd seats settings visits ≡ next
+      → IsTurned visits (after_turn crowd seats settings visits)
+  turned_by visits None is =
+      rw (turned_none visits is)
+      record { visited = refl; prices = λ are. drawn_are crowd settings.seed (visits.restarts + 1); stale = omega arith; restarts = omega arith }
+  turned_by visits (Some prices) is =
+      rw (turned_some visits prices is)
+      record {
+        visited = refl;
+        prices = λ are. chosen_are visits prices are is;
+        stale = stale_few (is_better crowd seats visits.visited prices) visits.stale;
+        restarts = omega arith;
+      }
 
   pub turned : (visits : Visits) → IsTurned visits (after_turn crowd seats settings visits)
   turned visits = turned_by visits (chosen crowd seats settings visits) refl
@@ -94,7 +109,8 @@ module _ (crowd : CrowdData) (seats : List ℕ) (settings : Settings) where
     pub restarts : visits.restarts ≤ turns
     pub best : (best : List Tokens) × IsFirstOfLeast (error_at crowd seats) visits.visited best
 
-  best_more : (visited : List (List Tokens)) (best next : List Tokens) → IsFirstOfLeast (error_at crowd seats) visited best → (best : List Tokens) × IsFirstOfLeast (error_at crowd seats) (visited ++ next ∷ []) best
+  best_more : (visited : List (List Tokens)) (best next : List Tokens) → IsFirstOfLeast (error_at crowd seats) visited best
+      → (best : List Tokens) × IsFirstOfLeast (error_at crowd seats) (visited ++ next ∷ []) best
   best_more visited best next is = elim (cases_lt (error_at crowd seats next) (error_at crowd seats best)) [
     | inl less ↦ (next, first_then (error_at crowd seats) visited best next is less)
     | inr more ↦ (best, first_still (error_at crowd seats) visited best next is more)
@@ -106,7 +122,9 @@ module _ (crowd : CrowdData) (seats : List ℕ) (settings : Settings) where
     visited = rw turn.visited (All-push (ArePricesFor crowd) before.visited after.current is.visited (turn.prices is.current));
     stale = let one : after.stale ≤ before.stale + 1 = turn.stale in let few : before.stale ≤ turns = is.stale in omega arith;
     restarts = let one : after.restarts ≤ before.restarts + 1 = turn.restarts in let few : before.restarts ≤ turns = is.restarts in omega arith;
-    best = subst (λ l. (best : List Tokens) × IsFirstOfLeast (error_at crowd seats) l best) (sym turn.visited) (best_more before.visited is.best.0 after.current is.best.1);
+    best =
+        subst (λ l. (best : List Tokens) × IsFirstOfLeast (error_at crowd seats) l best) (sym turn.visited)
+        (best_more before.visited is.best.0 after.current is.best.1);
   }
 
   pub course : (turns : ℕ) → IsCourse turns (after_turns crowd seats settings turns)
@@ -118,7 +136,10 @@ module _ (crowd : CrowdData) (seats : List ℕ) (settings : Settings) where
     restarts = omega arith;
     best = (zero_prices crowd, first_alone (error_at crowd seats) (zero_prices crowd));
   }
-  course (suc turns) = course_more turns (after_turns crowd seats settings turns) (after_turn crowd seats settings (after_turns crowd seats settings turns)) (course turns) (turned (after_turns crowd seats settings turns))
+  course (suc turns) =
+      course_more turns (after_turns crowd seats settings turns) (after_turn crowd seats settings (after_turns crowd seats settings turns)) (course turns)
+      (turned (after_turns crowd seats settings turns))
 
-pub visited_are_prices : (crowd : CrowdData) (seats : List ℕ) (settings : Settings) (turns : ℕ) → All (ArePricesFor crowd) (after_turns crowd seats settings turns).visited
+pub visited_are_prices : (crowd : CrowdData) (seats : List ℕ) (settings : Settings) (turns : ℕ)
+    → All (ArePricesFor crowd) (after_turns crowd seats settings turns).visited
 visited_are_prices crowd seats settings turns = (course crowd seats settings turns).visited

@@ -23,7 +23,13 @@ find_around {A} p (y ∷ ys) x found = elim (cases_Bool (p y)) [
       record { front = []; back = ys; is = ap (λ (z : A). z ∷ ys) same; none = All-nil (λ z. p z ≡ false); here = rw (← same) t }
   | inr n ↦
       let later = find_around p ys x (rw n at found) in
-      record { front = y ∷ later.front; back = later.back; is = ap (λ (zs : List A). y ∷ zs) later.is; none = All-cons (λ z. p z ≡ false) y later.front n later.none; here = later.here }
+      record {
+        front = y ∷ later.front;
+        back = later.back;
+        is = ap (λ (zs : List A). y ∷ zs) later.is;
+        none = All-cons (λ z. p z ≡ false) y later.front n later.none;
+        here = later.here;
+      }
 ]
 
 module _ {A : Type 0} (f : A → ℕ) where
@@ -55,12 +61,15 @@ module _ {A : Type 0} (f : A → ℕ) where
 
   find_behind : (p : A → Bool) (front back : List A) (x : A) → All (λ y. p y ≡ false) front → p x ≡ true → find p (front ++ x ∷ back) ≡ Some x
   find_behind p [] back x none here = rw here refl
-  find_behind p (y ∷ ys) back x none here = let n : p y ≡ false = All-head (λ y. p y ≡ false) y ys none in rw n (find_behind p ys back x (All-tail (λ y. p y ≡ false) y ys none) here)
+  find_behind p (y ∷ ys) back x none here =
+      let n : p y ≡ false = All-head (λ y. p y ≡ false) y ys none in rw n (find_behind p ys back x (All-tail (λ y. p y ≡ false) y ys none) here)
 
   -- it is the one that is found
   pub first_found : (xs : List A) (x : A) → IsFirstOfLeast xs x → find (is_least xs) xs ≡ Some x
   first_found xs x is =
-      let all : All (λ y. f x ≤ f y) (is.front ++ x ∷ is.back) = All-append (λ y. f x ≤ f y) is.front (x ∷ is.back) (All-weaker (λ y. f x < f y) (λ y. f x ≤ f y) (λ y less. omega arith) is.front is.greater) (All-cons (λ y. f x ≤ f y) x is.back (omega arith) is.least) in
+      let all : All (λ y. f x ≤ f y) (is.front ++ x ∷ is.back) =
+      All-append (λ y. f x ≤ f y) is.front (x ∷ is.back) (All-weaker (λ y. f x < f y) (λ y. f x ≤ f y) (λ y less. omega arith) is.front is.greater)
+      (All-cons (λ y. f x ≤ f y) x is.back (omega arith) is.least) in
       let found : find (is_least (is.front ++ x ∷ is.back)) (is.front ++ x ∷ is.back) ≡ Some x =
       find_behind (is_least (is.front ++ x ∷ is.back)) is.front is.back x
       (All-weaker (λ y. f x < f y) (λ y. is_least (is.front ++ x ∷ is.back) y ≡ false) (λ y less. least_not is.front is.back x y less) is.front is.greater)
@@ -71,7 +80,8 @@ module _ {A : Type 0} (f : A → ℕ) where
   pub least_of_all : (xs : List A) (x : A) → IsFirstOfLeast xs x → All (λ y. f x ≤ f y) xs
   least_of_all xs x is =
       subst (λ l. All (λ y. f x ≤ f y) l) (sym is.is)
-      (All-append (λ y. f x ≤ f y) is.front (x ∷ is.back) (All-weaker (λ y. f x < f y) (λ y. f x ≤ f y) (λ y less. omega arith) is.front is.greater) (All-cons (λ y. f x ≤ f y) x is.back (omega arith) is.least))
+      (All-append (λ y. f x ≤ f y) is.front (x ∷ is.back) (All-weaker (λ y. f x < f y) (λ y. f x ≤ f y) (λ y less. omega arith) is.front is.greater)
+      (All-cons (λ y. f x ≤ f y) x is.back (omega arith) is.least))
 
   pub first_alone : (x : A) → IsFirstOfLeast (x ∷ []) x
   first_alone x = record { front = []; back = []; is = refl; greater = All-nil (λ y. f x < f y); least = All-nil (λ y. f x ≤ f y) }
@@ -106,7 +116,8 @@ module _ {A : Type 0} (f : A → ℕ) where
   less_than_not : (xs : List A) (x y : A) → is_least xs x ≡ true → is_least xs y ≡ false → f x < f y
   less_than_not xs x y is not_least = elim (cases_lt (f x) (f y)) [
     | inl less ↦ less
-    | inr more ↦ absurd (true≢false (sym (least_yes xs y (All-weaker (λ z. f x ≤ f z) (λ z. f y ≤ f z) (λ z most. omega arith) xs (least_all xs x is))) ∙ not_least))
+    | inr more ↦
+        absurd (true≢false (sym (least_yes xs y (All-weaker (λ z. f x ≤ f z) (λ z. f y ≤ f z) (λ z most. omega arith) xs (least_all xs x is))) ∙ not_least))
   ]
 
   tail_of : (front back : List A) (x : A) → All (λ y. f x ≤ f y) (front ++ x ∷ back) → All (λ y. f x ≤ f y) back

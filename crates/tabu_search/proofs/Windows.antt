@@ -51,7 +51,9 @@ module _ {A : Type 0} (f : A → ℕ) where
   ]
 
 -- the first window
-pub window_begins : (window after : Buffer (Vec ℕ Global)) (counts : Vec ℕ Global) (numbers : List ℕ) (tabu : ℕ) → window ≡ record { items = []; capacity = tabu } → after ≡ record { items = last_of window.capacity (window.items ++ counts ∷ []); capacity = window.capacity } → counts.items ≡ numbers
+pub window_begins : (window after : Buffer (Vec ℕ Global)) (counts : Vec ℕ Global) (numbers : List ℕ) (tabu : ℕ)
+    → window ≡ record { items = []; capacity = tabu }
+    → after ≡ record { items = last_of window.capacity (window.items ++ counts ∷ []); capacity = window.capacity } → counts.items ≡ numbers
     → (map (λ counts. counts.items) after.items ≡ last_of tabu (numbers ∷ [])) × (after.capacity ≡ tabu)
 window_begins window after counts numbers tabu is then at = (
   ap (λ (b : Buffer (Vec ℕ Global)). map (λ (c : Vec ℕ Global). c.items) b.items) then

@@ -20,13 +20,21 @@ error_at crowd seats prices = error (counts_at crowd prices) seats prices
 
 -- the first of least error
 abbrev pub first_of_least : CrowdData → List ℕ → List (List Tokens) → Option (List Tokens)
-first_of_least crowd seats vectors = find (λ prices. list_all (λ other. nat_le (error_at crowd seats prices) (error_at crowd seats other)) vectors) vectors
+first_of_least crowd seats vectors =
+    find
+    (λ prices. list_all (λ other. nat_le (error_at crowd seats prices) (error_at crowd seats other))
+    vectors)
+    vectors
 
--- the vector of a restart, by its number from 1: a section's price is the seed's word at its ordinal, in the stream of that number, modulo the top
+-- the vector of a restart, by its number from 1: a section's price is the seed's word at its
+-- ordinal, in the stream of that number, modulo the top
 abbrev pub drawn : CrowdData → ℕ → ℕ → List Tokens
-drawn crowd seed restart = map (λ s. record { 0 = stream_word seed restart s % top crowd }) (range_with_len 0 crowd.sections)
+drawn crowd seed restart =
+    map (λ s. record { 0 = stream_word seed restart s % top crowd })
+    (range_with_len 0 crowd.sections)
 
--- where the search is: the visited vectors in order, the last of which is the current one; the turns since a vector was better than all before it or a restart was made; the number of restarts
+-- where the search is: the visited vectors in order, the last of which is the current one; the
+-- turns since a vector was better than all before it or a restart was made; the number of restarts
 pub record Visits : Type 0 where
   pub visited : List (List Tokens)
   pub current : List Tokens
@@ -39,19 +47,27 @@ last_of n xs = drop (length xs - n) xs
 
 -- the counts at a vector are among those of the last visited ones, the current one included
 abbrev pub is_tabu : CrowdData → ℕ → List (List Tokens) → List Tokens → Bool
-is_tabu crowd tabu visited prices = list_any (pointwise nat_eq (counts_at crowd prices)) (last_of tabu (map (counts_at crowd) visited))
+is_tabu crowd tabu visited prices =
+    list_any (pointwise nat_eq (counts_at crowd prices))
+    (last_of tabu (map (counts_at crowd) visited))
 
 -- the vector is better than all visited ones
 abbrev pub is_better : CrowdData → List ℕ → List (List Tokens) → List Tokens → Bool
-is_better crowd seats visited prices = list_all (λ other. nat_lt (error_at crowd seats prices) (error_at crowd seats other)) visited
+is_better crowd seats visited prices =
+    list_all (λ other. nat_lt (error_at crowd seats prices) (error_at crowd seats other)) visited
 
 -- the neighbours of the current vector that are not tabu
 abbrev pub candidates : CrowdData → List ℕ → Settings → Visits → List (List Tokens)
-candidates crowd seats settings visits = filter (λ prices. not (is_tabu crowd settings.tabu visits.visited prices)) (neighbours crowd seats settings.steps visits.current)
+candidates crowd seats settings visits =
+    filter (λ prices. not (is_tabu crowd settings.tabu visits.visited prices))
+    (neighbours crowd seats settings.steps visits.current)
 
--- where a turn moves to: the first candidate of least error; nowhere, where as many turns as there is patience brought nothing better, or there is no candidate
+-- where a turn moves to: the first candidate of least error; nowhere, where as many turns as there
+-- is patience brought nothing better, or there is no candidate
 abbrev pub chosen : CrowdData → List ℕ → Settings → Visits → Option (List Tokens)
-chosen crowd seats settings visits = if nat_le settings.patience visits.stale then None else first_of_least crowd seats (candidates crowd seats settings visits)
+chosen crowd seats settings visits =
+    if nat_le settings.patience visits.stale then None
+    else first_of_least crowd seats (candidates crowd seats settings visits)
 
 -- after a move to a vector
 abbrev pub moved : CrowdData → List ℕ → Visits → List Tokens → Visits
@@ -73,7 +89,9 @@ restarted crowd settings visits = record {
 
 -- a turn moves to the chosen vector, or is a restart
 unfoldable pub after_turn : CrowdData → List ℕ → Settings → Visits → Visits
-after_turn crowd seats settings visits = elim (chosen crowd seats settings visits) [ None ↦ restarted crowd settings visits | Some prices ↦ moved crowd seats visits prices ]
+after_turn crowd seats settings visits =
+    elim (chosen crowd seats settings visits)
+    [ None ↦ restarted crowd settings visits | Some prices ↦ moved crowd seats visits prices ]
 
 -- the price 0 for each section
 abbrev pub zero_prices : CrowdData → List Tokens
@@ -81,5 +99,12 @@ zero_prices crowd = replicate crowd.sections (record { 0 = 0 })
 
 -- after so many turns; before the first the zero vector was visited
 unfoldable pub after_turns : CrowdData → List ℕ → Settings → ℕ → Visits
-after_turns crowd seats settings zero = record { visited = zero_prices crowd ∷ []; current = zero_prices crowd; stale = 0; restarts = 0 }
-after_turns crowd seats settings (suc turns) = after_turn crowd seats settings (after_turns crowd seats settings turns)
+after_turns crowd seats settings zero =
+    record {
+      visited = zero_prices crowd ∷ [];
+      current = zero_prices crowd;
+      stale = 0;
+      restarts = 0;
+    }
+after_turns crowd seats settings (suc turns) =
+    after_turn crowd seats settings (after_turns crowd seats settings turns)

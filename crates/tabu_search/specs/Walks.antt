@@ -27,29 +27,37 @@ counts_in walk = map (λ counts. counts.items) walk.window.items
 -- a visit to the vector that is meant, or none where none is
 abbrev pub IsNext : CrowdData → List ℕ → Option (List Tokens) → Option Visit → Type 0
 IsNext crowd seats meant None = meant ≡ None
-IsNext crowd seats meant (Some visit) = (meant ≡ Some visit.prices.items) × IsVisit crowd seats visit
+IsNext crowd seats meant (Some visit) =
+    (meant ≡ Some visit.prices.items) × IsVisit crowd seats visit
 
 -- the walk is where the search is after its number of turns
-pub record IsWalk (crowd : CrowdData) (seats : List ℕ) (settings : Settings) (walk : Walk) : Type 0 where
+pub record IsWalk (crowd : CrowdData) (seats : List ℕ) (settings : Settings)
+    (walk : Walk) : Type 0 where
   pub known : IsCrowd crowd
   pub visit : IsVisit crowd seats walk.current
   pub current : walk.current.prices.items ≡ (after_turns crowd seats settings walk.turns).current
-  pub best : first_of_least crowd seats (after_turns crowd seats settings walk.turns).visited ≡ Some walk.best.prices.items
+  pub best : first_of_least crowd seats (after_turns crowd seats settings walk.turns).visited
+      ≡ Some walk.best.prices.items
   pub least : walk.best.error ≡ error_at crowd seats walk.best.prices.items
   pub stale : walk.stale ≡ (after_turns crowd seats settings walk.turns).stale
   pub restarts : walk.restarts ≡ (after_turns crowd seats settings walk.turns).restarts
-  pub window : counts_in walk ≡ last_of settings.tabu (map (counts_at crowd) (after_turns crowd seats settings walk.turns).visited)
+  pub window : counts_in walk
+      ≡ last_of settings.tabu
+      (map (counts_at crowd) (after_turns crowd seats settings walk.turns).visited)
   pub capacity : walk.window.capacity ≡ settings.tabu
   pub top : walk.top.0 ≡ top crowd
 
 -- the walk after one visit more, with these stale turns and restarts
-pub record IsEntered (before : Walk) (visit : Visit) (stale restarts : ℕ) (after : Walk) : Type 0 where
+pub record IsEntered (before : Walk) (visit : Visit) (stale restarts : ℕ)
+    (after : Walk) : Type 0 where
   pub current : after.current ≡ visit
-  pub lower : visit.error < before.best.error → (after.best.prices.items ≡ visit.prices.items) × (after.best.error ≡ visit.error)
+  pub lower : visit.error < before.best.error
+      → (after.best.prices.items ≡ visit.prices.items) × (after.best.error ≡ visit.error)
   pub kept : before.best.error ≤ visit.error → after.best ≡ before.best
   pub is_stale : after.stale ≡ stale
   pub has_restarts : after.restarts ≡ restarts
   pub turns : after.turns ≡ before.turns + 1
-  pub window : counts_in after ≡ last_of before.window.capacity (counts_in before ++ visit.counts.items ∷ [])
+  pub window : counts_in after
+      ≡ last_of before.window.capacity (counts_in before ++ visit.counts.items ∷ [])
   pub capacity : after.window.capacity ≡ before.window.capacity
   pub top : after.top ≡ before.top

@@ -18,7 +18,8 @@ pub(crate) fn count_one<R: Threads + Wait + Sync, D: Demands>(
 ) -> Result<Vec<u32>, NoMemory>
     requires { ArePricesFor (D.crowd demands.old) prices.now }
     ensures crowd { D.crowd demands.new ≡ D.crowd demands.old }
-    ensures value { IfOk result (λ counts. counts.items ≡ counts_at (D.crowd demands.old) prices.now) }
+    ensures value { IfOk result
+        (λ counts. counts.items ≡ counts_at (D.crowd demands.old) prices.now) }
 {
     let batch = [prices.to_vec(alloc)?];
     let found = demands.counts(rt, alloc, &batch)?;
@@ -43,7 +44,9 @@ pub(crate) fn count_all<R: Threads + Wait + Sync, D: Demands>(
 ) -> Result<Vec<Vec<u32>>, NoMemory>
     requires { All (λ vector. ArePricesFor (D.crowd demands.old) vector.items) vectors.now }
     ensures crowd { D.crowd demands.new ≡ D.crowd demands.old }
-    ensures value { IfOk result (λ counted. map (λ counts. counts.items) counted.items ≡ map (λ vector. counts_at (D.crowd demands.old) vector.items) vectors.now) }
+    ensures value { IfOk result
+        (λ counted. map (λ counts. counts.items) counted.items
+        ≡ map (λ vector. counts_at (D.crowd demands.old) vector.items) vectors.now) }
 {
     let mut counted = Vec::with_capacity(alloc, vectors.len())?;
     'batches: while counted.len() < vectors.len() {

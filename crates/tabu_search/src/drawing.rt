@@ -15,7 +15,9 @@ pub(crate) fn drawn_prices(
     sections: usize,
 ) -> Result<Vec<Tokens>, NoMemory>
     requires { 0 < top.0 }
-    ensures { IfOk result (λ prices. prices.items ≡ map (λ word. record { 0 = word % top.0 }) (stream_words seed restart sections)) }
+    ensures { IfOk result
+        (λ prices. prices.items
+        ≡ map (λ word. record { 0 = word % top.0 }) (stream_words seed restart sections)) }
 {
     let drawn = words(alloc, seed, u64::from(restart), sections)?;
     let mut prices = Vec::with_capacity(alloc, drawn.len())?;

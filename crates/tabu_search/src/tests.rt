@@ -44,7 +44,8 @@ fn join<R: Abort>(
     crowd.budgets.push(Tokens(budget)).expect(rt, "memory");
 }
 
-// Settings of a search: the seed, the accepted error, the turns, the tabu window, the patience and one step.
+// Settings of a search: the seed, the accepted error, the turns, the tabu window, the patience and
+// one step.
 fn settings_of<R: Abort>(
     rt: &R,
     alloc: Global,
@@ -188,8 +189,9 @@ fn two_sections<R: Abort>(rt: &R, alloc: Global) -> Crowd {
 #[test]
 fn a_tabu_candidate_is_passed_over(rt: HostRuntime) -> Result<(), Fail> {
     let alloc = rt.alloc();
-    // A window of four counts leads out of the circle in which one alone is caught. What is wanted was told by a plain
-    // program of the whole market, of another hand and without proofs, for this market with either window.
+    // A window of four counts leads out of the circle in which one alone is caught. What is wanted
+    // was told by a plain program of the whole market, of another hand and without proofs, for this
+    // market with either window.
     let crowd = two_sections(&rt, alloc);
     let settings = settings_of(&rt, alloc, 1, 0, 8, 4, 100, &[2]);
     let found = searched(&rt, alloc, crowd, &settings).expect(&rt, "prices");

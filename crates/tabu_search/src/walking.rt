@@ -43,7 +43,8 @@ pub(crate) struct Walk {
 
 // Whether the counts are among those of the window.
 fn is_tabu(window: &HeapCircularBuffer<Vec<u32>>, counts: &[u32]) -> bool
-    ensures { result ≡ list_any (λ other. pointwise nat_eq counts.now other.items) window.now.items }
+    ensures { result
+        ≡ list_any (λ other. pointwise nat_eq counts.now other.items) window.now.items }
 {
     window.iter().any(|other| counts == other.as_slice())
 }
@@ -60,7 +61,10 @@ fn is_lower(error: u64, best: Option<(usize, u64)>) -> bool
 
 // The better of the two, and of equal ones the earlier.
 fn better(alloc: Global, best: Best, visit: &Visit) -> Result<Best, NoMemory>
-    ensures lower { visit.now.error < best.error → IfOk result (λ next. (next.prices.items ≡ visit.now.prices.items) × (next.error ≡ visit.now.error)) }
+    ensures lower { visit.now.error < best.error
+        → IfOk result
+        (λ next. (next.prices.items ≡ visit.now.prices.items)
+        × (next.error ≡ visit.now.error)) }
     ensures kept { best.error ≤ visit.now.error → IfOk result (λ next. next ≡ best) }
 {
     if visit.error >= best.error {
@@ -108,7 +112,8 @@ impl Walk {
 
     // Whether another turn follows.
     pub(crate) fn goes_on(&self, settings: &Settings) -> bool
-        ensures value { IsTrue result ↔ (settings.now.accept < self.now.current.error) × (self.now.turns < settings.now.turns) }
+        ensures value { IsTrue result ↔ (settings.now.accept < self.now.current.error)
+            × (self.now.turns < settings.now.turns) }
         ensures room { IsTrue result → self.now.turns + 1 < 2 ^ 32 }
     {
         self.current.error > settings.accept && self.turns < settings.turns
@@ -200,7 +205,10 @@ impl Walk {
         requires seats { length seats.now ≡ (D.crowd demands.old).sections }
         requires walk { IsWalk (D.crowd demands.old) seats.now settings.now self.now }
         ensures crowd { D.crowd demands.new ≡ D.crowd demands.old }
-        ensures next { IfOk result (IsNext (D.crowd demands.old) seats.now (chosen (D.crowd demands.old) seats.now settings.now (after_turns (D.crowd demands.old) seats.now settings.now self.now.turns))) }
+        ensures next { IfOk result
+            (IsNext (D.crowd demands.old) seats.now
+            (chosen (D.crowd demands.old) seats.now settings.now
+            (after_turns (D.crowd demands.old) seats.now settings.now self.now.turns))) }
     {
         if self.stale >= settings.patience {
             return Ok(None);
@@ -224,9 +232,16 @@ fn first_candidate<R: Threads + Wait + Sync, D: Demands>(
 ) -> Result<Option<Visit>, NoMemory>
     requires known { IsCrowd (D.crowd demands.old) }
     requires seats { length seats.now ≡ (D.crowd demands.old).sections }
-    requires vectors { All (λ vector. ArePricesFor (D.crowd demands.old) vector.items) vectors.items }
+    requires vectors { All (λ vector. ArePricesFor (D.crowd demands.old) vector.items)
+        vectors.items }
     ensures crowd { D.crowd demands.new ≡ D.crowd demands.old }
-    ensures next { IfOk result (IsNext (D.crowd demands.old) seats.now (first_of_least (D.crowd demands.old) seats.now (filter (is_allowed (D.crowd demands.old) (map (λ counts. counts.items) window.now.items)) (map (λ vector. vector.items) vectors.items)))) }
+    ensures next { IfOk result
+        (IsNext (D.crowd demands.old) seats.now
+        (first_of_least (D.crowd demands.old) seats.now
+        (filter
+        (is_allowed (D.crowd demands.old)
+        (map (λ counts. counts.items) window.now.items))
+        (map (λ vector. vector.items) vectors.items)))) }
 {
     let mut counted = count_all(rt, alloc, demands, &vectors)?;
     let mut best = None;

@@ -128,8 +128,8 @@ end
 ",
 };
 
-// Where bytes of the ordinary term's text are others, how many they are, what stands there instead, and the line and the
-// fault of the defect that this makes.
+// Where bytes of the ordinary term's text are others, how many they are, what stands there instead,
+// and the line and the fault of the defect that this makes.
 type Change = (usize, usize, &'static [u8], u32, LineFault);
 
 const FIRST_CHANGES: [Change; 17] = [

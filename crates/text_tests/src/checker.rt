@@ -13,7 +13,8 @@ use student_roll::Roll;
 use utility_language::Command;
 use worked_terms::{FOUR_MARKET, ORDINARY_MARKET, WorkedMarket};
 
-// The number of a line, what stands there instead, or nothing where the line is left out, and what is then found.
+// The number of a line, what stands there instead, or nothing where the line is left out, and what
+// is then found.
 const FORGED: &str = "1|course-match 3|line 1 form
 28||line 28 missing
 2|order 1 1 1 1 1 1 1 1 1|journal at 9

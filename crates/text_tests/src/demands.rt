@@ -53,7 +53,8 @@ fn four_students<R: Abort>(rt: &R, alloc: Global) -> Crowd {
     }
 }
 
-// The price of the section, how many take it, and the error with one seat. A price above the top acts as the top.
+// The price of the section, how many take it, and the error with one seat. A price above the top
+// acts as the top.
 const TAKEN: [(u32, u32, u64); 4] = [(0, 4, 9), (102, 2, 1), (103, 1, 0), (1_000_001, 0, 1)];
 
 #[test]

@@ -50,7 +50,8 @@ pub fn market_said(
     first: (u16, &[u8]),
     second: (u16, &[u8]),
 ) -> Said
-    ensures names { names_of result.desk ≡ names_in (market_of result.catalog result.roll result.settings) }
+    ensures names { names_of result.desk
+        ≡ names_in (market_of result.catalog result.roll result.settings) }
     ensures settings { AreInRange result.settings }
 {
     let catalog = catalog_in(rt, alloc, texts.0);
@@ -69,7 +70,8 @@ pub fn market_said(
 
 // The made market of two students, two sections and seed 7 that accepts no error.
 pub fn two_students(rt: &impl Abort, alloc: Global) -> Said
-    ensures names { names_of result.desk ≡ names_in (market_of result.catalog result.roll result.settings) }
+    ensures names { names_of result.desk
+        ≡ names_in (market_of result.catalog result.roll result.settings) }
     ensures settings { AreInRange result.settings }
 {
     let made = make(alloc, 7, 2, 2, 0).expect(rt, "memory");

@@ -2,11 +2,11 @@
 use crate::readers::catalog_in;
 use bundle_rules::Bundle;
 use course_catalog::Catalog;
+use market_certificate::{put_bundle_field, put_field, put_number_field, put_signed_field};
 use market_units::SectionNo;
 use std::alloc::Global;
 use std::process::Abort;
 use std::test::Fail;
-use market_certificate::{put_bundle_field, put_field, put_number_field, put_signed_field};
 
 const CATALOG: &[u8] =
     b"section,course,seats,credits,meetings\nA,AA,1,1,\nB-2,BB,1,1,\nC,CC,1,1,\n";

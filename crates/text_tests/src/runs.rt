@@ -24,7 +24,8 @@ fn text_by<R: Abort + Threads + Wait + Sync>(
     market: &Said,
 ) -> Result<Vec<u8>, u64>
     requires workers { (1 ≤ workers) × (workers ≤ 16) }
-    requires names { names_of market.now.desk ≡ names_in (market_of market.now.catalog market.now.roll market.now.settings) }
+    requires names { names_of market.now.desk
+        ≡ names_in (market_of market.now.catalog market.now.roll market.now.settings) }
     requires settings { AreInRange market.now.settings }
 {
     let Said {
@@ -41,7 +42,8 @@ fn text_by<R: Abort + Threads + Wait + Sync>(
     }
 }
 
-// What these workers publish of the market of four students of one seat, two in each of two sessions, or the least error.
+// What these workers publish of the market of four students of one seat, two in each of two
+// sessions, or the least error.
 fn four_by<R: Abort + Threads + Wait + Sync>(
     rt: &R,
     alloc: Global,

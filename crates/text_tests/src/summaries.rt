@@ -1,4 +1,5 @@
-// The summary of a market that was published: a worked example that was computed apart from this program.
+// The summary of a market that was published: a worked example that was computed apart from this
+// program.
 ghost use Rattle.std.specs.Prelude.{◌≡◌};
 ghost use Rattle.std.specs.Arc.{arc_value};
 ghost use Rattle.demand_api.specs.Made.{crowd_of};
@@ -9,8 +10,8 @@ ghost use Rattle.published_parts.specs.Markets.{market_of, names_in};
 use crate::desks::{Said, two_students};
 use course_catalog::Catalog;
 use demand_api::PlainDemands;
-use market_settings::Settings;
 use market_run::summary_text;
+use market_settings::Settings;
 use preference_desk::Desk;
 use published_market::{are_sessions, crowd_after, publish};
 use std::alloc::Global;

@@ -25,7 +25,8 @@ guessed_day (suc (suc (suc (suc (suc zero))))) small = refl
 guessed_day (suc (suc (suc (suc (suc (suc zero)))))) small = refl
 guessed_day (suc (suc (suc (suc (suc (suc (suc k))))))) small = absurd (omega arith)
 
-same_meeting : (m : Meeting) (day start end : ℕ) → day ≡ m.day → start ≡ m.start → end ≡ m.end → (let guess : Meeting = record { day = day; start = start; end = end } in guess) ≡ m
+same_meeting : (m : Meeting) (day start end : ℕ) → day ≡ m.day → start ≡ m.start → end ≡ m.end
+    → (let guess : Meeting = record { day = day; start = start; end = end } in guess) ≡ m
 same_meeting m day start end d s e = rw (d, s, e) refl
 
 guessed_meeting-spelling : (m : Meeting) → IsMeeting m → guessed_meeting (spelling m) ≡ m
@@ -93,7 +94,8 @@ pub one_list : (text : List ℕ) (ones others : List Meeting) → Spells text on
 one_list text ones others a b = sym (guessed_is text ones a) ∙ guessed_is text others b
 
 -- what is read, by the relation, is what the function gives
-pub read_is_spelled : (text : List ℕ) (read : Option Meetings) → IfSome read (λ ms. Spells text (meetings_of ms)) → IfNone read ((ms : List Meeting) → ¬ Spells text ms) → option_map meetings_of read ≡ spelled text
+pub read_is_spelled : (text : List ℕ) (read : Option Meetings) → IfSome read (λ ms. Spells text (meetings_of ms))
+    → IfNone read ((ms : List Meeting) → ¬ Spells text ms) → option_map meetings_of read ≡ spelled text
 read_is_spelled text (Some ms) some none = sym ((spelled-relation text (meetings_of ms)).1 some)
 read_is_spelled text None some none = elim (cases_Bool (spells text (guessed text))) [
   | inl t ↦ absurd (none (guessed text) (Spells-from_test text (guessed text) t))

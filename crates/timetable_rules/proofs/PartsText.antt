@@ -19,7 +19,8 @@ from_spelled text parts is =
       ]
     ]
 
-to_spelled : (first second : Bool) (text : List ℕ) → SpellsParts text (record { first = first; second = second }) → spelled_parts text ≡ Some (record { first = first; second = second })
+to_spelled : (first second : Bool) (text : List ℕ) → SpellsParts text (record { first = first; second = second })
+    → spelled_parts text ≡ Some (record { first = first; second = second })
 to_spelled true true text spells = rw spells.digits refl
 to_spelled true false text spells = rw spells.digits refl
 to_spelled false true text spells = rw spells.digits refl

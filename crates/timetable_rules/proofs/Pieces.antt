@@ -80,13 +80,15 @@ spelling_lacks m is =
     )
 
 -- the pieces of the joined text are the spelled meetings
-pieces : (m : Meeting) (ms : List Meeting) → All IsMeeting (m ∷ ms) → slice_split (λ b. eqb b 59) (join_with_byte 59 (map spelling (m ∷ ms))) ≡ map spelling (m ∷ ms)
+pieces : (m : Meeting) (ms : List Meeting) → All IsMeeting (m ∷ ms)
+    → slice_split (λ b. eqb b 59) (join_with_byte 59 (map spelling (m ∷ ms))) ≡ map spelling (m ∷ ms)
 pieces m [] all = slice_split_none (λ b. eqb b 59) (spelling m) (spelling_lacks m (All-head IsMeeting m [] all))
 pieces m (n ∷ ms) all =
     slice_split_at (λ b. eqb b 59) (spelling m) 59 (join_with_byte 59 (map spelling (n ∷ ms))) (spelling_lacks m (All-head IsMeeting m (n ∷ ms) all)) refl
     ∙ ap (λ (rest : List (List ℕ)). spelling m ∷ rest) (pieces n ms (All-tail IsMeeting m (n ∷ ms) all))
 
-spelled_at : (ms : List Meeting) (k : ℕ) (d : List ℕ) → All IsMeeting ms → k < length ms → (m : Meeting) × IsMeeting m × (get_or (map spelling ms) k d ≡ spelling m)
+spelled_at : (ms : List Meeting) (k : ℕ) (d : List ℕ) → All IsMeeting ms → k < length ms
+    → (m : Meeting) × IsMeeting m × (get_or (map spelling ms) k d ≡ spelling m)
 spelled_at [] k d all inside = absurd (omega arith)
 spelled_at (m ∷ ms) zero d all inside = (m, All-head IsMeeting m ms all, refl)
 spelled_at (m ∷ ms) (suc k) d all inside = spelled_at ms k d (All-tail IsMeeting m ms all) (omega arith)
@@ -97,7 +99,8 @@ pieces_of_spelled text [] spells some = absurd (omega (arith, ap length spells.j
 pieces_of_spelled text (m ∷ ms) spells some = ap (slice_split (λ b. eqb b 59)) spells.joined ∙ pieces m ms spells.each
 
 -- each piece of a spelled text spells a meeting
-pub meeting_of_piece : (text : List ℕ) (ms : List Meeting) (k : ℕ) (d : List ℕ) → Spells text ms → 0 < length text → k < length (slice_split (λ b. eqb b 59) text)
+pub meeting_of_piece : (text : List ℕ) (ms : List Meeting) (k : ℕ) (d : List ℕ) → Spells text ms → 0 < length text
+    → k < length (slice_split (λ b. eqb b 59) text)
     → (m : Meeting) × IsMeeting m × (get_or (slice_split (λ b. eqb b 59) text) k d ≡ spelling m)
 meeting_of_piece text ms k d spells some inside =
     let cut = pieces_of_spelled text ms spells some in
@@ -110,7 +113,8 @@ pub few_pieces : (text : List ℕ) (ms : List Meeting) → Spells text ms → 0 
 few_pieces text ms spells some = omega (arith, ap length (pieces_of_spelled text ms spells some), length-map ms spelling, spells.few)
 
 -- the pieces, where they spell meetings, give the whole text
-pub spelled_by_pieces : (text : List ℕ) (ms : List Meeting) → length ms ≤ 10 → All IsMeeting ms → map spelling ms ≡ slice_split (λ b. eqb b 59) text → Spells text ms
+pub spelled_by_pieces : (text : List ℕ) (ms : List Meeting) → length ms ≤ 10 → All IsMeeting ms → map spelling ms ≡ slice_split (λ b. eqb b 59) text
+    → Spells text ms
 spelled_by_pieces text ms few each cut = record {
   few = few;
   each = each;
@@ -118,8 +122,10 @@ spelled_by_pieces text ms few each cut = record {
 }
 
 -- the element of an iteration and the end of a loop, with the iterator's own facts first
-pub item_of_turn : {S A B : Type 0} {steps : S → Option A → S → Type 0} {v : A → B} {s : S} {all : List B} (xs : List A) (t : S) (y : Yields steps s xs t) → (r : Option A) (u : S) (x : A) → r ≡ Some x → steps t r u → YieldsList steps v s all → (length xs < length all) × (v x ≡ get_or all (length xs) (v x))
+pub item_of_turn : {S A B : Type 0} {steps : S → Option A → S → Type 0} {v : A → B} {s : S} {all : List B} (xs : List A) (t : S) (y : Yields steps s xs t)
+    → (r : Option A) (u : S) (x : A) → r ≡ Some x → steps t r u → YieldsList steps v s all → (length xs < length all) × (v x ≡ get_or all (length xs) (v x))
 item_of_turn xs t y r u x is step e = YieldsList-turn e xs t y r u x is step
 
-pub all_at_end : {S A B : Type 0} {steps : S → Option A → S → Type 0} {v : A → B} {s : S} {all : List B} (xs : List A) (t : S) (y : Yields steps s xs t) → (r : Option A) (u : S) → r ≡ None → steps t r u → YieldsList steps v s all → (map v xs ≡ all) × (length xs ≡ length all)
+pub all_at_end : {S A B : Type 0} {steps : S → Option A → S → Type 0} {v : A → B} {s : S} {all : List B} (xs : List A) (t : S) (y : Yields steps s xs t)
+    → (r : Option A) (u : S) → r ≡ None → steps t r u → YieldsList steps v s all → (map v xs ≡ all) × (length xs ≡ length all)
 all_at_end xs t y r u is step e = YieldsList-end e xs t y r u is step

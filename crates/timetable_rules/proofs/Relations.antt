@@ -43,16 +43,19 @@ some_overlap-relation ones others = (
 pub share_part-relation : (ones others : Parts) → IsTrue (share_part ones others) ↔ SharePart ones others
 share_part-relation ones others = or_true _ _ _ _ (and_true ones.first others.first) (and_true ones.second others.second)
 
-clash_by_test : (a b c d : ℕ) (p o : Bool) (P Q : Type 0) → IsTrue p ↔ P → IsTrue o ↔ Q → not (nat_eq a b) && (nat_eq c d || (p && o)) ≡ true → (a ≢ b) × ((c ≡ d) ⊎ (P × Q))
+clash_by_test : (a b c d : ℕ) (p o : Bool) (P Q : Type 0) → IsTrue p ↔ P → IsTrue o ↔ Q → not (nat_eq a b) && (nat_eq c d || (p && o)) ≡ true
+    → (a ≢ b) × ((c ≡ d) ⊎ (P × Q))
 clash_by_test a b c d true true P Q share met t = (grind (arith, nat_tests), inr (share.0 refl, met.0 refl))
 clash_by_test a b c d true false P Q share met t = (grind (arith, nat_tests), inl (grind (arith, nat_tests)))
 clash_by_test a b c d false o P Q share met t = (grind (arith, nat_tests), inl (grind (arith, nat_tests)))
 
-test_by_clash : (a b c d : ℕ) (p o : Bool) (P Q : Type 0) → IsTrue p ↔ P → IsTrue o ↔ Q → a ≢ b → (c ≡ d) ⊎ (P × Q) → not (nat_eq a b) && (nat_eq c d || (p && o)) ≡ true
+test_by_clash : (a b c d : ℕ) (p o : Bool) (P Q : Type 0) → IsTrue p ↔ P → IsTrue o ↔ Q → a ≢ b → (c ≡ d) ⊎ (P × Q)
+    → not (nat_eq a b) && (nat_eq c d || (p && o)) ≡ true
 test_by_clash a b c d p o P Q share met different (inl same) = grind (arith, nat_tests)
 test_by_clash a b c d p o P Q share met different (inr (shared, overlap)) = let t = share.1 shared in let u = met.1 overlap in grind (arith, nat_tests)
 
-pub clashes-relation : (meetings : List (List Meeting)) (courses : List ℕ) (parts : List Parts) (a b : ℕ) → IsTrue (clashes meetings courses parts a b) ↔ Clash meetings courses parts a b
+pub clashes-relation : (meetings : List (List Meeting)) (courses : List ℕ) (parts : List Parts) (a b : ℕ)
+    → IsTrue (clashes meetings courses parts a b) ↔ Clash meetings courses parts a b
 clashes-relation meetings courses parts a b =
     let share = share_part-relation (get_or parts a no_part) (get_or parts b no_part) in
     let met = some_overlap-relation (get_or meetings a []) (get_or meetings b []) in (
@@ -72,7 +75,8 @@ pub some_overlap-other_way : (ones others : List Meeting) → some_overlap ones 
 some_overlap-other_way ones others =
     let there = some_overlap-relation ones others in
     let back = some_overlap-relation others ones in
-    same_from_decides (some_overlap ones others) (some_overlap others ones) there (λ t. SomeOverlap-other_way others ones (back.0 t), λ some. back.1 (SomeOverlap-other_way ones others some))
+    same_from_decides (some_overlap ones others) (some_overlap others ones) there
+    (λ t. SomeOverlap-other_way others ones (back.0 t), λ some. back.1 (SomeOverlap-other_way ones others some))
 
 and-other_way : (a b : Bool) → (a && b) ≡ (b && a)
 and-other_way true true = refl
@@ -86,6 +90,12 @@ share_part-other_way ones others = rw (and-other_way ones.first others.first, an
 pub clashes_mutual : (meetings : List (List Meeting)) (courses : List ℕ) (parts : List Parts) (a b : ℕ) → AreMutual meetings courses parts a b
 clashes_mutual meetings courses parts a b = record {
   other_way =
-      rw (eqb-other_way a b, eqb-other_way (get_or courses a 0) (get_or courses b 0), share_part-other_way (get_or parts a no_part) (get_or parts b no_part), some_overlap-other_way (get_or meetings a []) (get_or meetings b [])) refl;
+      rw (
+        eqb-other_way a b,
+        eqb-other_way (get_or courses a 0) (get_or courses b 0),
+        share_part-other_way (get_or parts a no_part) (get_or parts b no_part),
+        some_overlap-other_way (get_or meetings a []) (get_or meetings b []),
+      )
+      refl;
   not_itself = grind (arith, nat_tests);
 }

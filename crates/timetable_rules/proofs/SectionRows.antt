@@ -36,7 +36,8 @@ without_next row test n s fails so = elim (cases_order s n) [
 ]
 
 -- rows that tell the clashes of each section are the table of clashes
-pub clash_table : (rows : List (set.FinSet nat_cmp)) (meetings : List (List Meeting)) (courses : List ℕ) (parts : List Parts) (n : ℕ) → length rows ≡ n → length courses ≤ n → n ≤ length courses
+pub clash_table : (rows : List (set.FinSet nat_cmp)) (meetings : List (List Meeting)) (courses : List ℕ) (parts : List Parts) (n : ℕ) → length rows ≡ n
+    → length courses ≤ n → n ≤ length courses
     → ((a b : ℕ) → a < n → tells rows a b ≡ (nat_lt b (length courses) && clashes meetings courses parts a b))
     → IsClashTable meetings courses parts rows
 clash_table rows meetings courses parts n whole up down told =

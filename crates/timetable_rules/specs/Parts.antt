@@ -18,7 +18,8 @@ no_part = record { first = false; second = false }
 
 -- two sections share a part: both run in the first half, or both in the second
 abbrev pub SharePart : Parts → Parts → Type 0
-SharePart ones others = (IsTrue ones.first × IsTrue others.first) ⊎ (IsTrue ones.second × IsTrue others.second)
+SharePart ones others =
+    (IsTrue ones.first × IsTrue others.first) ⊎ (IsTrue ones.second × IsTrue others.second)
 
 -- the same as a test, for definitions that compute
 abbrev pub share_part : Parts → Parts → Bool

@@ -1,5 +1,6 @@
--- What a text spells, as a function, for definitions that compute. Meetings are guessed from the places of a text, and
--- then the text must be their spelling: so how they are guessed tells nothing of what is spelled.
+-- What a text spells, as a function, for definitions that compute. Meetings are guessed from the
+-- places of a text, and then the text must be their spelling: so how they are guessed tells nothing
+-- of what is spelled.
 use Rattle.std.specs.Prelude.{ℕ, ◌+◌, ◌-◌, ◌*◌, Bool, ◌&&◌, ◌==◌, if◌then◌else◌, Option, Some, None, List, [], ◌∷◌, codes, length, map, nat_le, slice_index}
 use Rattle.std.specs.List.{join_with_byte, list_all, position_or_len, slice_split}
 use Rattle.std.specs.Str.{bytes_eq}
@@ -28,7 +29,9 @@ guessed (b ∷ bs) = map guessed_meeting (slice_split (λ c. c == 59) (b ∷ bs)
 
 -- whether a text spells these meetings
 abbrev pub spells : List ℕ → List Meeting → Bool
-spells text meetings = nat_le (length meetings) 10 && list_all is_meeting meetings && bytes_eq text (join_with_byte 59 (map spelling meetings))
+spells text meetings =
+    nat_le (length meetings) 10 && list_all is_meeting meetings
+    && bytes_eq text (join_with_byte 59 (map spelling meetings))
 
 -- the meetings that a text spells, if it spells any
 abbrev pub spelled : List ℕ → Option (List Meeting)

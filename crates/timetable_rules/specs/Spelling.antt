@@ -20,7 +20,8 @@ clock minute = two_digits (minute / 60) ++ two_digits (minute % 60)
 abbrev pub spelling : Meeting → List ℕ
 spelling m = day_letter m.day ∷ (clock m.start ++ 45 ∷ clock m.end)
 
--- The text spells these meetings: at most ten, in order, joined by semicolons. The empty text spells none.
+-- The text spells these meetings: at most ten, in order, joined by semicolons. The empty text
+-- spells none.
 pub record Spells (text : List ℕ) (meetings : List Meeting) : Type 0 where
   pub few : length meetings ≤ 10
   pub each : All IsMeeting meetings

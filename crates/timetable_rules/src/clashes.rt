@@ -9,8 +9,8 @@ use market_units::{NoMemory, SectionNo, SectionSet};
 use std::alloc::Global;
 use std::marker::Model;
 
-/// Which sections clash, as a bit for each pair of them. It is seen as a list that has, for each section,
-/// the set of the sections that clash with it.
+/// Which sections clash, as a bit for each pair of them. It is seen as a list that has, for each
+/// section, the set of the sections that clash with it.
 #[derive(Drop)]
 pub struct ClashTable {
     rows: Vec<SectionSet>,
@@ -32,7 +32,8 @@ impl Model for ClashTable {
 }
 
 impl ClashTable {
-    /// The table of the sections with these meetings, course numbers and parts of the term, by ordinal.
+    /// The table of the sections with these meetings, course numbers and parts of the term, by
+    /// ordinal.
     pub fn build(
         alloc: Global,
         meetings: &[Meetings],

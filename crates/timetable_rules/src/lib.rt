@@ -1,4 +1,5 @@
-//! When sections meet and in which parts of the term, how both are written, and which sections clash.
+//! When sections meet and in which parts of the term, how both are written, and which sections
+//! clash.
 // Neither: how long the table of clashes takes.
 #![tactic(auto)]
 

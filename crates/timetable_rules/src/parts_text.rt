@@ -5,7 +5,8 @@ ghost use Rattle.timetable_rules.specs.Parts.{SharePart, SpellsParts, share_part
 
 use crate::Parts;
 
-/// The parts of the term that the bytes spell: `1` is the first half, `2` the second, `12` both. `None` for other bytes.
+/// The parts of the term that the bytes spell: `1` is the first half, `2` the second, `12` both.
+/// `None` for other bytes.
 pub fn read_parts(bytes: &[u8]) -> Option<Parts>
     ensures value { result ≡ spelled_parts bytes.now }
     ensures read { IfSome result (SpellsParts bytes.now) }

@@ -9,9 +9,10 @@ ghost use Rattle.timetable_rules.specs.Spelling.{Spells, clock, day_letter, spel
 use crate::{Meeting, Meetings};
 use market_units::MAX_MEETINGS;
 
-/// The meetings that the bytes spell: 1 to 10 of them joined by `;`, or none in an empty text. A meeting
-/// is the letter of its day (`M`, `T`, `W`, `R`, `F`, `S`, `U`), its start, `-` and its end; both are two
-/// digits of the hour and two of the minute, and the start is before the end. `None` for other bytes.
+/// The meetings that the bytes spell: 1 to 10 of them joined by `;`, or none in an empty text. A
+/// meeting is the letter of its day (`M`, `T`, `W`, `R`, `F`, `S`, `U`), its start, `-` and its
+/// end; both are two digits of the hour and two of the minute, and the start is before the end.
+/// `None` for other bytes.
 pub fn read_meetings(bytes: &[u8]) -> Option<Meetings>
     ensures read { IfSome result (λ meetings. Spells bytes.now (meetings_of meetings)) }
     ensures none { IfNone result ((meetings : List Meeting) → ¬ Spells bytes.now meetings) }
@@ -33,7 +34,8 @@ pub fn read_meetings(bytes: &[u8]) -> Option<Meetings>
 // The meeting that the bytes spell.
 fn read_meeting(bytes: &[u8]) -> Option<Meeting>
     ensures read { IfSome result (λ meeting. IsMeeting meeting × (bytes.now ≡ spelling meeting)) }
-    ensures none { IfNone result ((meeting : Meeting) → IsMeeting meeting → bytes.now ≢ spelling meeting) }
+    ensures none { IfNone result
+        ((meeting : Meeting) → IsMeeting meeting → bytes.now ≢ spelling meeting) }
 {
     let &[letter, a, b, c, d, b'-', e, f, g, h] = bytes else {
         return None;
@@ -67,8 +69,10 @@ fn read_day(letter: u8) -> Option<u8>
 
 // The minute of the day with these two digits of the hour and two of the minute.
 fn read_clock(hour_tens: u8, hour_ones: u8, tens: u8, ones: u8) -> Option<u16>
-    ensures read { IfSome result (λ minute. (minute < 1440) × (clock minute ≡ hour_tens ∷ hour_ones ∷ tens ∷ ones ∷ [])) }
-    ensures none { IfNone result ((minute : ℕ) → minute < 1440 → clock minute ≢ hour_tens ∷ hour_ones ∷ tens ∷ ones ∷ []) }
+    ensures read { IfSome result
+        (λ minute. (minute < 1440) × (clock minute ≡ hour_tens ∷ hour_ones ∷ tens ∷ ones ∷ [])) }
+    ensures none { IfNone result
+        ((minute : ℕ) → minute < 1440 → clock minute ≢ hour_tens ∷ hour_ones ∷ tens ∷ ones ∷ []) }
 {
     let hour = read_pair(hour_tens, hour_ones)?;
     let minute = read_pair(tens, ones)?;

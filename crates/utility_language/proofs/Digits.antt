@@ -14,7 +14,8 @@ no_sign n small = elim (cases_lt 0 n) [
 ]
 
 -- a word with a sign in front, of which the rest is no number of six digits or the zero
-pub no_signed_word : (word : List ℕ) → get_or word 0 0 ≡ 45 → ((n : ℕ) → 0 < n → n < 10 ^ 6 → drop 1 word ≢ decimal n) → (n : ℤ) → unsigned_abs n < 10 ^ 6 → word ≢ signed_decimal n
+pub no_signed_word : (word : List ℕ) → get_or word 0 0 ≡ 45 → ((n : ℕ) → 0 < n → n < 10 ^ 6 → drop 1 word ≢ decimal n) → (n : ℤ) → unsigned_abs n < 10 ^ 6
+    → word ≢ signed_decimal n
 no_signed_word word sign none (pos n) small e = no_sign n small (sym (ap (λ ds. get_or ds 0 0) e) ∙ sign)
 no_signed_word word sign none (negsuc n) small e = none (suc n) (omega arith) small (ap (drop 1) e)
 

@@ -48,7 +48,8 @@ pub record IsPosition {X : Type 0} (p : X → Bool) (xs : List X) (i : ℕ) : Ty
   pub first : position_or_len p xs ≡ i
   pub inside : i < length xs
 
-position_cases : {X : Type 0} (p : X → Bool) (xs : List X) (b : Bool) (i : ℕ) → (b ≡ true → position_or_len p xs < length xs) → cond b (Some (position_or_len p xs)) None ≡ Some i → IsPosition p xs i
+position_cases : {X : Type 0} (p : X → Bool) (xs : List X) (b : Bool) (i : ℕ) → (b ≡ true → position_or_len p xs < length xs)
+    → cond b (Some (position_or_len p xs)) None ≡ Some i → IsPosition p xs i
 position_cases p xs true i within e =
     let same : position_or_len p xs ≡ i = cc in record { first = same; inside = rw (← same) (within refl) }
 position_cases p xs false i within e = cc
@@ -57,17 +58,21 @@ pub position_found : {X : Type 0} (p : X → Bool) (xs : List X) (i : ℕ) → p
 position_found p xs i e = position_cases p xs _ i (λ b. ltb-true _ _ b) e
 
 none_cases : {X : Type 0} (p : X → Bool) (xs : List X) → (position_or_len p xs < length xs → ⊥) → All (λ x. p x ≡ false) xs
-none_cases p xs none = λ k d inside. fails_before_first p xs k d (elim (cases_lt (position_or_len p xs) (length xs)) [ inl within ↦ absurd (none within) | inr above ↦ omega arith ])
+none_cases p xs none =
+    λ k d inside. fails_before_first p xs k d
+    (elim (cases_lt (position_or_len p xs) (length xs)) [ inl within ↦ absurd (none within) | inr above ↦ omega arith ])
 
 pub position_none : {X : Type 0} (p : X → Bool) (xs : List X) → position p xs ≡ None → All (λ x. p x ≡ false) xs
 position_none p xs e = none_cases p xs (λ within. let t = lt-ltb _ _ within in let found = rw t at e in cc)
 
 -- up to its first line feed a text is one line
-pub first_line_ended : (text : List ℕ) (end : ℕ) → position (λ byte. byte == 10) text ≡ Some end → lines_of text ≡ strip_carriage_return (take end text) ∷ lines_of (drop (end + 1) text)
+pub first_line_ended : (text : List ℕ) (end : ℕ) → position (λ byte. byte == 10) text ≡ Some end
+    → lines_of text ≡ strip_carriage_return (take end text) ∷ lines_of (drop (end + 1) text)
 first_line_ended text end e =
     let at = position_found (λ byte. byte == 10) text end e in
     ap (λ parts. map strip_carriage_return (without_empty_last parts)) (slice_split_first (λ byte. byte == 10) text 0 (omega arith))
-    ∙ ap (map strip_carriage_return) (kept_part _ (slice_split (λ byte. byte == 10) (after_first (λ byte. byte == 10) text)) (some_parts _ (after_first (λ byte. byte == 10) text)))
+    ∙ ap (map strip_carriage_return)
+    (kept_part _ (slice_split (λ byte. byte == 10) (after_first (λ byte. byte == 10) text)) (some_parts _ (after_first (λ byte. byte == 10) text)))
     ∙ ap (λ at. strip_carriage_return (take at text) ∷ lines_of (drop (at + 1) text)) at.first
 
 -- a text without a line feed is its last line

@@ -28,7 +28,8 @@ words_of_joined : (words : List (List ℕ)) → AllWords words → words_of (joi
 unfolding AllWords
 words_of_joined [] each = refl
 words_of_joined (word ∷ []) each = last_word word each.0
-words_of_joined (word ∷ next ∷ more) each = ended_word word 32 (join_with_byte 32 (next ∷ more)) each.0 refl ∙ ap (λ words. word ∷ words) (words_of_joined (next ∷ more) each.1)
+words_of_joined (word ∷ next ∷ more) each =
+    ended_word word 32 (join_with_byte 32 (next ∷ more)) each.0 refl ∙ ap (λ words. word ∷ words) (words_of_joined (next ∷ more) each.1)
 
 -- no byte is a blank, as a test that computes
 no_blanks : List ℕ → Bool
@@ -48,7 +49,8 @@ above_blank : (byte : ℕ) → 33 ≤ byte → is_blank byte ≡ false
 above_blank byte above = rw (ne_eqb byte 32 (λ e. absurd (omega arith)), ne_eqb byte 9 (λ e. absurd (omega arith))) refl
 
 name_is_word : (name : Name) → IsWord (name_bytes name)
-name_is_word name = record { some = name.holds.name.some; whole = λ k d below. name_byte_no_blank (get_or (name_bytes name) k d) (name.holds.name.each k d below) }
+name_is_word name =
+    record { some = name.holds.name.some; whole = λ k d below. name_byte_no_blank (get_or (name_bytes name) k d) (name.holds.name.each k d below) }
 
 digit_of : (n : ℕ) (small : n < 2 ^ 64) (k d : ℕ) → k < length (decimal n) → 48 ≤ get_or (decimal n) k d
 digit_of n small k d below =
@@ -58,7 +60,8 @@ digit_of n small k d below =
     omega (arith, same, range)
 
 decimal_is_word : (n : ℕ) → n < 2 ^ 64 → IsWord (decimal n)
-decimal_is_word n small = record { some = decimal_nonempty n small; whole = λ k d below. above_blank (get_or (decimal n) k d) (omega (arith, digit_of n small k d below)) }
+decimal_is_word n small =
+    record { some = decimal_nonempty n small; whole = λ k d below. above_blank (get_or (decimal n) k d) (omega (arith, digit_of n small k d below)) }
 
 behind_sign : (bytes : List ℕ) → All (λ byte. is_blank byte ≡ false) bytes → All (λ byte. is_blank byte ≡ false) (45 ∷ bytes)
 behind_sign bytes each zero d below = refl
@@ -111,7 +114,8 @@ pub printed_is_read_law : PrintedIsReadLaw
 printed_is_read_law command short = rw (words_of_joined (words_by command) (words_are_words command short)) (words_give command short)
 
 -- the command of a line that was printed
-pub read_back : (line : List ℕ) (words : List (List ℕ)) (read command : Command) → words_of line ≡ words → IsCommandOf words read → HasShortNumber command → line ≡ printed command → read ≡ command
+pub read_back : (line : List ℕ) (words : List (List ℕ)) (read command : Command) → words_of line ≡ words → IsCommandOf words read → HasShortNumber command
+    → line ≡ printed command → read ≡ command
 read_back line words read command is of short e =
     let law = printed_is_read_law command short in
     let same : words_of (printed command) ≡ words = ap words_of (sym e) ∙ is in

@@ -21,7 +21,8 @@ unfolding first_byte
 rate_or_pair a b e = let bytes : ◌≡◌ {A = ℕ} 114 112 = ap first_byte e in omega arith
 
 -- the second name of a rating is no name
-pub no_section : (words rest : List (List ℕ)) (student : Name) → words ≡ name_bytes student ∷ rest → ((name : Name) (more : List (List ℕ)) → rest ≢ name_bytes name ∷ more)
+pub no_section : (words rest : List (List ℕ)) (student : Name) → words ≡ name_bytes student ∷ rest
+    → ((name : Name) (more : List (List ℕ)) → rest ≢ name_bytes name ∷ more)
     → (command : Command) → Spells (codes "rate" ∷ words) command → ⊥
 no_section words rest student e none (Rate other section n) spells = none section (signed_decimal n ∷ []) (cc (e, spells.written))
 no_section words rest student e none (Pair other first second n) spells = rate_or_pair _ _ spells.written
@@ -30,7 +31,8 @@ no_section words rest student e none Close spells = cc spells.written
 no_section words rest student e none Unreadable spells = spells.readable refl
 
 -- the second name of an adjustment is no name
-pub no_first : (words rest : List (List ℕ)) (student : Name) → words ≡ name_bytes student ∷ rest → ((name : Name) (more : List (List ℕ)) → rest ≢ name_bytes name ∷ more)
+pub no_first : (words rest : List (List ℕ)) (student : Name) → words ≡ name_bytes student ∷ rest
+    → ((name : Name) (more : List (List ℕ)) → rest ≢ name_bytes name ∷ more)
     → (command : Command) → Spells (codes "pair" ∷ words) command → ⊥
 no_first words rest student e none (Rate other section n) spells = rate_or_pair _ _ (sym spells.written)
 no_first words rest student e none (Pair other first second n) spells = none first (name_bytes second ∷ signed_decimal n ∷ []) (cc (e, spells.written))

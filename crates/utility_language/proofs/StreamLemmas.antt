@@ -10,12 +10,16 @@ use Rattle.utility_language.specs.Words.{words_of}
 use Rattle.utility_language.specs.Commands.{HasShortNumber, IsCommandOf, is_command, command_lines}
 
 -- a first line that is no command
-pub line_passed : (text line rest : List ℕ) → lines_of text ≡ line ∷ lines_of rest → is_command (words_of line) ≡ false → command_lines text ≡ command_lines rest
-line_passed text line rest lines none = ap (λ lines. filter is_command (map words_of lines)) lines ∙ ap (λ b. cond b (words_of line ∷ command_lines rest) (command_lines rest)) none
+pub line_passed : (text line rest : List ℕ) → lines_of text ≡ line ∷ lines_of rest → is_command (words_of line) ≡ false
+    → command_lines text ≡ command_lines rest
+line_passed text line rest lines none =
+    ap (λ lines. filter is_command (map words_of lines)) lines ∙ ap (λ b. cond b (words_of line ∷ command_lines rest) (command_lines rest)) none
 
 -- a first line that is one
-pub line_taken : (text line rest : List ℕ) → lines_of text ≡ line ∷ lines_of rest → is_command (words_of line) ≡ true → command_lines text ≡ words_of line ∷ command_lines rest
-line_taken text line rest lines some = ap (λ lines. filter is_command (map words_of lines)) lines ∙ ap (λ b. cond b (words_of line ∷ command_lines rest) (command_lines rest)) some
+pub line_taken : (text line rest : List ℕ) → lines_of text ≡ line ∷ lines_of rest → is_command (words_of line) ≡ true
+    → command_lines text ≡ words_of line ∷ command_lines rest
+line_taken text line rest lines some =
+    ap (λ lines. filter is_command (map words_of lines)) lines ∙ ap (λ b. cond b (words_of line ∷ command_lines rest) (command_lines rest)) some
 
 pub zip_more : {A B : Type 0} (R : A → B → Type 0) (xs : List A) (ys : List B) (x : A) (y : B) → AllZip R xs ys → R x y → AllZip R (xs ++ x ∷ []) (ys ++ y ∷ [])
 zip_more R [] [] x y each here = (here, tt)
@@ -52,7 +56,8 @@ short_of : (words : List (List ℕ)) (command : Command) → IsCommandOf words c
 short_of words command (inl spells) = spells.short
 short_of words command (inr (e, none)) = let P : Command → Type 0 = λ c. HasShortNumber c in subst P (sym e) tt
 
-short_at : (lines : List (List (List ℕ))) (commands : List Command) → AllZip IsCommandOf lines commands → (k : ℕ) (d : Command) → k < length commands → HasShortNumber (get_or commands k d)
+short_at : (lines : List (List (List ℕ))) (commands : List Command) → AllZip IsCommandOf lines commands → (k : ℕ) (d : Command) → k < length commands
+    → HasShortNumber (get_or commands k d)
 short_at [] [] each k d below = absurd (omega arith)
 short_at [] (c ∷ cs) each k d below = absurd each
 short_at (line ∷ lines) [] each k d below = absurd each

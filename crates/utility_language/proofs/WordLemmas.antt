@@ -10,7 +10,8 @@ use Rattle.utility_language.specs.Words.{is_blank, words_of}
 use Rattle.utility_language.proofs.LineLemmas.{IsPosition, position_found, position_none}
 use Rattle.utility_language.specs.Laws.{IsWord, WordsOfALineLaw}
 
-with_word : (word : List ℕ) (parts : List (List ℕ)) → 0 < length word → filter (λ part. nat_lt 0 (length part)) (word ∷ parts) ≡ word ∷ filter (λ part. nat_lt 0 (length part)) parts
+with_word : (word : List ℕ) (parts : List (List ℕ)) → 0 < length word
+    → filter (λ part. nat_lt 0 (length part)) (word ∷ parts) ≡ word ∷ filter (λ part. nat_lt 0 (length part)) parts
 with_word word parts some = rw (lt-ltb 0 (length word) some) refl
 
 pub blank_passes : (byte : ℕ) (rest : List ℕ) → IsTrue (is_blank byte) → words_of (byte ∷ rest) ≡ words_of rest
@@ -30,7 +31,8 @@ words_of_a_line_law = record { none = refl; blank = blank_passes; ended = ended_
 skip_blanks : (n : ℕ) (line : List ℕ) → n ≤ length line → ((k : ℕ) → k < n → is_blank (get_or line k 0) ≡ true) → words_of line ≡ words_of (drop n line)
 skip_blanks zero line fits blanks = refl
 skip_blanks (suc n) [] fits blanks = refl
-skip_blanks (suc n) (byte ∷ line) fits blanks = blank_passes byte line (blanks 0 (omega arith)) ∙ skip_blanks n line (omega arith) (λ k below. blanks (suc k) (omega arith))
+skip_blanks (suc n) (byte ∷ line) fits blanks =
+    blank_passes byte line (blanks 0 (omega arith)) ∙ skip_blanks n line (omega arith) (λ k below. blanks (suc k) (omega arith))
 
 not_false : (b : Bool) → not b ≡ false → b ≡ true
 not_false true e = refl
@@ -61,14 +63,17 @@ from_start line start e =
     let inside : start < length line = at.inside in
     let passes = passes_at_first (λ byte. not (is_blank byte)) line 0 (omega (arith, at.first, at.inside)) in
     record {
-      words = skip_blanks start line (omega (arith, at.inside)) (λ k below. not_false _ (fails_before_first (λ byte. not (is_blank byte)) line k 0 (omega (arith, at.first))));
+      words =
+          skip_blanks start line (omega (arith, at.inside))
+          (λ k below. not_false _ (fails_before_first (λ byte. not (is_blank byte)) line k 0 (omega (arith, at.first))));
       begins = record {
         some = simp length-drop (omega (arith, at.inside));
         first = not_true _ (rw (get_or-drop, add-zero) (rw at.first at passes));
       };
     }
 
-pub from_first_word : (line : List ℕ) (start : ℕ) → position (λ byte. not (is_blank byte)) line ≡ Some start → IsRest line (take (length line - start) (drop start line))
+pub from_first_word : (line : List ℕ) (start : ℕ) → position (λ byte. not (is_blank byte)) line ≡ Some start
+    → IsRest line (take (length line - start) (drop start line))
 from_first_word line start e = rw (take_rest line start) (from_start line start e)
 
 not_at_front : (rest : List ℕ) (end : ℕ) → BeginsWithWord rest → is_blank (get_or rest end 0) ≡ true → 0 < end
@@ -77,7 +82,8 @@ not_at_front rest (suc end) begins here = omega arith
 
 front_is_word : (rest : List ℕ) (end : ℕ) → BeginsWithWord rest → IsPosition is_blank rest end → IsWord (take end rest)
 front_is_word rest end begins at =
-    let here : is_blank (get_or rest end 0) ≡ true = let passes = passes_at_first is_blank rest 0 (omega (arith, at.first, at.inside)) in rw at.first at passes in
+    let here : is_blank (get_or rest end 0) ≡ true =
+    let passes = passes_at_first is_blank rest 0 (omega (arith, at.first, at.inside)) in rw at.first at passes in
     let some : 0 < end = not_at_front rest end begins here in
     let long : length (take end rest) ≡ end = simp length-take (omega (arith, at.inside)) in
     record {
@@ -89,7 +95,8 @@ front_is_word rest end begins at =
 pub word_ended : (rest : List ℕ) (end : ℕ) → BeginsWithWord rest → position is_blank rest ≡ Some end → words_of rest ≡ take end rest ∷ words_of (drop end rest)
 word_ended rest end begins e =
     let at = position_found is_blank rest end e in
-    let here : is_blank (get_or rest end 0) ≡ true = let passes = passes_at_first is_blank rest 0 (omega (arith, at.first, at.inside)) in rw at.first at passes in
+    let here : is_blank (get_or rest end 0) ≡ true =
+    let passes = passes_at_first is_blank rest 0 (omega (arith, at.first, at.inside)) in rw at.first at passes in
     let tail : drop end rest ≡ get_or rest end 0 ∷ drop (end + 1) rest = drop_more rest end 0 at.inside in
     let word : IsWord (take end rest) = front_is_word rest end begins at in
     ap words_of (sym (take-append-drop end rest) ∙ ap (λ behind. take end rest ++ behind) tail)

@@ -30,9 +30,11 @@ pub record Spells (words : List (List ℕ)) (command : Command) : Type 0 where
   pub short : HasShortNumber command
   pub written : words ≡ words_by command
 
--- the command of a line with these words: the one that they spell, and where they spell none, `Unreadable`
+-- the command of a line with these words: the one that they spell, and where they spell none,
+-- `Unreadable`
 abbrev pub IsCommandOf : List (List ℕ) → Command → Type 0
-IsCommandOf words command = Spells words command ⊎ ((command ≡ Unreadable) × ((other : Command) → ¬ Spells words other))
+IsCommandOf words command =
+    Spells words command ⊎ ((command ≡ Unreadable) × ((other : Command) → ¬ Spells words other))
 
 -- whether a line with these words is a command: it has words, and the first does not begin with `#`
 abbrev pub is_command : List (List ℕ) → Bool

@@ -1,8 +1,9 @@
 // What a session can say to the desk.
 use market_units::Name;
 
-/// One command of a session. It names students and sections by their names, whether there are such or not. A number `n` is from
-/// -999,999 to 999,999 as `read_line` gives it; what the desk takes is said beside it.
+/// One command of a session. It names students and sections by their names, whether there are such
+/// or not. A number `n` is from -999,999 to 999,999 as `read_line` gives it; what the desk takes is
+/// said beside it.
 #[derive(Clone, Copy, Debug, PartialEq, Eq)]
 pub enum Command {
     /// The student rates the section with `n`; the desk takes 0 to 100.

@@ -5,7 +5,8 @@ ghost use Rattle.std.specs.Str.Lines.{strip_carriage_return};
 ghost use Rattle.utility_language.specs.Lines.{lines_of};
 ghost use Rattle.utility_language.specs.Words.{is_blank, words_of};
 
-/// The first line of a text that is not empty, without the carriage return at its end, and the text behind its line feed.
+/// The first line of a text that is not empty, without the carriage return at its end, and the text
+/// behind its line feed.
 pub fn first_line(text: &[u8]) -> (&[u8], &[u8])
     requires { 0 < length text.now }
     ensures lines { lines_of text.now ≡ result.0.now ∷ lines_of result.1.now }
@@ -36,7 +37,8 @@ fn without_return(line: &[u8]) -> &[u8]
 /// The first word of a line, and the line behind it; `None` exactly where only blanks stand.
 pub fn first_word(line: &[u8]) -> Option<(&[u8], &[u8])>
     ensures none { IfNone result (words_of line.now ≡ []) }
-    ensures words { IfSome result (λ parts. words_of line.now ≡ parts.0.now ∷ words_of parts.1.now) }
+    ensures words { IfSome result
+        (λ parts. words_of line.now ≡ parts.0.now ∷ words_of parts.1.now) }
     ensures some { IfSome result (λ parts. 0 < length parts.0.now) }
 {
     let start = find_word(line)?;

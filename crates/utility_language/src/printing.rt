@@ -6,8 +6,9 @@ ghost use Rattle.utility_language.specs.Commands.{HasShortNumber, printed};
 use crate::Command;
 use market_units::put_number;
 
-/// Writes the command's text at the front of the room, and gives its length; the rest of the room stays. The number, where the
-/// command has one, is from -999,999 to 999,999, as `read_line` gives it.
+/// Writes the command's text at the front of the room, and gives its length; the rest of the room
+/// stays. The number, where the command has one, is from -999,999 to 999,999, as `read_line` gives
+/// it.
 pub fn print_command(command: &Command, room: &mut [u8; 128]) -> usize
     requires { HasShortNumber command.now }
     ensures fits { result ≤ 128 }

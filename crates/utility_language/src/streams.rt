@@ -25,8 +25,8 @@ impl<T: Drop> From<AllocFailed<T>> for StreamEnd {
     }
 }
 
-/// The commands of the text, line by line. Blank lines and comments are none; a line that can't be read is one. `TooMany` comes
-/// where there are more than `room`.
+/// The commands of the text, line by line. Blank lines and comments are none; a line that can't be
+/// read is one. `TooMany` comes where there are more than `room`.
 pub fn read_stream(alloc: Global, bytes: &[u8], room: u32) -> Result<Vec<Command>, StreamEnd>
     ensures commands { IfOk result (λ commands. AreCommands bytes.now commands.items) }
     ensures short { IfOk result (λ commands. All HasShortNumber commands.items) }

@@ -13,7 +13,8 @@ final cat 0 0 0
 final total 0 1 0
 ";
 
-/// The audit of four students and one seat: each of the others envies the one whose budget is the greatest.
+/// The audit of four students and one seat: each of the others envies the one whose budget is the
+/// greatest.
 pub const FOUR_ENVY: &str = "settled s1 0 1 0
 sees s4 [X] but for X
 settled s2 0 1 0
@@ -32,7 +33,8 @@ final s4 0 0 0
 final total 0 3 0
 ";
 
-/// The audit of two students of equal budgets: the second envies the first only after the aftermarket.
+/// The audit of two students of equal budgets: the second envies the first only after the
+/// aftermarket.
 pub const EQUAL_ENVY: &str = "settled u 0 0 0
 settled v 0 0 0
 settled total 0 0 0
@@ -53,7 +55,8 @@ final v 0 0 0
 final total 0 1 0
 ";
 
-/// The audit where without either of two sections of equal rating the other is still better than nothing.
+/// The audit where without either of two sections of equal rating the other is still better than
+/// nothing.
 pub const BEYOND_ONE_ENVY: &str = "settled u 0 0 0
 settled v 0 1 1
 sees u [A,B] beyond one

@@ -1,5 +1,6 @@
-//! Terms worked by hand, for the tests of several crates: the inputs of small markets, and what is published of them and told in an audit. These
-//! texts were computed apart from this program. A constant is named for its term, and then for the part of it that it is.
+//! Terms worked by hand, for the tests of several crates: the inputs of small markets, and what is
+//! published of them and told in an audit. These texts were computed apart from this program. A
+//! constant is named for its term, and then for the part of it that it is.
 // Neither: that these texts were computed apart from this program. No clause cites them.
 #![tactic(auto)]
 

@@ -52,7 +52,8 @@ used X 1 1
 end
 ";
 
-/// Two students of equal budgets and a seat that neither can buy: it is filled in the aftermarket, in two passes.
+/// Two students of equal budgets and a seat that neither can buy: it is filled in the aftermarket,
+/// in two passes.
 pub const EQUAL_TERM: WorkedTerm = WorkedTerm {
     catalogue: ONE_SEAT_CATALOGUE,
     roll: EQUAL_ROLL,
@@ -121,7 +122,8 @@ used X 1 1
 end
 ";
 
-/// The student whose budget is the greater is not the one whose base is; the budgets are those of the carried tokens.
+/// The student whose budget is the greater is not the one whose base is; the budgets are those of
+/// the carried tokens.
 pub const LOWER_BASE_MARKET: WorkedMarket = WorkedMarket {
     term: WorkedTerm {
         catalogue: ONE_SEAT_CATALOGUE,

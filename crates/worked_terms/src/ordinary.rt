@@ -77,7 +77,8 @@ used D 1 1
 end
 ";
 
-/// The ordinary term without its sections: its settings and its session are the same, and nobody gets anything.
+/// The ordinary term without its sections: its settings and its session are the same, and nobody
+/// gets anything.
 pub const NO_SECTIONS_TERM: WorkedTerm = WorkedTerm {
     catalogue: NO_SECTIONS_CATALOGUE,
     roll: ORDINARY_ROLL,

@@ -8,7 +8,8 @@ use Rattle.bundle_rules.specs.Demand.{IsChoice}
 use Rattle.bundle_rules.specs.Existence.Members.{has-here, has-there, has-cases}
 
 -- a fact that can be decided for each section can be decided for all of a set
-pub each_or_not : (P : ℕ → Type 0) → ((s : ℕ) → P s ⊎ (P s → ⊥)) → (ss : List ℕ) → ((s : ℕ) → has ss s ≡ true → P s) ⊎ (((s : ℕ) → has ss s ≡ true → P s) → ⊥)
+pub each_or_not : (P : ℕ → Type 0) → ((s : ℕ) → P s ⊎ (P s → ⊥)) → (ss : List ℕ)
+    → ((s : ℕ) → has ss s ≡ true → P s) ⊎ (((s : ℕ) → has ss s ≡ true → P s) → ⊥)
 each_or_not P test [] = inl (λ s none. absurd (true≢false (sym none)))
 each_or_not P test (x ∷ xs) = elim (test x) [
   | inl here ↦ elim (each_or_not P test xs) [
@@ -25,12 +26,15 @@ bool_or_not false true = inr (λ e. true≢false (sym e))
 bool_or_not false false = inl refl
 
 below_or_not : (m n : ℕ) → (m < n) ⊎ (m < n → ⊥)
-below_or_not m n = elim (cases_lt m n) [ inl low ↦ inl low | inr high ↦ inr (λ low. absurd (omega arith)) ]
+below_or_not m n =
+    elim (cases_lt m n) [ inl low ↦ inl low | inr high ↦ inr (λ low. absurd (omega arith)) ]
 
 at_most_or_not : (m n : ℕ) → (m ≤ n) ⊎ (m ≤ n → ⊥)
-at_most_or_not m n = elim (cases_lt n m) [ inl high ↦ inr (λ low. absurd (omega arith)) | inr low ↦ inl low ]
+at_most_or_not m n =
+    elim (cases_lt n m) [ inl high ↦ inr (λ low. absurd (omega arith)) | inr low ↦ inl low ]
 
-apart_or_not : (w : Wishes) (s t : ℕ) → (s ≢ t → w.clash s t ≡ false) ⊎ ((s ≢ t → w.clash s t ≡ false) → ⊥)
+apart_or_not : (w : Wishes) (s t : ℕ)
+    → (s ≢ t → w.clash s t ≡ false) ⊎ ((s ≢ t → w.clash s t ≡ false) → ⊥)
 apart_or_not w s t = elim (bool_or_not (w.clash s t) false) [
   | inl none ↦ inl (λ other. none)
   | inr some ↦ elim (cases_order s t) [
@@ -40,7 +44,8 @@ apart_or_not w s t = elim (bool_or_not (w.clash s t) false) [
   ]
 ]
 
-pub feasible_or_not : (w : Wishes) (ss : List ℕ) → IsAscending ss → IsFeasible w ss ⊎ (IsFeasible w ss → ⊥)
+pub feasible_or_not : (w : Wishes) (ss : List ℕ) → IsAscending ss
+    → IsFeasible w ss ⊎ (IsFeasible w ss → ⊥)
 feasible_or_not w ss set =
     elim (each_or_not (λ s. 0 < w.rating s) (λ s. below_or_not 0 (w.rating s)) ss) [
       | inr no_rating ↦ inr (λ is. no_rating is.rated)
@@ -56,7 +61,8 @@ feasible_or_not w ss set =
       ]
     ]
 
-pub choice_or_not : (w : Wishes) (price : ℕ → ℕ) (budget : ℕ) (allowed : ℕ → Bool) (ss : List ℕ) → IsAscending ss → IsChoice w price budget allowed ss ⊎ (IsChoice w price budget allowed ss → ⊥)
+pub choice_or_not : (w : Wishes) (price : ℕ → ℕ) (budget : ℕ) (allowed : ℕ → Bool) (ss : List ℕ)
+    → IsAscending ss → IsChoice w price budget allowed ss ⊎ (IsChoice w price budget allowed ss → ⊥)
 choice_or_not w price budget allowed ss set =
     elim (feasible_or_not w ss set) [
       | inr not ↦ inr (λ is. not is.feasible)

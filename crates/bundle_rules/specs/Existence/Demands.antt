@@ -17,7 +17,9 @@ use Rattle.bundle_rules.specs.Existence.Places.{rated_on_menu, section_at-place_
 
 module _ (w : Wishes) (price : ℕ → ℕ) (budget : ℕ) (allowed : ℕ → Bool) where
   -- of the choices that extend a front one is the best
-  pub best_extension : (later front : List ℕ) → IsAscending (front ++ later) → IsChoice w price budget allowed front → (best : List ℕ) × IsBestExtension w price budget allowed front later best
+  pub best_extension : (later front : List ℕ) → IsAscending (front ++ later)
+      → IsChoice w price budget allowed front
+      → (best : List ℕ) × IsBestExtension w price budget allowed front later best
   best_extension [] front up choice = (front, nothing_later w price budget allowed front choice)
   best_extension (s ∷ rest) front up choice =
       let longer : IsAscending ((front ++ s ∷ []) ++ rest) = rw append_assoc up in
@@ -35,13 +37,22 @@ module _ (w : Wishes) (price : ℕ → ℕ) (budget : ℕ) (allowed : ℕ → Bo
 
   pub no_section : IsChoice w price budget allowed []
   no_section = record {
-    feasible = record { set = tt; rated = λ s none. absurd (true≢false (sym none)); apart = λ s t none. absurd (true≢false (sym none)); credits = omega arith; courses = omega arith };
+    feasible =
+        record {
+          set = tt;
+          rated = λ s none. absurd (true≢false (sym none));
+          apart = λ s t none. absurd
+              (true≢false (sym none));
+          credits = omega arith;
+          courses = omega arith;
+        };
     affordable = omega arith;
     within = λ s none. absurd (true≢false (sym none));
   }
 
   -- two that are the best are one
-  pub best_once : (a b : List ℕ) → IsBest w price budget allowed a → IsBest w price budget allowed b → b ≡ a
+  pub best_once : (a b : List ℕ) → IsBest w price budget allowed a → IsBest w price budget allowed b
+      → b ≡ a
   best_once a b p q = elim (compared w a b p.choice.feasible.set q.choice.feasible.set) [
     | inl same ↦ sym same
     | inr (inl over) ↦ absurd (not_both_preferred w a b over (q.preferred a p.choice (λ e. not_preferred_itself w a (subst (IsPreferred w a) (sym e) over))))
@@ -49,7 +60,8 @@ module _ (w : Wishes) (price : ℕ → ℕ) (budget : ℕ) (allowed : ℕ → Bo
   ]
 
   -- where the rated sections are among those of a set, one bundle is the best
-  pub one_best_among : (all : List ℕ) → IsAscending all → ((s : ℕ) → 0 < w.rating s → has all s ≡ true) → HasOneBest w price budget allowed
+  pub one_best_among : (all : List ℕ) → IsAscending all
+      → ((s : ℕ) → 0 < w.rating s → has all s ≡ true) → HasOneBest w price budget allowed
   one_best_among all up rated =
       let best = best_extension all [] up no_section in
       let is : IsBest w price budget allowed best.0 = best_of_all w price budget allowed all best.0 (λ other choice s in_it. rated s (choice.feasible.rated s in_it)) best.1 in
@@ -79,7 +91,8 @@ from-has s (suc n) t low high = elim (cases_lt s t) [
 ]
 
 -- where the rated sections are below a bound, one bundle is the best
-pub one_best_below : (w : Wishes) (price : ℕ → ℕ) (budget : ℕ) (allowed : ℕ → Bool) (n : ℕ) → ((s : ℕ) → 0 < w.rating s → s < n) → HasOneBest w price budget allowed
+pub one_best_below : (w : Wishes) (price : ℕ → ℕ) (budget : ℕ) (allowed : ℕ → Bool) (n : ℕ)
+    → ((s : ℕ) → 0 < w.rating s → s < n) → HasOneBest w price budget allowed
 one_best_below w price budget allowed n low = one_best_among w price budget allowed (from 0 n) (from-ascending 0 n) (λ s rated. from-has 0 n s (omega arith) (let h : s < n = low s rated in omega arith))
 
 -- a number above each section of a menu
@@ -87,7 +100,8 @@ above_all : List Rated → ℕ
 above_all [] = 0
 above_all (rated ∷ more) = max (suc rated.section.0) (above_all more)
 
-section_at-below : (places : List Rated) (k : ℕ) → k < length places → section_at places k < above_all places
+section_at-below : (places : List Rated) (k : ℕ) → k < length places
+    → section_at places k < above_all places
 unfolding above_all
 section_at-below [] k low = absurd (omega arith)
 section_at-below (r ∷ rs) zero low = omega arith
@@ -97,11 +111,14 @@ rated-below : (menu : MenuData) (s : ℕ) → 0 < (wishes_of menu).rating s → 
 unfolding wishes_of
 rated-below menu s rated =
     let low = rated_on_menu menu.places (place_in menu.places s) rated in
-    subst (λ t. t < above_all menu.places) (section_at-place_in menu.places s low) (section_at-below menu.places (place_in menu.places s) low)
+    subst (λ t. t < above_all menu.places) (section_at-place_in menu.places s low)
+    (section_at-below menu.places (place_in menu.places s) low)
 
 -- every menu has one best bundle
-pub one_best : (menu : MenuData) (price : ℕ → ℕ) (budget : ℕ) (allowed : ℕ → Bool) → HasOneBest (wishes_of menu) price budget allowed
-one_best menu price budget allowed = one_best_below (wishes_of menu) price budget allowed (above_all menu.places) (rated-below menu)
+pub one_best : (menu : MenuData) (price : ℕ → ℕ) (budget : ℕ) (allowed : ℕ → Bool)
+    → HasOneBest (wishes_of menu) price budget allowed
+one_best menu price budget allowed =
+    one_best_below (wishes_of menu) price budget allowed (above_all menu.places) (rated-below menu)
 
 -- an ascending list that has each rated section
 pub all_sections : MenuData → List ℕ
@@ -111,6 +128,7 @@ pub all_sections-ascending : (menu : MenuData) → IsAscending (all_sections men
 unfolding all_sections
 all_sections-ascending menu = from-ascending 0 (above_all menu.places)
 
-pub all_sections-has : (menu : MenuData) (s : ℕ) → 0 < (wishes_of menu).rating s → has (all_sections menu) s ≡ true
+pub all_sections-has : (menu : MenuData) (s : ℕ) → 0 < (wishes_of menu).rating s
+    → has (all_sections menu) s ≡ true
 unfolding all_sections
 all_sections-has menu s rated = from-has 0 (above_all menu.places) s (omega arith) (let h : s < above_all menu.places = rated-below menu s rated in omega arith)

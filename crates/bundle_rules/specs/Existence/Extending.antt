@@ -1,4 +1,5 @@
--- The best of the choices that extend a front, from those with the first later section and those without it.
+-- The best of the choices that extend a front, from those with the first later section and those
+-- without it.
 use Rattle.std.proofs.Common.{◌≡◌, ◌<◌, ◌≤◌, ◌+◌, ◌⊎◌, ◌++◌, ℕ, Bool, true, true≢false, List, [], ◌∷◌, length, length-append, arith, refl, ap, sym, subst, ◌∙◌, inl, inr, append_assoc}
 use Rattle.std.proofs.lemmas.List.{append-nil}
 use Rattle.bundle_rules.specs.Sets.{has, AllAbove, IsAscending}
@@ -12,17 +13,27 @@ use Rattle.bundle_rules.specs.Existence.Fronts.{choice_front}
 
 -- a member of the first and the rest that is above the first is one of the rest
 past_first : (s : ℕ) (rest : List ℕ) (t : ℕ) → s < t → has (s ∷ rest) t ≡ true → has rest t ≡ true
-past_first s rest t above is = elim (has-cases s rest t is) [ inl here ↦ absurd (omega arith) | inr there ↦ there ]
+past_first s rest t above is =
+    elim (has-cases s rest t is) [ inl here ↦ absurd (omega arith) | inr there ↦ there ]
 
 -- what extends the front either begins with the first later section, or does without it
-pub with_or_without : (front : List ℕ) (s : ℕ) (rest other : List ℕ) → IsAscending (front ++ s ∷ rest) → IsAscending other → Extends front (s ∷ rest) other → Extends (front ++ s ∷ []) rest other ⊎ Extends front rest other
+pub with_or_without : (front : List ℕ) (s : ℕ) (rest other : List ℕ)
+    → IsAscending (front ++ s ∷ rest) → IsAscending other → Extends front (s ∷ rest) other
+    → Extends (front ++ s ∷ []) rest other ⊎ Extends front rest other
 with_or_without front s rest other up set e = cases e.more refl
   where
     above_rest : AllAbove s rest
     above_rest = (IsAscending-rest front (s ∷ rest) up).0
 
-    cases : (more : List ℕ) → e.more ≡ more → Extends (front ++ s ∷ []) rest other ⊎ Extends front rest other
-    cases [] is = inr record { more = []; whole = e.whole ∙ ap (λ xs. front ++ xs) is; among = λ t none. absurd (true≢false (sym none)) }
+    cases : (more : List ℕ) → e.more ≡ more
+        → Extends (front ++ s ∷ []) rest other ⊎ Extends front rest other
+    cases [] is =
+        inr
+        record {
+          more = [];
+          whole = e.whole ∙ ap (λ xs. front ++ xs) is;
+          among = λ t none. absurd (true≢false (sym none));
+        }
     cases (x ∷ xs) is =
         let whole : other ≡ front ++ x ∷ xs = e.whole ∙ ap (λ ys. front ++ ys) is in
         let rises : IsAscending (x ∷ xs) = IsAscending-rest front (x ∷ xs) (subst IsAscending whole set) in
@@ -30,7 +41,9 @@ with_or_without front s rest other up set e = cases e.more refl
         elim (has-cases s rest x (among x (has-here x xs))) [
           | inl first ↦ inl record {
             more = xs;
-            whole = whole ∙ ap (λ y. front ++ y ∷ xs) (sym first) ∙ sym (append_assoc front (s ∷ []) xs);
+            whole =
+                whole ∙ ap (λ y. front ++ y ∷ xs) (sym first)
+                ∙ sym (append_assoc front (s ∷ []) xs);
             among = λ t in_it. past_first s rest t (let low : x < t = has-above x xs t rises.0 in_it in omega arith) (among t (has-there x xs t in_it));
           }
           | inr later ↦
@@ -43,26 +56,38 @@ with_or_without front s rest other up set e = cases e.more refl
 
 module _ (w : Wishes) (price : ℕ → ℕ) (budget : ℕ) (allowed : ℕ → Bool) where
   -- where nothing is later, the front is the only one
-  pub nothing_later : (front : List ℕ) → IsChoice w price budget allowed front → IsBestExtension w price budget allowed front [] front
+  pub nothing_later : (front : List ℕ) → IsChoice w price budget allowed front
+      → IsBestExtension w price budget allowed front [] front
   nothing_later front choice = record {
     choice = choice;
     extends = record { more = []; whole = sym (append-nil front); among = λ s none. none };
     preferred = λ other is e apart. absurd (apart (only other e e.more refl));
   }
     where
-      only : (other : List ℕ) (e : Extends front [] other) (more : List ℕ) → e.more ≡ more → other ≡ front
+      only : (other : List ℕ) (e : Extends front [] other) (more : List ℕ) → e.more ≡ more
+          → other ≡ front
       only other e [] is = e.whole ∙ ap (λ xs. front ++ xs) is ∙ append-nil front
-      only other e (x ∷ xs) is = absurd (true≢false (sym (e.among x (subst (λ ys. has ys x ≡ true) (sym is) (has-here x xs)))))
+      only other e (x ∷ xs) is =
+          absurd
+          (true≢false (sym (e.among x (subst (λ ys. has ys x ≡ true) (sym is) (has-here x xs)))))
 
   -- where the front has as many sections as may be taken, it is the only one
-  pub nothing_fits : (front later : List ℕ) → IsChoice w price budget allowed front → w.course_cap ≤ length front → IsBestExtension w price budget allowed front later front
+  pub nothing_fits : (front later : List ℕ) → IsChoice w price budget allowed front
+      → w.course_cap ≤ length front → IsBestExtension w price budget allowed front later front
   nothing_fits front later choice full = record {
     choice = choice;
-    extends = record { more = []; whole = sym (append-nil front); among = λ s none. absurd (true≢false (sym none)) };
+    extends =
+        record {
+          more = [];
+          whole = sym (append-nil front);
+          among = λ s none. absurd
+              (true≢false (sym none));
+        };
     preferred = λ other is e apart. absurd (apart (only other is e e.more refl));
   }
     where
-      only : (other : List ℕ) → IsChoice w price budget allowed other → (e : Extends front later other) (more : List ℕ) → e.more ≡ more → other ≡ front
+      only : (other : List ℕ) → IsChoice w price budget allowed other
+          → (e : Extends front later other) (more : List ℕ) → e.more ≡ more → other ≡ front
       only other is e [] at = e.whole ∙ ap (λ xs. front ++ xs) at ∙ append-nil front
       only other is e (x ∷ xs) at =
           let courses : length other ≤ w.course_cap = is.feasible.courses in
@@ -70,18 +95,34 @@ module _ (w : Wishes) (price : ℕ → ℕ) (budget : ℕ) (allowed : ℕ → Bo
           absurd (omega arith)
 
   -- what extends the front by later sections extends it by one more of them
-  pub wider : (front : List ℕ) (s : ℕ) (rest bundle : List ℕ) → Extends front rest bundle → Extends front (s ∷ rest) bundle
-  wider front s rest bundle e = record { more = e.more; whole = e.whole; among = λ t in_it. has-there s rest t (e.among t in_it) }
+  pub wider : (front : List ℕ) (s : ℕ) (rest bundle : List ℕ) → Extends front rest bundle
+      → Extends front (s ∷ rest) bundle
+  wider front s rest bundle e =
+      record {
+        more = e.more;
+        whole = e.whole;
+        among = λ t in_it. has-there s rest t
+            (e.among t in_it);
+      }
 
-  pub begun : (front : List ℕ) (s : ℕ) (rest bundle : List ℕ) → Extends (front ++ s ∷ []) rest bundle → Extends front (s ∷ rest) bundle
+  pub begun : (front : List ℕ) (s : ℕ) (rest bundle : List ℕ)
+      → Extends (front ++ s ∷ []) rest bundle → Extends front (s ∷ rest) bundle
   begun front s rest bundle e = record {
     more = s ∷ e.more;
     whole = e.whole ∙ append_assoc front (s ∷ []) e.more;
-    among = λ t in_it. elim (has-cases s e.more t in_it) [ inl here ↦ subst (λ u. has (s ∷ rest) u ≡ true) here (has-here s rest) | inr there ↦ has-there s rest t (e.among t there) ];
+    among =
+        λ t in_it. elim (has-cases s e.more t in_it) [
+          | inl here ↦ subst (λ u. has (s ∷ rest) u ≡ true) here (has-here s rest)
+          | inr there ↦
+              has-there s rest t (e.among t there)
+        ];
   }
 
   -- where the front with the first later section is no choice
-  pub best_without : (front : List ℕ) (s : ℕ) (rest bundle : List ℕ) → IsAscending (front ++ s ∷ rest) → (IsChoice w price budget allowed (front ++ s ∷ []) → ⊥) → IsBestExtension w price budget allowed front rest bundle → IsBestExtension w price budget allowed front (s ∷ rest) bundle
+  pub best_without : (front : List ℕ) (s : ℕ) (rest bundle : List ℕ)
+      → IsAscending (front ++ s ∷ rest) → (IsChoice w price budget allowed (front ++ s ∷ []) → ⊥)
+      → IsBestExtension w price budget allowed front rest bundle
+      → IsBestExtension w price budget allowed front (s ∷ rest) bundle
   best_without front s rest bundle up none best = record {
     choice = best.choice;
     extends = wider front s rest bundle best.extends;
@@ -96,7 +137,10 @@ module _ (w : Wishes) (price : ℕ → ℕ) (budget : ℕ) (allowed : ℕ → Bo
   at_least a b = (b ≡ a) ⊎ IsPreferred w a b
 
   -- where the best with it is preferred to the best without it
-  pub best_with : (front : List ℕ) (s : ℕ) (rest with_it without : List ℕ) → IsAscending (front ++ s ∷ rest) → IsBestExtension w price budget allowed (front ++ s ∷ []) rest with_it → IsBestExtension w price budget allowed front rest without → IsPreferred w with_it without
+  pub best_with : (front : List ℕ) (s : ℕ) (rest with_it without : List ℕ)
+      → IsAscending (front ++ s ∷ rest)
+      → IsBestExtension w price budget allowed (front ++ s ∷ []) rest with_it
+      → IsBestExtension w price budget allowed front rest without → IsPreferred w with_it without
       → IsBestExtension w price budget allowed front (s ∷ rest) with_it
   best_with front s rest with_it without up best other_best more = record {
     choice = best.choice;
@@ -112,7 +156,11 @@ module _ (w : Wishes) (price : ℕ → ℕ) (budget : ℕ) (allowed : ℕ → Bo
   }
 
   -- and where it is not
-  pub best_not_with : (front : List ℕ) (s : ℕ) (rest with_it without : List ℕ) → IsAscending (front ++ s ∷ rest) → IsBestExtension w price budget allowed (front ++ s ∷ []) rest with_it → IsBestExtension w price budget allowed front rest without → (IsPreferred w with_it without → ⊥)
+  pub best_not_with : (front : List ℕ) (s : ℕ) (rest with_it without : List ℕ)
+      → IsAscending (front ++ s ∷ rest)
+      → IsBestExtension w price budget allowed (front ++ s ∷ []) rest with_it
+      → IsBestExtension w price budget allowed front rest without
+      → (IsPreferred w with_it without → ⊥)
       → IsBestExtension w price budget allowed front (s ∷ rest) without
   best_not_with front s rest with_it without up best other_best less = record {
     choice = other_best.choice;
@@ -132,5 +180,14 @@ module _ (w : Wishes) (price : ℕ → ℕ) (budget : ℕ) (allowed : ℕ → Bo
   }
 
   -- the best that extends nothing is the best, where every choice is among the later sections
-  pub best_of_all : (later bundle : List ℕ) → ((other : List ℕ) → IsChoice w price budget allowed other → (s : ℕ) → has other s ≡ true → has later s ≡ true) → IsBestExtension w price budget allowed [] later bundle → IsBest w price budget allowed bundle
-  best_of_all later bundle all best = record { choice = best.choice; preferred = λ other is apart. best.preferred other is record { more = other; whole = refl; among = all other is } apart }
+  pub best_of_all : (later bundle : List ℕ)
+      → ((other : List ℕ) → IsChoice w price budget allowed other → (s : ℕ) → has other s ≡ true
+      → has later s ≡ true)
+      → IsBestExtension w price budget allowed [] later bundle
+      → IsBest w price budget allowed bundle
+  best_of_all later bundle all best =
+      record {
+        choice = best.choice;
+        preferred = λ other is apart. best.preferred other is
+            record { more = other; whole = refl; among = all other is } apart;
+      }

@@ -13,19 +13,36 @@ none_below x [] above t low = refl
 none_below x (y ∷ ys) above t low = or_from (y == t) (has ys t) (ne_eqb y t (λ e. let h : x < y = above.0 in absurd (omega arith))) (none_below x ys above.1 t low)
 
 pub below_head : (x : ℕ) (xs : List ℕ) → AllAbove x xs → (t : ℕ) → t < x → has (x ∷ xs) t ≡ false
-below_head x xs above t low = or_from (x == t) (has xs t) (ne_eqb x t (λ e. absurd (omega arith))) (none_below x xs above t (omega arith))
+below_head x xs above t low =
+    or_from (x == t) (has xs t) (ne_eqb x t (λ e. absurd (omega arith)))
+    (none_below x xs above t (omega arith))
 
 -- a first section that the other lacks, with all below it
-pub head_first : (x : ℕ) (xs b : List ℕ) → AllAbove x xs → ((t : ℕ) → t ≤ x → has b t ≡ false) → DiffersFirstIn (x ∷ xs) b
-head_first x xs b above none = (x, or_left (x == x) (has xs x) (eq-eqb x x refl), none x (omega arith), λ t low. below_head x xs above t low ∙ sym (none t (omega arith)))
+pub head_first : (x : ℕ) (xs b : List ℕ) → AllAbove x xs → ((t : ℕ) → t ≤ x → has b t ≡ false)
+    → DiffersFirstIn (x ∷ xs) b
+head_first x xs b above none = (
+  x,
+  or_left (x == x) (has xs x) (eq-eqb x x refl),
+  none x (omega arith),
+  λ t low. below_head x
+      xs above t low
+      ∙ sym (none t (omega arith)),
+)
 
-under_head : (x : ℕ) (xs ys : List ℕ) → AllAbove x xs → DiffersFirstIn xs ys → DiffersFirstIn (x ∷ xs) (x ∷ ys)
+under_head : (x : ℕ) (xs ys : List ℕ) → AllAbove x xs → DiffersFirstIn xs ys
+    → DiffersFirstIn (x ∷ xs) (x ∷ ys)
 under_head x xs ys above d =
-    let apart : (x == d.0) ≡ false = ne_eqb x d.0 (λ e. false≢true (sym (none_below x xs above d.0 (omega arith)) ∙ d.1)) in
-    (d.0, or_right (x == d.0) (has xs d.0) d.1, or_from (x == d.0) (has ys d.0) apart d.2, λ t low. ap (λ b. (x == t) || b) (d.3 t low))
+    let apart : (x == d.0) ≡ false = ne_eqb x d.0 (λ e. false≢true (sym (none_below x xs above d.0 (omega arith)) ∙ d.1)) in (
+      d.0,
+      or_right (x == d.0) (has xs d.0) d.1,
+      or_from (x == d.0) (has ys d.0) apart d.2,
+      λ t low. ap
+          (λ b. (x == t) || b) (d.3 t low),
+    )
 
 -- two sets are equal, or one has the lowest section on which they differ
-pub differ : (a b : List ℕ) → IsAscending a → IsAscending b → (a ≡ b) ⊎ (DiffersFirstIn a b ⊎ DiffersFirstIn b a)
+pub differ : (a b : List ℕ) → IsAscending a → IsAscending b
+    → (a ≡ b) ⊎ (DiffersFirstIn a b ⊎ DiffersFirstIn b a)
 differ [] [] p q = inl refl
 differ [] (y ∷ ys) p q = inr (inr (head_first y ys [] q.0 (λ t low. refl)))
 differ (x ∷ xs) [] p q = inr (inl (head_first x xs [] p.0 (λ t low. refl)))
@@ -79,7 +96,8 @@ pub not_preferred_itself : (w : Wishes) (a : List ℕ) → IsPreferred w a a →
 not_preferred_itself w a p = not_both_preferred w a a p p
 
 -- of two different sets one is preferred
-pub one_preferred : (w : Wishes) (a b : List ℕ) → IsAscending a → IsAscending b → a ≢ b → IsPreferred w a b ⊎ IsPreferred w b a
+pub one_preferred : (w : Wishes) (a b : List ℕ) → IsAscending a → IsAscending b → a ≢ b
+    → IsPreferred w a b ⊎ IsPreferred w b a
 one_preferred w a b p q apart = elim (int_order (utility w a) (utility w b)) [
   | inl less ↦ inr (inl less)
   | inr (inl same) ↦ elim (differ a b p q) [
@@ -91,7 +109,8 @@ one_preferred w a b p q apart = elim (int_order (utility w a) (utility w b)) [
 ]
 
 -- equal, or one is preferred
-pub compared : (w : Wishes) (a b : List ℕ) → IsAscending a → IsAscending b → (a ≡ b) ⊎ (IsPreferred w a b ⊎ IsPreferred w b a)
+pub compared : (w : Wishes) (a b : List ℕ) → IsAscending a → IsAscending b
+    → (a ≡ b) ⊎ (IsPreferred w a b ⊎ IsPreferred w b a)
 compared w a b p q = elim (differ a b p q) [
   | inl equal ↦ inl equal
   | inr (inl first) ↦ inr (one_preferred w a b p q (λ e. none_first a b first e))
@@ -101,7 +120,8 @@ compared w a b p q = elim (differ a b p q) [
     none_first : (a b : List ℕ) → DiffersFirstIn a b → a ≡ b → ⊥
     none_first a b p e = false≢true (sym p.2 ∙ rw (← e) p.1)
 
-pub preferred_trans : (w : Wishes) (a b c : List ℕ) → IsPreferred w a b → IsPreferred w b c → IsPreferred w a c
+pub preferred_trans : (w : Wishes) (a b c : List ℕ) → IsPreferred w a b → IsPreferred w b c
+    → IsPreferred w a c
 preferred_trans w a b c (inl p) (inl q) = inl (omega (arith, ints))
 preferred_trans w a b c (inl p) (inr q) = inl (rw (← q.0) p)
 preferred_trans w a b c (inr p) (inl q) = inl (rw p.0 q)
@@ -110,14 +130,16 @@ preferred_trans w a b c (inr p) (inr q) = inr (p.0 ∙ q.0, first_trans a b c p.
 past_head : (x t : ℕ) → x < t → (x == t) ≡ false
 past_head x t low = ne_eqb x t (λ e. absurd (omega arith))
 
-same_below : (x : ℕ) (xs ys : List ℕ) → AllAbove x xs → AllAbove x ys → (s : ℕ) → ((t : ℕ) → t < s → has (x ∷ xs) t ≡ has (x ∷ ys) t) → (t : ℕ) → t < s → has xs t ≡ has ys t
+same_below : (x : ℕ) (xs ys : List ℕ) → AllAbove x xs → AllAbove x ys → (s : ℕ)
+    → ((t : ℕ) → t < s → has (x ∷ xs) t ≡ has (x ∷ ys) t) → (t : ℕ) → t < s → has xs t ≡ has ys t
 same_below x xs ys above above' s all t low = elim (cases_lt x t) [
   | inl past ↦ rw (past_head x t past) at (all t low)
   | inr before ↦ none_below x xs above t before ∙ sym (none_below x ys above' t before)
 ]
 
 -- under one head the rests decide
-pub same_head : (x : ℕ) (xs ys : List ℕ) → AllAbove x xs → AllAbove x ys → DiffersFirstIn xs ys ↔ DiffersFirstIn (x ∷ xs) (x ∷ ys)
+pub same_head : (x : ℕ) (xs ys : List ℕ) → AllAbove x xs → AllAbove x ys
+    → DiffersFirstIn xs ys ↔ DiffersFirstIn (x ∷ xs) (x ∷ ys)
 same_head x xs ys above above' = (under_head x xs ys above, back)
   where
     back : DiffersFirstIn (x ∷ xs) (x ∷ ys) → DiffersFirstIn xs ys
@@ -130,7 +152,8 @@ same_head x xs ys above above' = (under_head x xs ys above, back)
         let apart = past_head x d.0 past in (d.0, rw apart at d.1, rw apart at d.2, same_below x xs ys above above' d.0 d.3)
 
 -- and of different heads the lower decides
-pub other_head : (x : ℕ) (xs : List ℕ) (y : ℕ) (ys : List ℕ) → AllAbove x xs → AllAbove y ys → x ≢ y → (x < y) ↔ DiffersFirstIn (x ∷ xs) (y ∷ ys)
+pub other_head : (x : ℕ) (xs : List ℕ) (y : ℕ) (ys : List ℕ) → AllAbove x xs → AllAbove y ys → x ≢ y
+    → (x < y) ↔ DiffersFirstIn (x ∷ xs) (y ∷ ys)
 other_head x xs y ys above above' apart = (first, back)
   where
     first : x < y → DiffersFirstIn (x ∷ xs) (y ∷ ys)

@@ -66,8 +66,8 @@ fn champion_of(menu: &Menu, prices: &[Tokens], first: bool, second: bool) -> Bra
     }
 }
 
-// Whether the nodes at the first place, at the second with the first section, and at the second without it are closed
-// for the champion that has the first two sections as told.
+// Whether the nodes at the first place, at the second with the first section, and at the second
+// without it are closed for the champion that has the first two sections as told.
 fn closings<R: Abort>(
     rt: &R,
     menu: &Menu,
@@ -93,7 +93,8 @@ fn closings<R: Abort>(
 
 #[test]
 fn the_numbers_of_a_table(rt: HostRuntime) -> Result<(), Fail> {
-    // The first two clash. The last two have an adjustment of 15, the first and the last one of -5. Two may be taken.
+    // The first two clash. The last two have an adjustment of 15, the first and the last one of -5.
+    // Two may be taken.
     let menu = menu_of(
         &rt,
         rt.alloc(),
@@ -160,8 +161,8 @@ fn what_so_many_units_are_enough_for(rt: HostRuntime) -> Result<(), Fail> {
 
 #[test]
 fn the_nodes_that_are_closed(rt: HostRuntime) -> Result<(), Fail> {
-    // Of two equal ones one may be taken: without the first there is nothing better than it, and without the second
-    // there is.
+    // Of two equal ones one may be taken: without the first there is nothing better than it, and
+    // without the second there is.
     let equal = Case {
         rated: &[(50, 1), (50, 1)],
         pairs: &[],
@@ -179,7 +180,8 @@ fn the_nodes_that_are_closed(rt: HostRuntime) -> Result<(), Fail> {
         [false, false, false]
     );
 
-    // The budget of 30 leaves no more than 90 without the first, which costs 10; without it both others cost 40.
+    // The budget of 30 leaves no more than 90 without the first, which costs 10; without it both
+    // others cost 40.
     let priced = Case {
         rated: &[(50, 1), (60, 1), (60, 1)],
         pairs: &[],

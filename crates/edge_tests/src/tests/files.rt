@@ -15,8 +15,8 @@ fn failure<T>() -> io::Result<T>
     Err(io::Error::from(io::ErrorKind::Other))
 }
 
-// Files of five bytes each, read two at a time. Opens and reads together are numbered from 1, and the call of one number
-// fails.
+// Files of five bytes each, read two at a time. Opens and reads together are numbered from 1, and
+// the call of one number fails.
 #[derive(Drop)]
 struct Failing {
     failing_call: u64,

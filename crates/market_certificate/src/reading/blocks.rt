@@ -25,9 +25,20 @@ pub(crate) fn read_amounts<'t>(
     kind: Amount,
     names: &[Name],
 ) -> Result<(Vec<Tokens>, Lines<'t>), TextRefusal>
-    ensures range { IfOk result (λ read. AreFor (map name_bytes names.now) (λ tokens. tokens ≤ most_of kind) (map (λ tokens. tokens.0) read.0.items)) }
-    ensures lines { IfOk result (λ read. Takes (each_line (amount_line kind) (map name_bytes names.now) (map (λ tokens. tokens.0) read.0.items)) lines.entry.number lines.entry.rest.now read.1.number read.1.rest.now) }
-    ensures defect { IfErr result (λ refusal. (tables : Tables) (more : List Due) → OnDefect refusal (Finds (AreDue tables (each_due (AmountForm kind) (map name_bytes names.now) ++ more)) lines.entry.number lines.entry.rest.now)) }
+    ensures range { IfOk result
+        (λ read. AreFor (map name_bytes names.now) (λ tokens. tokens ≤ most_of kind)
+        (map (λ tokens. tokens.0) read.0.items)) }
+    ensures lines { IfOk result
+        (λ read. Takes
+        (each_line (amount_line kind) (map name_bytes names.now)
+        (map (λ tokens. tokens.0) read.0.items))
+        lines.entry.number lines.entry.rest.now read.1.number read.1.rest.now) }
+    ensures defect { IfErr result
+        (λ refusal. (tables : Tables) (more : List Due)
+        → OnDefect refusal
+        (Finds
+        (AreDue tables (each_due (AmountForm kind) (map name_bytes names.now) ++ more))
+        lines.entry.number lines.entry.rest.now)) }
 {
     let mut amounts = Vec::with_capacity(alloc, names.len())?;
     let mut left = lines;
@@ -45,9 +56,21 @@ pub(crate) fn read_bundles<'t>(
     lines: Lines<'t>,
     tables: &TableNames,
 ) -> Result<(Vec<Proved>, Lines<'t>), TextRefusal>
-    ensures range { IfOk result (λ read. AreFor (seen tables.now).students (IsProved (seen tables.now).sections) (map proved_of read.0.items)) }
-    ensures lines { IfOk result (λ read. Takes (each_line (bundle_line (seen tables.now).sections) (seen tables.now).students (map proved_of read.0.items)) lines.entry.number lines.entry.rest.now read.1.number read.1.rest.now) }
-    ensures defect { IfErr result (λ refusal. (more : List Due) → OnDefect refusal (Finds (AreDue (seen tables.now) (each_due BundleForm (seen tables.now).students ++ more)) lines.entry.number lines.entry.rest.now)) }
+    ensures range { IfOk result
+        (λ read. AreFor (seen tables.now).students (IsProved (seen tables.now).sections)
+        (map proved_of read.0.items)) }
+    ensures lines { IfOk result
+        (λ read. Takes
+        (each_line (bundle_line (seen tables.now).sections) (seen tables.now).students
+        (map proved_of read.0.items))
+        lines.entry.number lines.entry.rest.now read.1.number read.1.rest.now) }
+    ensures defect { IfErr result
+        (λ refusal. (more : List Due)
+        → OnDefect refusal
+        (Finds
+        (AreDue (seen tables.now)
+        (each_due BundleForm (seen tables.now).students ++ more))
+        lines.entry.number lines.entry.rest.now)) }
 {
     let mut bundles = Vec::with_capacity(alloc, tables.students.len())?;
     let mut left = lines;
@@ -65,9 +88,21 @@ pub(crate) fn read_allocation<'t>(
     lines: Lines<'t>,
     tables: &TableNames,
 ) -> Result<(Vec<Bundle>, Lines<'t>), TextRefusal>
-    ensures range { IfOk result (λ read. AreFor (seen tables.now).students (IsBundleOf (seen tables.now).sections) (map sections_of read.0.items)) }
-    ensures lines { IfOk result (λ read. Takes (each_line (final_line (seen tables.now).sections) (seen tables.now).students (map sections_of read.0.items)) lines.entry.number lines.entry.rest.now read.1.number read.1.rest.now) }
-    ensures defect { IfErr result (λ refusal. (more : List Due) → OnDefect refusal (Finds (AreDue (seen tables.now) (each_due FinalForm (seen tables.now).students ++ more)) lines.entry.number lines.entry.rest.now)) }
+    ensures range { IfOk result
+        (λ read. AreFor (seen tables.now).students (IsBundleOf (seen tables.now).sections)
+        (map sections_of read.0.items)) }
+    ensures lines { IfOk result
+        (λ read. Takes
+        (each_line (final_line (seen tables.now).sections) (seen tables.now).students
+        (map sections_of read.0.items))
+        lines.entry.number lines.entry.rest.now read.1.number read.1.rest.now) }
+    ensures defect { IfErr result
+        (λ refusal. (more : List Due)
+        → OnDefect refusal
+        (Finds
+        (AreDue (seen tables.now)
+        (each_due FinalForm (seen tables.now).students ++ more))
+        lines.entry.number lines.entry.rest.now)) }
 {
     let mut bundles = Vec::with_capacity(alloc, tables.students.len())?;
     let mut left = lines;
@@ -86,8 +121,14 @@ pub(crate) fn read_seats<'t>(
     names: &[Name],
 ) -> Result<(Vec<(u16, u16)>, Lines<'t>), TextRefusal>
     ensures range { IfOk result (λ read. AreFor (map name_bytes names.now) IsUsed read.0.items) }
-    ensures lines { IfOk result (λ read. Takes (each_line used_line (map name_bytes names.now) read.0.items) lines.entry.number lines.entry.rest.now read.1.number read.1.rest.now) }
-    ensures defect { IfErr result (λ refusal. (tables : Tables) (more : List Due) → OnDefect refusal (Finds (AreDue tables (each_due UsedForm (map name_bytes names.now) ++ more)) lines.entry.number lines.entry.rest.now)) }
+    ensures lines { IfOk result
+        (λ read. Takes (each_line used_line (map name_bytes names.now) read.0.items)
+        lines.entry.number lines.entry.rest.now read.1.number read.1.rest.now) }
+    ensures defect { IfErr result
+        (λ refusal. (tables : Tables) (more : List Due)
+        → OnDefect refusal
+        (Finds (AreDue tables (each_due UsedForm (map name_bytes names.now) ++ more))
+        lines.entry.number lines.entry.rest.now)) }
 {
     let mut seats = Vec::with_capacity(alloc, names.len())?;
     let mut left = lines;

@@ -36,7 +36,8 @@ pub(crate) fn is_head(line: &[u8], version: u64) -> bool
 pub(crate) fn order_of(alloc: Global, line: &[u8]) -> Result<Option<Vec<u8>>, NoMemory>
     ensures range { IfOk result (λ read. IfSome read (λ order. All IsSession order.items)) }
     ensures line { IfOk result (λ read. IfSome read (λ order. line.now ≡ order_line order.items)) }
-    ensures none { IfOk result (λ read. IfNone read ((tables : Tables) → ¬ HasForm tables OrderForm line.now)) }
+    ensures none { IfOk result
+        (λ read. IfNone read ((tables : Tables) → ¬ HasForm tables OrderForm line.now)) }
 {
     if line == b"order".as_slice() {
         return Ok(Some(Vec::new(alloc)));
@@ -50,8 +51,10 @@ pub(crate) fn order_of(alloc: Global, line: &[u8]) -> Result<Option<Vec<u8>>, No
 // The name's amount that the line tells.
 pub(crate) fn amount_of(line: &[u8], kind: Amount, name: &Name) -> Option<Tokens>
     ensures range { IfSome result (λ tokens. tokens.0 ≤ most_of kind) }
-    ensures line { IfSome result (λ tokens. line.now ≡ amount_line kind (name_bytes name.now) tokens.0) }
-    ensures none { IfNone result ((tables : Tables) → ¬ HasForm tables (AmountForm kind (name_bytes name.now)) line.now) }
+    ensures line { IfSome result
+        (λ tokens. line.now ≡ amount_line kind (name_bytes name.now) tokens.0) }
+    ensures none { IfNone result
+        ((tables : Tables) → ¬ HasForm tables (AmountForm kind (name_bytes name.now)) line.now) }
 {
     let rest = behind_field(line, word_of(kind))?;
     let digits = behind_field(rest, name.bytes())?;
@@ -74,9 +77,15 @@ pub(crate) fn proved_of<'t>(
     line: &'t [u8],
     name: &Name,
 ) -> Option<(Bundle, &'t [u8])>
-    ensures range { IfSome result (λ read. IsProved (seen tables.now).sections (record { bundle = sections_of read.0; tree = read.1.now })) }
-    ensures line { IfSome result (λ read. line.now ≡ bundle_line (seen tables.now).sections (name_bytes name.now) (record { bundle = sections_of read.0; tree = read.1.now })) }
-    ensures none { IfNone result (¬ HasForm (seen tables.now) (BundleForm (name_bytes name.now)) line.now) }
+    ensures range { IfSome result
+        (λ read. IsProved (seen tables.now).sections
+        (record { bundle = sections_of read.0; tree = read.1.now })) }
+    ensures line { IfSome result
+        (λ read. line.now
+        ≡ bundle_line (seen tables.now).sections (name_bytes name.now)
+        (record { bundle = sections_of read.0; tree = read.1.now })) }
+    ensures none { IfNone result
+        (¬ HasForm (seen tables.now) (BundleForm (name_bytes name.now)) line.now) }
 {
     let rest = behind_field(line, b"bundle")?;
     let proved = behind_field(rest, name.bytes())?;
@@ -85,9 +94,16 @@ pub(crate) fn proved_of<'t>(
 
 // A bundle and its tree.
 fn proved_in<'t>(tables: &TableNames, bytes: &'t [u8]) -> Option<(Bundle, &'t [u8])>
-    ensures range { IfSome result (λ read. IsProved (seen tables.now).sections (record { bundle = sections_of read.0; tree = read.1.now })) }
-    ensures bytes { IfSome result (λ read. bytes.now ≡ proved_text (seen tables.now).sections (record { bundle = sections_of read.0; tree = read.1.now })) }
-    ensures none { IfNone result ((proved : Proved) → IsProved (seen tables.now).sections proved → bytes.now ≢ proved_text (seen tables.now).sections proved) }
+    ensures range { IfSome result
+        (λ read. IsProved (seen tables.now).sections
+        (record { bundle = sections_of read.0; tree = read.1.now })) }
+    ensures bytes { IfSome result
+        (λ read. bytes.now
+        ≡ proved_text (seen tables.now).sections
+        (record { bundle = sections_of read.0; tree = read.1.now })) }
+    ensures none { IfNone result
+        ((proved : Proved) → IsProved (seen tables.now).sections proved
+        → bytes.now ≢ proved_text (seen tables.now).sections proved) }
 {
     let (names, tree) = cut(bytes, b' ')?;
     let bundle = bundle_of(tables, names)?;
@@ -109,8 +125,23 @@ pub(crate) fn turn_in<'t>(
     tables: &TableNames,
     line: &'t [u8],
 ) -> Option<(u64, StudentNo, Bundle, &'t [u8])>
-    ensures range { IfSome result (λ read. IsTurn (seen tables.now).students (seen tables.now).sections (record { pass = read.0; student = read.1.0; bundle = sections_of read.2; tree = read.3.now })) }
-    ensures line { IfSome result (λ read. line.now ≡ turn_line (seen tables.now).students (seen tables.now).sections (record { pass = read.0; student = read.1.0; bundle = sections_of read.2; tree = read.3.now })) }
+    ensures range { IfSome result
+        (λ read. IsTurn (seen tables.now).students (seen tables.now).sections
+        (record {
+          pass = read.0;
+          student = read.1.0;
+          bundle = sections_of read.2;
+          tree = read.3.now;
+        })) }
+    ensures line { IfSome result
+        (λ read. line.now
+        ≡ turn_line (seen tables.now).students (seen tables.now).sections
+        (record {
+          pass = read.0;
+          student = read.1.0;
+          bundle = sections_of read.2;
+          tree = read.3.now;
+        })) }
     ensures none { IfNone result (¬ IsTurnLine (seen tables.now) line.now) }
 {
     let rest = behind_field(line, b"turn")?;
@@ -127,9 +158,13 @@ pub(crate) fn turn_in<'t>(
 
 // The name's bundle after all turns that the line tells.
 pub(crate) fn final_of(tables: &TableNames, line: &[u8], name: &Name) -> Option<Bundle>
-    ensures range { IfSome result (λ bundle. IsBundleOf (seen tables.now).sections (sections_of bundle)) }
-    ensures line { IfSome result (λ bundle. line.now ≡ final_line (seen tables.now).sections (name_bytes name.now) (sections_of bundle)) }
-    ensures none { IfNone result (¬ HasForm (seen tables.now) (FinalForm (name_bytes name.now)) line.now) }
+    ensures range { IfSome result
+        (λ bundle. IsBundleOf (seen tables.now).sections (sections_of bundle)) }
+    ensures line { IfSome result
+        (λ bundle. line.now
+        ≡ final_line (seen tables.now).sections (name_bytes name.now) (sections_of bundle)) }
+    ensures none { IfNone result
+        (¬ HasForm (seen tables.now) (FinalForm (name_bytes name.now)) line.now) }
 {
     let rest = behind_field(line, b"final")?;
     let names = behind_field(rest, name.bytes())?;
@@ -140,7 +175,8 @@ pub(crate) fn final_of(tables: &TableNames, line: &[u8], name: &Name) -> Option<
 pub(crate) fn used_of(line: &[u8], name: &Name) -> Option<(u16, u16)>
     ensures range { IfSome result IsUsed }
     ensures line { IfSome result (λ seats. line.now ≡ used_line (name_bytes name.now) seats) }
-    ensures none { IfNone result ((tables : Tables) → ¬ HasForm tables (UsedForm (name_bytes name.now)) line.now) }
+    ensures none { IfNone result
+        ((tables : Tables) → ¬ HasForm tables (UsedForm (name_bytes name.now)) line.now) }
 {
     let rest = behind_field(line, b"used")?;
     let numbers = behind_field(rest, name.bytes())?;

@@ -34,10 +34,15 @@ impl<'t> Lines<'t> {
 
     /// The next line without its line feed, and what is left behind it.
     pub fn next_line(self) -> Result<(&'t [u8], Lines<'t>), TextRefusal>
-        ensures takes { IfOk result (λ read. Takes (read.0.now ∷ []) self.entry.number self.entry.rest.now read.1.number read.1.rest.now) }
+        ensures takes { IfOk result
+            (λ read. Takes (read.0.now ∷ []) self.entry.number self.entry.rest.now read.1.number
+            read.1.rest.now) }
         ensures whole { IfOk result (λ read. Lacks 10 read.0.now) }
         ensures none { IfErr result (λ refusal. Lacks 10 self.entry.rest.now) }
-        ensures missing { IfErr result (λ refusal. (tables : Tables) (form : Form) → OnDefect refusal (StopsAt (HasForm tables form) self.entry.number self.entry.rest.now)) }
+        ensures missing { IfErr result
+            (λ refusal. (tables : Tables) (form : Form)
+            → OnDefect refusal
+            (StopsAt (HasForm tables form) self.entry.number self.entry.rest.now)) }
     {
         match cut(self.rest, b'\n') {
             Some((line, rest)) => Ok((

@@ -23,8 +23,13 @@ use std::alloc::Global;
 // What is left behind the line of the version.
 #[tactic(auto, using(crate::proofs::Steps::other_line))]
 pub(crate) fn read_head<'t>(lines: Lines<'t>, tables: &TableNames) -> Result<Lines<'t>, TextRefusal>
-    ensures line { IfOk result (λ left. Takes (head_line (seen tables.now) ∷ []) lines.entry.number lines.entry.rest.now left.number left.rest.now) }
-    ensures defect { IfErr result (λ refusal. OnDefect refusal (StopsAt (HasForm (seen tables.now) HeadForm) lines.entry.number lines.entry.rest.now)) }
+    ensures line { IfOk result
+        (λ left. Takes (head_line (seen tables.now) ∷ []) lines.entry.number lines.entry.rest.now
+        left.number left.rest.now) }
+    ensures defect { IfErr result
+        (λ refusal. OnDefect refusal
+        (StopsAt (HasForm (seen tables.now) HeadForm) lines.entry.number
+        lines.entry.rest.now)) }
 {
     let (line, left) = lines.next_line()?;
     if is_head(line, tables.version) {
@@ -41,8 +46,13 @@ pub(crate) fn read_order<'t>(
     lines: Lines<'t>,
 ) -> Result<(Vec<u8>, Lines<'t>), TextRefusal>
     ensures range { IfOk result (λ read. All IsSession read.0.items) }
-    ensures line { IfOk result (λ read. Takes (order_line read.0.items ∷ []) lines.entry.number lines.entry.rest.now read.1.number read.1.rest.now) }
-    ensures defect { IfErr result (λ refusal. (tables : Tables) → OnDefect refusal (StopsAt (HasForm tables OrderForm) lines.entry.number lines.entry.rest.now)) }
+    ensures line { IfOk result
+        (λ read. Takes (order_line read.0.items ∷ []) lines.entry.number lines.entry.rest.now
+        read.1.number read.1.rest.now) }
+    ensures defect { IfErr result
+        (λ refusal. (tables : Tables)
+        → OnDefect refusal
+        (StopsAt (HasForm tables OrderForm) lines.entry.number lines.entry.rest.now)) }
 {
     let (line, left) = lines.next_line()?;
     match order_of(alloc, line)? {
@@ -59,8 +69,14 @@ pub(crate) fn read_amount<'t>(
     name: &Name,
 ) -> Result<(Tokens, Lines<'t>), TextRefusal>
     ensures range { IfOk result (λ read. read.0.0 ≤ most_of kind) }
-    ensures line { IfOk result (λ read. Takes (amount_line kind (name_bytes name.now) read.0.0 ∷ []) lines.entry.number lines.entry.rest.now read.1.number read.1.rest.now) }
-    ensures defect { IfErr result (λ refusal. (tables : Tables) → OnDefect refusal (StopsAt (HasForm tables (AmountForm kind (name_bytes name.now))) lines.entry.number lines.entry.rest.now)) }
+    ensures line { IfOk result
+        (λ read. Takes (amount_line kind (name_bytes name.now) read.0.0 ∷ []) lines.entry.number
+        lines.entry.rest.now read.1.number read.1.rest.now) }
+    ensures defect { IfErr result
+        (λ refusal. (tables : Tables)
+        → OnDefect refusal
+        (StopsAt (HasForm tables (AmountForm kind (name_bytes name.now))) lines.entry.number
+        lines.entry.rest.now)) }
 {
     let (line, left) = lines.next_line()?;
     match amount_of(line, kind, name) {
@@ -73,8 +89,13 @@ pub(crate) fn read_amount<'t>(
 #[tactic(auto, using(crate::proofs::Steps::other_line))]
 pub(crate) fn read_error<'t>(lines: Lines<'t>) -> Result<(u64, Lines<'t>), TextRefusal>
     ensures small { IfOk result (λ read. read.0 < 2 ^ 64) }
-    ensures line { IfOk result (λ read. Takes (error_line read.0 ∷ []) lines.entry.number lines.entry.rest.now read.1.number read.1.rest.now) }
-    ensures defect { IfErr result (λ refusal. (tables : Tables) → OnDefect refusal (StopsAt (HasForm tables ErrorForm) lines.entry.number lines.entry.rest.now)) }
+    ensures line { IfOk result
+        (λ read. Takes (error_line read.0 ∷ []) lines.entry.number lines.entry.rest.now
+        read.1.number read.1.rest.now) }
+    ensures defect { IfErr result
+        (λ refusal. (tables : Tables)
+        → OnDefect refusal
+        (StopsAt (HasForm tables ErrorForm) lines.entry.number lines.entry.rest.now)) }
 {
     let (line, left) = lines.next_line()?;
     match error_of(line) {
@@ -92,8 +113,14 @@ pub(crate) fn read_proved<'t>(
     name: &Name,
 ) -> Result<(Proved, Lines<'t>), TextRefusal>
     ensures range { IfOk result (λ read. IsProved (seen tables.now).sections (proved_of read.0)) }
-    ensures line { IfOk result (λ read. Takes (bundle_line (seen tables.now).sections (name_bytes name.now) (proved_of read.0) ∷ []) lines.entry.number lines.entry.rest.now read.1.number read.1.rest.now) }
-    ensures defect { IfErr result (λ refusal. OnDefect refusal (StopsAt (HasForm (seen tables.now) (BundleForm (name_bytes name.now))) lines.entry.number lines.entry.rest.now)) }
+    ensures line { IfOk result
+        (λ read. Takes
+        (bundle_line (seen tables.now).sections (name_bytes name.now) (proved_of read.0) ∷ [])
+        lines.entry.number lines.entry.rest.now read.1.number read.1.rest.now) }
+    ensures defect { IfErr result
+        (λ refusal. OnDefect refusal
+        (StopsAt (HasForm (seen tables.now) (BundleForm (name_bytes name.now)))
+        lines.entry.number lines.entry.rest.now)) }
 {
     let (line, left) = lines.next_line()?;
     let Some((bundle, tree)) = proved_of(tables, line, name) else {
@@ -110,9 +137,16 @@ pub(crate) fn read_final<'t>(
     tables: &TableNames,
     name: &Name,
 ) -> Result<(Bundle, Lines<'t>), TextRefusal>
-    ensures range { IfOk result (λ read. IsBundleOf (seen tables.now).sections (sections_of read.0)) }
-    ensures line { IfOk result (λ read. Takes (final_line (seen tables.now).sections (name_bytes name.now) (sections_of read.0) ∷ []) lines.entry.number lines.entry.rest.now read.1.number read.1.rest.now) }
-    ensures defect { IfErr result (λ refusal. OnDefect refusal (StopsAt (HasForm (seen tables.now) (FinalForm (name_bytes name.now))) lines.entry.number lines.entry.rest.now)) }
+    ensures range { IfOk result
+        (λ read. IsBundleOf (seen tables.now).sections (sections_of read.0)) }
+    ensures line { IfOk result
+        (λ read. Takes
+        (final_line (seen tables.now).sections (name_bytes name.now) (sections_of read.0) ∷ [])
+        lines.entry.number lines.entry.rest.now read.1.number read.1.rest.now) }
+    ensures defect { IfErr result
+        (λ refusal. OnDefect refusal
+        (StopsAt (HasForm (seen tables.now) (FinalForm (name_bytes name.now)))
+        lines.entry.number lines.entry.rest.now)) }
 {
     let (line, left) = lines.next_line()?;
     match final_of(tables, line, name) {
@@ -128,8 +162,14 @@ pub(crate) fn read_used<'t>(
     name: &Name,
 ) -> Result<((u16, u16), Lines<'t>), TextRefusal>
     ensures range { IfOk result (λ read. IsUsed read.0) }
-    ensures line { IfOk result (λ read. Takes (used_line (name_bytes name.now) read.0 ∷ []) lines.entry.number lines.entry.rest.now read.1.number read.1.rest.now) }
-    ensures defect { IfErr result (λ refusal. (tables : Tables) → OnDefect refusal (StopsAt (HasForm tables (UsedForm (name_bytes name.now))) lines.entry.number lines.entry.rest.now)) }
+    ensures line { IfOk result
+        (λ read. Takes (used_line (name_bytes name.now) read.0 ∷ []) lines.entry.number
+        lines.entry.rest.now read.1.number read.1.rest.now) }
+    ensures defect { IfErr result
+        (λ refusal. (tables : Tables)
+        → OnDefect refusal
+        (StopsAt (HasForm tables (UsedForm (name_bytes name.now))) lines.entry.number
+        lines.entry.rest.now)) }
 {
     let (line, left) = lines.next_line()?;
     match used_of(line, name) {
@@ -141,8 +181,13 @@ pub(crate) fn read_used<'t>(
 // What is left behind the last line.
 #[tactic(auto, using(crate::proofs::Steps::other_line))]
 pub(crate) fn read_end<'t>(lines: Lines<'t>) -> Result<Lines<'t>, TextRefusal>
-    ensures line { IfOk result (λ left. Takes (end_line ∷ []) lines.entry.number lines.entry.rest.now left.number left.rest.now) }
-    ensures defect { IfErr result (λ refusal. (tables : Tables) → OnDefect refusal (StopsAt (HasForm tables EndForm) lines.entry.number lines.entry.rest.now)) }
+    ensures line { IfOk result
+        (λ left. Takes (end_line ∷ []) lines.entry.number lines.entry.rest.now left.number
+        left.rest.now) }
+    ensures defect { IfErr result
+        (λ refusal. (tables : Tables)
+        → OnDefect refusal
+        (StopsAt (HasForm tables EndForm) lines.entry.number lines.entry.rest.now)) }
 {
     let (line, left) = lines.next_line()?;
     if line == b"end".as_slice() {

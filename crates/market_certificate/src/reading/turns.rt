@@ -19,10 +19,20 @@ pub(crate) fn read_turns<'t>(
     lines: Lines<'t>,
     tables: &TableNames,
 ) -> Result<(Vec<ProvedTurn>, Lines<'t>), TextRefusal>
-    ensures range { IfOk result (λ read. All (IsTurn (seen tables.now).students (seen tables.now).sections) (map turn_of read.0.items)) }
-    ensures lines { IfOk result (λ read. Takes (map (turn_line (seen tables.now).students (seen tables.now).sections) (map turn_of read.0.items)) lines.entry.number lines.entry.rest.now read.1.number read.1.rest.now) }
+    ensures range { IfOk result
+        (λ read. All (IsTurn (seen tables.now).students (seen tables.now).sections)
+        (map turn_of read.0.items)) }
+    ensures lines { IfOk result
+        (λ read. Takes
+        (map (turn_line (seen tables.now).students (seen tables.now).sections)
+        (map turn_of read.0.items))
+        lines.entry.number lines.entry.rest.now read.1.number read.1.rest.now) }
     ensures behind { IfOk result (λ read. NoTurnNext read.1.rest.now) }
-    ensures defect { IfErr result (λ refusal. (form : Form) (more : List Due) → OnDefect refusal (Finds (AreDue (seen tables.now) (Turns ∷ One form ∷ more)) lines.entry.number lines.entry.rest.now)) }
+    ensures defect { IfErr result
+        (λ refusal. (form : Form) (more : List Due)
+        → OnDefect refusal
+        (Finds (AreDue (seen tables.now) (Turns ∷ One form ∷ more)) lines.entry.number
+        lines.entry.rest.now)) }
 {
     let mut turns = Vec::new(alloc);
     let mut left = lines;
@@ -44,7 +54,9 @@ pub(crate) fn read_turns<'t>(
 
 // The next line, where it begins as a turn does, and what is left behind it.
 fn next_turn<'t>(lines: Lines<'t>) -> Option<(&'t [u8], Lines<'t>)>
-    ensures takes { IfSome result (λ read. Takes (read.0.now ∷ []) lines.entry.number lines.entry.rest.now read.1.number read.1.rest.now) }
+    ensures takes { IfSome result
+        (λ read. Takes (read.0.now ∷ []) lines.entry.number lines.entry.rest.now read.1.number
+        read.1.rest.now) }
     ensures whole { IfSome result (λ read. Lacks 10 read.0.now) }
     ensures begun { IfSome result (λ read. StartsTurn read.0.now) }
     ensures none { IfNone result (NoTurnNext lines.entry.rest.now) }

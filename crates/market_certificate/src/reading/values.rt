@@ -18,9 +18,13 @@ use std::alloc::Global;
 
 // The bundle that the bytes are.
 pub(crate) fn bundle_of(tables: &TableNames, bytes: &[u8]) -> Option<Bundle>
-    ensures bundle { IfSome result (λ bundle. IsBundleOf (seen tables.now).sections (sections_of bundle)) }
-    ensures text { IfSome result (λ bundle. bytes.now ≡ bundle_text (seen tables.now).sections (sections_of bundle)) }
-    ensures none { IfNone result ((bundle : List ℕ) → IsBundleOf (seen tables.now).sections bundle → bytes.now ≢ bundle_text (seen tables.now).sections bundle) }
+    ensures bundle { IfSome result
+        (λ bundle. IsBundleOf (seen tables.now).sections (sections_of bundle)) }
+    ensures text { IfSome result
+        (λ bundle. bytes.now ≡ bundle_text (seen tables.now).sections (sections_of bundle)) }
+    ensures none { IfNone result
+        ((bundle : List ℕ) → IsBundleOf (seen tables.now).sections bundle
+        → bytes.now ≢ bundle_text (seen tables.now).sections bundle) }
 {
     let names = in_brackets(bytes)?;
     if names.is_empty() {
@@ -41,9 +45,14 @@ fn in_brackets(bytes: &[u8]) -> Option<&[u8]>
 // The bundle of the sections that these names name, of which there is at least one.
 fn bundle_of_names(tables: &TableNames, names: &[u8]) -> Option<Bundle>
     requires { names.now ≢ [] }
-    ensures bundle { IfSome result (λ bundle. IsBundleOf (seen tables.now).sections (sections_of bundle)) }
-    ensures text { IfSome result (λ bundle. names.now ≡ join_with_byte 44 (map (name_at (seen tables.now).sections) (sections_of bundle))) }
-    ensures none { IfNone result ((bundle : List ℕ) → IsBundleOf (seen tables.now).sections bundle → names.now ≢ join_with_byte 44 (map (name_at (seen tables.now).sections) bundle)) }
+    ensures bundle { IfSome result
+        (λ bundle. IsBundleOf (seen tables.now).sections (sections_of bundle)) }
+    ensures text { IfSome result
+        (λ bundle. names.now
+        ≡ join_with_byte 44 (map (name_at (seen tables.now).sections) (sections_of bundle))) }
+    ensures none { IfNone result
+        ((bundle : List ℕ) → IsBundleOf (seen tables.now).sections bundle
+        → names.now ≢ join_with_byte 44 (map (name_at (seen tables.now).sections) bundle)) }
 {
     let mut bundle = Bundle::empty();
     'names: for name in names.split(|byte| *byte == b',') {
@@ -97,12 +106,17 @@ fn session_of(bytes: &[u8]) -> Option<u8>
     Some(session as u8)
 }
 
-// The numbers of sessions that the bytes spell, with a space between each two; there is at least one.
+// The numbers of sessions that the bytes spell, with a space between each two; there is at least
+// one.
 pub(crate) fn sessions_of(alloc: Global, bytes: &[u8]) -> Result<Option<Vec<u8>>, NoMemory>
     ensures range { IfOk result (λ read. IfSome read (λ order. All IsSession order.items)) }
-    ensures spelled { IfOk result (λ read. IfSome read (λ order. bytes.now ≡ join_with_byte 32 (map decimal order.items))) }
+    ensures spelled { IfOk result
+        (λ read. IfSome read (λ order. bytes.now ≡ join_with_byte 32 (map decimal order.items))) }
     ensures some { IfOk result (λ read. IfSome read (λ order. order.items ≢ [])) }
-    ensures none { IfOk result (λ read. IfNone read ((order : List ℕ) → order ≢ [] → All IsSession order → bytes.now ≢ join_with_byte 32 (map decimal order))) }
+    ensures none { IfOk result
+        (λ read. IfNone read
+        ((order : List ℕ) → order ≢ [] → All IsSession order
+        → bytes.now ≢ join_with_byte 32 (map decimal order))) }
 {
     let mut order = Vec::new(alloc);
     'words: for word in bytes.split(|byte| *byte == b' ') {

@@ -21,7 +21,12 @@ pub(crate) fn put_amounts(
     amounts: &[Tokens],
 ) -> Result<(), NoMemory>
     requires { length amounts.now ≡ length names.now }
-    ensures { OnOk result (text.new.items ≡ text.old.items ++ joined (each_line (amount_line kind) (map name_bytes names.now) (map (λ tokens. tokens.0) amounts.now))) }
+    ensures { OnOk result
+        (text.new.items
+        ≡ text.old.items
+        ++ joined
+        (each_line (amount_line kind) (map name_bytes names.now)
+        (map (λ tokens. tokens.0) amounts.now))) }
 {
     'names: for (name, tokens) in names.iter().zip(amounts) {
         put_amount(text, kind, name, *tokens)?;
@@ -38,7 +43,12 @@ pub(crate) fn put_bundles(
 ) -> Result<(), NoMemory>
     requires count { length bundles.now ≡ length names.now }
     requires each { All (IsProved (map name_bytes sections.now)) (map proved_of bundles.now) }
-    ensures { OnOk result (text.new.items ≡ text.old.items ++ joined (each_line (bundle_line (map name_bytes sections.now)) (map name_bytes names.now) (map proved_of bundles.now))) }
+    ensures { OnOk result
+        (text.new.items
+        ≡ text.old.items
+        ++ joined
+        (each_line (bundle_line (map name_bytes sections.now))
+        (map name_bytes names.now) (map proved_of bundles.now))) }
 {
     'names: for (name, proved) in names.iter().zip(bundles) {
         put_proved(text, sections, name, proved)?;
@@ -53,8 +63,14 @@ pub(crate) fn put_turns(
     sections: &[Name],
     turns: &[ProvedTurn],
 ) -> Result<(), NoMemory>
-    requires { All (IsTurn (map name_bytes students.now) (map name_bytes sections.now)) (map turn_of turns.now) }
-    ensures { OnOk result (text.new.items ≡ text.old.items ++ joined (map (turn_line (map name_bytes students.now) (map name_bytes sections.now)) (map turn_of turns.now))) }
+    requires { All (IsTurn (map name_bytes students.now) (map name_bytes sections.now))
+        (map turn_of turns.now) }
+    ensures { OnOk result
+        (text.new.items
+        ≡ text.old.items
+        ++ joined
+        (map (turn_line (map name_bytes students.now) (map name_bytes sections.now))
+        (map turn_of turns.now))) }
 {
     'turns: for turn in turns {
         put_turn(text, students, sections, turn)?;
@@ -71,7 +87,12 @@ pub(crate) fn put_allocation(
 ) -> Result<(), NoMemory>
     requires count { length bundles.now ≡ length names.now }
     requires each { All (IsBundleOf (map name_bytes sections.now)) (map sections_of bundles.now) }
-    ensures { OnOk result (text.new.items ≡ text.old.items ++ joined (each_line (final_line (map name_bytes sections.now)) (map name_bytes names.now) (map sections_of bundles.now))) }
+    ensures { OnOk result
+        (text.new.items
+        ≡ text.old.items
+        ++ joined
+        (each_line (final_line (map name_bytes sections.now)) (map name_bytes names.now)
+        (map sections_of bundles.now))) }
 {
     'names: for (name, bundle) in names.iter().zip(bundles) {
         put_final(text, sections, name, bundle)?;
@@ -86,7 +107,9 @@ pub(crate) fn put_seats(
     seats: &[(u16, u16)],
 ) -> Result<(), NoMemory>
     requires { length seats.now ≡ length names.now }
-    ensures { OnOk result (text.new.items ≡ text.old.items ++ joined (each_line used_line (map name_bytes names.now) seats.now)) }
+    ensures { OnOk result
+        (text.new.items
+        ≡ text.old.items ++ joined (each_line used_line (map name_bytes names.now) seats.now)) }
 {
     'names: for (name, used) in names.iter().zip(seats) {
         put_used(text, name, *used)?;

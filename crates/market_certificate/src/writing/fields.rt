@@ -34,7 +34,10 @@ pub(crate) fn put_bundle_field(
     bundle: &Bundle,
 ) -> Result<(), NoMemory>
     requires { All (λ section. section < length sections.now) (sections_of bundle.now) }
-    ensures { OnOk result (text.new.items ≡ text.old.items ++ 32 ∷ bundle_text (map name_bytes sections.now) (sections_of bundle.now)) }
+    ensures { OnOk result
+        (text.new.items
+        ≡ text.old.items ++ 32
+        ∷ bundle_text (map name_bytes sections.now) (sections_of bundle.now)) }
 {
     text.extend_from_slice(b" [")?;
     'sections: for (place, section) in bundle.sections().iter().enumerate() {
@@ -57,7 +60,8 @@ fn put_comma_behind(text: &mut Vec<u8>, names: usize) -> Result<(), NoMemory>
 
 // Puts a space and a number behind the text for each of the numbers.
 pub(crate) fn put_number_fields(text: &mut Vec<u8>, numbers: &[u8]) -> Result<(), NoMemory>
-    ensures { OnOk result (text.new.items ≡ text.old.items ++ flat_map (λ n. 32 ∷ decimal n) numbers.now) }
+    ensures { OnOk result
+        (text.new.items ≡ text.old.items ++ flat_map (λ n. 32 ∷ decimal n) numbers.now) }
 {
     'numbers: for n in numbers {
         put_number_field(text, u64::from(*n))?;

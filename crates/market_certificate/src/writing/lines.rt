@@ -41,7 +41,9 @@ pub(crate) fn put_amount(
     name: &Name,
     tokens: Tokens,
 ) -> Result<(), NoMemory>
-    ensures { OnOk result (text.new.items ≡ text.old.items ++ amount_line kind (name_bytes name.now) tokens.0 ++ 10 ∷ []) }
+    ensures { OnOk result
+        (text.new.items
+        ≡ text.old.items ++ amount_line kind (name_bytes name.now) tokens.0 ++ 10 ∷ []) }
 {
     text.extend_from_slice(word_of(kind))?;
     put_field(text, name.bytes())?;
@@ -58,7 +60,12 @@ pub(crate) fn put_proved(
     proved: &Proved,
 ) -> Result<(), NoMemory>
     requires { All (λ section. section < length sections.now) (sections_of proved.now.bundle) }
-    ensures { OnOk result (text.new.items ≡ text.old.items ++ bundle_line (map name_bytes sections.now) (name_bytes name.now) (proved_of proved.now) ++ 10 ∷ []) }
+    ensures { OnOk result
+        (text.new.items
+        ≡ text.old.items
+        ++ bundle_line (map name_bytes sections.now) (name_bytes name.now)
+        (proved_of proved.now)
+        ++ 10 ∷ []) }
 {
     text.extend_from_slice(b"bundle")?;
     put_field(text, name.bytes())?;
@@ -76,7 +83,12 @@ pub(crate) fn put_final(
     bundle: &Bundle,
 ) -> Result<(), NoMemory>
     requires { All (λ section. section < length sections.now) (sections_of bundle.now) }
-    ensures { OnOk result (text.new.items ≡ text.old.items ++ final_line (map name_bytes sections.now) (name_bytes name.now) (sections_of bundle.now) ++ 10 ∷ []) }
+    ensures { OnOk result
+        (text.new.items
+        ≡ text.old.items
+        ++ final_line (map name_bytes sections.now) (name_bytes name.now)
+        (sections_of bundle.now)
+        ++ 10 ∷ []) }
 {
     text.extend_from_slice(b"final")?;
     put_field(text, name.bytes())?;
@@ -87,7 +99,8 @@ pub(crate) fn put_final(
 
 // Puts the line of a section's seats behind the text.
 pub(crate) fn put_used(text: &mut Vec<u8>, name: &Name, seats: (u16, u16)) -> Result<(), NoMemory>
-    ensures { OnOk result (text.new.items ≡ text.old.items ++ used_line (name_bytes name.now) seats ++ 10 ∷ []) }
+    ensures { OnOk result
+        (text.new.items ≡ text.old.items ++ used_line (name_bytes name.now) seats ++ 10 ∷ []) }
 {
     text.extend_from_slice(b"used")?;
     put_field(text, name.bytes())?;
@@ -105,8 +118,14 @@ pub(crate) fn put_turn(
     turn: &ProvedTurn,
 ) -> Result<(), NoMemory>
     requires student { turn.now.student.0 < length students.now }
-    requires sections { All (λ section. section < length sections.now) (sections_of turn.now.bundle) }
-    ensures { OnOk result (text.new.items ≡ text.old.items ++ turn_line (map name_bytes students.now) (map name_bytes sections.now) (turn_of turn.now) ++ 10 ∷ []) }
+    requires sections { All (λ section. section < length sections.now)
+        (sections_of turn.now.bundle) }
+    ensures { OnOk result
+        (text.new.items
+        ≡ text.old.items
+        ++ turn_line (map name_bytes students.now) (map name_bytes sections.now)
+        (turn_of turn.now)
+        ++ 10 ∷ []) }
 {
     text.extend_from_slice(b"turn")?;
     put_number_field(text, turn.pass)?;
@@ -119,7 +138,9 @@ pub(crate) fn put_turn(
 
 // Puts the line of the version behind the text.
 pub(crate) fn put_head(text: &mut Vec<u8>, version: u64) -> Result<(), NoMemory>
-    ensures { OnOk result (text.new.items ≡ text.old.items ++ spaced (codes "course-match" ∷ decimal version ∷ []) ++ 10 ∷ []) }
+    ensures { OnOk result
+        (text.new.items
+        ≡ text.old.items ++ spaced (codes "course-match" ∷ decimal version ∷ []) ++ 10 ∷ []) }
 {
     text.extend_from_slice(b"course-match")?;
     put_number_field(text, version)?;

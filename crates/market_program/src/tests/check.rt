@@ -1,4 +1,5 @@
-// `check` over texts in memory: forged texts, each with its finding, and texts with one byte changed.
+// `check` over texts in memory: forged texts, each with its finding, and texts with one byte
+// changed.
 use super::changes::text_with;
 use super::shelf::text_named;
 use super::*;
@@ -158,7 +159,8 @@ finding: not quiet after 2 turns
 accepted
 ";
 
-// Whole texts: of tables with carried tokens, of another market, of a market whose worker is delayed, and none.
+// Whole texts: of tables with carried tokens, of another market, of a market whose worker is
+// delayed, and none.
 const TEXTS: &str = "\
 == carried tokens accepted
 check carried.cat carried.stu ACCEPT1 carried.text equal.s1
@@ -263,7 +265,8 @@ fn with_byte(alloc: Global, place: usize, other: u8) -> Result<Vec<u8>, Fail> {
     Ok(text)
 }
 
-// Where another byte stands in this place, the text is accepted only if the line is one that is only read.
+// Where another byte stands in this place, the text is accepted only if the line is one that is
+// only read.
 fn try_byte<R: Threads + Wait + Sync + Abort>(
     rt: &R,
     alloc: Global,
@@ -289,7 +292,8 @@ fn is_only_read(line: &[u8]) -> bool {
     line.starts_with(b"start ") || line.starts_with(b"error ") || line.starts_with(b"price ")
 }
 
-// A text with one byte changed is accepted only where the byte is of a start, an error or a price line.
+// A text with one byte changed is accepted only where the byte is of a start, an error or a price
+// line.
 #[test]
 fn texts_with_one_byte_changed(rt: HostRuntime) -> Result<(), Fail> {
     let mut place: usize = 0;

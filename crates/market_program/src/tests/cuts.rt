@@ -1,9 +1,10 @@
-// The ordinary term with one input cut behind each of its bytes. The answers were computed apart from this program.
+// The ordinary term with one input cut behind each of its bytes. The answers were computed apart
+// from this program.
 use super::*;
 use worked_terms::{ORDINARY_CATALOGUE, ORDINARY_ROLL, ORDINARY_SETTINGS, ORDINARY_TEXT};
 
-// The first and the last number of bytes that are kept, and what is told: that an input is refused, or what is published of the whole term, but for some
-// lines.
+// The first and the last number of bytes that are kept, and what is told: that an input is refused,
+// or what is published of the whole term, but for some lines.
 type Cut = (usize, usize, &'static str);
 
 const OF_NO_SECTION: &str = "\

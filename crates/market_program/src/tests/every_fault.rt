@@ -1,4 +1,5 @@
-// Each call of the shelf in turn fails, each write of the sink, and each place of the text at which the sink has no more room.
+// Each call of the shelf in turn fails, each write of the sink, and each place of the text at which
+// the sink has no more room.
 use super::cases::text_of;
 use super::*;
 
@@ -85,7 +86,8 @@ pub(super) fn try_failing<R: Threads + Wait + Sync + Abort>(
     assert_told(rt, alloc, line, answers, &answer)
 }
 
-// The input that is being read is told, and nothing else is written; where the first write fails as well, nothing is.
+// The input that is being read is told, and nothing else is written; where the first write fails as
+// well, nothing is.
 fn try_fault<R: Threads + Wait + Sync + Abort>(
     rt: &R,
     alloc: Global,

@@ -113,8 +113,8 @@ const SECOND_ENTRIES: [&str; 3] = [
 
 const CLOSED: &str = "rate ann A 30\nrate bob B 20\npair bob A B -5\n";
 
-// Two sessions whose calls meet: neither can post all its commands before the other has posted one. A third session
-// has no command.
+// Two sessions whose calls meet: neither can post all its commands before the other has posted one.
+// A third session has no command.
 #[test]
 fn two_sessions_post_at_once(rt: HostRuntime) -> Result<(), Fail> {
     let line = "prefer TWO ANN+BOB S1 S2 S3";
@@ -151,8 +151,8 @@ const SECOND_REPLIES: [&str; 3] = [
 const HELD: &str =
     "final u [D,E]\nfinal v [B]\nfinal w [C]\nused A 0 1\nused B 1 2\nused C 1 9\nused D 1 9\nused E 1 9\n";
 
-// Two sessions of a hall whose calls meet: neither can make all its requests before the other has made one. A third
-// session has no request.
+// Two sessions of a hall whose calls meet: neither can make all its requests before the other has
+// made one. A third session has no request.
 #[test]
 fn two_sessions_of_a_hall_request_at_once(rt: HostRuntime) -> Result<(), Fail> {
     let line = "hall five.cat five.stu five.text R1 R2 R3";
@@ -198,7 +198,8 @@ fn is_lawful(text: &str, front: &str, end: &str) -> bool {
 const TAKEN: &str =
     "bundle s1 []\nbundle s2 []\nbundle s3 [X]\nbundle s4 [X]\ncount X 2\nerror 1\n";
 
-// Two sessions meet, and two workers, who made a call for each of four students; each session passes the gate as often as it has commands.
+// Two sessions meet, and two workers, who made a call for each of four students; each session
+// passes the gate as often as it has commands.
 fn try_workers<R: Threads + Wait + Sync + Abort>(
     rt: &R,
     alloc: Global,
@@ -214,8 +215,8 @@ fn try_workers<R: Threads + Wait + Sync + Abort>(
     Ok(())
 }
 
-// Two workers whose calls meet: neither can post all tasks before the other has posted one. There is a task for each
-// student.
+// Two workers whose calls meet: neither can post all tasks before the other has posted one. There
+// is a task for each student.
 #[test]
 fn two_workers_post_at_once(rt: HostRuntime) -> Result<(), Fail> {
     let line = "demand 2 four.cat four.stu four.set X=102 S1 S2";
@@ -239,8 +240,8 @@ fn sessions_and_workers_of_a_run_post_at_once(rt: HostRuntime) -> Result<(), Fai
     try_workers(&rt, rt.alloc(), line, FRONT, end_of_published())
 }
 
-// Two workers of an audit whose calls meet: neither can post all rows before the other has posted one. Both look for the
-// rows of stage two, and then for the final ones.
+// Two workers of an audit whose calls meet: neither can post all rows before the other has posted
+// one. Both look for the rows of stage two, and then for the final ones.
 #[test]
 fn two_workers_of_an_audit_post_at_once(rt: HostRuntime) -> Result<(), Fail> {
     let gate = MeetingGate::new();
@@ -285,7 +286,8 @@ impl Gate for CountingGate {
     }
 }
 
-// The sessions and the workers of a made market pass the gate too: each student rates two sections and pairs them.
+// The sessions and the workers of a made market pass the gate too: each student rates two sections
+// and pairs them.
 #[test]
 fn a_made_market_passes_the_gate(rt: HostRuntime) -> Result<(), Fail> {
     let gate = CountingGate {

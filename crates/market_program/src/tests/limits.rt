@@ -1,7 +1,8 @@
 // Inputs at their limits, and one beyond.
 use super::*;
 
-// A text, and behind it a row for each number from the first to before the last: the head, and each of the pieces behind the number.
+// A text, and behind it a row for each number from the first to before the last: the head, and each
+// of the pieces behind the number.
 type Part = (
     &'static str,
     (u32, u32),
@@ -185,8 +186,9 @@ fn tables_at_their_limit(rt: HostRuntime) -> Result<(), Fail> {
     try_parts(&rt, rt.alloc(), &RATINGS)
 }
 
-// The commands of all sessions together are counted, and so are the requests of all streams; the one that brings too many is told. A name ends in how
-// many lines it has beyond one hundred thousand.
+// The commands of all sessions together are counted, and so are the requests of all streams; the
+// one that brings too many is told. A name ends in how many lines it has beyond one hundred
+// thousand.
 const MANY_LINES: [(&str, &str); 5] = [
     ("prefer TWO ANN L0 L1", "4\ninput 4 is too long\n"),
     ("prefer TWO ANN L1 L0 NONE", "4\ninput 4 is too long\n"),
@@ -232,8 +234,8 @@ const LONG_INPUTS: [Long; 5] = [
 // The catalogue of a market that is run has the same limit.
 const LONG_CATALOGUES: [Long; 1] = [("run 2 LONG STU SET S1", 0, "4\ninput 1 is too long\n")];
 
-// A published text at its limit is read, and one byte more is too long, and is told before a session that
-// can not be read and before a name that is not known.
+// A published text at its limit is read, and one byte more is too long, and is told before a
+// session that can not be read and before a name that is not known.
 const LONG_TEXTS: [Long; 3] = [
     (
         "check term.cat term.stu term.set LONG NONE",

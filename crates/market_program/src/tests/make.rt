@@ -38,7 +38,8 @@ make 16 7 40 15 0
 no prices: least error 3
 ";
 
-// Markets of more seats, and of more students: their tests take too long where each step is watched (`rt try --test`).
+// Markets of more seats, and of more students: their tests take too long where each step is watched
+// (`rt try --test`).
 const GREATER: &str = "\
 == forty students, any error
 make 1 7 40 15 1000000000000

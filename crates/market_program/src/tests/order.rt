@@ -1,4 +1,5 @@
-// What is told first where several inputs are at fault: the input that comes first, and inputs before what the text is found to be.
+// What is told first where several inputs are at fault: the input that comes first, and inputs
+// before what the text is found to be.
 use super::*;
 
 const FIRST_INPUTS: &str = "\

@@ -64,7 +64,8 @@ order 2 2 1 1
 no prices: least error 9
 ";
 
-// Small terms: seats that nobody takes or that there are not, ties, carried tokens, the moves of the search.
+// Small terms: seats that nobody takes or that there are not, ties, carried tokens, the moves of
+// the search.
 const SMALL_TERMS: &str = "\
 == empty roll
 run 2 nobody.cat nobody.stu nobody.set nobody.s1

@@ -5,7 +5,9 @@ use Rattle.seed_words.proofs.words.Goals as goal
 
 pub loop-place-preserved : goal.loop-place-preserved
 loop-place-preserved c =
-    let pushed : c.push.new.self.items ≡ stream_words c.args.seed c.args.stream c.loop-place.place ++ stream_word c.args.seed c.args.stream c.loop-place.place ∷ [] = search rules in
+    let pushed : c.push.new.self.items
+    ≡ stream_words c.args.seed c.args.stream c.loop-place.place ++ stream_word c.args.seed c.args.stream c.loop-place.place ∷ [] =
+    search rules in
     record {
       drawn = pushed ∙ sym (map-range_with_len_more (stream_word c.args.seed c.args.stream) 0 c.loop-place.place c.loop-place.place (omega arith));
       next = c.next_word.ensures.after;

@@ -4,8 +4,8 @@ use std::sync::atomic::{AtomicU64, Ordering};
 // How often a session looks for the other one before it passes on alone.
 const TURNS: u32 = 1_000_000_000;
 
-/// Holds the second session at its start until the last call of the first, and the first session there until the last
-/// call of the second. Each makes two calls.
+/// Holds the second session at its start until the last call of the first, and the first session
+/// there until the last call of the second. Each makes two calls.
 #[derive(Drop)]
 pub struct HoldingGate {
     pub first_calls: AtomicU64,

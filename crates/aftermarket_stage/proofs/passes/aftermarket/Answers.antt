@@ -21,37 +21,67 @@ use Rattle.aftermarket_stage.proofs.passes.aftermarket.Goals as goal
 
 pub open-requires-clause-few : goal.open-requires-clause-few
 open-requires-clause-few c =
-    omega (arith, ap length c.requires.demands, length-map c.args.bundles.now sections_of, demands_length c.args.crowd.now.menus.items c.args.crowd.now.budgets.items c.args.crowd.now.sections (price_in c.args.prices.now) c.requires.crowd.same, c.requires.crowd.few)
+    omega (
+      arith,
+      ap length c.requires.demands,
+      length-map c.args.bundles.now sections_of,
+      demands_length c.args.crowd.now.menus.items c.args.crowd.now.budgets.items c.args.crowd.now.sections (price_in c.args.prices.now)
+          c.requires.crowd.same,
+      c.requires.crowd.few,
+    )
 
 pub open-requires-clause-below : goal.open-requires-clause-below
 open-requires-clause-below c =
-    let are : AreTerms c.args.crowd.now c.args.seats.now c.args.prices.now c.args.raise = record { whole = c.requires.crowd; seats_each = c.requires.seats; prices_each = c.requires.prices; raise_low = c.requires.raise } in
-    choices_low c.args.crowd.now c.args.seats.now c.args.prices.now c.args.raise (map sections_of c.args.bundles.now) are (subst (AreChoices (terms_of c.args.crowd.now c.args.seats.now c.args.prices.now c.args.raise)) (sym c.requires.demands) (start_choices (terms_of c.args.crowd.now c.args.seats.now c.args.prices.now c.args.raise)))
+    let are : AreTerms c.args.crowd.now c.args.seats.now c.args.prices.now c.args.raise =
+    record { whole = c.requires.crowd; seats_each = c.requires.seats; prices_each = c.requires.prices; raise_low = c.requires.raise } in
+    choices_low c.args.crowd.now c.args.seats.now c.args.prices.now c.args.raise (map sections_of c.args.bundles.now) are
+    (subst (AreChoices (terms_of c.args.crowd.now c.args.seats.now c.args.prices.now c.args.raise)) (sym c.requires.demands)
+    (start_choices (terms_of c.args.crowd.now c.args.seats.now c.args.prices.now c.args.raise)))
 
 pub loop-changed-init : goal.loop-changed-init
 loop-changed-init c =
     let some = some_or_none c.args.crowd.now.menus.items c.args.crowd.now.budgets.items c.is_empty-changed.result c.requires.crowd.same (search rules) in (
-      begins (terms_of c.args.crowd.now c.args.seats.now c.args.prices.now c.args.raise) (map sections_of c.args.bundles.now) (held_on c.in_ok-stage.stage.floor) c.in_ok-stage.stage.turns.items (not c.is_empty-changed.result) c.in_ok-stage.ensures.held c.in_ok-stage.ensures.turns some.0 some.1,
+      begins (terms_of c.args.crowd.now c.args.seats.now c.args.prices.now c.args.raise) (map sections_of c.args.bundles.now)
+          (held_on c.in_ok-stage.stage.floor) c.in_ok-stage.stage.turns.items (not c.is_empty-changed.result) c.in_ok-stage.ensures.held
+          c.in_ok-stage.ensures.turns some.0 some.1,
       c.in_ok-stage.ensures.floor,
-      subst (AreChoices (terms_of c.args.crowd.now c.args.seats.now c.args.prices.now c.args.raise)) (sym (c.in_ok-stage.ensures.held ∙ c.requires.demands)) (start_choices (terms_of c.args.crowd.now c.args.seats.now c.args.prices.now c.args.raise)),
-      omega (arith, c.in_ok-stage.ensures.size, ap length c.requires.demands, length-map c.args.bundles.now sections_of, demands_length c.args.crowd.now.menus.items c.args.crowd.now.budgets.items c.args.crowd.now.sections (price_in c.args.prices.now) c.requires.crowd.same),
-      known_none (crowd_of c.args.crowd.now.menus.items c.args.crowd.now.budgets.items c.args.crowd.now.sections) c.args.prices.now c.args.raise (held_on c.in_ok-stage.stage.floor) c.in_ok-stage.stage.chooser.known.items c.in_ok-stage.ensures.none,
+      subst (AreChoices (terms_of c.args.crowd.now c.args.seats.now c.args.prices.now c.args.raise)) (sym (c.in_ok-stage.ensures.held ∙ c.requires.demands))
+          (start_choices (terms_of c.args.crowd.now c.args.seats.now c.args.prices.now c.args.raise)),
+      omega (
+        arith,
+        c.in_ok-stage.ensures.size,
+        ap length c.requires.demands,
+        length-map c.args.bundles.now sections_of,
+        demands_length c.args.crowd.now.menus.items c.args.crowd.now.budgets.items c.args.crowd.now.sections (price_in c.args.prices.now)
+            c.requires.crowd.same,
+      ),
+      known_none (crowd_of c.args.crowd.now.menus.items c.args.crowd.now.budgets.items c.args.crowd.now.sections) c.args.prices.now c.args.raise
+          (held_on c.in_ok-stage.stage.floor) c.in_ok-stage.stage.chooser.known.items c.in_ok-stage.ensures.none,
     )
 
 pub overflow_add-passes : goal.overflow_add-passes
 overflow_add-passes c =
-    let few = passes_few (terms_of c.args.crowd.now c.args.seats.now c.args.prices.now c.args.raise) (map sections_of c.args.bundles.now) (held_on c.loop-changed.stage.floor) c.loop-changed.stage.turns.items c.loop-changed.passes
-    (under_way c.loop-changed.changed (terms_of c.args.crowd.now c.args.seats.now c.args.prices.now c.args.raise) (map sections_of c.args.bundles.now) (held_on c.loop-changed.stage.floor) c.loop-changed.stage.turns.items c.loop-changed.passes c.loop-changed-test.true c.loop-changed.invariant.0) in
+    let few =
+    passes_few (terms_of c.args.crowd.now c.args.seats.now c.args.prices.now c.args.raise) (map sections_of c.args.bundles.now)
+    (held_on c.loop-changed.stage.floor) c.loop-changed.stage.turns.items c.loop-changed.passes
+    (under_way c.loop-changed.changed (terms_of c.args.crowd.now c.args.seats.now c.args.prices.now c.args.raise) (map sections_of c.args.bundles.now)
+    (held_on c.loop-changed.stage.floor) c.loop-changed.stage.turns.items c.loop-changed.passes c.loop-changed-test.true c.loop-changed.invariant.0) in
     let turns = c.loop-changed.stage.turns in
     omega (arith, few, turns.ok.0, turns.ok.1, turns.small)
 
 pub run_pass-requires-clause-order : goal.run_pass-requires-clause-order
 run_pass-requires-clause-order c =
-    rw c.deref-in-loop-changed.ensures.value (order_within c.in_ok-order.order.items c.args.crowd.now.menus.items c.args.crowd.now.budgets.items c.requires.crowd.same (rw c.deref.ensures.value at c.in_ok-order.ensures.value))
+    rw c.deref-in-loop-changed.ensures.value
+    (order_within c.in_ok-order.order.items c.args.crowd.now.menus.items c.args.crowd.now.budgets.items c.requires.crowd.same
+    (rw c.deref.ensures.value at c.in_ok-order.ensures.value))
 
 pub loop-changed-smaller : goal.loop-changed-smaller
 loop-changed-smaller c =
-    subst (λ before. measure (terms_of c.args.crowd.now c.args.seats.now c.args.prices.now c.args.raise) (held_on c.run_pass.new.self.floor) c.in_ok-changed.changed < measure (terms_of c.args.crowd.now c.args.seats.now c.args.prices.now c.args.raise) (held_on c.loop-changed.stage.floor) before) (sym c.loop-changed-test.true)
+    subst
+    (λ before. measure (terms_of c.args.crowd.now c.args.seats.now c.args.prices.now c.args.raise) (held_on c.run_pass.new.self.floor)
+    c.in_ok-changed.changed
+    < measure (terms_of c.args.crowd.now c.args.seats.now c.args.prices.now c.args.raise) (held_on c.loop-changed.stage.floor) before)
+    (sym c.loop-changed-test.true)
     (measure_falls (terms_of c.args.crowd.now c.args.seats.now c.args.prices.now c.args.raise) _ _ (held_on c.loop-changed.stage.floor) (held_on c.run_pass.new.self.floor) c.loop-changed.stage.turns.items c.run_pass.new.self.turns.items c.in_ok-changed.changed
     (crowd_made c.args.crowd.now.menus.items c.args.crowd.now.budgets.items c.args.crowd.now.sections c.requires.crowd) c.loop-changed.invariant.2 c.in_ok-changed.ensures.turns)
 
@@ -59,29 +89,54 @@ pub loop-changed-preserved : goal.loop-changed-preserved
 loop-changed-preserved c =
     let now = c.loop-changed.stage in
     let later = c.run_pass.new.self in
-    let way = under_way c.loop-changed.changed (terms_of c.args.crowd.now c.args.seats.now c.args.prices.now c.args.raise) (map sections_of c.args.bundles.now) (held_on now.floor) now.turns.items c.loop-changed.passes c.loop-changed-test.true c.loop-changed.invariant.0 in
-    let order = ap (map (λ student. student.0)) c.deref-in-loop-changed.ensures.value ∙ c.in_ok-order.ensures.value ∙ ap (λ budgets. after_order_of (map (λ budget. budget.0) budgets)) c.deref.ensures.value ∙ ap after_order_of (budgets_same c.args.crowd.now.menus.items c.args.crowd.now.budgets.items c.requires.crowd.same) in
+    let way =
+    under_way c.loop-changed.changed (terms_of c.args.crowd.now c.args.seats.now c.args.prices.now c.args.raise) (map sections_of c.args.bundles.now)
+    (held_on now.floor) now.turns.items c.loop-changed.passes c.loop-changed-test.true c.loop-changed.invariant.0 in
+    let order =
+    ap (map (λ student. student.0)) c.deref-in-loop-changed.ensures.value ∙ c.in_ok-order.ensures.value
+    ∙ ap (λ budgets. after_order_of (map (λ budget. budget.0) budgets)) c.deref.ensures.value
+    ∙ ap after_order_of (budgets_same c.args.crowd.now.menus.items c.args.crowd.now.budgets.items c.requires.crowd.same) in
     let run = subst (λ students. HaveTurned (terms_of c.args.crowd.now c.args.seats.now c.args.prices.now c.args.raise) (c.loop-changed.passes + 1) students (held_on now.floor) (held_on later.floor) now.turns.items later.turns.items c.in_ok-changed.changed) order c.in_ok-changed.ensures.turns in (
-      goes_on (terms_of c.args.crowd.now c.args.seats.now c.args.prices.now c.args.raise) (map sections_of c.args.bundles.now) (held_on now.floor) (held_on later.floor) now.turns.items later.turns.items c.loop-changed.passes c.in_ok-changed.changed way run,
+      goes_on (terms_of c.args.crowd.now c.args.seats.now c.args.prices.now c.args.raise) (map sections_of c.args.bundles.now) (held_on now.floor)
+          (held_on later.floor) now.turns.items later.turns.items c.loop-changed.passes c.in_ok-changed.changed way run,
       c.in_ok-changed.ensures.floor,
-      choices_run (terms_of c.args.crowd.now c.args.seats.now c.args.prices.now c.args.raise) _ _ (held_on now.floor) (held_on later.floor) now.turns.items later.turns.items c.in_ok-changed.changed c.loop-changed.invariant.2 c.in_ok-changed.ensures.turns,
+      choices_run (terms_of c.args.crowd.now c.args.seats.now c.args.prices.now c.args.raise) _ _ (held_on now.floor) (held_on later.floor) now.turns.items
+          later.turns.items c.in_ok-changed.changed c.loop-changed.invariant.2 c.in_ok-changed.ensures.turns,
       c.in_ok-changed.ensures.size ∙ c.loop-changed.invariant.3,
       c.in_ok-changed.ensures.known,
     )
 
 pub close-requires : goal.close-requires
 close-requires c =
-    let are : AreTerms c.args.crowd.now c.args.seats.now c.args.prices.now c.args.raise = record { whole = c.requires.crowd; seats_each = c.requires.seats; prices_each = c.requires.prices; raise_low = c.requires.raise } in
-    let few : length (held_on c.loop-changed.stage.floor) ≤ 2000 = omega (arith, choices_length c.args.crowd.now c.args.seats.now c.args.prices.now c.args.raise (held_on c.loop-changed.stage.floor) are c.loop-changed.invariant.2, c.requires.crowd.few) in
+    let are : AreTerms c.args.crowd.now c.args.seats.now c.args.prices.now c.args.raise =
+    record { whole = c.requires.crowd; seats_each = c.requires.seats; prices_each = c.requires.prices; raise_low = c.requires.raise } in
+    let few : length (held_on c.loop-changed.stage.floor) ≤ 2000 =
+    omega (
+      arith,
+      choices_length c.args.crowd.now c.args.seats.now c.args.prices.now c.args.raise (held_on c.loop-changed.stage.floor) are
+          c.loop-changed.invariant.2,
+      c.requires.crowd.few,
+    ) in
     counts_few (length c.args.seats.now) (held_on c.loop-changed.stage.floor) c.loop-changed.stage.floor.used.items c.loop-changed.invariant.1.counts few
 
 pub returns-clause-used : goal.returns-clause-used
 returns-clause-used c =
-    let counts = counts_are (length c.args.seats.now) (held_on c.loop-changed.stage.floor) c.loop-changed.stage.floor.used.items c.loop-changed.invariant.1.counts in
-    if_both c.close.result _ _ _ (λ after used bundles. used ∙ counts ∙ ap (λ items. map (λ s. holders s (map sections_of items)) (places_from 0 (length c.args.seats.now))) (sym bundles) ∙ ap (λ n. map (λ s. holders s (map sections_of after.bundles.items)) (places_from 0 n)) c.requires.seats) c.close.ensures.used c.close.ensures.bundles
+    let counts =
+    counts_are (length c.args.seats.now) (held_on c.loop-changed.stage.floor) c.loop-changed.stage.floor.used.items c.loop-changed.invariant.1.counts in
+    if_both c.close.result _ _ _
+    (λ after used bundles. used ∙ counts
+    ∙ ap (λ items. map (λ s. holders s (map sections_of items)) (places_from 0 (length c.args.seats.now))) (sym bundles)
+    ∙ ap (λ n. map (λ s. holders s (map sections_of after.bundles.items)) (places_from 0 n)) c.requires.seats)
+    c.close.ensures.used c.close.ensures.bundles
 
 pub returns-clause-within : goal.returns-clause-within
 returns-clause-within c =
-    let made = is_made c.loop-changed.changed (terms_of c.args.crowd.now c.args.seats.now c.args.prices.now c.args.raise) (map sections_of c.args.bundles.now) (held_on c.loop-changed.stage.floor) c.loop-changed.stage.turns.items c.loop-changed.passes c.loop-changed-test.false c.loop-changed.invariant.0 in
-    let within = made_within (terms_of c.args.crowd.now c.args.seats.now c.args.prices.now c.args.raise) (map sections_of c.args.bundles.now) (held_on c.loop-changed.stage.floor) c.loop-changed.stage.turns.items c.loop-changed.passes made c.requires.within in
-    IfOk-weaker c.close.result _ _ (λ after bundles. subst (λ items. AreHeldWithin c.args.crowd.now.sections c.args.seats.now (map sections_of items)) (sym bundles) within) c.close.ensures.bundles
+    let made =
+    is_made c.loop-changed.changed (terms_of c.args.crowd.now c.args.seats.now c.args.prices.now c.args.raise) (map sections_of c.args.bundles.now)
+    (held_on c.loop-changed.stage.floor) c.loop-changed.stage.turns.items c.loop-changed.passes c.loop-changed-test.false c.loop-changed.invariant.0 in
+    let within =
+    made_within (terms_of c.args.crowd.now c.args.seats.now c.args.prices.now c.args.raise) (map sections_of c.args.bundles.now)
+    (held_on c.loop-changed.stage.floor) c.loop-changed.stage.turns.items c.loop-changed.passes made c.requires.within in
+    IfOk-weaker c.close.result _ _
+    (λ after bundles. subst (λ items. AreHeldWithin c.args.crowd.now.sections c.args.seats.now (map sections_of items)) (sym bundles) within)
+    c.close.ensures.bundles

@@ -11,14 +11,17 @@ use Rattle.aftermarket_stage.proofs.tests.taken.Goals as goal
 
 pub best_plain-bundle-requires : goal.best_plain-bundle-requires
 best_plain-bundle-requires c =
-    menu_priced c.args.crowd.now.menus.items c.args.crowd.now.budgets.items c.args.crowd.now.sections c.args.prices.now c.loop-place.place c.index.result.now c.requires.crowd c.requires.prices (search rules) c.index.ensures
+    menu_priced c.args.crowd.now.menus.items c.args.crowd.now.budgets.items c.args.crowd.now.sections c.args.prices.now c.loop-place.place c.index.result.now
+    c.requires.crowd c.requires.prices (search rules) c.index.ensures
 
 pub loop-place-preserved : goal.loop-place-preserved
 loop-place-preserved c =
     let low : c.loop-place.place < length c.args.crowd.now.menus.items = search rules in
     let all = demands (crowd_of c.args.crowd.now.menus.items c.args.crowd.now.budgets.items c.args.crowd.now.sections) (price_in c.args.prices.now) in
-    let long = demands_length c.args.crowd.now.menus.items c.args.crowd.now.budgets.items c.args.crowd.now.sections (price_in c.args.prices.now) c.requires.crowd.same in
-    demands_more c.loop-place.bundles.items c.push.new.self.items c.best_plain-bundle.result all c.loop-place.place (rw long low) c.loop-place.invariant c.in_ok-push.ensures.items
+    let long =
+    demands_length c.args.crowd.now.menus.items c.args.crowd.now.budgets.items c.args.crowd.now.sections (price_in c.args.prices.now) c.requires.crowd.same in
+    demands_more c.loop-place.bundles.items c.push.new.self.items c.best_plain-bundle.result all c.loop-place.place (rw long low) c.loop-place.invariant
+    c.in_ok-push.ensures.items
     (found_demand c.args.crowd.now.menus.items c.args.crowd.now.budgets.items c.args.crowd.now.sections (price_in c.args.prices.now) c.loop-place.place c.index.result.now c.index-in-loop-place.result.now (set.contains c.full-allowed.result) (sections_of c.best_plain-bundle.result)
     c.requires.crowd.same low c.index.ensures c.index-in-loop-place.ensures c.full-allowed.ensures c.best_plain-bundle.ensures)
 
@@ -26,5 +29,6 @@ pub returns : goal.returns
 returns c =
     let past : length c.args.crowd.now.menus.items ≤ c.loop-place.place = search rules in
     let all = demands (crowd_of c.args.crowd.now.menus.items c.args.crowd.now.budgets.items c.args.crowd.now.sections) (price_in c.args.prices.now) in
-    let long = demands_length c.args.crowd.now.menus.items c.args.crowd.now.budgets.items c.args.crowd.now.sections (price_in c.args.prices.now) c.requires.crowd.same in
+    let long =
+    demands_length c.args.crowd.now.menus.items c.args.crowd.now.budgets.items c.args.crowd.now.sections (price_in c.args.prices.now) c.requires.crowd.same in
     c.loop-place.invariant ∙ take_all c.loop-place.place all (rw long past)

@@ -6,4 +6,5 @@ use Rattle.demand_api.specs.Made.{crowd_of}
 use Rattle.aftermarket_stage.proofs.tests.taken.Given as goal
 
 abbrev pub invariant-loop-place : goal.invariant-loop-place
-invariant-loop-place l = map sections_of l.bundles.items ≡ take l.place (demands (crowd_of l.crowd.menus.items l.crowd.budgets.items l.crowd.sections) (price_in l.prices))
+invariant-loop-place l =
+    map sections_of l.bundles.items ≡ take l.place (demands (crowd_of l.crowd.menus.items l.crowd.budgets.items l.crowd.sections) (price_in l.prices))

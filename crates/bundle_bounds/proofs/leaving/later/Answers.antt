@@ -8,12 +8,14 @@ use Rattle.bundle_bounds.proofs.leaving.later.Goals as goal
 pub overflow_sub-result : goal.overflow_sub-result
 overflow_sub-result c =
     let is = subst (λ t. IfSome t (IsTangent c.requires.tangent.0 c.args.resource (c.args.prospect.now ∷ c.args.more.now))) c.in-Some.is c.requires.tangent.1 in
-    (sum_without (over_price c.args.resource c.in-Some.tangent.price) c.args.prospect.now c.args.more.now (c.in-Some.tangent.price * c.requires.tangent.0) c.in-Some.tangent.sum c.added-here.result is.here c.added-here.ensures.value).fits
+    (sum_without (over_price c.args.resource c.in-Some.tangent.price) c.args.prospect.now c.args.more.now (c.in-Some.tangent.price * c.requires.tangent.0)
+    c.in-Some.tangent.sum c.added-here.result is.here c.added-here.ensures.value).fits
 
 pub overflow_sub-result-in-Some : goal.overflow_sub-result-in-Some
 overflow_sub-result-in-Some c =
     let is = subst (λ t. IfSome t (IsTangent c.requires.tangent.0 c.args.resource (c.args.prospect.now ∷ c.args.more.now))) c.in-Some.is c.requires.tangent.1 in
-    (sum_without (over_price c.args.resource (c.in-Some.tangent.price + 1)) c.args.prospect.now c.args.more.now ((c.in-Some.tangent.price + 1) * c.requires.tangent.0) c.in-Some.tangent.next c.added-after.result is.after c.added-after.ensures.value).fits
+    (sum_without (over_price c.args.resource (c.in-Some.tangent.price + 1)) c.args.prospect.now c.args.more.now
+    ((c.in-Some.tangent.price + 1) * c.requires.tangent.0) c.in-Some.tangent.next c.added-after.result is.after c.added-after.ensures.value).fits
 
 pub returns-in-Some : goal.returns-in-Some
 returns-in-Some c = λ rest tangent.
@@ -21,7 +23,11 @@ returns-in-Some c = λ rest tangent.
     let small = is.small in
     record {
       low = is.low;
-      here = (sum_without (over_price c.args.resource c.in-Some.tangent.price) c.args.prospect.now c.args.more.now (c.in-Some.tangent.price * rest) c.in-Some.tangent.sum c.added-here.result is.here c.added-here.ensures.value).left;
-      after = (sum_without (over_price c.args.resource (c.in-Some.tangent.price + 1)) c.args.prospect.now c.args.more.now ((c.in-Some.tangent.price + 1) * rest) c.in-Some.tangent.next c.added-after.result is.after c.added-after.ensures.value).left;
+      here =
+          (sum_without (over_price c.args.resource c.in-Some.tangent.price) c.args.prospect.now c.args.more.now (c.in-Some.tangent.price * rest)
+          c.in-Some.tangent.sum c.added-here.result is.here c.added-here.ensures.value).left;
+      after =
+          (sum_without (over_price c.args.resource (c.in-Some.tangent.price + 1)) c.args.prospect.now c.args.more.now ((c.in-Some.tangent.price + 1) * rest)
+          c.in-Some.tangent.next c.added-after.result is.after c.added-after.ensures.value).left;
       small = omega arith;
     }

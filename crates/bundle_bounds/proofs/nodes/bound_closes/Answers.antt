@@ -18,13 +18,18 @@ use Rattle.bundle_bounds.proofs.ByPlace.{ascending_places, has-places}
 use Rattle.bundle_bounds.proofs.nodes.bound_closes.Goals as goal
 
 pub rests_of-rests-requires-clause-on_menu : goal.rests_of-rests-requires-clause-on_menu
-rests_of-rests-requires-clause-on_menu c = rw (c.as_slice-chosen.ensures.value, c.of-chosen.ensures) (places_of_rated c.args.menu.now (sections_of c.args.node.now.chosen) c.requires.node.takable.feasible.rated)
+rests_of-rests-requires-clause-on_menu c =
+    rw (c.as_slice-chosen.ensures.value, c.of-chosen.ensures)
+    (places_of_rated c.args.menu.now (sections_of c.args.node.now.chosen) c.requires.node.takable.feasible.rated)
 
 pub collect-start-requires-clause-on_menu : goal.collect-start-requires-clause-on_menu
-collect-start-requires-clause-on_menu c = rw (c.as_slice-chosen.ensures.value, c.of-chosen.ensures) (places_of_rated c.args.menu.now (sections_of c.args.node.now.chosen) c.requires.node.takable.feasible.rated)
+collect-start-requires-clause-on_menu c =
+    rw (c.as_slice-chosen.ensures.value, c.of-chosen.ensures)
+    (places_of_rated c.args.menu.now (sections_of c.args.node.now.chosen) c.requires.node.takable.feasible.rated)
 
 pub first_below-requires-clause-modest : goal.first_below-requires-clause-modest
-first_below-requires-clause-modest c = subst (All IsModest) (sym (rest_of_room c.collect-start.new.room c.collect-start.result c.collect-start.auto.room)) c.collect-start.ensures.modest
+first_below-requires-clause-modest c =
+    subst (All IsModest) (sym (rest_of_room c.collect-start.new.room c.collect-start.result c.collect-start.auto.room)) c.collect-start.ensures.modest
 
 pub returns : goal.returns
 returns c =
@@ -39,25 +44,34 @@ returns c =
     let same : slice ≡ cs = c.as_slice-chosen.ensures.value ∙ c.of-chosen.ensures in
     let rises = c.len.ensures.menu.places.ascending in
     let up : IsAscending ch = ascending_places menu.places champion rises (place_of_rated menu champion c.requires.champion.rated) c.requires.champion.set in
-    let up' : IsAscending cs = ascending_places menu.places chosen rises (place_of_rated menu chosen c.requires.node.takable.feasible.rated) c.requires.node.takable.feasible.set in
+    let up' : IsAscending cs =
+    ascending_places menu.places chosen rises (place_of_rated menu chosen c.requires.node.takable.feasible.rated) c.requires.node.takable.feasible.set in
     let low : (p : ℕ) → has cs p ≡ true → p < k = λ p is. (let at = has-places menu.places chosen p is in rw (← at.2) (c.requires.node.decided at.0 at.1)) in
     let u : ℤ = c.utility.result in
     let from_u : c.from-base.result ≡ to_z w32 (of_z w32 u) = c.from-base.ensures in
     let widened : to_z w64 (of_z w64 (pos 1000 *ℤ to_z w64 (of_z w64 c.from-base.result))) ≡ pos 1000 *ℤ u = omega (arith, ints, from_u) in
-    let base : to_z w64 (of_z w64 (pos 1000 *ℤ to_z w64 (of_z w64 c.from-base.result))) ≡ pos 1000 *ℤ utility (by_place menu) cs = widened ∙ ap (λ z. pos 1000 *ℤ z) (sym (utility_by_place menu chosen ∙ sym c.utility.ensures)) in
+    let base : to_z w64 (of_z w64 (pos 1000 *ℤ to_z w64 (of_z w64 c.from-base.result))) ≡ pos 1000 *ℤ utility (by_place menu) cs =
+    widened ∙ ap (λ z. pos 1000 *ℤ z) (sym (utility_by_place menu chosen ∙ sym c.utility.ensures)) in
     let kept : to_z w64 (of_z w64 c.limit_of-limit.result) ≡ c.limit_of-limit.result = omega (arith, ints) in
     let most : to_z w64 (of_z w64 c.limit_of-limit.result) ≡ limit_of (utility (by_place menu) ch) (is_ahead k ch cs) =
-    kept ∙ c.limit_of-limit.ensures ∙ ap (λ z. limit_of z (is_ahead k ch slice)) (sym (utility_by_place menu champion)) ∙ ap (λ l. limit_of (utility (by_place menu) ch) (is_ahead k ch l)) same in
+    kept ∙ c.limit_of-limit.ensures ∙ ap (λ z. limit_of z (is_ahead k ch slice)) (sym (utility_by_place menu champion))
+    ∙ ap (λ l. limit_of (utility (by_place menu) ch) (is_ahead k ch l)) same in
     let budget = c.rests_of-rests.ensures.budget c.args.allowed.now in
     let credits = c.rests_of-rests.ensures.credits c.args.allowed.now in
     let courses = c.rests_of-rests.ensures.courses c.args.allowed.now in
-    let ps = collected offer k cs slice c.collect-start.new.room c.collect-start.result c.min-from.result c.len.result same c.collect-start.auto.room c.min-from.ensures c.len.ensures.value (c.collect-start.ensures.value c.args.budget.0 budget credits courses) in
+    let ps =
+    collected offer k cs slice c.collect-start.new.room c.collect-start.result c.min-from.result c.len.result same c.collect-start.auto.room
+    c.min-from.ensures c.len.ensures.value (c.collect-start.ensures.value c.args.budget.0 budget credits courses) in
     let some : IfSome c.first_below.result (IsFirstClosing offer k cs ch (bounds offer k cs)) =
-    some_closes offer k cs ch up up' low _ _ _ _ _ _ base most (budget ∙ ap (budget_left offer) same) (credits ∙ ap (credits_left offer) same) (courses ∙ ap (courses_left offer) same) ps c.first_below.result c.first_below.ensures.first in
+    some_closes offer k cs ch up up' low _ _ _ _ _ _ base most (budget ∙ ap (budget_left offer) same) (credits ∙ ap (credits_left offer) same)
+    (courses ∙ ap (courses_left offer) same) ps c.first_below.result c.first_below.ensures.first in
     let none : IfNone c.first_below.result (NoneCloses offer k cs ch (bounds offer k cs)) =
-    none_closes offer k cs ch up up' low _ _ _ _ _ _ base most (budget ∙ ap (budget_left offer) same) (credits ∙ ap (credits_left offer) same) (courses ∙ ap (courses_left offer) same) ps c.first_below.result c.first_below.ensures.none in
+    none_closes offer k cs ch up up' low _ _ _ _ _ _ base most (budget ∙ ap (budget_left offer) same) (credits ∙ ap (credits_left offer) same)
+    (courses ∙ ap (courses_left offer) same) ps c.first_below.result c.first_below.ensures.none in
     record {
       first = some;
-      value = found_closing offer k chosen champion c.first_below.result (first_closing_is_the_first offer k chosen champion c.len.ensures.menu c.requires.node c.requires.champion) some none;
+      value =
+          found_closing offer k chosen champion c.first_below.result
+          (first_closing_is_the_first offer k chosen champion c.len.ensures.menu c.requires.node c.requires.champion) some none;
       none = none;
     }

@@ -9,10 +9,14 @@ use Rattle.bundle_bounds.proofs.Outlook.{open_same}
 use Rattle.bundle_bounds.proofs.nodes.is_open.Goals as goal
 
 pub rests_of-rests-requires-clause-on_menu : goal.rests_of-rests-requires-clause-on_menu
-rests_of-rests-requires-clause-on_menu c = rw (c.as_slice-chosen.ensures.value, c.of-chosen.ensures) (places_of_rated c.args.menu.now (sections_of c.args.node.now.chosen) c.requires.node.takable.feasible.rated)
+rests_of-rests-requires-clause-on_menu c =
+    rw (c.as_slice-chosen.ensures.value, c.of-chosen.ensures)
+    (places_of_rated c.args.menu.now (sections_of c.args.node.now.chosen) c.requires.node.takable.feasible.rated)
 
 pub is_open_at-requires-clause-on_menu : goal.is_open_at-requires-clause-on_menu
-is_open_at-requires-clause-on_menu c = rw (c.as_slice-chosen.ensures.value, c.of-chosen.ensures) (places_of_rated c.args.menu.now (sections_of c.args.node.now.chosen) c.requires.node.takable.feasible.rated)
+is_open_at-requires-clause-on_menu c =
+    rw (c.as_slice-chosen.ensures.value, c.of-chosen.ensures)
+    (places_of_rated c.args.menu.now (sections_of c.args.node.now.chosen) c.requires.node.takable.feasible.rated)
 
 pub returns : goal.returns
 returns c =
@@ -22,5 +26,6 @@ returns c =
     let rests = c.rests_of-rests in
     let undecided : nat_le c.args.node.now.place c.args.place ≡ true = le_true _ _ (omega arith) in
     let opened : c.is_open_at.result ≡ is_open offer slice c.args.place =
-    open_same offer slice c.args.place rests.result.budget rests.result.credits rests.result.courses c.is_open_at.result c.is_open_at.ensures (rests.ensures.budget c.args.allowed.now) (rests.ensures.credits c.args.allowed.now) (rests.ensures.courses c.args.allowed.now) in
+    open_same offer slice c.args.place rests.result.budget rests.result.credits rests.result.courses c.is_open_at.result c.is_open_at.ensures
+    (rests.ensures.budget c.args.allowed.now) (rests.ensures.credits c.args.allowed.now) (rests.ensures.courses c.args.allowed.now) in
     opened ∙ ap (λ cs. is_open offer cs c.args.place) same ∙ rw undecided refl

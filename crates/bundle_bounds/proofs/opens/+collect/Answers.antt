@@ -13,8 +13,12 @@ returns-then-not-is_open_at-clause-value t c = λ budget first second third.
     let low : c.args.place < length c.args.menu.now.places = omega (arith, c.len.ensures.value) in
     let no : c.is_open_at.result ≡ false = search rules in
     let shut : is_open offer c.args.chosen.now c.args.place ≡ false =
-    sym (open_same offer c.args.chosen.now c.args.place c.args.rests.budget c.args.rests.credits c.args.rests.courses c.is_open_at.result c.is_open_at.ensures first second third) ∙ no in
-    c.collect-start.ensures.value budget first second third ∙ ap (prospects offer c.args.chosen.now) (sym (opens_shut offer c.args.chosen.now c.args.place (length c.args.menu.now.places) low shut))
+    sym
+    (open_same offer c.args.chosen.now c.args.place c.args.rests.budget c.args.rests.credits c.args.rests.courses c.is_open_at.result
+    c.is_open_at.ensures first second third)
+    ∙ no in
+    c.collect-start.ensures.value budget first second third
+    ∙ ap (prospects offer c.args.chosen.now) (sym (opens_shut offer c.args.chosen.now c.args.place (length c.args.menu.now.places) low shut))
 
 pub returns-clause-value : goal.returns-clause-value
 returns-clause-value t c = λ budget first second third.
@@ -22,23 +26,35 @@ returns-clause-value t c = λ budget first second third.
     let low : c.args.place < length c.args.menu.now.places = omega (arith, c.len.ensures.value) in
     let yes : c.is_open_at.result ≡ true = search rules in
     let opened : is_open offer c.args.chosen.now c.args.place ≡ true =
-    sym (open_same offer c.args.chosen.now c.args.place c.args.rests.budget c.args.rests.credits c.args.rests.courses c.is_open_at.result c.is_open_at.ensures first second third) ∙ yes in
+    sym
+    (open_same offer c.args.chosen.now c.args.place c.args.rests.budget c.args.rests.credits c.args.rests.courses c.is_open_at.result
+    c.is_open_at.ensures first second third)
+    ∙ yes in
     let some : 1 ≤ c.collect-start.result = omega (arith, c.collect-start.ensures.space, c.len.ensures.menu.places.few) in
-    let within : c.collect-start.result ≤ length c.collect-start.new.room = omega (arith, c.collect-start.ensures.within, c.collect-start.auto.room, c.requires.room) in
-    collected offer c.args.chosen.now c.args.place (length c.args.menu.now.places) c.collect-start.result c.collect-start.new.room c.prospect_at-prospect.result low opened some within
-    (c.collect-start.ensures.value budget first second third) (c.prospect_at-prospect.ensures.value budget c.args.allowed.now ∙ ap (λ l. prospect offer c.args.chosen.now c.args.place (map (λ (p : Prospect). p.place) l)) (rest_whole c.collect-start.new.room c.collect-start.result))
+    let within : c.collect-start.result ≤ length c.collect-start.new.room =
+    omega (arith, c.collect-start.ensures.within, c.collect-start.auto.room, c.requires.room) in
+    collected offer c.args.chosen.now c.args.place (length c.args.menu.now.places) c.collect-start.result c.collect-start.new.room c.prospect_at-prospect.result
+    low opened some within
+    (c.collect-start.ensures.value budget first second third)
+    (c.prospect_at-prospect.ensures.value budget c.args.allowed.now
+    ∙ ap (λ l. prospect offer c.args.chosen.now c.args.place (map (λ (p : Prospect). p.place) l))
+    (rest_whole c.collect-start.new.room c.collect-start.result))
 
 pub returns-clause-modest : goal.returns-clause-modest
 returns-clause-modest t c =
     let some : 1 ≤ c.collect-start.result = omega (arith, c.collect-start.ensures.space, c.len.ensures.menu.places.few, c.len.ensures.value) in
-    let within : c.collect-start.result ≤ length c.collect-start.new.room = omega (arith, c.collect-start.ensures.within, c.collect-start.auto.room, c.requires.room) in
+    let within : c.collect-start.result ≤ length c.collect-start.new.room =
+    omega (arith, c.collect-start.ensures.within, c.collect-start.auto.room, c.requires.room) in
     subst (All IsModest) (sym (put_front c.collect-start.new.room c.collect-start.result c.prospect_at-prospect.result some within))
-    (all_cons IsModest c.prospect_at-prospect.result (drop c.collect-start.result c.collect-start.new.room) c.prospect_at-prospect.ensures.modest c.collect-start.ensures.modest)
+    (all_cons IsModest c.prospect_at-prospect.result (drop c.collect-start.result c.collect-start.new.room) c.prospect_at-prospect.ensures.modest
+    c.collect-start.ensures.modest)
 
 pub returns-clause-on_menu : goal.returns-clause-on_menu
 returns-clause-on_menu t c =
     let some : 1 ≤ c.collect-start.result = omega (arith, c.collect-start.ensures.space, c.len.ensures.menu.places.few, c.len.ensures.value) in
-    let within : c.collect-start.result ≤ length c.collect-start.new.room = omega (arith, c.collect-start.ensures.within, c.collect-start.auto.room, c.requires.room) in
+    let within : c.collect-start.result ≤ length c.collect-start.new.room =
+    omega (arith, c.collect-start.ensures.within, c.collect-start.auto.room, c.requires.room) in
     let P : Prospect → Type 0 = λ other. other.place < length c.args.menu.now.places in
     subst (All P) (sym (put_front c.collect-start.new.room c.collect-start.result c.prospect_at-prospect.result some within))
-    (all_cons P c.prospect_at-prospect.result (drop c.collect-start.result c.collect-start.new.room) c.prospect_at-prospect.ensures.place c.collect-start.ensures.on_menu)
+    (all_cons P c.prospect_at-prospect.result (drop c.collect-start.result c.collect-start.new.room) c.prospect_at-prospect.ensures.place
+    c.collect-start.ensures.on_menu)

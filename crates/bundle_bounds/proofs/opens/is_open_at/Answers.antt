@@ -13,18 +13,24 @@ pub returns-then-not-has : goal.returns-then-not-has
 returns-then-not-has c =
     let here = section_at-is c.args.menu.now.places c.args.place c.rated-rated.result.now c.rated-rated.ensures.value in
     let shut : c.has.result ≡ false = search rules in
-    let none : set.contains c.args.allowed.now (section_at c.args.menu.now.places c.args.place) ≡ false = ap (set.contains c.args.allowed.now) here ∙ sym c.has.ensures ∙ shut in
+    let none : set.contains c.args.allowed.now (section_at c.args.menu.now.places c.args.place) ≡ false =
+    ap (set.contains c.args.allowed.now) here ∙ sym c.has.ensures ∙ shut in
     rw none refl
 
 -- where all but the credits and the courses allow the place
-opened : (c : After-from) → (set.contains c.args.allowed.now (section_at c.args.menu.now.places c.args.place) ≡ true) × (list_all (λ other. not (clash_in c.args.menu.now.clashes c.args.place other)) c.args.chosen.now ≡ true)
+opened : (c : After-from)
+    → (set.contains c.args.allowed.now (section_at c.args.menu.now.places c.args.place) ≡ true)
+    × (list_all (λ other. not (clash_in c.args.menu.now.clashes c.args.place other)) c.args.chosen.now ≡ true)
     × (nat_le (price_in c.args.prices.now (section_at c.args.menu.now.places c.args.place)) c.args.rests.budget ≡ true)
 opened c =
     let here = section_at-is c.args.menu.now.places c.args.place c.rated-rated.result.now c.rated-rated.ensures.value in
     let open_ : c.has.result ≡ true = search rules in
     let free : c.is_apart.result ≡ true = search rules in
-    let cheap : c.price_of_place.result ≤ c.args.rests.budget = omega arith in
-    (ap (set.contains c.args.allowed.now) here ∙ sym c.has.ensures ∙ open_, sym c.is_apart.ensures ∙ free, le_true _ _ (rw (← c.price_of_place.ensures.value) cheap))
+    let cheap : c.price_of_place.result ≤ c.args.rests.budget = omega arith in (
+      ap (set.contains c.args.allowed.now) here ∙ sym c.has.ensures ∙ open_,
+      sym c.is_apart.ensures ∙ free,
+      le_true _ _ (rw (← c.price_of_place.ensures.value) cheap),
+    )
 
 pub returns-then-from-rests : goal.returns-then-from-rests
 returns-then-from-rests c =

@@ -25,7 +25,8 @@ loop-index-preserved c =
     let is = c.loop-index.invariant in
     let low : c.loop-index.index - 1 < length c.args.prospects.now = omega arith in
     let next : c.loop-index.index ≡ (c.loop-index.index - 1) + 1 = omega arith in
-    let course : (get_or c.args.prospects.now (c.loop-index.index - 1) no_prospect).course < 60 = (c.requires.modest (c.loop-index.index - 1) no_prospect low).course_low in
+    let course : (get_or c.args.prospects.now (c.loop-index.index - 1) no_prospect).course < 60 =
+    (c.requires.modest (c.loop-index.index - 1) no_prospect low).course_low in
     let course_low : c.from-course.result < 60 = subst (λ n. n < 60) (sym c.from-course.ensures) course in
     let more : c.added-sum.result ≤ 20000000 = c.added-sum.ensures.high in
     let so_far : c.loop-index.sum ≤ 20000000 * (length c.args.prospects.now - c.loop-index.index) = is.small in
@@ -33,7 +34,10 @@ loop-index-preserved c =
       whole = length-set c.loop-index.is_there c.from-course.result true ∙ is.whole;
       there = there_more c.loop-index.is_there ps (c.loop-index.index - 1) c.from-course.result no_prospect low is.whole c.from-course.ensures course_low
           (subst (λ n. (course : ℕ) → course < 60 → get_or c.loop-index.is_there course false ≡ has_course (drop n ps) course) next is.there);
-      total_is = added_front f ps (c.loop-index.index - 1) c.loop-index.sum c.added-sum.result no_prospect low (is.total_is ∙ ap (λ n. by_course f (drop n ps)) next)
-          (c.added-sum.ensures.value ∙ ap (λ l. f (get_or ps (c.loop-index.index - 1) no_prospect) - greatest f (get_or ps (c.loop-index.index - 1) no_prospect).course l) (rest_whole ps ((c.loop-index.index - 1) + 1)));
+      total_is =
+          added_front f ps (c.loop-index.index - 1) c.loop-index.sum c.added-sum.result no_prospect low (is.total_is ∙ ap (λ n. by_course f (drop n ps)) next)
+          (c.added-sum.ensures.value
+          ∙ ap (λ l. f (get_or ps (c.loop-index.index - 1) no_prospect) - greatest f (get_or ps (c.loop-index.index - 1) no_prospect).course l)
+          (rest_whole ps ((c.loop-index.index - 1) + 1)));
       small = omega arith;
     }

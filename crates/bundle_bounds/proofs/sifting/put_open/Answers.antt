@@ -13,7 +13,10 @@ returns-then-not-stays_open-clause-value c = λ prices budget allowed before oth
     let no : c.stays_open.result ≡ false = search rules in
     let shut : is_open offer c.args.chosen.now c.args.one.now.place ≡ false =
     ap (λ l. is_open offer l t) chosen_is
-    ∙ sym (open_beside offer before c.args.place t others c.args.one.now c.args.rests.budget c.args.rests.credits c.args.rests.courses c.stays_open.result opened one_is (budget_is ∙ ap (budget_left offer) chosen_is) (credits_is ∙ ap (credits_left offer) chosen_is) (courses_is ∙ ap (courses_left offer) chosen_is) c.stays_open.ensures)
+    ∙ sym
+    (open_beside offer before c.args.place t others c.args.one.now c.args.rests.budget c.args.rests.credits c.args.rests.courses c.stays_open.result opened
+    one_is (budget_is ∙ ap (budget_left offer) chosen_is) (credits_is ∙ ap (credits_left offer) chosen_is) (courses_is ∙ ap (courses_left offer) chosen_is)
+    c.stays_open.ensures)
     ∙ no in
     shut_kept offer c.args.chosen.now t later (drop c.args.start c.args.room.now) shut rest
 
@@ -24,8 +27,12 @@ returns-clause-value c = λ prices budget allowed before others later chosen_is 
     let yes : c.stays_open.result ≡ true = search rules in
     let opened' : is_open offer c.args.chosen.now c.args.one.now.place ≡ true =
     ap (λ l. is_open offer l t) chosen_is
-    ∙ sym (open_beside offer before c.args.place t others c.args.one.now c.args.rests.budget c.args.rests.credits c.args.rests.courses c.stays_open.result opened one_is (budget_is ∙ ap (budget_left offer) chosen_is) (credits_is ∙ ap (credits_left offer) chosen_is) (courses_is ∙ ap (courses_left offer) chosen_is) c.stays_open.ensures)
+    ∙ sym
+    (open_beside offer before c.args.place t others c.args.one.now c.args.rests.budget c.args.rests.credits c.args.rests.courses c.stays_open.result opened
+    one_is (budget_is ∙ ap (budget_left offer) chosen_is) (credits_is ∙ ap (credits_left offer) chosen_is) (courses_is ∙ ap (courses_left offer) chosen_is)
+    c.stays_open.ensures)
     ∙ yes in
     let within : c.args.start ≤ length c.args.room.now = omega (arith, c.requires.within, c.requires.room) in
     put_kept offer c.args.chosen.now t later c.args.room.now c.args.start c.beside-here.result c.requires.some within opened' rest
-    (c.beside-here.ensures.value prices budget allowed before others one_is ∙ ap (λ l. prospect offer c.args.chosen.now t (map (λ (p : Prospect). p.place) l)) (rest_whole c.args.room.now c.args.start))
+    (c.beside-here.ensures.value prices budget allowed before others one_is
+    ∙ ap (λ l. prospect offer c.args.chosen.now t (map (λ (p : Prospect). p.place) l)) (rest_whole c.args.room.now c.args.start))

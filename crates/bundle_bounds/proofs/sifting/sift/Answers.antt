@@ -23,7 +23,9 @@ loop-index-init c =
           let left : drop (length c.args.all.now) others ≡ [] = ap (λ n. drop n others) size ∙ drop-length others in
           none ∙ sym (ap (λ l. prospects offer c.args.chosen.now (filter (is_open offer c.args.chosen.now) l)) left);
       modest = subst (All IsModest) (sym none) (All-nil IsModest);
-      on_menu = subst (All (λ (other : Prospect). other.place < length c.args.menu.now.places)) (sym none) (All-nil (λ (other : Prospect). other.place < length c.args.menu.now.places));
+      on_menu =
+          subst (All (λ (other : Prospect). other.place < length c.args.menu.now.places)) (sym none)
+          (All-nil (λ (other : Prospect). other.place < length c.args.menu.now.places));
     }
 
 pub loop-index-preserved : goal.loop-index-preserved
@@ -43,7 +45,8 @@ loop-index-preserved c =
           let offer = offer_of c.args.menu.now prices budget allowed in
           let split = split_here offer before others c.args.all.now (c.loop-index.index - 1) low all_are opens in
           let so_far = is.value prices budget allowed before others chosen_is budget_is credits_is courses_is opens all_are in
-          c.put_open-start.ensures.value prices budget allowed before (drop ((c.loop-index.index - 1) + 1) others) (drop ((c.loop-index.index - 1) + 1) others) chosen_is budget_is credits_is courses_is split.opened split.one_is
+          c.put_open-start.ensures.value prices budget allowed before (drop ((c.loop-index.index - 1) + 1) others) (drop ((c.loop-index.index - 1) + 1) others)
+          chosen_is budget_is credits_is courses_is split.opened split.one_is
           (so_far ∙ ap (λ n. prospects offer c.args.chosen.now (filter (is_open offer c.args.chosen.now) (drop n others))) next)
           ∙ ap (λ l. prospects offer c.args.chosen.now (filter (is_open offer c.args.chosen.now) l)) split.front;
       modest = c.put_open-start.ensures.modest;
@@ -54,4 +57,5 @@ pub returns-clause-value : goal.returns-clause-value
 returns-clause-value c = λ prices budget allowed before others chosen_is budget_is credits_is courses_is opens all_are.
     let offer = offer_of c.args.menu.now prices budget allowed in
     let none : c.loop-index.index ≡ 0 = omega arith in
-    c.loop-index.invariant.value prices budget allowed before others chosen_is budget_is credits_is courses_is opens all_are ∙ ap (λ n. prospects offer c.args.chosen.now (filter (is_open offer c.args.chosen.now) (drop n others))) none
+    c.loop-index.invariant.value prices budget allowed before others chosen_is budget_is credits_is courses_is opens all_are
+    ∙ ap (λ n. prospects offer c.args.chosen.now (filter (is_open offer c.args.chosen.now) (drop n others))) none

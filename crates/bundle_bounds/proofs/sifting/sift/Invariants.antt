@@ -17,9 +17,13 @@ invariant-loop-index l = record {
   within : l.start ≤ 60;
   space : 60 + l.index ≤ l.start + length l.all;
   value : (prices : List Tokens) (budget : ℕ) (allowed : set.FinSet nat_cmp) (before others : List ℕ) → l.chosen ≡ before ++ l.place ∷ []
-      → l.rests.budget ≡ budget_left (offer_of l.menu prices budget allowed) l.chosen → l.rests.credits ≡ credits_left (offer_of l.menu prices budget allowed) l.chosen → l.rests.courses ≡ courses_left (offer_of l.menu prices budget allowed) l.chosen
-      → AllByRecursion (λ other. is_open (offer_of l.menu prices budget allowed) before other ≡ true) others → l.all ≡ prospects (offer_of l.menu prices budget allowed) before others
-      → drop l.start l.room ≡ prospects (offer_of l.menu prices budget allowed) l.chosen (filter (is_open (offer_of l.menu prices budget allowed) l.chosen) (drop l.index others));
+      → l.rests.budget ≡ budget_left (offer_of l.menu prices budget allowed) l.chosen
+      → l.rests.credits ≡ credits_left (offer_of l.menu prices budget allowed) l.chosen
+      → l.rests.courses ≡ courses_left (offer_of l.menu prices budget allowed) l.chosen
+      → AllByRecursion (λ other. is_open (offer_of l.menu prices budget allowed) before other ≡ true) others
+      → l.all ≡ prospects (offer_of l.menu prices budget allowed) before others
+      → drop l.start l.room
+      ≡ prospects (offer_of l.menu prices budget allowed) l.chosen (filter (is_open (offer_of l.menu prices budget allowed) l.chosen) (drop l.index others));
   modest : All IsModest (drop l.start l.room);
   on_menu : All (λ (other : Prospect). other.place < length l.menu.places) (drop l.start l.room);
 }

@@ -9,5 +9,7 @@ use Rattle.bundle_rules.proofs.laws.best_by_bits.Goals as goal
 pub returns : goal.returns
 returns c = λ menu price budget allowed bits is same. (
   best_from_bits (wishes_of menu) price budget allowed (menu_sections menu) is.places.ascending (choice_among menu price budget allowed) bits,
-  (λ best. subst (AreBestBits (wishes_of menu) (menu_sections menu) price budget allowed) (bits_of-chosen bits (menu_sections menu) is.places.ascending same) (best_to_bits (wishes_of menu) price budget allowed (menu_sections menu) is.places.ascending (choice_among menu price budget allowed) (chosen bits (menu_sections menu)) best)),
+  (λ best. subst (AreBestBits (wishes_of menu) (menu_sections menu) price budget allowed) (bits_of-chosen bits (menu_sections menu) is.places.ascending same)
+      (best_to_bits (wishes_of menu) price budget allowed (menu_sections menu) is.places.ascending (choice_among menu price budget allowed)
+      (chosen bits (menu_sections menu)) best)),
 )

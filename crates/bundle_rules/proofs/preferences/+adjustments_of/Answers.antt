@@ -8,5 +8,9 @@ use Rattle.bundle_rules.proofs.preferences.+adjustments_of.Goals as goal
 pub returns-in-len1-up-clause-value : goal.returns-in-len1-up-clause-value
 unfolding by_place
 returns-in-len1-up-clause-value t c =
-    let sum : to_z w32 (of_z w32 (to_z w32 (of_z w32 c.from.result) +ℤ to_z w32 (of_z w32 c.adjustments_of.result))) ≡ c.adjustment.result +ℤ c.adjustments_of.result = omega (arith, ints, c.from.ensures) in
-    sum ∙ rw (c.adjustment.ensures.value, c.adjustments_of.ensures.value) (sym (ap (adjustments (by_place c.args.menu.now) c.args.place) (first_rest c.args.others.now 0 c.in-len1-up.len_at_least)))
+    let sum : to_z w32 (of_z w32 (to_z w32 (of_z w32 c.from.result) +ℤ to_z w32 (of_z w32 c.adjustments_of.result)))
+    ≡ c.adjustment.result +ℤ c.adjustments_of.result =
+    omega (arith, ints, c.from.ensures) in
+    sum
+    ∙ rw (c.adjustment.ensures.value, c.adjustments_of.ensures.value)
+    (sym (ap (adjustments (by_place c.args.menu.now) c.args.place) (first_rest c.args.others.now 0 c.in-len1-up.len_at_least)))

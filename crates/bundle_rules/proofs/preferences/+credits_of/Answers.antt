@@ -9,4 +9,5 @@ pub returns-in-len1-up-clause-value : goal.returns-in-len1-up-clause-value
 unfolding by_place
 returns-in-len1-up-clause-value t c =
     let one = credits_at-is c.args.menu.now.places _ c.rated.result.now c.rated.ensures.value in
-    rw (c.from.ensures, c.credits_of.ensures.value, ← one) (sym (ap (total (by_place c.args.menu.now).credits) (first_rest c.args.places.now 0 c.in-len1-up.len_at_least)))
+    rw (c.from.ensures, c.credits_of.ensures.value, ← one)
+    (sym (ap (total (by_place c.args.menu.now).credits) (first_rest c.args.places.now 0 c.in-len1-up.len_at_least)))

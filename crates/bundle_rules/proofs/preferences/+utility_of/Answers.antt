@@ -10,5 +10,12 @@ pub returns-in-len1-up-clause-value : goal.returns-in-len1-up-clause-value
 unfolding by_place
 returns-in-len1-up-clause-value t c =
     let one = rating_at-is c.args.menu.now.places _ c.rated.result.now c.rated.ensures.value in
-    let sum : to_z w32 (of_z w32 (to_z w32 (of_z w32 (to_z w32 (of_z w32 c.from.result) +ℤ to_z w32 (of_z w32 c.adjustments_of.result))) +ℤ to_z w32 (of_z w32 c.utility_of.result))) ≡ (pos c.rated.result.now.rating +ℤ c.adjustments_of.result) +ℤ c.utility_of.result = omega (arith, ints, c.from.ensures) in
-    sum ∙ rw (c.adjustments_of.ensures.value, c.utility_of.ensures.value, ← one) (sym (ap (utility (by_place c.args.menu.now)) (first_rest c.args.places.now 0 c.in-len1-up.len_at_least)))
+    let sum : to_z w32
+    (of_z w32
+    (to_z w32 (of_z w32 (to_z w32 (of_z w32 c.from.result) +ℤ to_z w32 (of_z w32 c.adjustments_of.result)))
+    +ℤ to_z w32 (of_z w32 c.utility_of.result)))
+    ≡ (pos c.rated.result.now.rating +ℤ c.adjustments_of.result) +ℤ c.utility_of.result =
+    omega (arith, ints, c.from.ensures) in
+    sum
+    ∙ rw (c.adjustments_of.ensures.value, c.utility_of.ensures.value, ← one)
+    (sym (ap (utility (by_place c.args.menu.now)) (first_rest c.args.places.now 0 c.in-len1-up.len_at_least)))

@@ -19,5 +19,7 @@ returns c =
     ∙ ap (λ n. is_ahead n c.as_slice.result.now c.as_slice-2.result.now) c.len.ensures.value
     ∙ ap (λ ps. is_ahead count ps c.as_slice-2.result.now) first
     ∙ ap (is_ahead count (map (place_in menu.places) a)) second in
-    let tells = ahead_by_places menu.places c.len.ensures.menu.places.ascending a b (sections_of-IsBundle c.args.a.now).ascending (sections_of-IsBundle c.args.b.now).ascending (place_of_rated menu a c.requires.first) (place_of_rated menu b c.requires.second) in
+    let tells =
+    ahead_by_places menu.places c.len.ensures.menu.places.ascending a b (sections_of-IsBundle c.args.a.now).ascending
+    (sections_of-IsBundle c.args.b.now).ascending (place_of_rated menu a c.requires.first) (place_of_rated menu b c.requires.second) in
     ((λ is. tells.0 (sym same ∙ is)), (λ d. same ∙ tells.1 d))

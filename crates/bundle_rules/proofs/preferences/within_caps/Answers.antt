@@ -10,8 +10,15 @@ returns-then-places-from c =
     let courses : length c.args.places.now ≤ c.args.menu.now.courses = omega (arith, c.if-places-from.true, c.from.ensures, c.courses.ensures) in
     let value : c.credits_of.result ≡ total (by_place c.args.menu.now).credits c.args.places.now = c.credits_of.ensures.value in
     let cap : c.from-then-places-from.result ≡ c.args.menu.now.credits = c.from-then-places-from.ensures ∙ c.credits.ensures in (
-      (λ yes'. record { courses = courses; credits = (let low : c.credits_of.result ≤ c.from-then-places-from.result = grind (arith, nat_tests) in let h : total (by_place c.args.menu.now).credits c.args.places.now ≤ c.args.menu.now.credits = omega arith in h) }),
-      (λ is. let h : total (by_place c.args.menu.now).credits c.args.places.now ≤ c.args.menu.now.credits = is.credits in let low : c.credits_of.result ≤ c.from-then-places-from.result = omega arith in grind (arith, nat_tests)),
+      (λ yes'. record {
+        courses = courses;
+        credits =
+            (let low : c.credits_of.result
+            ≤ c.from-then-places-from.result = grind (arith, nat_tests) in let h : total (by_place c.args.menu.now).credits c.args.places.now
+            ≤ c.args.menu.now.credits = omega arith in h);
+      }),
+      (λ is. let h : total (by_place c.args.menu.now).credits c.args.places.now ≤ c.args.menu.now.credits = is.credits in let low : c.credits_of.result
+          ≤ c.from-then-places-from.result = omega arith in grind (arith, nat_tests)),
     )
 
 pub returns-else-places-from : goal.returns-else-places-from

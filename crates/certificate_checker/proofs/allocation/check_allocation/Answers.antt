@@ -11,14 +11,18 @@ pub index-requires-in-loop-place : goal.index-requires-in-loop-place
 index-requires-in-loop-place c =
     let p = publication_of c.args.publication.now in
     let long : HasLengths c.args.terms.now c.args.publication.now = lengths c.args.terms.now c.args.publication.now c.requires.terms in
-    let held : length c.args.floor.now.held.items ≡ length c.args.terms.now.crowd.menus.items = sym (length_map sections_of c.args.floor.now.held.items) ∙ ap length c.requires.held ∙ after_length c.args.terms.now c.args.publication.now p.turns c.requires.terms in
+    let held : length c.args.floor.now.held.items ≡ length c.args.terms.now.crowd.menus.items =
+    sym (length_map sections_of c.args.floor.now.held.items) ∙ ap length c.requires.held
+    ∙ after_length c.args.terms.now c.args.publication.now p.turns c.requires.terms in
     omega arith
 
 pub returns-then-ne-clause-first : goal.returns-then-ne-clause-first
 returns-then-ne-clause-first c =
     let p = publication_of c.args.publication.now in
     let long : HasLengths c.args.terms.now c.args.publication.now = lengths c.args.terms.now c.args.publication.now c.requires.terms in
-    let held : length c.args.floor.now.held.items ≡ length c.args.terms.now.crowd.menus.items = sym (length_map sections_of c.args.floor.now.held.items) ∙ ap length c.requires.held ∙ after_length c.args.terms.now c.args.publication.now p.turns c.requires.terms in
+    let held : length c.args.floor.now.held.items ≡ length c.args.terms.now.crowd.menus.items =
+    sym (length_map sections_of c.args.floor.now.held.items) ∙ ap length c.requires.held
+    ∙ after_length c.args.terms.now c.args.publication.now p.turns c.requires.terms in
     let low : c.loop-place.place < length c.args.publication.now.allocation.items = omega arith in
     let small : c.loop-place.place < length c.args.floor.now.held.items = omega arith in
     record {
@@ -26,7 +30,10 @@ returns-then-ne-clause-first c =
       found = record {
         within = omega arith;
         before = c.loop-place.invariant;
-        fails = are_unequal c.args.publication.now.allocation.items c.args.floor.now.held.items (held_after (demanded p) p.turns) c.loop-place.place c.index.result.now c.index-in-loop-place.result.now low small c.index.ensures c.index-in-loop-place.ensures c.requires.held (sym c.ne.ensures ∙ c.if-ne.true);
+        fails =
+            are_unequal c.args.publication.now.allocation.items c.args.floor.now.held.items (held_after (demanded p) p.turns) c.loop-place.place
+            c.index.result.now c.index-in-loop-place.result.now low small c.index.ensures c.index-in-loop-place.ensures c.requires.held
+            (sym c.ne.ensures ∙ c.if-ne.true);
       };
     }
 
@@ -34,11 +41,14 @@ pub loop-place-preserved : goal.loop-place-preserved
 loop-place-preserved c =
     let p = publication_of c.args.publication.now in
     let long : HasLengths c.args.terms.now c.args.publication.now = lengths c.args.terms.now c.args.publication.now c.requires.terms in
-    let held : length c.args.floor.now.held.items ≡ length c.args.terms.now.crowd.menus.items = sym (length_map sections_of c.args.floor.now.held.items) ∙ ap length c.requires.held ∙ after_length c.args.terms.now c.args.publication.now p.turns c.requires.terms in
+    let held : length c.args.floor.now.held.items ≡ length c.args.terms.now.crowd.menus.items =
+    sym (length_map sections_of c.args.floor.now.held.items) ∙ ap length c.requires.held
+    ∙ after_length c.args.terms.now c.args.publication.now p.turns c.requires.terms in
     let low : c.loop-place.place < length c.args.publication.now.allocation.items = omega arith in
     let small : c.loop-place.place < length c.args.floor.now.held.items = omega arith in
     below_more _ _ c.loop-place.invariant
-    (are_equal c.args.publication.now.allocation.items c.args.floor.now.held.items (held_after (demanded p) p.turns) c.loop-place.place c.index.result.now c.index-in-loop-place.result.now low small c.index.ensures c.index-in-loop-place.ensures c.requires.held (sym c.ne.ensures ∙ c.if-ne.false))
+    (are_equal c.args.publication.now.allocation.items c.args.floor.now.held.items (held_after (demanded p) p.turns) c.loop-place.place c.index.result.now
+    c.index-in-loop-place.result.now low small c.index.ensures c.index-in-loop-place.ensures c.requires.held (sym c.ne.ensures ∙ c.if-ne.false))
 
 pub returns-clause-ok : goal.returns-clause-ok
 returns-clause-ok c =

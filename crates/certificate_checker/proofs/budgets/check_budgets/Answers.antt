@@ -8,7 +8,9 @@ use Rattle.certificate_checker.proofs.budgets.check_budgets.Goals.{After-ne}
 
 -- the budget that is printed at the place, and the one that is drawn
 compared : (c : After-ne) → (get_or (map (λ (t : Tokens). t.0) c.args.publication.now.budgets.items) c.loop-place.place 0 ≡ c.index.result.now.0)
-    × ((student_in (crowd_of c.args.terms.now.crowd.menus.items c.args.terms.now.crowd.budgets.items c.args.terms.now.crowd.sections) c.loop-place.place).budget ≡ c.index-in-loop-place.result.now.0)
+    ×
+    ((student_in (crowd_of c.args.terms.now.crowd.menus.items c.args.terms.now.crowd.budgets.items c.args.terms.now.crowd.sections) c.loop-place.place).budget
+    ≡ c.index-in-loop-place.result.now.0)
 compared c =
     let terms = c.args.terms.now in
     let place = c.loop-place.place in
@@ -16,7 +18,8 @@ compared c =
     let below : place < length c.args.publication.now.budgets.items = omega arith in
     let inside : place < length terms.crowd.menus.items = omega arith in (
       printed_is c.args.publication.now.budgets.items place c.index.result.now below c.index.ensures,
-      drawn_is terms.crowd.menus.items terms.crowd.budgets.items terms.crowd.sections place c.index-in-loop-place.result.now long.drawn inside c.index-in-loop-place.ensures,
+      drawn_is terms.crowd.menus.items terms.crowd.budgets.items terms.crowd.sections place c.index-in-loop-place.result.now long.drawn inside
+          c.index-in-loop-place.ensures,
     )
 
 pub returns-then-ne-clause-first : goal.returns-then-ne-clause-first
@@ -35,7 +38,8 @@ returns-then-ne-clause-first c =
 pub loop-place-preserved : goal.loop-place-preserved
 loop-place-preserved c =
     let is = compared (goal.at.loop-place-preserved c).After-ne in
-    below_more _ _ c.loop-place.invariant (is.0 ∙ are_same c.index.result.now.0 c.index-in-loop-place.result.now.0 (sym c.ne.ensures ∙ c.if-ne.false) ∙ sym is.1)
+    below_more _ _ c.loop-place.invariant
+    (is.0 ∙ are_same c.index.result.now.0 c.index-in-loop-place.result.now.0 (sym c.ne.ensures ∙ c.if-ne.false) ∙ sym is.1)
 
 pub returns-clause-ok : goal.returns-clause-ok
 returns-clause-ok c =

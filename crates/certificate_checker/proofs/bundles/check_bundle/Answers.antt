@@ -5,7 +5,9 @@ use Rattle.certificate_checker.proofs.bundles.check_bundle.Goals as goal
 use Rattle.certificate_checker.proofs.bundles.check_bundle.Goals.{After-index-proved}
 
 -- the bundle as it is read
-read : (c : After-index-proved) → IsRead c.args.terms.now c.args.publication.now c.args.student c.index-menu.result.now c.index-budget.result.now c.as_slice-prices.result.now c.args.all.now c.index-proved.result.now
+read : (c : After-index-proved)
+    → IsRead c.args.terms.now c.args.publication.now c.args.student c.index-menu.result.now c.index-budget.result.now c.as_slice-prices.result.now
+    c.args.all.now c.index-proved.result.now
 read c = record {
   can = c.requires.terms;
   student = c.requires.student;
@@ -22,20 +24,25 @@ is_affordable-requires c =
 
 pub returns-then-not-is_affordable-clause-wrong : goal.returns-then-not-is_affordable-clause-wrong
 returns-then-not-is_affordable-clause-wrong c =
-    unaffordable _ _ _ _ _ _ _ _ (read (goal.at.returns-then-not-is_affordable-clause-wrong c).After-index-proved) (denied c.is_affordable.result c.is_affordable.ensures c.if-not-is_affordable.true)
+    unaffordable _ _ _ _ _ _ _ _ (read (goal.at.returns-then-not-is_affordable-clause-wrong c).After-index-proved)
+    (denied c.is_affordable.result c.is_affordable.ensures c.if-not-is_affordable.true)
 
 pub returns-then-not-feasible-clause-wrong : goal.returns-then-not-feasible-clause-wrong
 returns-then-not-feasible-clause-wrong c =
-    infeasible _ _ _ _ _ _ _ _ (read (goal.at.returns-then-not-feasible-clause-wrong c).After-index-proved) (c.is_affordable.ensures.0 c.if-not-is_affordable.false) (denied c.feasible.result c.feasible.ensures c.if-not-feasible.true)
+    infeasible _ _ _ _ _ _ _ _ (read (goal.at.returns-then-not-feasible-clause-wrong c).After-index-proved)
+    (c.is_affordable.ensures.0 c.if-not-is_affordable.false) (denied c.feasible.result c.feasible.ensures c.if-not-feasible.true)
 
 pub check_tree-requires-clause-champion : goal.check_tree-requires-clause-champion
 check_tree-requires-clause-champion c =
-    takable _ _ _ _ _ _ _ _ (read (goal.at.check_tree-requires-clause-champion c).After-index-proved) (c.feasible.ensures.0 c.if-not-feasible.false) (c.is_affordable.ensures.0 c.if-not-is_affordable.false)
+    takable _ _ _ _ _ _ _ _ (read (goal.at.check_tree-requires-clause-champion c).After-index-proved) (c.feasible.ensures.0 c.if-not-feasible.false)
+    (c.is_affordable.ensures.0 c.if-not-is_affordable.false)
 
 pub returns-in-Ok-clause-ok : goal.returns-in-Ok-clause-ok
 returns-in-Ok-clause-ok c =
-    right_bundle _ _ _ _ _ _ _ _ (read (goal.at.returns-in-Ok-clause-ok c).After-index-proved) c.deref.result.now c.deref.ensures.value (c.is_affordable.ensures.0 c.if-not-is_affordable.false) (c.feasible.ensures.0 c.if-not-feasible.false) (c.in-Ok.ensures.ok.0 refl).1
+    right_bundle _ _ _ _ _ _ _ _ (read (goal.at.returns-in-Ok-clause-ok c).After-index-proved) c.deref.result.now c.deref.ensures.value
+    (c.is_affordable.ensures.0 c.if-not-is_affordable.false) (c.feasible.ensures.0 c.if-not-feasible.false) (c.in-Ok.ensures.ok.0 refl).1
 
 pub returns-in-Err-clause-wrong : goal.returns-in-Err-clause-wrong
 returns-in-Err-clause-wrong c =
-    wrong_tree _ _ _ _ _ _ _ _ (read (goal.at.returns-in-Err-clause-wrong c).After-index-proved) c.deref.result.now c.in-Err.defect c.deref.ensures.value (c.is_affordable.ensures.0 c.if-not-is_affordable.false) (c.feasible.ensures.0 c.if-not-feasible.false) c.in-Err.ensures.defect
+    wrong_tree _ _ _ _ _ _ _ _ (read (goal.at.returns-in-Err-clause-wrong c).After-index-proved) c.deref.result.now c.in-Err.defect c.deref.ensures.value
+    (c.is_affordable.ensures.0 c.if-not-is_affordable.false) (c.feasible.ensures.0 c.if-not-feasible.false) c.in-Err.ensures.defect

@@ -13,7 +13,8 @@ returns-in_err-check_bundle-clause-first c =
     let long : HasLengths terms c.args.publication.now = lengths terms c.args.publication.now c.requires.terms in
     let low : c.loop-student.student < length (students_of terms.crowd.menus.items terms.crowd.budgets.items) = omega arith in
     err_from c.from_residual.result c.in_err-check_bundle.field-0.0 _ c.from_residual.ensures.1
-    (first_bundle (terms_of terms) (publication_of c.args.publication.now) c.loop-student.student c.in_err-check_bundle.field-0.0 c.requires.before low c.loop-student.invariant c.in_err-check_bundle.ensures.wrong)
+    (first_bundle (terms_of terms) (publication_of c.args.publication.now) c.loop-student.student c.in_err-check_bundle.field-0.0 c.requires.before low
+    c.loop-student.invariant c.in_err-check_bundle.ensures.wrong)
 
 pub loop-student-preserved : goal.loop-student-preserved
 loop-student-preserved c = below_more _ _ c.loop-student.invariant c.in_ok-check_bundle.ensures.ok

@@ -13,6 +13,9 @@ all_allowed-requires c =
 
 pub returns : goal.returns
 returns c = (
-  (λ all s is. ordinals_of_all (λ t. set.contains c.args.allowed.now t ≡ true) c.sections.result.now (c.all_allowed.ensures.0 all) s (subst (λ xs. has xs s ≡ true) (sym c.sections.ensures.value) is)),
-  (λ each. c.all_allowed.ensures.1 (all_of_ordinals (λ t. set.contains c.args.allowed.now t ≡ true) c.sections.result.now (λ s is. each s (subst (λ xs. has xs s ≡ true) c.sections.ensures.value is)))),
+  (λ all s is. ordinals_of_all (λ t. set.contains c.args.allowed.now t ≡ true) c.sections.result.now (c.all_allowed.ensures.0 all) s
+      (subst (λ xs. has xs s ≡ true) (sym c.sections.ensures.value) is)),
+  (λ each. c.all_allowed.ensures.1
+      (all_of_ordinals (λ t. set.contains c.args.allowed.now t ≡ true) c.sections.result.now
+      (λ s is. each s (subst (λ xs. has xs s ≡ true) c.sections.ensures.value is)))),
 )

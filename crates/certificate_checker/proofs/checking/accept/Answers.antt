@@ -15,7 +15,8 @@ use Rattle.certificate_checker.proofs.checking.accept.Goals as goal
 
 pub accept_publication-requires-clause-entries : goal.accept_publication-requires-clause-entries
 accept_publication-requires-clause-entries c =
-    let short : length c.in-Ok.publication.order.items ≤ length c.args.text.items = order_in_text (tables_of c.args.catalog.now c.args.roll.now) (publication_of c.in-Ok.publication) c.args.text.items c.in-Ok.ensures.text in
+    let short : length c.in-Ok.publication.order.items ≤ length c.args.text.items =
+    order_in_text (tables_of c.args.catalog.now c.args.roll.now) (publication_of c.in-Ok.publication) c.args.text.items c.in-Ok.ensures.text in
     let small = c.requires.text in
     omega arith
 
@@ -28,11 +29,18 @@ accept_publication-requires-clause-turns c =
 
 pub returns-in-Ok-clause-text : goal.returns-in-Ok-clause-text
 returns-in-Ok-clause-text c =
-    ok_then c.accept_publication.result (λ accepted same. subst (λ p. IsTextOf (market_of c.args.catalog.now c.args.roll.now c.args.settings.now) p c.args.text.items) (sym same) (record { is_publication = c.in-Ok.ensures.publication; written = c.in-Ok.ensures.text })) c.accept_publication.ensures.same
+    ok_then c.accept_publication.result
+    (λ accepted same. subst (λ p. IsTextOf (market_of c.args.catalog.now c.args.roll.now c.args.settings.now) p c.args.text.items) (sym same)
+    (record { is_publication = c.in-Ok.ensures.publication; written = c.in-Ok.ensures.text }))
+    c.accept_publication.ensures.same
 
 pub returns-in-Ok-clause-holds : goal.returns-in-Ok-clause-holds
 returns-in-Ok-clause-holds c =
-    ok_both c.accept_publication.result (λ accepted same holds. subst (λ p. HoldsBy (market_of c.args.catalog.now c.args.roll.now c.args.settings.now) (map (λ stream. stream.items) c.args.streams.now) p (crowd_seen accepted.crowd)) (sym same) holds)
+    ok_both c.accept_publication.result
+    (λ accepted same holds. subst
+    (λ p. HoldsBy (market_of c.args.catalog.now c.args.roll.now c.args.settings.now) (map (λ stream. stream.items) c.args.streams.now) p
+    (crowd_seen accepted.crowd))
+    (sym same) holds)
     c.accept_publication.ensures.same c.accept_publication.ensures.holds
 
 pub returns-in-Ok-clause-first : goal.returns-in-Ok-clause-first
@@ -48,12 +56,20 @@ returns-in-Ok-clause-refused c =
 
 pub returns-in-Err-clause-first : goal.returns-in-Err-clause-first
 returns-in-Err-clause-first c =
-    subst (λ end. OnFound end (IsFirstFinding (market_of c.args.catalog.now c.args.roll.now c.args.settings.now) (map (λ stream. stream.items) c.args.streams.now) c.args.text.items)) (sym c.end_of.ensures)
+    subst
+    (λ end. OnFound end
+    (IsFirstFinding (market_of c.args.catalog.now c.args.roll.now c.args.settings.now) (map (λ stream. stream.items) c.args.streams.now)
+    c.args.text.items))
+    (sym c.end_of.ensures)
     (defect_first (market_of c.args.catalog.now c.args.roll.now c.args.settings.now) _ c.args.text.items c.in-Err.refusal c.in-Err.ensures.defect)
 
 pub returns-in-Err-clause-refused : goal.returns-in-Err-clause-refused
 returns-in-Err-clause-refused c =
-    subst (λ end. OnFound end (λ _. ¬ IsAccepted (market_of c.args.catalog.now c.args.roll.now c.args.settings.now) (map (λ stream. stream.items) c.args.streams.now) c.args.text.items)) (sym c.end_of.ensures)
+    subst
+    (λ end. OnFound end
+    (λ _. ¬ IsAccepted (market_of c.args.catalog.now c.args.roll.now c.args.settings.now) (map (λ stream. stream.items) c.args.streams.now)
+    c.args.text.items))
+    (sym c.end_of.ensures)
     (defect_refused (market_of c.args.catalog.now c.args.roll.now c.args.settings.now) _ c.args.text.items c.in-Err.refusal c.in-Err.ensures.refused)
 
 pub returns-in-Ok-clause-named : goal.returns-in-Ok-clause-named
@@ -64,4 +80,5 @@ returns-in-Ok-clause-named c =
 
 pub returns-in-Err-clause-named : goal.returns-in-Err-clause-named
 returns-in-Err-clause-named c =
-    subst (λ end. OnFound end (IsNamedIn (tables_of c.args.catalog.now c.args.roll.now))) (sym c.end_of.ensures) (defect_named (tables_of c.args.catalog.now c.args.roll.now) c.in-Err.refusal)
+    subst (λ end. OnFound end (IsNamedIn (tables_of c.args.catalog.now c.args.roll.now))) (sym c.end_of.ensures)
+    (defect_named (tables_of c.args.catalog.now c.args.roll.now) c.in-Err.refusal)

@@ -12,14 +12,24 @@ use Rattle.certificate_checker.proofs.checking.accept_publication.Goals as goal
 
 pub check_printed-requires-clause-terms : goal.check_printed-requires-clause-terms
 check_printed-requires-clause-terms c =
-    let after = subst (λ order. IsCrowdAfter (market_of c.args.catalog.now c.args.roll.now c.args.settings.now) (map (λ stream. stream.items) c.args.streams.now) order (terms_of c.in_ok-terms.terms).crowd) c.deref.ensures.value c.in_ok-terms.ensures.crowd in
-    can_check (market_of c.args.catalog.now c.args.roll.now c.args.settings.now) _ c.in_ok-terms.terms (publication_of c.args.publication) c.requires.publication after c.in_ok-terms.ensures.terms c.in_ok-terms.ensures.whole c.requires.raise
+    let after =
+    subst
+    (λ order. IsCrowdAfter (market_of c.args.catalog.now c.args.roll.now c.args.settings.now) (map (λ stream. stream.items) c.args.streams.now) order
+    (terms_of c.in_ok-terms.terms).crowd)
+    c.deref.ensures.value c.in_ok-terms.ensures.crowd in
+    can_check (market_of c.args.catalog.now c.args.roll.now c.args.settings.now) _ c.in_ok-terms.terms (publication_of c.args.publication)
+    c.requires.publication after c.in_ok-terms.ensures.terms c.in_ok-terms.ensures.whole c.requires.raise
 
 pub returns-in_err-terms-clause-first : goal.returns-in_err-terms-clause-first
 returns-in_err-terms-clause-first c =
-    let fails = subst (λ order. OnFound c.in_err-terms.field-0.0 (IsOrderFinding (map (λ stream. stream.items) c.args.streams.now) order)) c.deref.ensures.value c.in_err-terms.ensures.fails in
-    let first : OnFound c.in_err-terms.field-0.0 (IsFirstOf (market_of c.args.catalog.now c.args.roll.now c.args.settings.now) (map (λ stream. stream.items) c.args.streams.now) (publication_of c.args.publication)) =
-    on_found _ _ c.in_err-terms.field-0.0 (order_first (market_of c.args.catalog.now c.args.roll.now c.args.settings.now) _ (publication_of c.args.publication)) fails in
+    let fails =
+    subst (λ order. OnFound c.in_err-terms.field-0.0 (IsOrderFinding (map (λ stream. stream.items) c.args.streams.now) order)) c.deref.ensures.value
+    c.in_err-terms.ensures.fails in
+    let first : OnFound c.in_err-terms.field-0.0
+    (IsFirstOf (market_of c.args.catalog.now c.args.roll.now c.args.settings.now) (map (λ stream. stream.items) c.args.streams.now)
+    (publication_of c.args.publication)) =
+    on_found _ _ c.in_err-terms.field-0.0 (order_first (market_of c.args.catalog.now c.args.roll.now c.args.settings.now) _ (publication_of c.args.publication))
+    fails in
     err_from c.from_residual.result c.in_err-terms.field-0.0 _ c.from_residual.ensures.1 first
 
 pub returns-in-Ok-clause-holds : goal.returns-in-Ok-clause-holds
@@ -34,5 +44,12 @@ pub returns-in-Err-clause-first : goal.returns-in-Err-clause-first
 returns-in-Err-clause-first c =
     let p = publication_of c.args.publication in
     let market = market_of c.args.catalog.now c.args.roll.now c.args.settings.now in
-    let after = subst (λ order. IsCrowdAfter (market_of c.args.catalog.now c.args.roll.now c.args.settings.now) (map (λ stream. stream.items) c.args.streams.now) order (terms_of c.in_ok-terms.terms).crowd) c.deref.ensures.value c.in_ok-terms.ensures.crowd in
-    on_found _ _ c.in-Err.end (λ finding is. printed_first market _ p (terms_of c.in_ok-terms.terms).crowd finding after (subst (λ t. IsFirstIn t p finding) c.in_ok-terms.ensures.terms is)) c.in-Err.ensures.first
+    let after =
+    subst
+    (λ order. IsCrowdAfter (market_of c.args.catalog.now c.args.roll.now c.args.settings.now) (map (λ stream. stream.items) c.args.streams.now) order
+    (terms_of c.in_ok-terms.terms).crowd)
+    c.deref.ensures.value c.in_ok-terms.ensures.crowd in
+    on_found _ _ c.in-Err.end
+    (λ finding is. printed_first market _ p (terms_of c.in_ok-terms.terms).crowd finding after
+    (subst (λ t. IsFirstIn t p finding) c.in_ok-terms.ensures.terms is))
+    c.in-Err.ensures.first

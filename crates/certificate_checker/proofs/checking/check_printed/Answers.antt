@@ -12,4 +12,6 @@ check_used-requires-clause-held c =
     let p = publication_of c.args.publication.now in
     let long : HasLengths terms c.args.publication.now = lengths terms c.args.publication.now c.requires.terms in
     c.in_ok-check_turns.ensures.held
-    ∙ sym (allocation_is p _ (length_map sections_of c.args.publication.now.allocation.items ∙ long.allocation ∙ sym long.students) (after_length terms c.args.publication.now p.turns c.requires.terms ∙ sym long.students) c.in_ok-check_allocation.ensures.ok.1)
+    ∙ sym
+    (allocation_is p _ (length_map sections_of c.args.publication.now.allocation.items ∙ long.allocation ∙ sym long.students)
+    (after_length terms c.args.publication.now p.turns c.requires.terms ∙ sym long.students) c.in_ok-check_allocation.ensures.ok.1)

@@ -4,4 +4,5 @@ use Rattle.certificate_checker.proofs.checking.stage_two.Goals as goal
 
 pub open-requires-clause-below : goal.open-requires-clause-below
 open-requires-clause-below c =
-    stage_two_fits c.args.terms.now c.args.publication.now c.students.proved-index c.students.bundles.items c.deref-2.result.now c.deref.result.now c.requires c.deref.ensures.value c.deref-2.ensures.value c.students.invariant (omega arith)
+    stage_two_fits c.args.terms.now c.args.publication.now c.students.proved-index c.students.bundles.items c.deref-2.result.now c.deref.result.now c.requires
+    c.deref.ensures.value c.deref-2.ensures.value c.students.invariant (omega arith)

@@ -5,4 +5,5 @@ use Rattle.market_certificate.specs.Publications.{Proved}
 use Rattle.certificate_checker.proofs.checking.stage_two.Given as goal
 
 abbrev pub invariant-students : goal.invariant-students
-invariant-students l = map sections_of l.bundles.items ≡ map (λ (proved : Proved). proved.bundle) (map proved_of (take l.proved-index l.publication.bundles.items))
+invariant-students l =
+    map sections_of l.bundles.items ≡ map (λ (proved : Proved). proved.bundle) (map proved_of (take l.proved-index l.publication.bundles.items))

@@ -30,7 +30,8 @@ turns-init c = record {
 pub take_turn-requires-clause-order : goal.take_turn-requires-clause-order
 take_turn-requires-clause-order c =
     ap (map (λ (student : StudentNo). student.0)) c.deref-in-turns.ensures.value ∙ c.in_ok-order.ensures.value
-    ∙ ap after_order_of (ap amounts c.deref.ensures.value ∙ sym (budgets_are c.args.terms.now.crowd.menus.items c.args.terms.now.crowd.budgets.items c.requires.terms.whole.same))
+    ∙ ap after_order_of
+    (ap amounts c.deref.ensures.value ∙ sym (budgets_are c.args.terms.now.crowd.menus.items c.args.terms.now.crowd.budgets.items c.requires.terms.whole.same))
 
 pub turns-preserved : goal.turns-preserved
 turns-preserved c = record {
@@ -42,8 +43,13 @@ turns-preserved c = record {
 
 pub returns-then-is_empty-clause-ok : goal.returns-then-is_empty-clause-ok
 returns-then-is_empty-clause-ok c =
-    let order : map (λ (student : StudentNo). student.0) c.in_ok-order.order.items ≡ order_in (terms_of c.args.terms.now).crowd = c.in_ok-order.ensures.value ∙ ap after_order_of (ap amounts c.deref.ensures.value ∙ sym (budgets_are c.args.terms.now.crowd.menus.items c.args.terms.now.crowd.budgets.items c.requires.terms.whole.same)) in
-    let long : length c.in_ok-order.order.items ≡ length c.args.terms.now.crowd.menus.items = order_is_long c.args.terms.now c.args.publication.now c.in_ok-order.order.items c.requires.terms order in
+    let order : map (λ (student : StudentNo). student.0) c.in_ok-order.order.items ≡ order_in (terms_of c.args.terms.now).crowd =
+    c.in_ok-order.ensures.value
+    ∙ ap after_order_of
+    (ap amounts c.deref.ensures.value
+    ∙ sym (budgets_are c.args.terms.now.crowd.menus.items c.args.terms.now.crowd.budgets.items c.requires.terms.whole.same)) in
+    let long : length c.in_ok-order.order.items ≡ length c.args.terms.now.crowd.menus.items =
+    order_is_long c.args.terms.now c.args.publication.now c.in_ok-order.order.items c.requires.terms order in
     let students = students_length c.args.terms.now.crowd.menus.items c.args.terms.now.crowd.budgets.items c.requires.terms.whole.same in
     let turns = length_map turn_of c.args.publication.now.turns.items in
     let empty : vec_len c.in_ok-order.order ≡ 0 = is_zero (vec_len c.in_ok-order.order) (sym c.is_empty.ensures ∙ c.if-is_empty.true) in
@@ -52,13 +58,20 @@ returns-then-is_empty-clause-ok c =
 pub returns-then-progress-clause-ok : goal.returns-then-progress-clause-ok
 returns-then-progress-clause-ok c =
     let turns = length_map turn_of c.args.publication.now.turns.items in
-    let at : c.turns.place ≡ length c.args.publication.now.turns.items = omega arith in
-    ((c.requires.before, fewer _ c.turns.place _ (omega arith) c.turns.invariant.right), ends_quietly c.args.terms.now c.args.publication.now c.turns.place c.turns.progress c.requires.terms at c.turns.invariant.progress c.if-progress.true)
+    let at : c.turns.place ≡ length c.args.publication.now.turns.items = omega arith in (
+      (c.requires.before, fewer _ c.turns.place _ (omega arith) c.turns.invariant.right),
+      ends_quietly c.args.terms.now c.args.publication.now c.turns.place c.turns.progress c.requires.terms at c.turns.invariant.progress c.if-progress.true,
+    )
 
 pub returns-clause-first : goal.returns-clause-first
 returns-clause-first c =
-    let order : map (λ (student : StudentNo). student.0) c.in_ok-order.order.items ≡ order_in (terms_of c.args.terms.now).crowd = c.in_ok-order.ensures.value ∙ ap after_order_of (ap amounts c.deref.ensures.value ∙ sym (budgets_are c.args.terms.now.crowd.menus.items c.args.terms.now.crowd.budgets.items c.requires.terms.whole.same)) in
-    let long : length c.in_ok-order.order.items ≡ length c.args.terms.now.crowd.menus.items = order_is_long c.args.terms.now c.args.publication.now c.in_ok-order.order.items c.requires.terms order in
+    let order : map (λ (student : StudentNo). student.0) c.in_ok-order.order.items ≡ order_in (terms_of c.args.terms.now).crowd =
+    c.in_ok-order.ensures.value
+    ∙ ap after_order_of
+    (ap amounts c.deref.ensures.value
+    ∙ sym (budgets_are c.args.terms.now.crowd.menus.items c.args.terms.now.crowd.budgets.items c.requires.terms.whole.same)) in
+    let long : length c.in_ok-order.order.items ≡ length c.args.terms.now.crowd.menus.items =
+    order_is_long c.args.terms.now c.args.publication.now c.in_ok-order.order.items c.requires.terms order in
     let turns = length_map turn_of c.args.publication.now.turns.items in
     let at : c.turns.place ≡ length c.args.publication.now.turns.items = omega arith in
     let full : vec_len c.in_ok-order.order ≢ 0 = not_zero (vec_len c.in_ok-order.order) (sym c.is_empty.ensures ∙ c.if-is_empty.false) in
@@ -66,5 +79,9 @@ returns-clause-first c =
     let some : 0 < length c.args.terms.now.crowd.menus.items = omega arith in
     record {
       before = (c.requires.before, fewer _ c.turns.place _ (omega arith) c.turns.invariant.right);
-      found = (same, ends_early c.args.terms.now c.args.publication.now c.turns.place c.turns.progress c.requires.terms at c.turns.invariant.progress some c.if-progress.false);
+      found = (
+        same,
+        ends_early c.args.terms.now c.args.publication.now c.turns.place c.turns.progress c.requires.terms at c.turns.invariant.progress some
+            c.if-progress.false,
+      );
     }

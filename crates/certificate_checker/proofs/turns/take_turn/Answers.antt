@@ -13,7 +13,8 @@ use Rattle.certificate_checker.proofs.turns.take_turn.Goals as goal
 
 pub give-moved-requires-clause-place : goal.give-moved-requires-clause-place
 give-moved-requires-clause-place c =
-    let inside : c.index-turn.result.now.student.0 < length c.args.terms.now.crowd.menus.items = turn_student c.args.terms.now c.args.publication.now c.args.place c.index-turn.result.now c.requires.terms c.requires.place c.index-turn.ensures in
+    let inside : c.index-turn.result.now.student.0 < length c.args.terms.now.crowd.menus.items =
+    turn_student c.args.terms.now c.args.publication.now c.args.place c.index-turn.result.now c.requires.terms c.requires.place c.index-turn.ensures in
     let long = before_length c.args.terms.now c.args.publication.now c.args.place c.requires.terms in
     let same = c.from.ensures in
     subst (λ held. c.from.result < length held) (sym c.requires.held) (omega arith)
@@ -27,13 +28,15 @@ give-moved-requires-clause-few c =
 pub give-moved-requires-clause-below : goal.give-moved-requires-clause-below
 give-moved-requires-clause-below c =
     let size : c.args.terms.now.crowd.sections ≡ length c.deref.result.now = sym c.requires.terms.seats ∙ ap length (sym c.deref.ensures.value) in
-    subst {A = ℕ × List (List ℕ)} (λ both. AreBelow both.0 both.1) (λ i. (size i, sym c.requires.held i)) (before_below c.args.terms.now c.args.publication.now c.args.place c.requires.terms)
+    subst {A = ℕ × List (List ℕ)} (λ both. AreBelow both.0 both.1) (λ i. (size i, sym c.requires.held i))
+    (before_below c.args.terms.now c.args.publication.now c.args.place c.requires.terms)
 
 pub give-moved-requires-clause-within : goal.give-moved-requires-clause-within
 give-moved-requires-clause-within c =
     let size : c.args.terms.now.crowd.sections ≡ length c.deref.result.now = sym c.requires.terms.seats ∙ ap length (sym c.deref.ensures.value) in
     λ s is. subst (λ n. s < n) size
-    (so_of_has (λ t. t < c.args.terms.now.crowd.sections) (sections_of c.index-turn.result.now.bundle) (turn_below c.args.terms.now c.args.publication.now c.args.place c.index-turn.result.now c.requires.terms c.requires.place c.index-turn.ensures) s is)
+    (so_of_has (λ t. t < c.args.terms.now.crowd.sections) (sections_of c.index-turn.result.now.bundle)
+    (turn_below c.args.terms.now c.args.publication.now c.args.place c.index-turn.result.now c.requires.terms c.requires.place c.index-turn.ensures) s is)
 
 pub after_turn-requires-clause-place : goal.after_turn-requires-clause-place
 after_turn-requires-clause-place c =
@@ -44,11 +47,14 @@ after_turn-requires-clause-place c =
 pub returns-clause-progress : goal.returns-clause-progress
 returns-clause-progress c =
     let p = publication_of c.args.publication.now in
-    let n : length c.args.order.now ≡ length c.args.terms.now.crowd.menus.items = order_is_long c.args.terms.now c.args.publication.now c.args.order.now c.requires.terms c.requires.order in
-    let turn : turn_in p c.args.place ≡ turn_of c.index-turn.result.now = turn_is c.args.publication.now c.args.place c.index-turn.result.now c.requires.place c.index-turn.ensures in
+    let n : length c.args.order.now ≡ length c.args.terms.now.crowd.menus.items =
+    order_is_long c.args.terms.now c.args.publication.now c.args.order.now c.requires.terms c.requires.order in
+    let turn : turn_in p c.args.place ≡ turn_of c.index-turn.result.now =
+    turn_is c.args.publication.now c.args.place c.index-turn.result.now c.requires.place c.index-turn.ensures in
     let who : c.from.result ≡ (turn_in p c.args.place).student = c.from.ensures ∙ ap (λ (t : ProvedTurn). t.student) (sym turn) in
     let what : sections_of c.index-turn.result.now.bundle ≡ (turn_in p c.args.place).bundle = ap (λ (t : ProvedTurn). t.bundle) (sym turn) in
-    let inside : c.index-turn.result.now.student.0 < length c.args.terms.now.crowd.menus.items = turn_student c.args.terms.now c.args.publication.now c.args.place c.index-turn.result.now c.requires.terms c.requires.place c.index-turn.ensures in
+    let inside : c.index-turn.result.now.student.0 < length c.args.terms.now.crowd.menus.items =
+    turn_student c.args.terms.now c.args.publication.now c.args.place c.index-turn.result.now c.requires.terms c.requires.place c.index-turn.ensures in
     let long = before_length c.args.terms.now c.args.publication.now c.args.place c.requires.terms in
     let same = c.from.ensures in
     let low : c.from.result < length (held_on c.args.floor.now) = subst (λ held. c.from.result < length held) (sym c.requires.held) (omega arith) in
@@ -59,8 +65,10 @@ returns-clause-progress c =
 pub returns-clause-held : goal.returns-clause-held
 returns-clause-held c =
     let p = publication_of c.args.publication.now in
-    let turn : turn_in p c.args.place ≡ turn_of c.index-turn.result.now = turn_is c.args.publication.now c.args.place c.index-turn.result.now c.requires.place c.index-turn.ensures in
+    let turn : turn_in p c.args.place ≡ turn_of c.index-turn.result.now =
+    turn_is c.args.publication.now c.args.place c.index-turn.result.now c.requires.place c.index-turn.ensures in
     let who : c.from.result ≡ (turn_in p c.args.place).student = c.from.ensures ∙ ap (λ (t : ProvedTurn). t.student) (sym turn) in
     let what : sections_of c.index-turn.result.now.bundle ≡ (turn_in p c.args.place).bundle = ap (λ (t : ProvedTurn). t.bundle) (sym turn) in
     let many = length_map turn_of c.args.publication.now.turns.items in
-    c.give-moved.ensures.held ∙ (λ i. slice_set (c.requires.held i) (who i) (what i)) ∙ sym (held_next p c.args.place (let low = c.requires.place in omega arith))
+    c.give-moved.ensures.held ∙ (λ i. slice_set (c.requires.held i) (who i) (what i))
+    ∙ sym (held_next p c.args.place (let low = c.requires.place in omega arith))

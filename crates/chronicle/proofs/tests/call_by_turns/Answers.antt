@@ -20,5 +20,6 @@ close_in_order-closed-requires-clause-numbers g c = λ n d below.
     let two : length seats ≡ 2 = search rules in
     let named_first : third.number ≡ 0 = search rules in
     let named_second : second.number ≡ 1 = search rules in
-    let long = length-set (slice_set (slice_set seats 0 first) 1 second) 0 third ∙ length-set (slice_set seats 0 first) 1 second ∙ length-set seats 0 first ∙ two in
+    let long =
+    length-set (slice_set (slice_set seats 0 first) 1 second) 0 third ∙ length-set (slice_set seats 0 first) 1 second ∙ length-set seats 0 first ∙ two in
     numbers_of_two seats first second third two named_first named_second n d (subst (λ m. n < m) long below)

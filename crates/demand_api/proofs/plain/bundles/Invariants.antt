@@ -6,4 +6,7 @@ use Rattle.demand_api.specs.Made.{crowd_of}
 use Rattle.demand_api.proofs.plain.bundles.Given as goal
 
 abbrev pub invariant-loop-student : goal.invariant-loop-student
-invariant-loop-student l = map sections_of l.bundles.items ≡ map (λ student. demand_of (crowd_of l.crowd.menus.items l.crowd.budgets.items l.crowd.sections) (price_in l.prices) student.0) (take l.student-index l.students)
+invariant-loop-student l =
+    map sections_of l.bundles.items
+    ≡ map (λ student. demand_of (crowd_of l.crowd.menus.items l.crowd.budgets.items l.crowd.sections) (price_in l.prices) student.0)
+    (take l.student-index l.students)

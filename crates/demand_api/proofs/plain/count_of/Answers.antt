@@ -13,9 +13,11 @@ pub loop-place-preserved : goal.loop-place-preserved
 loop-place-preserved c =
     let low : c.loop-place.place < length c.args.crowd.now.menus.items = search rules in
     let all = demands (crowd_of c.args.crowd.now.menus.items c.args.crowd.now.budgets.items c.args.crowd.now.sections) (price_in c.args.prices.now) in
-    let long = demands_length c.args.crowd.now.menus.items c.args.crowd.now.budgets.items c.args.crowd.now.sections (price_in c.args.prices.now) c.requires.crowd.same in
+    let long =
+    demands_length c.args.crowd.now.menus.items c.args.crowd.now.budgets.items c.args.crowd.now.sections (price_in c.args.prices.now) c.requires.crowd.same in
     let step : holders c.args.section.0 (take (c.loop-place.place + 1) all) ≡ c.loop-place.count + (if c.has.result then 1 else 0) =
-    counted c.args.section.0 all c.loop-place.place (sections_of c.demand.result) c.has.result c.loop-place.count (rw long low) c.has.ensures c.demand.ensures c.loop-place.invariant.0 in
+    counted c.args.section.0 all c.loop-place.place (sections_of c.demand.result) c.has.result c.loop-place.count (rw long low) c.has.ensures c.demand.ensures
+    c.loop-place.invariant.0 in
     let few = c.loop-place.invariant.1 in
     elim c.if-has.branch [
       | then-has w ↦ (let s = rw w.if-has.true at step in (omega (arith, s, w.count-is), omega (arith, few, w.count-is)))
@@ -26,5 +28,6 @@ pub returns : goal.returns
 returns c =
     let past : length c.args.crowd.now.menus.items ≤ c.loop-place.place = search rules in
     let all = demands (crowd_of c.args.crowd.now.menus.items c.args.crowd.now.budgets.items c.args.crowd.now.sections) (price_in c.args.prices.now) in
-    let long = demands_length c.args.crowd.now.menus.items c.args.crowd.now.budgets.items c.args.crowd.now.sections (price_in c.args.prices.now) c.requires.crowd.same in
+    let long =
+    demands_length c.args.crowd.now.menus.items c.args.crowd.now.budgets.items c.args.crowd.now.sections (price_in c.args.prices.now) c.requires.crowd.same in
     c.loop-place.invariant.0 ∙ ap (holders c.args.section.0) (take_all c.loop-place.place all (rw long past))

@@ -15,18 +15,27 @@ pub count_bundle-requires-clause-room : goal.count_bundle-requires-clause-room
 count_bundle-requires-clause-room c =
     let few = c.requires.crowd.few in
     let low : c.loop-place.place < length c.args.crowd.now.menus.items = search rules in
-    counts_room c.args.crowd.now.sections (demands (crowd_of c.args.crowd.now.menus.items c.args.crowd.now.budgets.items c.args.crowd.now.sections) (price_in c.args.prices.now)) c.loop-place.place c.loop-place.counts.items c.deref_mut.result.now c.sections.result.now (sections_of c.demand-bundle.result)
+    counts_room c.args.crowd.now.sections
+    (demands (crowd_of c.args.crowd.now.menus.items c.args.crowd.now.budgets.items c.args.crowd.now.sections) (price_in c.args.prices.now))
+    c.loop-place.place c.loop-place.counts.items c.deref_mut.result.now c.sections.result.now (sections_of c.demand-bundle.result)
     c.loop-place.invariant c.deref_mut.ensures.value (omega (arith, few, low)) c.sections.ensures.value c.sections.ensures.bundle
 
 pub loop-place-preserved : goal.loop-place-preserved
 loop-place-preserved c =
     let low : c.loop-place.place < length c.args.crowd.now.menus.items = search rules in
-    let long = demands_length c.args.crowd.now.menus.items c.args.crowd.now.budgets.items c.args.crowd.now.sections (price_in c.args.prices.now) c.requires.crowd.same in
-    counts_more c.args.crowd.now.sections (demands (crowd_of c.args.crowd.now.menus.items c.args.crowd.now.budgets.items c.args.crowd.now.sections) (price_in c.args.prices.now)) c.loop-place.place c.loop-place.counts.len c.loop-place.counts.items c.deref_mut.result.now c.count_bundle.new.counts c.sections.result.now (sections_of c.demand-bundle.result)
-    c.loop-place.invariant c.deref_mut.ensures.value (rw long low) c.sections.ensures.value c.demand-bundle.ensures (search rules) c.count_bundle.ensures.len c.count_bundle.ensures.each
+    let long =
+    demands_length c.args.crowd.now.menus.items c.args.crowd.now.budgets.items c.args.crowd.now.sections (price_in c.args.prices.now) c.requires.crowd.same in
+    counts_more c.args.crowd.now.sections
+    (demands (crowd_of c.args.crowd.now.menus.items c.args.crowd.now.budgets.items c.args.crowd.now.sections) (price_in c.args.prices.now))
+    c.loop-place.place c.loop-place.counts.len c.loop-place.counts.items c.deref_mut.result.now c.count_bundle.new.counts c.sections.result.now
+    (sections_of c.demand-bundle.result)
+    c.loop-place.invariant c.deref_mut.ensures.value (rw long low) c.sections.ensures.value c.demand-bundle.ensures (search rules) c.count_bundle.ensures.len
+    c.count_bundle.ensures.each
 
 pub returns : goal.returns
 returns c =
     let past : length c.args.crowd.now.menus.items ≤ c.loop-place.place = search rules in
-    let long = demands_length c.args.crowd.now.menus.items c.args.crowd.now.budgets.items c.args.crowd.now.sections (price_in c.args.prices.now) c.requires.crowd.same in
-    counts_done (crowd_of c.args.crowd.now.menus.items c.args.crowd.now.budgets.items c.args.crowd.now.sections) (price_in c.args.prices.now) c.loop-place.place c.loop-place.counts.items (rw long past) c.loop-place.invariant
+    let long =
+    demands_length c.args.crowd.now.menus.items c.args.crowd.now.budgets.items c.args.crowd.now.sections (price_in c.args.prices.now) c.requires.crowd.same in
+    counts_done (crowd_of c.args.crowd.now.menus.items c.args.crowd.now.budgets.items c.args.crowd.now.sections) (price_in c.args.prices.now) c.loop-place.place
+    c.loop-place.counts.items (rw long past) c.loop-place.invariant

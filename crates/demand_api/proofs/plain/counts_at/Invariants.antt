@@ -6,4 +6,5 @@ use Rattle.demand_api.specs.Counting.{AreCounts}
 use Rattle.demand_api.proofs.plain.counts_at.Given as goal
 
 abbrev pub invariant-loop-place : goal.invariant-loop-place
-invariant-loop-place l = AreCounts l.crowd.sections (take l.place (demands (crowd_of l.crowd.menus.items l.crowd.budgets.items l.crowd.sections) (price_in l.prices))) l.counts.items
+invariant-loop-place l =
+    AreCounts l.crowd.sections (take l.place (demands (crowd_of l.crowd.menus.items l.crowd.budgets.items l.crowd.sections) (price_in l.prices))) l.counts.items

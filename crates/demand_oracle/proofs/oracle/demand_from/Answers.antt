@@ -12,4 +12,5 @@ pub returns : goal.returns
 returns c =
     let menu = c.args.menu.now in
     let offer = offer_of menu c.args.prices.now c.args.budget.0 c.args.allowed.now in
-    (best_of_all menu (price_in c.args.prices.now) c.args.budget.0 (set.contains c.args.allowed.now) (sections_of c.search.result)).0 (best_of_wanted offer (wanted_by menu None) _ c.search.ensures.leads refl)
+    (best_of_all menu (price_in c.args.prices.now) c.args.budget.0 (set.contains c.args.allowed.now) (sections_of c.search.result)).0
+    (best_of_wanted offer (wanted_by menu None) _ c.search.ensures.leads refl)

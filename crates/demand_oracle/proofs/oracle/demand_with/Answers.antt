@@ -14,5 +14,10 @@ pub returns-clause-some : goal.returns-clause-some
 returns-clause-some c =
     let menu = c.args.menu.now in
     let place = c.in_ok-place.place in
-    let best = best_of_wanted (offer_of menu c.args.prices.now c.args.budget.0 c.args.allowed.now) (wanted_by menu (Some place)) _ c.search-bundle.ensures.leads c.search-bundle.ensures.wanted in
-    subst (λ t. IsBestOf (wishes_of menu) (price_in c.args.prices.now) c.args.budget.0 (set.contains c.args.allowed.now) (λ b. has b t) (sections_of c.search-bundle.result)) c.in_ok-place.ensures.place.1 best
+    let best =
+    best_of_wanted (offer_of menu c.args.prices.now c.args.budget.0 c.args.allowed.now) (wanted_by menu (Some place)) _ c.search-bundle.ensures.leads
+    c.search-bundle.ensures.wanted in
+    subst
+    (λ t. IsBestOf (wishes_of menu) (price_in c.args.prices.now) c.args.budget.0 (set.contains c.args.allowed.now) (λ b. has b t)
+    (sections_of c.search-bundle.result))
+    c.in_ok-place.ensures.place.1 best

@@ -18,7 +18,8 @@ returns-else-place-branch c champion is_menu is bundle may is_wanted completes =
     let chosen = chosen_of c.args.branch.now in
     let on : place < length menu.places = rw c.in-Some.is at c.requires.given in
     let later : k ≤ place = omega (arith, c.if-place-branch.false) in
-    let lost : IsTakable offer (chosen ++ section_at menu.places place ∷ []) → ⊥ = λ takable. false≢true (sym (ap not (c.may_take.ensures.takable.1 takable)) ∙ is) in
+    let lost : IsTakable offer (chosen ++ section_at menu.places place ∷ []) → ⊥ =
+    λ takable. false≢true (sym (ap not (c.may_take.ensures.takable.1 takable)) ∙ is) in
     let lacks = lacks_lost offer is_menu place on k chosen c.requires.node later lost bundle may completes in
     let has_it : has bundle (section_at menu.places place) ≡ true = rw c.in-Some.is at is_wanted in
     absurd (true≢false (sym has_it ∙ lacks))

@@ -5,4 +5,7 @@ use Rattle.bundle_rules.specs.Existence.Places.{section_at-is}
 use Rattle.demand_oracle.proofs.oracle.is_wanted.Goals as goal
 
 pub returns-in-Some : goal.returns-in-Some
-returns-in-Some c = rw c.in-Some.is (c.has.ensures ∙ ap (has (sections_of c.args.bundle.now)) (sym (section_at-is c.args.menu.now.places c.in-Some.place c.rated.result.now c.rated.ensures.value)))
+returns-in-Some c =
+    rw c.in-Some.is
+    (c.has.ensures
+    ∙ ap (has (sections_of c.args.bundle.now)) (sym (section_at-is c.args.menu.now.places c.in-Some.place c.rated.result.now c.rated.ensures.value)))

@@ -14,10 +14,14 @@ loop-next-init c =
     let offer = offer_of c.args.menu.now c.args.prices.now c.args.budget.0 c.args.allowed.now in
     let first = c.first_champion-champion.result in
     record {
-      may_wait = rw c.requires.none (root_waits offer c.root.result c.root.ensures.place c.root.ensures.chosen (c.root.ensures.branch c.args.menu.now (price_in c.args.prices.now)));
+      may_wait =
+          rw c.requires.none
+          (root_waits offer c.root.result c.root.ensures.place c.root.ensures.chosen (c.root.ensures.branch c.args.menu.now (price_in c.args.prices.now)));
       champion = c.first_champion-champion.ensures.champion;
       reach = c.measure.ensures;
-      same_result = λ result are. root_searched offer (wanted_by c.args.menu.now c.args.given) c.root.result (chosen_of first) result c.root.ensures.place c.root.ensures.chosen (rw c.requires.none at are);
+      same_result =
+          λ result are. root_searched offer (wanted_by c.args.menu.now c.args.given) c.root.result (chosen_of first) result c.root.ensures.place
+          c.root.ensures.chosen (rw c.requires.none at are);
       first = c.first_champion-champion.ensures.champion;
       wanted = c.first_champion-champion.ensures.wanted;
       menu = λ none. (let absent : Some c.root.result ≡ None = none in cc);
@@ -44,7 +48,8 @@ returns-clause-wanted c =
     let last : IfNone c.loop-next.next (c.loop-next.frames.pending ≡ []) = c.loop-next.invariant.last in
     let empty : before_waiting c.loop-next.next c.loop-next.frames.pending ≡ [] = rw none (rw none at last) in
     let searched = c.loop-next.invariant.same_result (chosen_of c.loop-next.champion) (rw empty refl) in
-    after_none c.args.first (λ fits. wanted_at_end offer (c.loop-next.invariant.menu none) (wanted_by c.args.menu.now c.args.given) _ _ fits searched) c.loop-next.invariant.wanted
+    after_none c.args.first (λ fits. wanted_at_end offer (c.loop-next.invariant.menu none) (wanted_by c.args.menu.now c.args.given) _ _ fits searched)
+    c.loop-next.invariant.wanted
 
 pub loop-next-preserved : goal.loop-next-preserved
 loop-next-preserved c =
@@ -57,7 +62,8 @@ loop-next-preserved c =
       reach = rw c.step-next.ensures.reach before.reach;
       same_result = λ result are.
           before.same_result result
-          (subst (λ next. AreSearched offer wanted (before_waiting next c.loop-next.frames.pending) (chosen_of c.loop-next.champion) result) (sym c.in-Some.is) (c.step-next.ensures.stepped.same_result result are));
+          (subst (λ next. AreSearched offer wanted (before_waiting next c.loop-next.frames.pending) (chosen_of c.loop-next.champion) result) (sym c.in-Some.is)
+          (c.step-next.ensures.stepped.same_result result are));
       first = before.first;
       wanted = before.wanted;
       menu = λ none. c.step-next.ensures.menu;

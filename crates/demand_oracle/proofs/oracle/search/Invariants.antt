@@ -15,7 +15,9 @@ invariant-loop-next l = record {
   may_wait : MayWait (offer_of l.menu l.prices l.budget.0 l.allowed) (before_waiting l.next l.frames.pending);
   champion : IsChampion (offer_of l.menu l.prices l.budget.0 l.allowed) l.champion;
   reach : IsReach (offer_of l.menu l.prices l.budget.0 l.allowed) l.frames.reach;
-  same_result : (result : List ℕ) → AreSearched (offer_of l.menu l.prices l.budget.0 l.allowed) (wanted_by l.menu l.given) (before_waiting l.next l.frames.pending) (chosen_of l.champion) result
+  same_result : (result : List ℕ)
+      → AreSearched (offer_of l.menu l.prices l.budget.0 l.allowed) (wanted_by l.menu l.given) (before_waiting l.next l.frames.pending) (chosen_of l.champion)
+      result
       → IsSearched (offer_of l.menu l.prices l.budget.0 l.allowed) (wanted_by l.menu l.given) 0 [] (menu_sections l.menu) (chosen_of l.initial.champion) result;
   first : IsChampion (offer_of l.menu l.prices l.budget.0 l.allowed) l.initial.champion;
   wanted : IfNone l.first (wanted_by l.menu l.given (chosen_of l.initial.champion) ≡ true);

@@ -13,7 +13,8 @@ pub returns-then-is_whole-clause-stepped : goal.returns-then-is_whole-clause-ste
 returns-then-is_whole-clause-stepped c =
     let offer = offer_of c.args.menu.now c.args.prices.now c.args.budget.0 c.args.allowed.now in
     let wanted = wanted_by c.args.menu.now c.args.given in
-    subst (λ waiting. HasStepped offer wanted (c.args.branch ∷ c.args.frames.now.pending) (chosen_of c.args.champion.now) waiting (chosen_of c.better.result)) (taken_next c.args.frames.now.pending c.take.new.self c.take.result c.take.ensures)
+    subst (λ waiting. HasStepped offer wanted (c.args.branch ∷ c.args.frames.now.pending) (chosen_of c.args.champion.now) waiting (chosen_of c.better.result))
+    (taken_next c.args.frames.now.pending c.take.new.self c.take.result c.take.ensures)
     (node_whole offer wanted c.args.branch c.args.frames.now.pending (chosen_of c.args.champion.now) c.is_whole.ensures.menu c.requires.branch (chosen_of c.better.result)
     (c.is_whole.ensures.whole.0 c.if-is_whole.true) (elim c.better.ensures [ inl more ↦ inl (more.0, ap chosen_of more.1) | inr none ↦ inr (none.0, ap chosen_of none.1) ]))
 
@@ -22,7 +23,8 @@ returns-then-is_lost-clause-stepped c =
     let offer = offer_of c.args.menu.now c.args.prices.now c.args.budget.0 c.args.allowed.now in
     let wanted = wanted_by c.args.menu.now c.args.given in
     let low = next_left _ (length c.args.menu.now.places) c.args.branch.node.place _ c.is_whole.ensures.whole c.if-is_whole.false in
-    subst (λ waiting. HasStepped offer wanted (c.args.branch ∷ c.args.frames.now.pending) (chosen_of c.args.champion.now) waiting (chosen_of c.args.champion.now))
+    subst
+    (λ waiting. HasStepped offer wanted (c.args.branch ∷ c.args.frames.now.pending) (chosen_of c.args.champion.now) waiting (chosen_of c.args.champion.now))
     (taken_next c.args.frames.now.pending c.take-then-is_lost.new.self c.take-then-is_lost.result c.take-then-is_lost.ensures)
     (node_closed offer wanted c.args.branch c.args.frames.now.pending (chosen_of c.args.champion.now) c.is_whole.ensures.menu c.requires.branch low
     (c.is_lost.ensures (chosen_of c.args.champion.now) c.is_whole.ensures.menu c.if-is_lost.true))
@@ -32,7 +34,8 @@ returns-then-closes-clause-stepped c =
     let offer = offer_of c.args.menu.now c.args.prices.now c.args.budget.0 c.args.allowed.now in
     let wanted = wanted_by c.args.menu.now c.args.given in
     let low = next_left _ (length c.args.menu.now.places) c.args.branch.node.place _ c.is_whole.ensures.whole c.if-is_whole.false in
-    subst (λ waiting. HasStepped offer wanted (c.args.branch ∷ c.args.frames.now.pending) (chosen_of c.args.champion.now) waiting (chosen_of c.args.champion.now))
+    subst
+    (λ waiting. HasStepped offer wanted (c.args.branch ∷ c.args.frames.now.pending) (chosen_of c.args.champion.now) waiting (chosen_of c.args.champion.now))
     (taken_next c.args.frames.now.pending c.take-then-closes.new.self c.take-then-closes.result c.take-then-closes.ensures)
     (node_closed offer wanted c.args.branch c.args.frames.now.pending (chosen_of c.args.champion.now) c.is_whole.ensures.menu c.requires.branch low
     (c.closes.ensures wanted c.args.prices.now c.args.allowed.now c.requires.reach c.requires.branch.3 c.requires.branch.2 c.requires.champion.sums c.requires.champion.takable c.if-closes.true))
@@ -43,7 +46,8 @@ returns-then-not-may_take-clause-stepped c =
     let wanted = wanted_by c.args.menu.now c.args.given in
     let low = next_left _ (length c.args.menu.now.places) c.args.branch.node.place _ c.is_whole.ensures.whole c.if-is_whole.false in
     node_passed offer wanted c.args.branch c.args.frames.now.pending (chosen_of c.args.champion.now) c.is_whole.ensures.menu c.requires.branch low
-    c.without_next-without.result c.without_next-without.ensures.place c.without_next-without.ensures.chosen (c.without_next-without.ensures.branch c.args.menu.now (price_in c.args.prices.now) c.requires.branch.3)
+    c.without_next-without.result c.without_next-without.ensures.place c.without_next-without.ensures.chosen
+    (c.without_next-without.ensures.branch c.args.menu.now (price_in c.args.prices.now) c.requires.branch.3)
     (λ takable. true≢false (sym (c.may_take.ensures.takable.1 takable) ∙ c.if-not-may_take.true))
 
 pub returns-clause-stepped : goal.returns-clause-stepped
@@ -53,7 +57,8 @@ returns-clause-stepped c =
     let low = next_left _ (length c.args.menu.now.places) c.args.branch.node.place _ c.is_whole.ensures.whole c.if-is_whole.false in
     rw c.put.ensures
     (node_branched offer wanted c.args.branch c.args.frames.now.pending (chosen_of c.args.champion.now) c.is_whole.ensures.menu c.requires.branch low
-    c.without_next-without.result c.without_next-without.ensures.place c.without_next-without.ensures.chosen (c.without_next-without.ensures.branch c.args.menu.now (price_in c.args.prices.now) c.requires.branch.3)
+    c.without_next-without.result c.without_next-without.ensures.place c.without_next-without.ensures.chosen
+    (c.without_next-without.ensures.branch c.args.menu.now (price_in c.args.prices.now) c.requires.branch.3)
     c.with_next-with_it.result c.with_next-with_it.ensures.place c.with_next-with_it.ensures.chosen c.with_next-with_it.ensures.branch (c.may_take.ensures.takable.0 c.if-not-may_take.false))
 
 pub returns-then-is_given-clause-stepped : goal.returns-then-is_given-clause-stepped
@@ -65,5 +70,6 @@ returns-then-is_given-clause-stepped c =
     let low = next_left _ (length menu.places) c.args.branch.node.place _ c.is_whole.ensures.whole c.if-is_whole.false in
     let given = c.is_given.ensures.0 c.if-is_given.true in
     node_forced offer wanted c.args.branch c.args.frames.now.pending (chosen_of c.args.champion.now) c.is_whole.ensures.menu c.requires.branch low
-    c.with_next-with_it.result c.with_next-with_it.ensures.place c.with_next-with_it.ensures.chosen c.with_next-with_it.ensures.branch (c.may_take.ensures.takable.0 c.if-not-may_take.false)
+    c.with_next-with_it.result c.with_next-with_it.ensures.place c.with_next-with_it.ensures.chosen c.with_next-with_it.ensures.branch
+    (c.may_take.ensures.takable.0 c.if-not-may_take.false)
     (λ bundle may completes. rw given (lacks_passed offer c.is_whole.ensures.menu k low (chosen_of c.args.branch) c.requires.branch.2 bundle may completes))

@@ -7,15 +7,18 @@ use Rattle.demand_oracle.proofs.reach.followed.Goals as goal
 pub returns-then-not-is_wanted-clause-node : goal.returns-then-not-is_wanted-clause-node
 returns-then-not-is_wanted-clause-node c =
     let offer = offer_of c.args.menu.now c.args.prices.now c.args.budget.0 c.args.allowed.now in
-    node_same offer _ _ _ _ (sym c.without_next.ensures.place) (sym c.without_next.ensures.chosen) (node_without offer c.args.branch.node.place (chosen_of c.args.branch) c.requires.node)
+    node_same offer _ _ _ _ (sym c.without_next.ensures.place) (sym c.without_next.ensures.chosen)
+    (node_without offer c.args.branch.node.place (chosen_of c.args.branch) c.requires.node)
 
 pub returns-then-not-may_take-clause-node : goal.returns-then-not-may_take-clause-node
 returns-then-not-may_take-clause-node c =
     let offer = offer_of c.args.menu.now c.args.prices.now c.args.budget.0 c.args.allowed.now in
-    node_same offer _ _ _ _ (sym c.without_next-then-not-may_take.ensures.place) (sym c.without_next-then-not-may_take.ensures.chosen) (node_without offer c.args.branch.node.place (chosen_of c.args.branch) c.requires.node)
+    node_same offer _ _ _ _ (sym c.without_next-then-not-may_take.ensures.place) (sym c.without_next-then-not-may_take.ensures.chosen)
+    (node_without offer c.args.branch.node.place (chosen_of c.args.branch) c.requires.node)
 
 pub returns-clause-node : goal.returns-clause-node
 returns-clause-node c =
     let offer = offer_of c.args.menu.now c.args.prices.now c.args.budget.0 c.args.allowed.now in
     node_same offer _ _ _ _ (sym c.with_next.ensures.place) (sym c.with_next.ensures.chosen)
-    (node_with offer c.args.branch.node.place (chosen_of c.args.branch) c.len.ensures.menu c.requires.next c.requires.node (c.may_take.ensures.takable.0 c.if-not-may_take.false))
+    (node_with offer c.args.branch.node.place (chosen_of c.args.branch) c.len.ensures.menu c.requires.next c.requires.node
+    (c.may_take.ensures.takable.0 c.if-not-may_take.false))

@@ -12,7 +12,9 @@ use Rattle.demand_oracle.proofs.tables.hopes_at.Goals as goal
 pub returns-then-not-has : goal.returns-then-not-has
 returns-then-not-has c prices budget earlier low =
     let offer = offer_of c.args.menu.now prices budget c.args.allowed.now in
-    let off = allowed_read c.args.menu.now prices budget c.args.allowed.now c.args.place c.rated.result.now c.rated.ensures.value ∙ sym c.has.ensures ∙ c.if-not-has.true in
+    let off =
+    allowed_read c.args.menu.now prices budget c.args.allowed.now c.args.place c.rated.result.now c.rated.ensures.value ∙ sym c.has.ensures
+    ∙ c.if-not-has.true in
     c.requires.later prices budget earlier (omega arith) ∙ sym (hopes_not_allowed offer c.args.place earlier c.requires.place off)
 
 pub overflow_add-hope : goal.overflow_add-hope
@@ -32,7 +34,8 @@ loop-earlier-preserved c = record {
         ∙ rw (c.hope_of.ensures.value, c.from.ensures, same, c.from-in-loop-earlier.ensures) refl
     | inr other ↦
         let at : c.from-in-loop-earlier.result ≡ c.loop-earlier.earlier = c.from-in-loop-earlier.ensures in
-        get_or-set_other c.loop-earlier.hopes c.from-in-loop-earlier.result one _ 0 (λ e. elim other [ inl a ↦ absurd (omega arith) | inr b ↦ absurd (omega arith) ])
+        get_or-set_other c.loop-earlier.hopes c.from-in-loop-earlier.result one _ 0
+        (λ e. elim other [ inl a ↦ absurd (omega arith) | inr b ↦ absurd (omega arith) ])
         ∙ c.loop-earlier.invariant.filled one (elim other [ inl a ↦ omega arith | inr b ↦ absurd (omega arith) ])
   ];
 }
@@ -40,8 +43,14 @@ loop-earlier-preserved c = record {
 pub returns : goal.returns
 returns c prices budget earlier low =
     let offer = offer_of c.args.menu.now prices budget c.args.allowed.now in
-    let on = allowed_read c.args.menu.now prices budget c.args.allowed.now c.args.place c.rated.result.now c.rated.ensures.value ∙ sym c.has.ensures ∙ c.if-not-has.false in
-    let filled : slice_index c.loop-earlier.hopes earlier ≡ slice_index c.args.later earlier + above_zero (adjustment_in c.args.menu.now.pairs earlier c.args.place) = c.loop-earlier.invariant.filled earlier (omega arith) in
+    let on =
+    allowed_read c.args.menu.now prices budget c.args.allowed.now c.args.place c.rated.result.now c.rated.ensures.value ∙ sym c.has.ensures
+    ∙ c.if-not-has.false in
+    let filled : slice_index c.loop-earlier.hopes earlier
+    ≡ slice_index c.args.later earlier + above_zero (adjustment_in c.args.menu.now.pairs earlier c.args.place) =
+    c.loop-earlier.invariant.filled earlier (omega arith) in
     let read : slice_index c.args.later earlier ≡ hopes_from offer (c.args.place + 1) earlier = c.requires.later prices budget earlier (omega arith) in
-    let whole : hopes_from offer c.args.place earlier ≡ above_zero (adjustment_in c.args.menu.now.pairs earlier c.args.place) + hopes_from offer (c.args.place + 1) earlier = hopes_allowed offer c.args.place earlier c.requires.place on in
+    let whole : hopes_from offer c.args.place earlier
+    ≡ above_zero (adjustment_in c.args.menu.now.pairs earlier c.args.place) + hopes_from offer (c.args.place + 1) earlier =
+    hopes_allowed offer c.args.place earlier c.requires.place on in
     omega arith

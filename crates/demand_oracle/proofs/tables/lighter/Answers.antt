@@ -7,8 +7,13 @@ use Rattle.demand_oracle.proofs.tables.lighter.Goals as goal
 
 pub returns-then-not-has-clause-lightest : goal.returns-then-not-has-clause-lightest
 returns-then-not-has-clause-lightest c prices budget on =
-    absurd (true≢false (sym on ∙ allowed_read c.args.menu.now prices budget c.args.allowed.now c.args.place c.rated-rated.result.now c.rated-rated.ensures.value ∙ sym c.has.ensures ∙ c.if-not-has.true))
+    absurd
+    (true≢false
+    (sym on ∙ allowed_read c.args.menu.now prices budget c.args.allowed.now c.args.place c.rated-rated.result.now c.rated-rated.ensures.value
+    ∙ sym c.has.ensures ∙ c.if-not-has.true))
 
 pub returns-clause-lightest : goal.returns-clause-lightest
 returns-clause-lightest c prices budget on =
-    let is : credits_at c.args.menu.now.places c.args.place ≡ c.rated-rated.result.now.credits = credits_at-is c.args.menu.now.places c.args.place c.rated-rated.result.now c.rated-rated.ensures.value in omega arith
+    let is : credits_at c.args.menu.now.places c.args.place ≡ c.rated-rated.result.now.credits =
+    credits_at-is c.args.menu.now.places c.args.place c.rated-rated.result.now c.rated-rated.ensures.value in
+    omega arith

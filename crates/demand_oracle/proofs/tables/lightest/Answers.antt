@@ -7,9 +7,13 @@ pub loop-place-preserved : goal.loop-place-preserved
 loop-place-preserved c = record {
   high = omega arith;
   lightest = λ prices budget one low on. elim (cases_order one c.loop-place.place) [
-    | inl same ↦ subst (λ n. c.lighter-lightest.result ≤ credits_at c.args.menu.now.places n) (sym same) (c.lighter-lightest.ensures.lightest prices budget (rw same at on))
+    | inl same ↦
+        subst (λ n. c.lighter-lightest.result ≤ credits_at c.args.menu.now.places n) (sym same)
+        (c.lighter-lightest.ensures.lightest prices budget (rw same at on))
     | inr other ↦
-        let before : c.loop-place.lightest ≤ credits_at c.args.menu.now.places one = c.loop-place.invariant.lightest prices budget one (elim other [ inl a ↦ omega arith | inr b ↦ absurd (omega arith) ]) on in omega arith
+        let before : c.loop-place.lightest ≤ credits_at c.args.menu.now.places one =
+        c.loop-place.invariant.lightest prices budget one (elim other [ inl a ↦ omega arith | inr b ↦ absurd (omega arith) ]) on in
+        omega arith
   ];
 }
 

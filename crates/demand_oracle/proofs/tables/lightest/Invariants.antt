@@ -8,5 +8,6 @@ use Rattle.demand_oracle.proofs.tables.lightest.Given as goal
 abbrev pub invariant-loop-place : goal.invariant-loop-place
 invariant-loop-place l = record {
   high : l.lightest ≤ 100;
-  lightest : (prices : List Tokens) (budget one : ℕ) → one < l.place → allowed_at (offer_of l.menu prices budget l.allowed) one ≡ true → l.lightest ≤ credits_at l.menu.places one;
+  lightest : (prices : List Tokens) (budget one : ℕ) → one < l.place → allowed_at (offer_of l.menu prices budget l.allowed) one ≡ true
+      → l.lightest ≤ credits_at l.menu.places one;
 }

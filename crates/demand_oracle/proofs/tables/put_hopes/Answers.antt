@@ -14,7 +14,8 @@ loop-place-init c = record {
       let size : length c.args.hopes.now ≡ 61 = c.told-hopes in
       let at : length c.args.menu.now.places ≡ c.from.result = sym (c.from.ensures ∙ c.len-count.ensures.value) in
       subst (λ n. HoldsHopes offer (set c.args.hopes.now c.from.result (replicate 60 0)) n) (sym c.len-count.ensures.value)
-      (subst (λ n. HoldsHopes offer (set c.args.hopes.now n (replicate 60 0)) (length c.args.menu.now.places)) at (holds_last offer c.args.hopes.now (replicate 60 0) (omega arith) (zero_row 60)));
+      (subst (λ n. HoldsHopes offer (set c.args.hopes.now n (replicate 60 0)) (length c.args.menu.now.places)) at
+      (holds_last offer c.args.hopes.now (replicate 60 0) (omega arith) (zero_row 60)));
 }
 
 pub hopes_at-requires-clause-later : goal.hopes_at-requires-clause-later
@@ -34,5 +35,6 @@ loop-place-preserved c = record {
       let at : c.loop-place.place - 1 ≡ c.from-in-loop-place-2.result = sym c.from-in-loop-place-2.ensures in
       let at' : c.loop-place.place ≡ c.loop-place.place - 1 + 1 = omega arith in
       subst (λ n. HoldsHopes offer (set c.loop-place.hopes n c.hopes_at.result) (c.loop-place.place - 1)) at
-      (holds_more offer c.loop-place.hopes (c.loop-place.place - 1) c.hopes_at.result (omega arith) (subst (HoldsHopes offer c.loop-place.hopes) at' (c.loop-place.invariant.filled prices budget)) (c.hopes_at.ensures prices budget));
+      (holds_more offer c.loop-place.hopes (c.loop-place.place - 1) c.hopes_at.result (omega arith)
+      (subst (HoldsHopes offer c.loop-place.hopes) at' (c.loop-place.invariant.filled prices budget)) (c.hopes_at.ensures prices budget));
 }

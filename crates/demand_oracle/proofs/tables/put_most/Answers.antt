@@ -9,7 +9,8 @@ pub loop-place-init : goal.loop-place-init
 loop-place-init c = record {
   filled = λ budget.
       let offer = offer_of c.args.menu.now c.args.prices.now budget c.args.allowed.now in
-      subst (HoldsCovers offer c.args.multipliers c.args.shift c.put_nothing.new.most) (sym c.len-count.ensures.value) (covers_last offer c.args.multipliers c.args.shift c.put_nothing.new.most);
+      subst (HoldsCovers offer c.args.multipliers c.args.shift c.put_nothing.new.most) (sym c.len-count.ensures.value)
+      (covers_last offer c.args.multipliers c.args.shift c.put_nothing.new.most);
   small = λ k count units from to few cheap.
       let same : k ≡ c.len-count.result = omega (arith, c.len-count.ensures.value) in
       let capped : c.args.menu.now.courses ≤ 8 = c.len-count.ensures.menu.caps.courses_cap in
@@ -25,8 +26,10 @@ loop-place-preserved c =
       filled = λ budget.
           let offer = offer_of c.args.menu.now c.args.prices.now budget c.args.allowed.now in
           let covered = subst (HoldsCovers offer c.args.multipliers c.args.shift c.loop-place.most) next (c.loop-place.invariant.filled budget) in
-          let hoped : number_at c.args.hopes.now (c.from.result + 1) c.from-in-loop-place.result ≡ hopes_from offer (c.loop-place.place - 1 + 1) (c.loop-place.place - 1) =
-          rw (row, c.from-in-loop-place.ensures) (c.requires.hopes budget (c.loop-place.place - 1 + 1) (c.loop-place.place - 1) (omega arith) (omega arith) (omega arith)) in
+          let hoped : number_at c.args.hopes.now (c.from.result + 1) c.from-in-loop-place.result
+          ≡ hopes_from offer (c.loop-place.place - 1 + 1) (c.loop-place.place - 1) =
+          rw (row, c.from-in-loop-place.ensures)
+          (c.requires.hopes budget (c.loop-place.place - 1 + 1) (c.loop-place.place - 1) (omega arith) (omega arith) (omega arith)) in
           c.put_place.ensures.covers budget hoped covered;
       small = c.put_place.ensures.small;
     }

@@ -8,6 +8,9 @@ pub loop-count-preserved : goal.loop-count-preserved
 loop-count-preserved c = record {
   whole = length-set c.loop-count.most (c.from.result * 9 + c.loop-count.count) _ ∙ c.loop-count.invariant.whole;
   nothing =
-      subst (λ n. (count units : ℕ) → count < c.loop-count.count + 1 → within_at (set c.loop-count.most (n * 9 + c.loop-count.count) (replicate 64 0)) c.args.place count units ≡ 0) (sym c.from.ensures)
+      subst
+      (λ n. (count units : ℕ) → count < c.loop-count.count + 1
+      → within_at (set c.loop-count.most (n * 9 + c.loop-count.count) (replicate 64 0)) c.args.place count units ≡ 0)
+      (sym c.from.ensures)
       (nothing_more c.loop-count.most c.args.place c.loop-count.count 64 (omega arith) c.loop-count.invariant.nothing);
 }

@@ -10,16 +10,19 @@ returns-then-not-has-clause-covers c budget is holds =
     let menu = c.args.menu.now in
     let offer = offer_of menu c.args.prices.now budget c.args.allowed.now in
     let k = c.args.place in
-    let off = allowed_read menu c.args.prices.now budget c.args.allowed.now k c.rated.result.now c.rated.ensures.value ∙ sym c.has.ensures ∙ c.if-not-has.true in
+    let off =
+    allowed_read menu c.args.prices.now budget c.args.allowed.now k c.rated.result.now c.rated.ensures.value ∙ sym c.has.ensures ∙ c.if-not-has.true in
     let placed = subst (λ n. IsPlaced n 0 64 k (k + 1) c.args.most.now c.put_counts.new.most) c.courses-courses.ensures c.put_counts.ensures in
-    covers_not_placed offer c.args.multipliers c.args.shift k (k + 1) 0 64 c.args.most.now c.put_counts.new.most c.requires.menu.caps.courses_cap c.requires.place placed off (omega arith) holds
+    covers_not_placed offer c.args.multipliers c.args.shift k (k + 1) 0 64 c.args.most.now c.put_counts.new.most c.requires.menu.caps.courses_cap
+    c.requires.place placed off (omega arith) holds
 
 pub returns-then-not-has-clause-small : goal.returns-then-not-has-clause-small
 returns-then-not-has-clause-small c =
     let menu = c.args.menu.now in
     let k = c.args.place in
     let placed = subst (λ n. IsPlaced n 0 64 k (k + 1) c.args.most.now c.put_counts.new.most) c.courses-courses.ensures c.put_counts.ensures in
-    small_placed menu.courses 0 64 k (k + 1) (length menu.places) c.args.most.now c.put_counts.new.most c.requires.menu.caps.courses_cap (omega arith) c.requires.place (omega arith) (omega arith) placed c.requires.small
+    small_placed menu.courses 0 64 k (k + 1) (length menu.places) c.args.most.now c.put_counts.new.most c.requires.menu.caps.courses_cap (omega arith)
+    c.requires.place (omega arith) (omega arith) placed c.requires.small
 
 pub returns-clause-covers : goal.returns-clause-covers
 returns-clause-covers c budget is holds =
@@ -32,7 +35,8 @@ returns-clause-covers c budget is holds =
     let placed = subst (λ n. IsPlaced n v cost k next c.args.most.now c.put_counts-2.new.most) c.courses-courses.ensures c.put_counts-2.ensures in
     let high = subst (λ n. n ≤ 1000 * v) (c.value_at.ensures.value budget c.args.allowed.now is) c.thousandths-value.ensures.value in
     let costs = c.in_units-cost.ensures ∙ ap (λ n. n / 2 ^ c.args.shift) c.price_of_place.ensures.value in
-    covers_placed offer c.args.multipliers c.args.shift k next v cost c.args.most.now c.put_counts-2.new.most c.requires.menu.caps.courses_cap c.requires.place c.next_apart-next.ensures.within c.next_apart-next.ensures.from placed
+    covers_placed offer c.args.multipliers c.args.shift k next v cost c.args.most.now c.put_counts-2.new.most c.requires.menu.caps.courses_cap c.requires.place
+    c.next_apart-next.ensures.within c.next_apart-next.ensures.from placed
     c.next_apart-next.ensures.between high costs holds
 
 pub returns-clause-small : goal.returns-clause-small
@@ -43,4 +47,5 @@ returns-clause-small c =
     let cost = c.in_units-cost.result in
     let next = c.next_apart-next.result in
     let placed = subst (λ n. IsPlaced n v cost k next c.args.most.now c.put_counts-2.new.most) c.courses-courses.ensures c.put_counts-2.ensures in
-    small_placed menu.courses v cost k next (length menu.places) c.args.most.now c.put_counts-2.new.most c.requires.menu.caps.courses_cap c.thousandths-value.ensures.high c.requires.place c.next_apart-next.ensures.from c.next_apart-next.ensures.within placed c.requires.small
+    small_placed menu.courses v cost k next (length menu.places) c.args.most.now c.put_counts-2.new.most c.requires.menu.caps.courses_cap
+    c.thousandths-value.ensures.high c.requires.place c.next_apart-next.ensures.from c.next_apart-next.ensures.within placed c.requires.small

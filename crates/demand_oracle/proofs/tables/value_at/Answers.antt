@@ -8,7 +8,9 @@ pub returns-clause-value : goal.returns-clause-value
 returns-clause-value c budget allowed is =
     let menu = c.args.menu.now in
     let offer = offer_of menu c.args.prices.now budget allowed in
-    let rating : c.from.result ≡ rating_at menu.places c.args.place = c.from.ensures ∙ sym (rating_at-is menu.places c.args.place c.rated-rated.result.now c.rated-rated.ensures.value) in
-    let credits : c.from-4.result ≡ credits_at menu.places c.args.place = c.from-4.ensures ∙ sym (credits_at-is menu.places c.args.place c.rated-rated.result.now c.rated-rated.ensures.value) in
+    let rating : c.from.result ≡ rating_at menu.places c.args.place =
+    c.from.ensures ∙ sym (rating_at-is menu.places c.args.place c.rated-rated.result.now c.rated-rated.ensures.value) in
+    let credits : c.from-4.result ≡ credits_at menu.places c.args.place =
+    c.from-4.ensures ∙ sym (credits_at-is menu.places c.args.place c.rated-rated.result.now c.rated-rated.ensures.value) in
     let price : c.from-3.result ≡ price_at offer c.args.place = c.from-3.ensures ∙ c.price_of_place.ensures.value in
     c.saturating_sub.ensures ∙ rw (rating, c.from-2.ensures, is, price, credits) refl

@@ -12,11 +12,17 @@ post-requires-clause-version g c =
 
 pub post-requires-clause-student : goal.post-requires-clause-student
 post-requires-clause-student g c =
-    subst (λ n. c.args.student.0 < n) (sym (students_are c.args.board.now.base c.args.crowd.now.menus.items c.args.crowd.now.budgets.items c.args.crowd.now.sections c.requires.base c.requires.crowd.same)) c.requires.student
+    subst (λ n. c.args.student.0 < n)
+    (sym
+    (students_are c.args.board.now.base c.args.crowd.now.menus.items c.args.crowd.now.budgets.items c.args.crowd.now.sections c.requires.base
+    c.requires.crowd.same))
+    c.requires.student
 
 pub post-requires-clause-bundle : goal.post-requires-clause-bundle
 post-requires-clause-bundle g c =
     let n : ℕ = version_count c.args.board.now.base in
     let h : n ≡ 1 = one_version c.args.board.now.base c.args.prices.now c.requires.versions in
     let low : 0 < n = omega arith in
-    c.taken-bundle.ensures ∙ demand_there c.args.board.now.base (crowd_of c.args.crowd.now.menus.items c.args.crowd.now.budgets.items c.args.crowd.now.sections) c.args.prices.now 0 c.args.student.0 c.requires.base c.requires.versions low
+    c.taken-bundle.ensures
+    ∙ demand_there c.args.board.now.base (crowd_of c.args.crowd.now.menus.items c.args.crowd.now.budgets.items c.args.crowd.now.sections) c.args.prices.now
+    0 c.args.student.0 c.requires.base c.requires.versions low

@@ -9,4 +9,5 @@ bound-requires-clause-leaf g c =
     let menu = c.args.menu.now in
     let offer = offer_of menu c.args.prices.now c.args.budget c.full-allowed.result in
     let cs = places_of menu (sections_of c.empty.result) in
-    first_has offer c.args.place cs (places_of menu (sections_of c.expect-champion.result)) (bounds offer c.args.place cs) c.in_ok-leaf.leaf c.in_ok-leaf.ensures.first
+    first_has offer c.args.place cs (places_of menu (sections_of c.expect-champion.result)) (bounds offer c.args.place cs) c.in_ok-leaf.leaf
+    c.in_ok-leaf.ensures.first

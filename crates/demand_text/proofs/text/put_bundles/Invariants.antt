@@ -8,4 +8,9 @@ use Rattle.demand_text.specs.Texts.{taken_line}
 use Rattle.demand_text.proofs.text.put_bundles.Given as goal
 
 abbrev pub invariant-students : goal.invariant-students
-invariant-students l = l.text.items ≡ l.initial.text.items ++ joined (each_line (taken_line (section_names l.catalog.sections)) (take l.student (names_of l.roll.students)) (take l.student (map sections_of l.bundles)))
+invariant-students l =
+    l.text.items
+    ≡ l.initial.text.items
+    ++ joined
+    (each_line (taken_line (section_names l.catalog.sections)) (take l.student (names_of l.roll.students))
+    (take l.student (map sections_of l.bundles)))

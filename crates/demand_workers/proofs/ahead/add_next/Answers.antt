@@ -14,12 +14,18 @@ pub loop-preserved : goal.loop-preserved
 loop-preserved c =
     let crowd = c.args._crowd.now in
     let prices = c.args.remembered.now.prices.items in
-    let first = first_listed crowd (heap_items c.loop.walk.holders) (heap_items c.pop.new.self) c.in-Some.first c.in-Some.ensures.permutation c.loop.invariant.walk.listed in
-    let copied : slice_set c.in_ok-prices.prices.items c.from-place.result (record { 0 = leaves c.in-Some.first }) ≡ slice_set prices c.from-place.result (record { 0 = leaves c.in-Some.first }) = search rules in
+    let first =
+    first_listed crowd (heap_items c.loop.walk.holders) (heap_items c.pop.new.self) c.in-Some.first c.in-Some.ensures.permutation
+    c.loop.invariant.walk.listed in
+    let copied : slice_set c.in_ok-prices.prices.items c.from-place.result (record { 0 = leaves c.in-Some.first })
+    ≡ slice_set prices c.from-place.result (record { 0 = leaves c.in-Some.first }) =
+    search rules in
     record {
       walk = record {
         within = c.loop.invariant.walk.within;
-        listed = rest_listed crowd (heap_items c.loop.walk.holders) (heap_items c.pop.new.self) c.in-Some.first c.in-Some.ensures.permutation c.loop.invariant.walk.listed;
+        listed =
+            rest_listed crowd (heap_items c.loop.walk.holders) (heap_items c.pop.new.self) c.in-Some.first c.in-Some.ensures.permutation
+            c.loop.invariant.walk.listed;
         told = c.loop.invariant.walk.told;
       };
       questions = subst (All (IsQuestion crowd)) (sym {A = List Question} c.in_ok-push.ensures.items)

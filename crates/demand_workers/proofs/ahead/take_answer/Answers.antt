@@ -12,7 +12,9 @@ returns-then-not-has c =
     record {
       within = c.requires.walk.within;
       listed = c.requires.walk.listed;
-      told = subst (AreAnswered (data_of crowd)) (sym c.in_ok-push.ensures.items) (All-push (IsAnswered (data_of crowd)) c.args.walk.now.answered.items c.args.question c.requires.walk.told c.requires.answered);
+      told =
+          subst (AreAnswered (data_of crowd)) (sym c.in_ok-push.ensures.items)
+          (All-push (IsAnswered (data_of crowd)) c.args.walk.now.answered.items c.args.question c.requires.walk.told c.requires.answered);
     }
 
 -- who still takes it
@@ -23,6 +25,13 @@ returns c =
     record {
       within = c.requires.walk.within;
       listed = more_listed crowd (heap_items c.args.walk.now.holders) (heap_items c.push-2.new.self) again.result c.in_ok-push-2.ensures.permutation
-          (record { student = subst (λ (n : ℕ). n < length crowd.menus.items) (sym again.ensures.student) c.requires.question.student; room = again.ensures.room; capped = again.ensures.capped }) c.requires.walk.listed;
-      told = subst (AreAnswered (data_of crowd)) (sym c.in_ok-push-3.ensures.items) (All-push (IsAnswered (data_of crowd)) c.args.walk.now.answered.items c.args.question c.requires.walk.told c.requires.answered);
+          (record {
+            student = subst (λ (n : ℕ). n < length crowd.menus.items) (sym again.ensures.student) c.requires.question.student;
+            room = again.ensures.room;
+            capped = again.ensures.capped;
+          })
+          c.requires.walk.listed;
+      told =
+          subst (AreAnswered (data_of crowd)) (sym c.in_ok-push-3.ensures.items)
+          (All-push (IsAnswered (data_of crowd)) c.args.walk.now.answered.items c.args.question c.requires.walk.told c.requires.answered);
     }

@@ -9,7 +9,8 @@ use Rattle.demand_workers.proofs.ahead.walks_of.Goals as goal
 pub loop-section-preserved : goal.loop-section-preserved
 loop-section-preserved c =
     let crowd = c.args.crowd.now in
-    let told : AreAnswered (data_of crowd) c.new.result.items = subst (AreAnswered (data_of crowd)) (sym c.new.ensures.items) (All-nil (IsAnswered (data_of crowd))) in
+    let told : AreAnswered (data_of crowd) c.new.result.items =
+    subst (AreAnswered (data_of crowd)) (sym c.new.ensures.items) (All-nil (IsAnswered (data_of crowd))) in
     record {
       walks = subst (All (IsForeseen crowd)) (sym c.in_ok-push.ensures.items)
           (All-push (IsForeseen crowd) c.loop-section.walks.items _ c.loop-section.invariant.walks

@@ -8,5 +8,7 @@ use Rattle.demand_workers.proofs.batch.bundles_at.Given as goal
 abbrev pub invariant-loop-place : goal.invariant-loop-place
 invariant-loop-place l = record {
   len : length l.bundles.items ≡ length l.remembered.bundles.items;
-  written : (d : Vec Tokens Global) → AreWritten (data_of l._crowd) (slice_index_or l._batch l.version d).items l.version (length l.remembered.bundles.items) l.place l.inquiries l.bundles.items;
+  written : (d : Vec Tokens Global)
+      → AreWritten (data_of l._crowd) (slice_index_or l._batch l.version d).items l.version (length l.remembered.bundles.items) l.place l.inquiries
+      l.bundles.items;
 }

@@ -14,18 +14,24 @@ loop-place-preserved-then-not-has c =
     let within : place < length c.args.crowd.now.menus.items = search rules in
     let all : length c.args.remembered.now.bundles.items ≡ length c.args.crowd.now.menus.items = c.requires.all in
     let was : sections_of c.index.result.now ≡ demand_of (data_of c.args.crowd.now) (price_in c.args.remembered.now.prices.items) c.loop-place.place =
-    ap sections_of c.index.ensures ∙ c.requires.remembered.taken c.loop-place.place c.index.result.now (let goal : place < length c.args.remembered.now.bundles.items = omega arith in goal) in
+    ap sections_of c.index.ensures
+    ∙ c.requires.remembered.taken c.loop-place.place c.index.result.now
+    (let goal : place < length c.args.remembered.now.bundles.items = omega arith in goal) in
     let lacks : c.has.result ≡ false = search rules in
     record {
       heap = c.loop-place.invariant.heap;
-      first = first_skip (data_of c.args.crowd.now) (price_in c.args.remembered.now.prices.items) c.args.section.0 c.loop-place.place (heap_items c.loop-place.holders)
+      first =
+          first_skip (data_of c.args.crowd.now) (price_in c.args.remembered.now.prices.items) c.args.section.0 c.loop-place.place
+          (heap_items c.loop-place.holders)
           (ap (λ b. has b c.args.section.0) (sym was) ∙ sym c.has.ensures ∙ lacks) c.loop-place.invariant.first;
     }
 
 pub loop-place-preserved : goal.loop-place-preserved
 loop-place-preserved c = record {
   heap = c.in_ok-push.ensures.heap_order c.loop-place.invariant.heap;
-  first = first_more (data_of c.args.crowd.now) (price_in c.args.remembered.now.prices.items) c.args.section.0 c.loop-place.place (heap_items c.loop-place.holders) (heap_items c.push.new.self) c.holder_of-holder.result c.in_ok-push.ensures.permutation
+  first =
+      first_more (data_of c.args.crowd.now) (price_in c.args.remembered.now.prices.items) c.args.section.0 c.loop-place.place (heap_items c.loop-place.holders)
+      (heap_items c.push.new.self) c.holder_of-holder.result c.in_ok-push.ensures.permutation
       c.holder_of-holder.ensures.student
       (keeps_now (data_of c.args.crowd.now) c.args.remembered.now.prices.items c.deref.result.now c.args.section.0 c.loop-place.place c.holder_of-holder.result c.deref.ensures.value c.holder_of-holder.ensures.student c.holder_of-holder.ensures.room
       c.holder_of-holder.ensures.later c.holder_of-holder.ensures.capped c.holder_of-holder.ensures.still)

@@ -19,7 +19,9 @@ answered_or_asked-bundle-requires-clause-student c =
     let s : ℕ = c.args.section.0 in
     let first = c.in-Some.first in
     let greatest_first = first_le_from_greatest nat_cmp c.in-Some.first (heap_items c.pop.new.self) (c.in-Some.ensures.below_top c.loop-least.invariant.heap) in
-    subst (λ (n : ℕ). c.in-Some.first.1 < n) (students_length c.args.crowd.now.menus.items c.args.crowd.now.budgets.items c.requires.crowd.same) (first_student crowd (price_in prices) c.args.section.0 c.loop-least.least.0 (heap_items c.loop-least.holders) (heap_items c.pop.new.self) c.in-Some.first c.loop-least.invariant.left c.in-Some.ensures.permutation greatest_first)
+    subst (λ (n : ℕ). c.in-Some.first.1 < n) (students_length c.args.crowd.now.menus.items c.args.crowd.now.budgets.items c.requires.crowd.same)
+    (first_student crowd (price_in prices) c.args.section.0 c.loop-least.least.0 (heap_items c.loop-least.holders) (heap_items c.pop.new.self)
+    c.in-Some.first c.loop-least.invariant.left c.in-Some.ensures.permutation greatest_first)
 
 pub holder_of-holder-requires-clause-student : goal.holder_of-holder-requires-clause-student
 holder_of-holder-requires-clause-student c =
@@ -28,7 +30,9 @@ holder_of-holder-requires-clause-student c =
     let s : ℕ = c.args.section.0 in
     let first = c.in-Some.first in
     let greatest_first = first_le_from_greatest nat_cmp c.in-Some.first (heap_items c.pop.new.self) (c.in-Some.ensures.below_top c.loop-least.invariant.heap) in
-    subst (λ (n : ℕ). c.in-Some.first.1 < n) (students_length c.args.crowd.now.menus.items c.args.crowd.now.budgets.items c.requires.crowd.same) (first_student crowd (price_in prices) c.args.section.0 c.loop-least.least.0 (heap_items c.loop-least.holders) (heap_items c.pop.new.self) c.in-Some.first c.loop-least.invariant.left c.in-Some.ensures.permutation greatest_first)
+    subst (λ (n : ℕ). c.in-Some.first.1 < n) (students_length c.args.crowd.now.menus.items c.args.crowd.now.budgets.items c.requires.crowd.same)
+    (first_student crowd (price_in prices) c.args.section.0 c.loop-least.least.0 (heap_items c.loop-least.holders) (heap_items c.pop.new.self)
+    c.in-Some.first c.loop-least.invariant.left c.in-Some.ensures.permutation greatest_first)
 
 pub loop-least-smaller-then-not-has : goal.loop-least-smaller-then-not-has
 loop-least-smaller-then-not-has c =
@@ -37,7 +41,8 @@ loop-least-smaller-then-not-has c =
     let s : ℕ = c.args.section.0 in
     let first = c.in-Some.first in
     let greatest_first = first_le_from_greatest nat_cmp c.in-Some.first (heap_items c.pop.new.self) (c.in-Some.ensures.below_top c.loop-least.invariant.heap) in
-    less_left crowd (price_in prices) c.args.section.0 c.loop-least.least.0 (heap_items c.loop-least.holders) (heap_items c.pop.new.self) c.in-Some.first c.loop-least.invariant.left c.in-Some.ensures.permutation greatest_first
+    less_left crowd (price_in prices) c.args.section.0 c.loop-least.least.0 (heap_items c.loop-least.holders) (heap_items c.pop.new.self) c.in-Some.first
+    c.loop-least.invariant.left c.in-Some.ensures.permutation greatest_first
 
 pub loop-least-preserved-then-not-has : goal.loop-least-preserved-then-not-has
 loop-least-preserved-then-not-has c =
@@ -46,23 +51,41 @@ loop-least-preserved-then-not-has c =
     let s : ℕ = c.args.section.0 in
     let first = c.in-Some.first in
     let greatest_first = first_le_from_greatest nat_cmp c.in-Some.first (heap_items c.pop.new.self) (c.in-Some.ensures.below_top c.loop-least.invariant.heap) in
-    let read = trial_there c.args.remembered.now.prices.items c.loop-least.trial c.args.section.0 c.from-place.result c.loop-least.least (record { 0 = leaves c.in-Some.first }) c.from-place.ensures c.loop-least.invariant.trial in
-    let keeps = first_keeps crowd (price_in prices) c.args.section.0 c.loop-least.least.0 (heap_items c.loop-least.holders) (heap_items c.pop.new.self) c.in-Some.first c.loop-least.invariant.left c.in-Some.ensures.permutation greatest_first in
+    let read =
+    trial_there c.args.remembered.now.prices.items c.loop-least.trial c.args.section.0 c.from-place.result c.loop-least.least
+    (record { 0 = leaves c.in-Some.first }) c.from-place.ensures c.loop-least.invariant.trial in
+    let keeps =
+    first_keeps crowd (price_in prices) c.args.section.0 c.loop-least.least.0 (heap_items c.loop-least.holders) (heap_items c.pop.new.self) c.in-Some.first
+    c.loop-least.invariant.left c.in-Some.ensures.permutation greatest_first in
     let later : c.loop-least.least.0 ≤ leaves c.in-Some.first = keeps.later in
     let from : price_in c.args.remembered.now.prices.items c.args.section.0 ≤ c.loop-least.least.0 = c.loop-least.invariant.from in
     let hs : ℕ = length (heap_items c.loop-least.holders) in
     let many : c.args.limit < hs = search rules in
     let lacks : c.has.result ≡ false = search rules in
     record {
-      trial = ap (λ (l : List Tokens). slice_set l c.from-place.result (record { 0 = leaves c.in-Some.first })) c.loop-least.invariant.trial ∙ written_twice prices c.from-place.result c.loop-least.least (record { 0 = leaves c.in-Some.first });
+      trial =
+          ap (λ (l : List Tokens). slice_set l c.from-place.result (record { 0 = leaves c.in-Some.first })) c.loop-least.invariant.trial
+          ∙ written_twice prices c.from-place.result c.loop-least.least (record { 0 = leaves c.in-Some.first });
       heap = (c.in-Some.ensures.heap_order c.loop-least.invariant.heap).0;
-      left = has_left crowd (price_in prices) c.args.section.0 c.loop-least.least.0 (heap_items c.loop-least.holders) (heap_items c.pop.new.self) c.in-Some.first c.loop-least.invariant.left c.in-Some.ensures.permutation greatest_first
-          (asked_there crowd prices _ c.args.section.0 (leaves c.in-Some.first) c.in-Some.first.1 (sections_of c.answered_or_asked-bundle.result) c.requires.prices c.requires.section read c.answered_or_asked-bundle.ensures ∙ sym c.has.ensures ∙ lacks);
+      left =
+          has_left crowd (price_in prices) c.args.section.0 c.loop-least.least.0 (heap_items c.loop-least.holders) (heap_items c.pop.new.self) c.in-Some.first
+          c.loop-least.invariant.left c.in-Some.ensures.permutation greatest_first
+          (asked_there crowd prices _ c.args.section.0 (leaves c.in-Some.first) c.in-Some.first.1 (sections_of c.answered_or_asked-bundle.result)
+          c.requires.prices c.requires.section read c.answered_or_asked-bundle.ensures
+          ∙ sym c.has.ensures ∙ lacks);
       from = (let goal : price_in c.args.remembered.now.prices.items c.args.section.0 ≤ leaves c.in-Some.first = omega arith in goal);
       high = keeps.capped;
-      noted = noted_more crowd prices c.args.section.0 c.loop-least.least.0 (leaves c.in-Some.first) c.loop-least.notes.items _ (record { student = record { 0 = c.in-Some.first.1 }; price = record { 0 = leaves c.in-Some.first }; bundle = c.answered_or_asked-bundle.result })
-          c.loop-least.invariant.noted later (search rules) (c.answered_or_asked-bundle.ensures ∙ ap (λ (l : List Tokens). demand_of crowd (price_in l) c.in-Some.first.1) read) refl;
-      lower = λ p above below. (let more : hs ≤ count crowd (with_price (price_in prices) c.args.section.0 p) c.args.section.0 = many_below crowd (price_in prices) c.args.section.0 c.loop-least.least.0 (heap_items c.loop-least.holders) (heap_items c.pop.new.self) c.in-Some.first c.loop-least.invariant.left c.in-Some.ensures.permutation greatest_first p below in let goal : c.args.limit < count crowd (with_price (price_in prices) c.args.section.0 p) c.args.section.0 = omega arith in goal);
+      noted =
+          noted_more crowd prices c.args.section.0 c.loop-least.least.0 (leaves c.in-Some.first) c.loop-least.notes.items _
+          (record { student = record { 0 = c.in-Some.first.1 }; price = record { 0 = leaves c.in-Some.first }; bundle = c.answered_or_asked-bundle.result })
+          c.loop-least.invariant.noted later (search rules)
+          (c.answered_or_asked-bundle.ensures ∙ ap (λ (l : List Tokens). demand_of crowd (price_in l) c.in-Some.first.1) read) refl;
+      lower =
+          λ p above below. (let more : hs
+          ≤ count crowd (with_price (price_in prices) c.args.section.0 p) c.args.section.0 = many_below crowd (price_in prices) c.args.section.0
+          c.loop-least.least.0 (heap_items c.loop-least.holders) (heap_items c.pop.new.self) c.in-Some.first c.loop-least.invariant.left
+          c.in-Some.ensures.permutation greatest_first p below in let goal : c.args.limit
+          < count crowd (with_price (price_in prices) c.args.section.0 p) c.args.section.0 = omega arith in goal);
     }
 
 pub loop-least-smaller : goal.loop-least-smaller
@@ -72,10 +95,17 @@ loop-least-smaller c =
     let s : ℕ = c.args.section.0 in
     let first = c.in-Some.first in
     let greatest_first = first_le_from_greatest nat_cmp c.in-Some.first (heap_items c.pop.new.self) (c.in-Some.ensures.below_top c.loop-least.invariant.heap) in
-    let read = trial_there c.args.remembered.now.prices.items c.loop-least.trial c.args.section.0 c.from-place.result c.loop-least.least (record { 0 = leaves c.in-Some.first }) c.from-place.ensures c.loop-least.invariant.trial in
-    let keeps = first_keeps crowd (price_in prices) c.args.section.0 c.loop-least.least.0 (heap_items c.loop-least.holders) (heap_items c.pop.new.self) c.in-Some.first c.loop-least.invariant.left c.in-Some.ensures.permutation greatest_first in
-    less_stayed crowd (price_in prices) c.args.section.0 c.loop-least.least.0 (heap_items c.loop-least.holders) (heap_items c.pop.new.self) c.in-Some.first c.loop-least.invariant.left c.in-Some.ensures.permutation greatest_first c.holder_of-holder.result (heap_items c.push-in-loop-least.new.self) c.in_ok-push-2.ensures.permutation c.holder_of-holder.ensures.student
-    (leaves_later crowd prices _ c.args.section.0 c.in-Some.first c.holder_of-holder.result read c.requires.prices c.requires.section keeps.room c.holder_of-holder.ensures.later)
+    let read =
+    trial_there c.args.remembered.now.prices.items c.loop-least.trial c.args.section.0 c.from-place.result c.loop-least.least
+    (record { 0 = leaves c.in-Some.first }) c.from-place.ensures c.loop-least.invariant.trial in
+    let keeps =
+    first_keeps crowd (price_in prices) c.args.section.0 c.loop-least.least.0 (heap_items c.loop-least.holders) (heap_items c.pop.new.self) c.in-Some.first
+    c.loop-least.invariant.left c.in-Some.ensures.permutation greatest_first in
+    less_stayed crowd (price_in prices) c.args.section.0 c.loop-least.least.0 (heap_items c.loop-least.holders) (heap_items c.pop.new.self) c.in-Some.first
+    c.loop-least.invariant.left c.in-Some.ensures.permutation greatest_first c.holder_of-holder.result (heap_items c.push-in-loop-least.new.self)
+    c.in_ok-push-2.ensures.permutation c.holder_of-holder.ensures.student
+    (leaves_later crowd prices _ c.args.section.0 c.in-Some.first c.holder_of-holder.result read c.requires.prices c.requires.section keeps.room
+    c.holder_of-holder.ensures.later)
 
 pub loop-least-preserved : goal.loop-least-preserved
 loop-least-preserved c =
@@ -84,35 +114,57 @@ loop-least-preserved c =
     let s : ℕ = c.args.section.0 in
     let first = c.in-Some.first in
     let greatest_first = first_le_from_greatest nat_cmp c.in-Some.first (heap_items c.pop.new.self) (c.in-Some.ensures.below_top c.loop-least.invariant.heap) in
-    let read = trial_there c.args.remembered.now.prices.items c.loop-least.trial c.args.section.0 c.from-place.result c.loop-least.least (record { 0 = leaves c.in-Some.first }) c.from-place.ensures c.loop-least.invariant.trial in
-    let keeps = first_keeps crowd (price_in prices) c.args.section.0 c.loop-least.least.0 (heap_items c.loop-least.holders) (heap_items c.pop.new.self) c.in-Some.first c.loop-least.invariant.left c.in-Some.ensures.permutation greatest_first in
+    let read =
+    trial_there c.args.remembered.now.prices.items c.loop-least.trial c.args.section.0 c.from-place.result c.loop-least.least
+    (record { 0 = leaves c.in-Some.first }) c.from-place.ensures c.loop-least.invariant.trial in
+    let keeps =
+    first_keeps crowd (price_in prices) c.args.section.0 c.loop-least.least.0 (heap_items c.loop-least.holders) (heap_items c.pop.new.self) c.in-Some.first
+    c.loop-least.invariant.left c.in-Some.ensures.permutation greatest_first in
     let later : c.loop-least.least.0 ≤ leaves c.in-Some.first = keeps.later in
     let from : price_in c.args.remembered.now.prices.items c.args.section.0 ≤ c.loop-least.least.0 = c.loop-least.invariant.from in
     let hs : ℕ = length (heap_items c.loop-least.holders) in
     let many : c.args.limit < hs = search rules in
     record {
-      trial = ap (λ (l : List Tokens). slice_set l c.from-place.result (record { 0 = leaves c.in-Some.first })) c.loop-least.invariant.trial ∙ written_twice prices c.from-place.result c.loop-least.least (record { 0 = leaves c.in-Some.first });
+      trial =
+          ap (λ (l : List Tokens). slice_set l c.from-place.result (record { 0 = leaves c.in-Some.first })) c.loop-least.invariant.trial
+          ∙ written_twice prices c.from-place.result c.loop-least.least (record { 0 = leaves c.in-Some.first });
       heap = c.in_ok-push-2.ensures.heap_order (c.in-Some.ensures.heap_order c.loop-least.invariant.heap).0;
-      left = has_stayed crowd (price_in prices) c.args.section.0 c.loop-least.least.0 (heap_items c.loop-least.holders) (heap_items c.pop.new.self) c.in-Some.first c.loop-least.invariant.left c.in-Some.ensures.permutation greatest_first c.holder_of-holder.result (heap_items c.push-in-loop-least.new.self) c.in_ok-push-2.ensures.permutation c.holder_of-holder.ensures.student
+      left =
+          has_stayed crowd (price_in prices) c.args.section.0 c.loop-least.least.0 (heap_items c.loop-least.holders) (heap_items c.pop.new.self) c.in-Some.first
+          c.loop-least.invariant.left c.in-Some.ensures.permutation greatest_first c.holder_of-holder.result (heap_items c.push-in-loop-least.new.self)
+          c.in_ok-push-2.ensures.permutation c.holder_of-holder.ensures.student
           (keeps_asked crowd prices _ c.args.section.0 (leaves c.in-Some.first) c.in-Some.first.1 c.holder_of-holder.result read c.requires.prices c.requires.section c.holder_of-holder.ensures.student c.holder_of-holder.ensures.room c.holder_of-holder.ensures.later
           c.holder_of-holder.ensures.capped c.holder_of-holder.ensures.still);
       from = (let goal : price_in c.args.remembered.now.prices.items c.args.section.0 ≤ leaves c.in-Some.first = omega arith in goal);
       high = keeps.capped;
-      noted = noted_more crowd prices c.args.section.0 c.loop-least.least.0 (leaves c.in-Some.first) c.loop-least.notes.items _ (record { student = record { 0 = c.in-Some.first.1 }; price = record { 0 = leaves c.in-Some.first }; bundle = c.answered_or_asked-bundle.result })
-          c.loop-least.invariant.noted later (search rules) (c.answered_or_asked-bundle.ensures ∙ ap (λ (l : List Tokens). demand_of crowd (price_in l) c.in-Some.first.1) read) refl;
-      lower = λ p above below. (let more : hs ≤ count crowd (with_price (price_in prices) c.args.section.0 p) c.args.section.0 = many_below crowd (price_in prices) c.args.section.0 c.loop-least.least.0 (heap_items c.loop-least.holders) (heap_items c.pop.new.self) c.in-Some.first c.loop-least.invariant.left c.in-Some.ensures.permutation greatest_first p below in let goal : c.args.limit < count crowd (with_price (price_in prices) c.args.section.0 p) c.args.section.0 = omega arith in goal);
+      noted =
+          noted_more crowd prices c.args.section.0 c.loop-least.least.0 (leaves c.in-Some.first) c.loop-least.notes.items _
+          (record { student = record { 0 = c.in-Some.first.1 }; price = record { 0 = leaves c.in-Some.first }; bundle = c.answered_or_asked-bundle.result })
+          c.loop-least.invariant.noted later (search rules)
+          (c.answered_or_asked-bundle.ensures ∙ ap (λ (l : List Tokens). demand_of crowd (price_in l) c.in-Some.first.1) read) refl;
+      lower =
+          λ p above below. (let more : hs
+          ≤ count crowd (with_price (price_in prices) c.args.section.0 p) c.args.section.0 = many_below crowd (price_in prices) c.args.section.0
+          c.loop-least.least.0 (heap_items c.loop-least.holders) (heap_items c.pop.new.self) c.in-Some.first c.loop-least.invariant.left
+          c.in-Some.ensures.permutation greatest_first p below in let goal : c.args.limit
+          < count crowd (with_price (price_in prices) c.args.section.0 p) c.args.section.0 = omega arith in goal);
     }
 
 pub returns-clause-trial : goal.returns-clause-trial
 returns-clause-trial c =
     let prices = c.args.remembered.now.prices.items in
-    ap (λ (l : List Tokens). slice_set l c.from-place.result (slice_index_or c.args.trial.now c.from-place.result (record { 0 = 0 }))) c.loop-least.invariant.trial
-    ∙ ap (λ (l : List Tokens). slice_set (slice_set prices c.from-place.result c.loop-least.least) c.from-place.result (slice_index_or l c.from-place.result (record { 0 = 0 }))) c.requires.trial
+    ap (λ (l : List Tokens). slice_set l c.from-place.result (slice_index_or c.args.trial.now c.from-place.result (record { 0 = 0 })))
+    c.loop-least.invariant.trial
+    ∙ ap
+    (λ (l : List Tokens). slice_set (slice_set prices c.from-place.result c.loop-least.least) c.from-place.result
+    (slice_index_or l c.from-place.result (record { 0 = 0 })))
+    c.requires.trial
     ∙ put_back prices c.from-place.result c.loop-least.least (record { 0 = 0 })
 
 pub returns-clause-least : goal.returns-clause-least
 returns-clause-least c =
     let hs : ℕ = length (heap_items c.loop-least.holders) in
     let few : hs ≤ c.args.limit = search rules in
-    least_found (data_of c.args.crowd.now) (price_in c.args.remembered.now.prices.items) c.args.section.0 (price_in c.args.remembered.now.prices.items c.args.section.0) c.args.limit c.loop-least.least.0 (heap_items c.loop-least.holders)
+    least_found (data_of c.args.crowd.now) (price_in c.args.remembered.now.prices.items) c.args.section.0
+    (price_in c.args.remembered.now.prices.items c.args.section.0) c.args.limit c.loop-least.least.0 (heap_items c.loop-least.holders)
     c.loop-least.invariant.from c.loop-least.invariant.lower c.loop-least.invariant.left few

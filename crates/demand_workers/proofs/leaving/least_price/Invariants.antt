@@ -19,7 +19,8 @@ invariant-loop-least l = record {
   from : price_in l.remembered.prices.items l.section.0 ≤ l.least.0;
   high : l.least.0 ≤ top (data_of l.crowd);
   noted : AreNoted (data_of l.crowd) l.remembered.prices.items l.section.0 l.least.0 l.notes.items;
-  lower : (p : ℕ) → price_in l.remembered.prices.items l.section.0 ≤ p → p < l.least.0 → l.limit < count (data_of l.crowd) (with_price (price_in l.remembered.prices.items) l.section.0 p) l.section.0;
+  lower : (p : ℕ) → price_in l.remembered.prices.items l.section.0 ≤ p → p < l.least.0
+      → l.limit < count (data_of l.crowd) (with_price (price_in l.remembered.prices.items) l.section.0 p) l.section.0;
 }
 
 abbrev pub decreases-loop-least : goal.decreases-loop-least

@@ -36,13 +36,17 @@ loop-place-preserved-then-not-has c =
     let place : ℕ = c.loop-place.place in
     let wide : length prices ≡ crowd.sections = c.requires.prices.same in
     let there : c.args.section.0 < length prices = subst (λ (n : ℕ). c.args.section.0 < n) (sym wide) c.requires.section in
-    let written : slice_set c.in_ok-prices.prices.items c.from.result c.args.walk.now.least ≡ slice_set prices c.args.section.0 c.args.walk.now.least = search rules in
+    let written : slice_set c.in_ok-prices.prices.items c.from.result c.args.walk.now.least ≡ slice_set prices c.args.section.0 c.args.walk.now.least =
+    search rules in
     let end : place < length c.args.remembered.now.bundles.items = search rules in
     let low : place < length crowd.menus.items = subst (λ (n : ℕ). c.loop-place.place < n) c.requires.all end in
     let lacks : has (sections_of c.index.result.now) c.args.section.0 ≡ false = sym c.has.ensures ∙ c.if-not-has.true in
     let held : sections_of c.index.result.now ≡ demand_of (data_of crowd) (price_in prices) place =
-    ap sections_of (c.index.ensures ∙ c.loop-place.invariant.rest c.loop-place.place c.index.result.now (omega arith)) ∙ c.requires.remembered.taken c.loop-place.place c.index.result.now end in
-    let stays = lacking_stays crowd.menus.items crowd.budgets.items crowd.sections prices _ c.args.section.0 c.loop-place.place c.args.walk.now.least (sections_of c.index.result.now) c.requires.crowd.same low there c.requires.low written lacks held in
+    ap sections_of (c.index.ensures ∙ c.loop-place.invariant.rest c.loop-place.place c.index.result.now (omega arith))
+    ∙ c.requires.remembered.taken c.loop-place.place c.index.result.now end in
+    let stays =
+    lacking_stays crowd.menus.items crowd.budgets.items crowd.sections prices _ c.args.section.0 c.loop-place.place c.args.walk.now.least
+    (sections_of c.index.result.now) c.requires.crowd.same low there c.requires.low written lacks held in
     let many : place < length c.loop-place.bundles.items = subst (λ (n : ℕ). c.loop-place.place < n) (sym c.loop-place.invariant.len) end in
     record {
       len = c.loop-place.invariant.len;

@@ -11,5 +11,6 @@ abbrev pub invariant-loop-place : goal.invariant-loop-place
 invariant-loop-place l = record {
   len : length l.bundles.items ≡ length l.remembered.bundles.items;
   rest : (k : ℕ) (d : Bundle) → l.place ≤ k → slice_index_or l.bundles.items k d ≡ slice_index_or l.remembered.bundles.items k d;
-  taken : (k : ℕ) (d : Bundle) → k < l.place → k < length l.bundles.items → sections_of (slice_index_or l.bundles.items k d) ≡ demand_of (data_of l.crowd) (price_in l.prices.items) k;
+  taken : (k : ℕ) (d : Bundle) → k < l.place → k < length l.bundles.items
+      → sections_of (slice_index_or l.bundles.items k d) ≡ demand_of (data_of l.crowd) (price_in l.prices.items) k;
 }

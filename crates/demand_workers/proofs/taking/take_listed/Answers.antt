@@ -11,5 +11,6 @@ pub returns : goal.returns
 returns c =
     let past : length c.args.students.now ≤ c.loop-place.place = c.loop-place-test.false in
     let long : length c.loop-place.bundles ≡ length c.args.students.now = c.loop-place.invariant.len ∙ c.requires.same in
-    maps_same sections_of (λ (student : StudentNo). demand_of (data_of c.args.crowd.now) (price_in c.args.prices.now) student.0) c.loop-place.bundles c.args.students.now (record { 0 = 0 }) long
+    maps_same sections_of (λ (student : StudentNo). demand_of (data_of c.args.crowd.now) (price_in c.args.prices.now) student.0) c.loop-place.bundles
+    c.args.students.now (record { 0 = 0 }) long
     (λ k d low. c.loop-place.invariant.done k d (record { 0 = 0 }) (let goal : k < c.loop-place.place = omega arith in goal))

@@ -9,5 +9,6 @@ use Rattle.demand_workers.proofs.taking.take_listed.Given as goal
 abbrev pub invariant-loop-place : goal.invariant-loop-place
 invariant-loop-place l = record {
   len : length l.bundles ≡ length l.fn.bundles;
-  done : (k : ℕ) (d : _) (e : _) → k < l.place → sections_of (slice_index_or l.bundles k d) ≡ demand_of (data_of l.crowd) (price_in l.prices) (slice_index_or l.students k e).0;
+  done : (k : ℕ) (d : _) (e : _) → k < l.place
+      → sections_of (slice_index_or l.bundles k d) ≡ demand_of (data_of l.crowd) (price_in l.prices) (slice_index_or l.students k e).0;
 }

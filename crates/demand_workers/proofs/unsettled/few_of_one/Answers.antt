@@ -7,5 +7,7 @@ pub loop-place-preserved-then-stays : goal.loop-place-preserved-then-stays
 loop-place-preserved-then-stays c = record {
   room = search rules;
   inquiries = c.loop-place.invariant.inquiries;
-  kept = first_kept (data_of c.args.crowd.now) c.args.remembered.now.bundles.items _ c.args.version c.loop-place.place c.loop-place.inquiries.items c.loop-place.invariant.kept (c.stays.ensures c.if-stays.true);
+  kept =
+      first_kept (data_of c.args.crowd.now) c.args.remembered.now.bundles.items _ c.args.version c.loop-place.place c.loop-place.inquiries.items
+      c.loop-place.invariant.kept (c.stays.ensures c.if-stays.true);
 }

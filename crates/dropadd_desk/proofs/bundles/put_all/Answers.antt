@@ -8,12 +8,14 @@ use Rattle.dropadd_desk.proofs.bundles.put_all.Goals as goal
 
 pub with-whole-requires-clause-room : goal.with-whole-requires-clause-room
 with-whole-requires-clause-room c =
-    let next = next_in_bundle (sections_of c.args.bundle) c.args.sections.now c.loop-section.section-index (record { 0 = 0 }) c.loop-section-test.true c.requires in
+    let next =
+    next_in_bundle (sections_of c.args.bundle) c.args.sections.now c.loop-section.section-index (record { 0 = 0 }) c.loop-section-test.true c.requires in
     subst (λ l. length l < 8) (sym c.loop-section.invariant) next.0
 
 pub with-whole-requires-clause-above : goal.with-whole-requires-clause-above
 with-whole-requires-clause-above c =
-    let next = next_in_bundle (sections_of c.args.bundle) c.args.sections.now c.loop-section.section-index (record { 0 = 0 }) c.loop-section-test.true c.requires in
+    let next =
+    next_in_bundle (sections_of c.args.bundle) c.args.sections.now c.loop-section.section-index (record { 0 = 0 }) c.loop-section-test.true c.requires in
     subst (λ l. IsAscending (l ++ (get_or c.args.sections.now c.loop-section.section-index (record { 0 = 0 })).0 ∷ [])) (sym c.loop-section.invariant) next.1
 
 pub loop-section-preserved : goal.loop-section-preserved

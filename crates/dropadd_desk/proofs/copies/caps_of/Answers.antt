@@ -10,11 +10,21 @@ use Rattle.dropadd_desk.proofs.copies.caps_of.Goals as goal
 pub loop-student-preserved : goal.loop-student-preserved
 loop-student-preserved c =
     let inside : c.loop-student.student < length c.args.roll.now.students = omega (arith, c.loop-student-test.true, c.len-students.ensures.len) in
-    let credits = read_at (λ (student : Student). student.credits) c.args.roll.now.students c.loop-student.student c.credits.result no_student c.credits.ensures.credits in
-    let courses = read_at (λ (student : Student). student.courses) c.args.roll.now.students c.loop-student.student c.courses.result no_student c.courses.ensures.courses in
+    let credits =
+    read_at (λ (student : Student). student.credits) c.args.roll.now.students c.loop-student.student c.credits.result no_student c.credits.ensures.credits in
+    let courses =
+    read_at (λ (student : Student). student.courses) c.args.roll.now.students c.loop-student.student c.courses.result no_student c.courses.ensures.courses in
     record {
-      credits = ap (map (λ (caps : Caps). caps.credits)) c.in_ok-push.ensures.items ∙ one_number_more (λ (caps : Caps). caps.credits) (λ (student : Student). student.credits) c.loop-student.caps.items c.args.roll.now.students c.loop-student.student (record { credits = c.credits.result; courses = c.courses.result }) no_student inside c.loop-student.invariant.credits credits;
-      courses = ap (map (λ (caps : Caps). caps.courses)) c.in_ok-push.ensures.items ∙ one_number_more (λ (caps : Caps). caps.courses) (λ (student : Student). student.courses) c.loop-student.caps.items c.args.roll.now.students c.loop-student.student (record { credits = c.credits.result; courses = c.courses.result }) no_student inside c.loop-student.invariant.courses courses;
+      credits =
+          ap (map (λ (caps : Caps). caps.credits)) c.in_ok-push.ensures.items
+          ∙ one_number_more (λ (caps : Caps). caps.credits) (λ (student : Student). student.credits) c.loop-student.caps.items c.args.roll.now.students
+          c.loop-student.student (record { credits = c.credits.result; courses = c.courses.result }) no_student inside c.loop-student.invariant.credits
+          credits;
+      courses =
+          ap (map (λ (caps : Caps). caps.courses)) c.in_ok-push.ensures.items
+          ∙ one_number_more (λ (caps : Caps). caps.courses) (λ (student : Student). student.courses) c.loop-student.caps.items c.args.roll.now.students
+          c.loop-student.student (record { credits = c.credits.result; courses = c.courses.result }) no_student inside c.loop-student.invariant.courses
+          courses;
     }
 
 pub returns : goal.returns

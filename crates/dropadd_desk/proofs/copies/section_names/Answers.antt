@@ -9,9 +9,14 @@ loop-section-preserved c =
     let names = map (λ (section : Section). section.name) c.args.catalog.now.sections in
     let low : c.loop-section.section < length c.args.catalog.now.sections = omega (arith, c.loop-section-test.true, c.len-sections.ensures.count) in
     let inside : c.loop-section.section < length names = omega (arith, low, length-map c.args.catalog.now.sections (λ (section : Section). section.name)) in
-    one_name_more names c.loop-section.names.keys c.insert.new.self.keys c.loop-section.section c.name.result c.len-sections.ensures.kept.distinct inside c.loop-section.invariant
-    (c.name.ensures ∙ sym (get_or-map (λ (section : Section). section.name) c.args.catalog.now.sections c.loop-section.section no_section [] low)) c.in_ok-insert.ensures.keys
+    one_name_more names c.loop-section.names.keys c.insert.new.self.keys c.loop-section.section c.name.result c.len-sections.ensures.kept.distinct inside
+    c.loop-section.invariant
+    (c.name.ensures ∙ sym (get_or-map (λ (section : Section). section.name) c.args.catalog.now.sections c.loop-section.section no_section [] low))
+    c.in_ok-insert.ensures.keys
 
 pub returns-clause-names : goal.returns-clause-names
 returns-clause-names c =
-    c.loop-section.invariant ∙ take_all _ _ (omega (arith, length-map c.args.catalog.now.sections (λ (section : Section). section.name), c.loop-section-test.false, c.len-sections.ensures.count))
+    c.loop-section.invariant
+    ∙ take_all _ _
+    (omega
+    (arith, length-map c.args.catalog.now.sections (λ (section : Section). section.name), c.loop-section-test.false, c.len-sections.ensures.count))

@@ -7,10 +7,14 @@ use Rattle.dropadd_desk.proofs.copies.student_names.Goals as goal
 pub loop-student-preserved : goal.loop-student-preserved
 loop-student-preserved c =
     let names = names_of c.args.roll.now.students in
-    let inside : c.loop-student.student < length names = omega (arith, length-map c.args.roll.now.students (λ (student : Student). student.name), c.loop-student-test.true, c.len-students.ensures.len) in
-    one_name_more names c.loop-student.names.keys c.insert.new.self.keys c.loop-student.student c.name.result c.len-students.ensures.roll.distinct inside c.loop-student.invariant
+    let inside : c.loop-student.student < length names =
+    omega (arith, length-map c.args.roll.now.students (λ (student : Student). student.name), c.loop-student-test.true, c.len-students.ensures.len) in
+    one_name_more names c.loop-student.names.keys c.insert.new.self.keys c.loop-student.student c.name.result c.len-students.ensures.roll.distinct inside
+    c.loop-student.invariant
     (read_option (λ (student : Student). student.name) c.args.roll.now.students c.loop-student.student _ [] c.name.ensures) c.in_ok-insert.ensures.keys
 
 pub returns-clause-names : goal.returns-clause-names
 returns-clause-names c =
-    c.loop-student.invariant ∙ take_all _ _ (omega (arith, length-map c.args.roll.now.students (λ (student : Student). student.name), c.loop-student-test.false, c.len-students.ensures.len))
+    c.loop-student.invariant
+    ∙ take_all _ _
+    (omega (arith, length-map c.args.roll.now.students (λ (student : Student). student.name), c.loop-student-test.false, c.len-students.ensures.len))

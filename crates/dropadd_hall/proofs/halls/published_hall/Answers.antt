@@ -16,5 +16,7 @@ returns-in-Ok-clause-told g c =
       publication = opened.0;
       opens = record { is_text = opened.1; faultless = opened.2.faultless };
       history = c.in-Ok.ensures.0;
-      told_of = subst (λ (state : HallState). IsToldOf market state (request_lists c.args.streams.now) c.in-Ok.ensures.0 c.in-Ok.told.items) opened.2.state c.in-Ok.ensures.1;
+      told_of =
+          subst (λ (state : HallState). IsToldOf market state (request_lists c.args.streams.now) c.in-Ok.ensures.0 c.in-Ok.told.items) opened.2.state
+          c.in-Ok.ensures.1;
     }

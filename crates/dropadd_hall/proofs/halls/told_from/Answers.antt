@@ -11,7 +11,9 @@ use Rattle.dropadd_hall.specs.Texts.{hall_text}
 use Rattle.dropadd_hall.proofs.halls.told_from.Goals as goal
 
 pub put_hall-requires-clause-named : goal.put_hall-requires-clause-named
-put_hall-requires-clause-named g c = subst (λ (market : Market). All (λ (step : HallStep). NamesInRange market step.reply) c.in_ok-hall.hall.journal) c.requires.market c.in_ok-hall.ensures.named
+put_hall-requires-clause-named g c =
+    subst (λ (market : Market). All (λ (step : HallStep). NamesInRange market step.reply) c.in_ok-hall.hall.journal) c.requires.market
+    c.in_ok-hall.ensures.named
 
 pub returns : goal.returns
 returns g c =
@@ -23,6 +25,9 @@ returns g c =
       record {
         legal = subst (λ m. IsLegal is_sound state_after reply_to m (state_of c.args.desk) hall.journal) c.requires.market said.legal;
         merges = said.merges;
-        written = written ∙ ap (hall_text market hall.journal) (said.state ∙ ap (λ (m : Market). state_after_steps state_after m (state_of c.args.desk) hall.journal) c.requires.market);
+        written =
+            written
+            ∙ ap (hall_text market hall.journal)
+            (said.state ∙ ap (λ (m : Market). state_after_steps state_after m (state_of c.args.desk) hall.journal) c.requires.market);
       },
     )) c.put_hall.ensures

@@ -20,12 +20,14 @@ use Rattle.dropadd_hall.proofs.reopening.open_desk.Goals as goal
 pub open_with-requires-clause-each : goal.open_with-requires-clause-each
 open_with-requires-clause-each c =
     let market : Market = record { catalog = c.args.catalog.now; roll = c.args.roll.now } in
-    ap length c.deref.ensures.value ∙ sym (length_map sections_of c.in-Ok.publication.allocation.items) ∙ each_final market (publication_of c.in-Ok.publication) c.in-Ok.ensures.publication
+    ap length c.deref.ensures.value ∙ sym (length_map sections_of c.in-Ok.publication.allocation.items)
+    ∙ each_final market (publication_of c.in-Ok.publication) c.in-Ok.ensures.publication
 
 pub open_with-requires-clause-within : goal.open_with-requires-clause-within
 open_with-requires-clause-within c =
     let market : Market = record { catalog = c.args.catalog.now; roll = c.args.roll.now } in
-    subst (λ (bundles : List Bundle). AreBelow (length c.args.catalog.now.sections) (map sections_of bundles)) (sym c.deref.ensures.value) (finals_below market (publication_of c.in-Ok.publication) c.in-Ok.ensures.publication)
+    subst (λ (bundles : List Bundle). AreBelow (length c.args.catalog.now.sections) (map sections_of bundles)) (sym c.deref.ensures.value)
+    (finals_below market (publication_of c.in-Ok.publication) c.in-Ok.ensures.publication)
 
 pub returns-in-Ok-clause-opened : goal.returns-in-Ok-clause-opened
 returns-in-Ok-clause-opened c =
@@ -57,12 +59,16 @@ returns-in-Ok-clause-named c =
 pub returns-in-Err-clause-first : goal.returns-in-Err-clause-first
 returns-in-Err-clause-first c =
     let market : Market = record { catalog = c.args.catalog.now; roll = c.args.roll.now } in
-    subst (λ end. OnFound end (IsOpeningFinding market c.args.text.now)) (sym c.end_of.ensures) (defect_first market c.args.text.now c.in-Err.refusal c.in-Err.ensures.defect)
+    subst (λ end. OnFound end (IsOpeningFinding market c.args.text.now)) (sym c.end_of.ensures)
+    (defect_first market c.args.text.now c.in-Err.refusal c.in-Err.ensures.defect)
 
 pub returns-in-Err-clause-refused : goal.returns-in-Err-clause-refused
 returns-in-Err-clause-refused c =
     let market : Market = record { catalog = c.args.catalog.now; roll = c.args.roll.now } in
-    subst (λ end. OnFound end (λ _. ¬ CanOpen market c.args.text.now)) (sym c.end_of.ensures) (defect_refused market c.args.text.now c.in-Err.refusal c.in-Err.ensures.refused)
+    subst (λ end. OnFound end (λ _. ¬ CanOpen market c.args.text.now)) (sym c.end_of.ensures)
+    (defect_refused market c.args.text.now c.in-Err.refusal c.in-Err.ensures.refused)
 
 pub returns-in-Err-clause-named : goal.returns-in-Err-clause-named
-returns-in-Err-clause-named c = subst (λ end. OnFound end (IsNamedIn (tables_of c.args.catalog.now c.args.roll.now))) (sym c.end_of.ensures) (defect_named (tables_of c.args.catalog.now c.args.roll.now) c.in-Err.refusal)
+returns-in-Err-clause-named c =
+    subst (λ end. OnFound end (IsNamedIn (tables_of c.args.catalog.now c.args.roll.now))) (sym c.end_of.ensures)
+    (defect_named (tables_of c.args.catalog.now c.args.roll.now) c.in-Err.refusal)

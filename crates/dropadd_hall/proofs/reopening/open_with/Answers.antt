@@ -15,7 +15,9 @@ returns-in-None-clause-opened c =
       of = said.market;
       state = said.state;
       room = said.room;
-      faultless = faultless_at (market_of desk) market (state_of desk) (opening market (map sections_of c.args.bundles.now)) said.market said.state c.in-None.ensures.none;
+      faultless =
+          faultless_at (market_of desk) market (state_of desk) (opening market (map sections_of c.args.bundles.now)) said.market said.state
+          c.in-None.ensures.none;
     }
 
 pub returns-in-Some-clause-fault : goal.returns-in-Some-clause-fault
@@ -23,4 +25,6 @@ returns-in-Some-clause-fault c =
     let market : Market = record { catalog = c.args.catalog.now; roll = c.args.roll.now } in
     let desk = c.in_ok-desk.desk in
     let said = c.in_ok-desk.ensures in
-    rw c.finding_of.ensures (told_at (market_of desk) market (state_of desk) (opening market (map sections_of c.args.bundles.now)) c.in-Some.fault said.market said.state c.in-Some.ensures.fault)
+    rw c.finding_of.ensures
+    (told_at (market_of desk) market (state_of desk) (opening market (map sections_of c.args.bundles.now)) c.in-Some.fault said.market said.state
+    c.in-Some.ensures.fault)

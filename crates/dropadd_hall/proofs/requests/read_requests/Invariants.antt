@@ -6,7 +6,9 @@ use Rattle.dropadd_hall.proofs.requests.read_requests.Given as goal
 
 -- the lines that were read, and their requests
 abbrev pub invariant-loop-rest : goal.invariant-loop-rest
-invariant-loop-rest l = (vec_len l.requests ≤ l.room) × ((read : List (List (List ℕ))) × (command_lines l.bytes ≡ read ++ command_lines l.rest) × AllZip IsRequestOf read l.requests.items)
+invariant-loop-rest l =
+    (vec_len l.requests ≤ l.room)
+    × ((read : List (List (List ℕ))) × (command_lines l.bytes ≡ read ++ command_lines l.rest) × AllZip IsRequestOf read l.requests.items)
 
 abbrev pub decreases-loop-rest : goal.decreases-loop-rest
 decreases-loop-rest l = length l.rest

@@ -10,4 +10,7 @@ sections-preserved c =
     let market = market_of c.args.desk.now in
     let state = state_of c.args.desk.now in
     line_more (seats_line market state) c.sections.section c.args.text.now.items c.sections.text.items c.put_seats.new.text.items c.sections.invariant
-    (c.in_ok-put_seats.ensures ∙ ap (λ l. (c.sections.text.items ++ l) ++ 10 ∷ []) (seats_put market state c.args.catalog.now c.sections.section (name_bytes c.name-name.result) c.holders.result c.seats.result c.requires (omega arith) c.name-name.ensures c.holders.ensures c.seats.ensures))
+    (c.in_ok-put_seats.ensures
+    ∙ ap (λ l. (c.sections.text.items ++ l) ++ 10 ∷ [])
+    (seats_put market state c.args.catalog.now c.sections.section (name_bytes c.name-name.result) c.holders.result c.seats.result c.requires
+    (omega arith) c.name-name.ensures c.holders.ensures c.seats.ensures))

@@ -18,7 +18,8 @@ returns c =
     ∙ ap (λ (m : Market). begun ++ joined (map (entry_line m) c.steps.result.now)) (sym c.requires.market)
     ∙ ap (λ (steps : List HallStep). begun ++ joined (map (entry_line market) steps)) c.steps.ensures in
     let written =
-    whole (map (entry_line market) journal) (map (held_line market state) (range_with_len 0 (student_count market))) (flat_map (wait_lines market state) (range_with_len 0 (section_count market))) (map (seats_line market state) (range_with_len 0 (section_count market)))
+    whole (map (entry_line market) journal) (map (held_line market state) (range_with_len 0 (student_count market)))
+    (flat_map (wait_lines market state) (range_with_len 0 (section_count market))) (map (seats_line market state) (range_with_len 0 (section_count market)))
     begun c.put_entries.new.text.items c.put_bundles.new.text.items c.put_lists.new.text.items c.put_all_seats.new.text.items
     c.new-text.ensures.items entries c.in_ok-put_bundles.ensures c.in_ok-put_lists.ensures c.in_ok-put_all_seats.ensures in
     subst (λ (m : Market). c.put_all_seats.new.text.items ≡ hall_text m journal state) c.requires.market written

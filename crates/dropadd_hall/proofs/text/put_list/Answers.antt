@@ -13,6 +13,9 @@ returns c =
     let s = c.args.section.0 in
     let waiting = c.waiting-waiting.result.now in
     let low = subst (λ (m : Market). s < section_count m) c.requires.market c.requires.section in
-    let put = list_put market s waiting c.args.text.now.items c.put_waiting.new.text.items (name_bytes c.name.result) (sym c.is_empty.ensures ∙ c.if-is_empty.false) (c.name.ensures ∙ section_name_at c.args.catalog.now.sections s low) c.in_ok-put_waiting.ensures in
+    let put =
+    list_put market s waiting c.args.text.now.items c.put_waiting.new.text.items (name_bytes c.name.result) (sym c.is_empty.ensures ∙ c.if-is_empty.false)
+    (c.name.ensures ∙ section_name_at c.args.catalog.now.sections s low) c.in_ok-put_waiting.ensures in
     let back = subst (λ (m : Market). c.put_waiting.new.text.items ≡ c.args.text.now.items ++ joined (where_any m s waiting)) (sym c.requires.market) put in
-    subst (λ (list : List ℕ). c.put_waiting.new.text.items ≡ c.args.text.now.items ++ joined (where_any (market_of c.args.desk.now) s list)) c.waiting-waiting.ensures.waiting back
+    subst (λ (list : List ℕ). c.put_waiting.new.text.items ≡ c.args.text.now.items ++ joined (where_any (market_of c.args.desk.now) s list))
+    c.waiting-waiting.ensures.waiting back

@@ -6,5 +6,7 @@ pub check_forced-requires-clause-champion : goal.check_forced-requires-clause-ch
 check_forced-requires-clause-champion c = record {
   feasible = c.requires.feasible;
   affordable = c.requires.affordable;
-  within = all_offered c.args.menu.now c.args.sections (sections_of c.args.champion.now) c.full-all.result c.full-all.ensures c.requires.menu c.requires.feasible.rated;
+  within =
+      all_offered c.args.menu.now c.args.sections (sections_of c.args.champion.now) c.full-all.result c.full-all.ensures c.requires.menu
+      c.requires.feasible.rated;
 }

@@ -18,6 +18,11 @@ returns c =
     let some : SomeHas (wishes_of c.args.menu.now) price c.args.budget.0 (λ s. nat_lt s c.args.sections) c.args.section.0 =
     some_has c.args.menu.now price c.args.budget.0 (λ s. nat_lt s c.args.sections) (sections_of c.args.bundle.now) c.args.section.0 c.reason_of-reason.result (lt-ltb c.args.section.0 c.args.sections c.requires.section) c.reason_of-reason.ensures tells in record {
       is_reason = c.reason_of-reason.ensures;
-      is_best = seen_told (IsProvedWith (offer_of_all c.args.menu.now c.args.prices.now c.args.budget.0 c.args.sections) c.args.section.0) c.in_ok-best.best c.in_ok-best.ensures.some;
-      told = some_told (SomeHas (wishes_of c.args.menu.now) price c.args.budget.0 (λ s. nat_lt s c.args.sections) c.args.section.0) c.in_ok-best.best c.in_ok-best.ensures.none some ∙ sym tells;
+      is_best =
+          seen_told (IsProvedWith (offer_of_all c.args.menu.now c.args.prices.now c.args.budget.0 c.args.sections) c.args.section.0) c.in_ok-best.best
+          c.in_ok-best.ensures.some;
+      told =
+          some_told (SomeHas (wishes_of c.args.menu.now) price c.args.budget.0 (λ s. nat_lt s c.args.sections) c.args.section.0) c.in_ok-best.best
+          c.in_ok-best.ensures.none some
+          ∙ sym tells;
     }

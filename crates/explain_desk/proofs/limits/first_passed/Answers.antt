@@ -17,31 +17,38 @@ use Rattle.explain_desk.proofs.limits.first_passed.Goals.{After-all_credits_of, 
 pub prices_of-requires-clause-on_menu : goal.prices_of-requires-clause-on_menu
 prices_of-requires-clause-on_menu c =
     all_of_ordinals (λ s. place_in c.args.menu.now.places s < length c.args.menu.now.places) c.sections-sections.result.now
-    (λ s is. place_of_rated c.args.menu.now (sections_of c.args.bundle.now) c.requires.bundle s (subst (λ xs. has xs s ≡ true) c.sections-sections.ensures.value is))
+    (λ s is. place_of_rated c.args.menu.now (sections_of c.args.bundle.now) c.requires.bundle s
+    (subst (λ xs. has xs s ≡ true) c.sections-sections.ensures.value is))
 
 pub all_credits_of-requires-clause-on_menu : goal.all_credits_of-requires-clause-on_menu
 all_credits_of-requires-clause-on_menu c =
     all_of_ordinals (λ s. place_in c.args.menu.now.places s < length c.args.menu.now.places) c.sections-sections.result.now
-    (λ s is. place_of_rated c.args.menu.now (sections_of c.args.bundle.now) c.requires.bundle s (subst (λ xs. has xs s ≡ true) c.sections-sections.ensures.value is))
+    (λ s is. place_of_rated c.args.menu.now (sections_of c.args.bundle.now) c.requires.bundle s
+    (subst (λ xs. has xs s ≡ true) c.sections-sections.ensures.value is))
 
 -- the price is within the budget
-cheap : (c : After-all_credits_of) → ¬ Passes (wishes_of c.args.menu.now) (price_in c.args.prices.now) c.args.budget.0 (c.args.section.0 ∷ sections_of c.args.bundle.now) Price
+cheap : (c : After-all_credits_of)
+    → ¬ Passes (wishes_of c.args.menu.now) (price_in c.args.prices.now) c.args.budget.0 (c.args.section.0 ∷ sections_of c.args.bundle.now) Price
 cheap c =
     let price = price_in c.args.prices.now in
     let bundle = sections_of c.args.bundle.now in
     let prices : c.prices_of.result ≡ total price bundle = c.prices_of.ensures.value ∙ ap (total price) c.sections-sections.ensures.value in
-    within_price (wishes_of c.args.menu.now) price c.args.budget.0 c.args.section.0 bundle c.price_of.result c.prices_of.result c.price_of.ensures.value prices (omega (arith, c.if-price_of-prices_of.false))
+    within_price (wishes_of c.args.menu.now) price c.args.budget.0 c.args.section.0 bundle c.price_of.result c.prices_of.result c.price_of.ensures.value prices
+    (omega (arith, c.if-price_of-prices_of.false))
 
 -- what the credits sum to
 credits_are : (c : After-all_credits_of) → c.all_credits_of.result ≡ total (wishes_of c.args.menu.now).credits (sections_of c.args.bundle.now)
 credits_are c = c.all_credits_of.ensures.value ∙ ap (total (wishes_of c.args.menu.now).credits) c.sections-sections.ensures.value
 
 -- the credits are within their cap
-light : (c : After-courses) → ¬ Passes (wishes_of c.args.menu.now) (price_in c.args.prices.now) c.args.budget.0 (c.args.section.0 ∷ sections_of c.args.bundle.now) Credits
+light : (c : After-courses)
+    → ¬ Passes (wishes_of c.args.menu.now) (price_in c.args.prices.now) c.args.budget.0 (c.args.section.0 ∷ sections_of c.args.bundle.now) Credits
 light c =
     let w = wishes_of c.args.menu.now in
-    let credits : c.all_credits_of.result ≡ total w.credits (sections_of c.args.bundle.now) = c.all_credits_of.ensures.value ∙ ap (total w.credits) c.sections-sections.ensures.value in
-    within_credits w (price_in c.args.prices.now) c.args.budget.0 c.args.section.0 (sections_of c.args.bundle.now) c.credits_of.result c.all_credits_of.result c.from.result (c.from.ensures ∙ c.credits.ensures ∙ credit_cap_is c.args.menu.now) c.credits_of.ensures.value credits
+    let credits : c.all_credits_of.result ≡ total w.credits (sections_of c.args.bundle.now) =
+    c.all_credits_of.ensures.value ∙ ap (total w.credits) c.sections-sections.ensures.value in
+    within_credits w (price_in c.args.prices.now) c.args.budget.0 c.args.section.0 (sections_of c.args.bundle.now) c.credits_of.result c.all_credits_of.result
+    c.from.result (c.from.ensures ∙ c.credits.ensures ∙ credit_cap_is c.args.menu.now) c.credits_of.ensures.value credits
     (omega (arith, c.if-credits_of-all_credits_of.false))
 
 -- as many sections as the bundle has
@@ -58,13 +65,15 @@ returns-then-credits_of-all_credits_of-clause-some c =
 pub returns-then-sections-from-clause-some : goal.returns-then-sections-from-clause-some
 returns-then-sections-from-clause-some c =
     let at = goal.at.returns-then-sections-from-clause-some c in
-    first_courses (wishes_of c.args.menu.now) (price_in c.args.prices.now) c.args.budget.0 (c.args.section.0 ∷ sections_of c.args.bundle.now) (cheap at.After-all_credits_of) (light at.After-courses)
+    first_courses (wishes_of c.args.menu.now) (price_in c.args.prices.now) c.args.budget.0 (c.args.section.0 ∷ sections_of c.args.bundle.now)
+    (cheap at.After-all_credits_of) (light at.After-courses)
     (over_courses (wishes_of c.args.menu.now) (price_in c.args.prices.now) c.args.budget.0 c.args.section.0 (sections_of c.args.bundle.now) (length c.sections-sections.result.now) c.from-2.result (c.from-2.ensures ∙ c.courses.ensures ∙ course_cap_is c.args.menu.now) (count_is at.After-courses)
     (omega (arith, c.if-sections-from.true)))
 
 pub returns-clause-none : goal.returns-clause-none
 returns-clause-none c =
     let at = goal.at.returns-clause-none c in
-    passes_none (wishes_of c.args.menu.now) (price_in c.args.prices.now) c.args.budget.0 (c.args.section.0 ∷ sections_of c.args.bundle.now) (cheap at.After-all_credits_of) (light at.After-courses)
+    passes_none (wishes_of c.args.menu.now) (price_in c.args.prices.now) c.args.budget.0 (c.args.section.0 ∷ sections_of c.args.bundle.now)
+    (cheap at.After-all_credits_of) (light at.After-courses)
     (within_courses (wishes_of c.args.menu.now) (price_in c.args.prices.now) c.args.budget.0 c.args.section.0 (sections_of c.args.bundle.now) (length c.sections-sections.result.now) c.from-2.result (c.from-2.ensures ∙ c.courses.ensures ∙ course_cap_is c.args.menu.now) (count_is at.After-courses)
     (omega (arith, c.if-sections-from.false)))

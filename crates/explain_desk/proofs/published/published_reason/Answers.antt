@@ -7,7 +7,8 @@ use Rattle.explain_desk.proofs.published.published_reason.Goals as goal
 
 pub reason_in-requires-clause-checked : goal.reason_in-requires-clause-checked
 reason_in-requires-clause-checked c =
-    checked (market_of c.args.catalog.now c.args.roll.now c.args.settings.now) (map (λ stream. stream.items) c.args.streams.now) c.args.text.items (publication_of c.in_ok-accepted.accepted.publication) (crowd_seen c.in_ok-accepted.accepted.crowd)
+    checked (market_of c.args.catalog.now c.args.roll.now c.args.settings.now) (map (λ stream. stream.items) c.args.streams.now) c.args.text.items
+    (publication_of c.in_ok-accepted.accepted.publication) (crowd_seen c.in_ok-accepted.accepted.crowd)
     c.in_ok-accepted.ensures.text c.in_ok-accepted.ensures.holds
 
 pub returns-in-Ok-clause-told : goal.returns-in-Ok-clause-told

@@ -10,5 +10,7 @@ use Rattle.explain_desk.proofs.text.put_explained.Goals as goal
 pub returns : goal.returns
 returns c =
     let names = section_names c.args.catalog.now.sections in
-    line_and_more c.new-text.result.items c.put_reason.new.text.items c.put_best_lines.new.text.items (reason_line names (name_bytes c.args.student) c.args.section.0 c.args.explained.now.reason)
-    (best_lines names c.args.menu.now (sections_of c.args.bundle.now) (option_map proved_of c.args.explained.now.best)) c.new-text.ensures.items c.in_ok-put_reason.ensures c.in_ok-put_best_lines.ensures
+    line_and_more c.new-text.result.items c.put_reason.new.text.items c.put_best_lines.new.text.items
+    (reason_line names (name_bytes c.args.student) c.args.section.0 c.args.explained.now.reason)
+    (best_lines names c.args.menu.now (sections_of c.args.bundle.now) (option_map proved_of c.args.explained.now.best)) c.new-text.ensures.items
+    c.in_ok-put_reason.ensures c.in_ok-put_best_lines.ensures

@@ -11,7 +11,10 @@ use Rattle.fairness_audit.proofs.allocation.is_allocation.Goals as goal
 pub returns-then-bundles-len : goal.returns-then-bundles-len
 returns-then-bundles-len c = (
   (λ yes_so. absurd (false≢true yes_so)),
-  (λ are. absurd (c.if-bundles-len.true (as_many c.args.crowd.now.menus.items c.args.crowd.now.budgets.items c.args.crowd.now.sections c.args.bundles.now c.requires.same are ∙ sym c.args.crowd.now.menus.ok.0 ∙ sym c.len.ensures))),
+  (λ are. absurd
+      (c.if-bundles-len.true
+      (as_many c.args.crowd.now.menus.items c.args.crowd.now.budgets.items c.args.crowd.now.sections c.args.bundles.now c.requires.same are
+      ∙ sym c.args.crowd.now.menus.ok.0 ∙ sym c.len.ensures))),
 )
 
 pub returns-then-not-feasible : goal.returns-then-not-feasible
@@ -36,8 +39,15 @@ students-preserved c = λ i below.
     let inside : k < m = omega arith in
     let a = allocation_of c.args.crowd.now c.args.bundles.now in
     let here : IsFeasible (wishes_of (menu_at a k)) (bundle_at a k) =
-    subst (λ menu. IsFeasible (wishes_of menu) (bundle_at a k)) (sym (menu_is c.args.crowd.now.menus.items c.args.crowd.now.budgets.items c.args.crowd.now.sections c.args.bundles.now c.requires.same k c.index.result.now inside c.index.ensures))
-    (subst (IsFeasible (wishes_of c.index.result.now)) (sym (bundle_is c.args.crowd.now.menus.items c.args.crowd.now.budgets.items c.args.crowd.now.sections c.args.bundles.now c.requires.same k c.index-bundles-place.result low c.index-bundles-place.is)) (c.feasible.ensures.0 c.if-not-feasible.false)) in
+    subst (λ menu. IsFeasible (wishes_of menu) (bundle_at a k))
+    (sym
+    (menu_is c.args.crowd.now.menus.items c.args.crowd.now.budgets.items c.args.crowd.now.sections c.args.bundles.now c.requires.same k
+    c.index.result.now inside c.index.ensures))
+    (subst (IsFeasible (wishes_of c.index.result.now))
+    (sym
+    (bundle_is c.args.crowd.now.menus.items c.args.crowd.now.budgets.items c.args.crowd.now.sections c.args.bundles.now c.requires.same k
+    c.index-bundles-place.result low c.index-bundles-place.is))
+    (c.feasible.ensures.0 c.if-not-feasible.false)) in
     elim (cases_eq i k) [
       | inl same ↦ subst (λ j. IsFeasible (wishes_of (menu_at a j)) (bundle_at a j)) (sym same) here
       | inr other ↦ c.students.invariant i (let b : i < k + 1 = below in omega arith)

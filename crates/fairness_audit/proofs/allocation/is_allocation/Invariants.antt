@@ -6,4 +6,5 @@ use Rattle.fairness_audit.proofs.allocation.is_allocation.Given as goal
 
 -- the students so far may take their bundles
 abbrev pub invariant-students : goal.invariant-students
-invariant-students l = (i : ℕ) → i < l.place → IsFeasible (wishes_of (menu_at (allocation_of l.crowd l.bundles) i)) (bundle_at (allocation_of l.crowd l.bundles) i)
+invariant-students l =
+    (i : ℕ) → i < l.place → IsFeasible (wishes_of (menu_at (allocation_of l.crowd l.bundles) i)) (bundle_at (allocation_of l.crowd l.bundles) i)

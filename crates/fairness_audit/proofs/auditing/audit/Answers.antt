@@ -43,7 +43,8 @@ work_and_write-requires-clause-count g c κs within =
     let as_told : m ≡ w = c.from.ensures in
     let least : 1 ≤ w = c.requires.workers.0 in
     let most : w ≤ 16 = c.requires.workers.1 in
-    let all : length c.in_ok-chronicle.chronicle.allotments ≡ s = ap length c.in_ok-chronicle.ensures.chronicle.2 ∙ sym c.in_ok-allotments.allotments.ok.0 ∙ sym c.in_ok-chronicle.ensures.count in
+    let all : length c.in_ok-chronicle.chronicle.allotments ≡ s =
+    ap length c.in_ok-chronicle.ensures.chronicle.2 ∙ sym c.in_ok-allotments.allotments.ok.0 ∙ sym c.in_ok-chronicle.ensures.count in
     ((let goal : 1 ≤ s = omega arith in goal), (let goal : s ≤ 16 = omega arith in goal), all)
 
 pub work_and_write-requires-clause-free : goal.work_and_write-requires-clause-free
@@ -62,7 +63,8 @@ work_and_write-requires-clause-free g c κs within = λ k d below.
 
 pub work_and_write-requires-clause-rows : goal.work_and_write-requires-clause-rows
 work_and_write-requires-clause-rows g c κs within =
-    c.deref_mut.ensures.len ∙ c.in_ok-found.ensures.len ∙ c.student_count-students.ensures.value ∙ ap (λ (t : Terms). student_count t.allocation) (sym c.in_ok-chronicle.ensures.chronicle.0)
+    c.deref_mut.ensures.len ∙ c.in_ok-found.ensures.len ∙ c.student_count-students.ensures.value
+    ∙ ap (λ (t : Terms). student_count t.allocation) (sym c.in_ok-chronicle.ensures.chronicle.0)
 
 pub returns : goal.returns
 returns g c =
@@ -77,7 +79,9 @@ returns g c =
     let lent = c.work_and_write.ensures.count ∙ c.deref_mut.ensures.len in
     let students : n ≡ s = lent ∙ c.in_ok-found.ensures.len ∙ c.student_count-students.ensures.value ∙ ap student_count first in
     let told : map row_of c.work_and_write.new.rows ≡ map (row c.in_ok-chronicle.chronicle.base.allocation) (range_with_len 0 n) =
-    listed row_of (row c.in_ok-chronicle.chronicle.base.allocation) c.work_and_write.new.rows 0 (λ i d low. c.work_and_write.ensures.each i d low ∙ ap (row c.in_ok-chronicle.chronicle.base.allocation) (let goal : i ≡ 0 + i = omega arith in goal)) in
+    listed row_of (row c.in_ok-chronicle.chronicle.base.allocation) c.work_and_write.new.rows 0
+    (λ i d low. c.work_and_write.ensures.each i d low
+    ∙ ap (row c.in_ok-chronicle.chronicle.base.allocation) (let goal : i ≡ 0 + i = omega arith in goal)) in
     let whole = ap (map row_of) (lent_back c.in_ok-found.found.len c.work_and_write.new.rows c.in_ok-found.found.items (sym lent)) ∙ told
     ∙ ap (λ (a : Allocation). map (row a) (range_with_len 0 n)) last ∙ ap (λ m. map (row (allocation_of crowd items)) (range_with_len 0 m)) students in
     record {

@@ -8,7 +8,8 @@ use Rattle.fairness_audit.proofs.audits.published_audit.Goals as goal
 
 pub audit_accepted-requires-clause-checked : goal.audit_accepted-requires-clause-checked
 audit_accepted-requires-clause-checked g c κs within =
-    checked (market_of c.args.catalog.now c.args.roll.now c.args.settings.now) (map (λ stream. stream.items) c.args.streams.now) c.args.text.items (publication_of c.in_ok-accepted.accepted.publication) (crowd_seen c.in_ok-accepted.accepted.crowd)
+    checked (market_of c.args.catalog.now c.args.roll.now c.args.settings.now) (map (λ stream. stream.items) c.args.streams.now) c.args.text.items
+    (publication_of c.in_ok-accepted.accepted.publication) (crowd_seen c.in_ok-accepted.accepted.crowd)
     c.in_ok-accepted.ensures.text c.in_ok-accepted.ensures.holds
 
 pub returns-in-Ok-clause-audited : goal.returns-in-Ok-clause-audited
@@ -22,5 +23,6 @@ returns-in-Ok-clause-audited g c =
       holds = c.in_ok-accepted.ensures.holds;
       is_audited = c.in-Ok.ensures;
       none_lower = no_lower_count market streams c.args.text.items
-          (accepted_by market streams c.args.text.items (publication_of c.in_ok-accepted.accepted.publication) (crowd_seen c.in_ok-accepted.accepted.crowd) c.in_ok-accepted.ensures.text c.in_ok-accepted.ensures.holds);
+          (accepted_by market streams c.args.text.items (publication_of c.in_ok-accepted.accepted.publication) (crowd_seen c.in_ok-accepted.accepted.crowd)
+          c.in_ok-accepted.ensures.text c.in_ok-accepted.ensures.holds);
     }

@@ -23,7 +23,8 @@ put_row-requires c =
     let e : ℕ = c.len-student-end.result in
     let ends : e ≡ m = c.len-student-end.ensures.len in
     let low : k < e = c.students-test.true in
-    each_at (IsRowAmong (length c.args.roll.now.students) (length c.args.catalog.now.sections)) row_of c.args.rows.now c.from.result c.index-rows-from.result c.index-rows-from.result c.requires.among (let goal : f < n = omega arith in goal) c.index-rows-from.is
+    each_at (IsRowAmong (length c.args.roll.now.students) (length c.args.catalog.now.sections)) row_of c.args.rows.now c.from.result c.index-rows-from.result
+    c.index-rows-from.result c.requires.among (let goal : f < n = omega arith in goal) c.index-rows-from.is
 
 pub students-preserved : goal.students-preserved
 students-preserved c =
@@ -43,9 +44,12 @@ students-preserved c =
     let inside : k < m = omega arith in
     let row = c.index-rows-from.result in
     let there : row ≡ get_or c.args.rows.now k row = subst (λ (j : ℕ). row ≡ get_or c.args.rows.now j row) c.from.ensures c.index-rows-from.is in
-    row_more c.args.part.now names (section_names c.args.catalog.now.sections) names rows k (name_bytes c.name-name.result) (row_of row) c.args.text.now.items c.students.text.items c.put_row.new.text.items
-    (let goal : k < o = omega arith in goal) (let goal : k < l = omega arith in goal) (student_name c.args.roll.now.students k (name_bytes c.name-name.result) inside c.name-name.ensures)
-    (mapped_at row_of c.args.rows.now k row row (let goal : k < n = omega arith in goal) there) c.students.invariant (rw c.bytes.ensures.value at c.in_ok-put_row.ensures)
+    row_more c.args.part.now names (section_names c.args.catalog.now.sections) names rows k (name_bytes c.name-name.result) (row_of row) c.args.text.now.items
+    c.students.text.items c.put_row.new.text.items
+    (let goal : k < o = omega arith in goal) (let goal : k < l = omega arith in goal)
+    (student_name c.args.roll.now.students k (name_bytes c.name-name.result) inside c.name-name.ensures)
+    (mapped_at row_of c.args.rows.now k row row (let goal : k < n = omega arith in goal) there) c.students.invariant
+    (rw c.bytes.ensures.value at c.in_ok-put_row.ensures)
 
 pub returns : goal.returns
 returns c =

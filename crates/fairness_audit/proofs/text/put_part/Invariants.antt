@@ -8,4 +8,8 @@ use Rattle.fairness_audit.proofs.text.put_part.Given as goal
 
 abbrev pub invariant-students : goal.invariant-students
 invariant-students l =
-    l.text.items ≡ l.initial.text.items ++ joined (rows_lines l.part (names_of l.roll.students) (section_names l.catalog.sections) (take l.student (names_of l.roll.students)) (take l.student (map row_of l.rows)))
+    l.text.items
+    ≡ l.initial.text.items
+    ++ joined
+    (rows_lines l.part (names_of l.roll.students) (section_names l.catalog.sections) (take l.student (names_of l.roll.students))
+    (take l.student (map row_of l.rows)))

@@ -12,4 +12,12 @@ call-requires-clause-sound g c = sound_post c.args.chronicle.now.base c.args.stu
 pub returns-clause-free : goal.returns-clause-free
 returns-clause-free g c =
     posted_free c.args.chronicle.now c.args.seat.now c.call.new.seat c.args.student c.args.row c.call.result c.requires.holding
-    (record { seen = c.call.ensures.seen; legal = c.call.ensures.legal; own = c.call.ensures.own; all_own = c.call.ensures.all_own; others = c.call.ensures.others; left = c.call.ensures.left; same = c.call.ensures.same })
+    (record {
+      seen = c.call.ensures.seen;
+      legal = c.call.ensures.legal;
+      own = c.call.ensures.own;
+      all_own = c.call.ensures.all_own;
+      others = c.call.ensures.others;
+      left = c.call.ensures.left;
+      same = c.call.ensures.same;
+    })

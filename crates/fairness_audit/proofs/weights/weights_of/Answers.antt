@@ -30,9 +30,12 @@ places-preserved c =
     let high : c.rated-rated.result.now.rating ≤ 100 = c.rated-rated.ensures.range.rating_high in
     let most : g ≤ 200 * (l - (p + 1)) = c.gains.ensures.few in
     let small : r + g ≤ 20000 = omega arith in
-    let at : c.from-in-places.result ≡ section_at menu.places p = c.from-in-places.ensures ∙ sym (section_at-is menu.places p c.rated-rated.result.now c.rated-rated.ensures.value) in
+    let at : c.from-in-places.result ≡ section_at menu.places p =
+    c.from-in-places.ensures ∙ sym (section_at-is menu.places p c.rated-rated.result.now c.rated-rated.ensures.value) in
     let weight : weight_at menu p ≡ r + g =
-    ap (λ x. x + gains (adjustment_in menu.pairs p) (p + 1) (l - (p + 1))) (rating_at-is menu.places p c.rated-rated.result.now c.rated-rated.ensures.value ∙ sym rating) ∙ ap (λ x. r + x) (sym c.gains.ensures.value) in
+    ap (λ x. x + gains (adjustment_in menu.pairs p) (p + 1) (l - (p + 1)))
+    (rating_at-is menu.places p c.rated-rated.result.now c.rated-rated.ensures.value ∙ sym rating)
+    ∙ ap (λ x. r + x) (sym c.gains.ensures.value) in
     let inside : section_at menu.places p < length c.places.weights = (
     let s : ℕ = c.rated-rated.result.now.section.0 in
     let n : ℕ = length c.places.weights in
@@ -45,7 +48,8 @@ places-preserved c =
       count = length-set c.places.weights c.from-in-places.result (r + g) ∙ c.places.invariant.count;
       few = All-set (λ weight. weight ≤ 20000) c.places.weights c.from-in-places.result (r + g) small c.places.invariant.few;
       each = subst (λ (j : ℕ). (k : ℕ) → k < p + 1 → weight_at menu k ≤ slice_index (slice_set c.places.weights j (r + g)) (section_at menu.places k)) (sym at)
-          (weight_written menu c.places.weights p (r + g) c.len-place-end.ensures.menu low inside c.places.invariant.each (let w : ℕ = weight_at menu p in let v : ℕ = r + g in let is : w ≡ v = weight in let goal : w ≤ v = omega arith in goal));
+          (weight_written menu c.places.weights p (r + g) c.len-place-end.ensures.menu low inside c.places.invariant.each
+          (let w : ℕ = weight_at menu p in let v : ℕ = r + g in let is : w ≡ v = weight in let goal : w ≤ v = omega arith in goal));
     }
 
 pub returns-clause-weights : goal.returns-clause-weights
@@ -56,4 +60,5 @@ returns-clause-weights c =
     let e : ℕ = c.len-place-end.result in
     let ends : e ≡ l = c.len-place-end.ensures.value in
     let over : e ≤ p = omega (arith, c.places-test.false) in
-    weights_are menu c.places.weights c.len-place-end.ensures.menu (λ k low. c.places.invariant.each k (let b : k < l = low in let goal : k < p = omega arith in goal))
+    weights_are menu c.places.weights c.len-place-end.ensures.menu
+    (λ k low. c.places.invariant.each k (let b : k < l = low in let goal : k < p = omega arith in goal))

@@ -7,5 +7,7 @@ use Rattle.held_seats.proofs.below.are_below.Goals as goal
 
 pub returns : goal.returns
 returns c =
-    let P : List ℕ → Type 0 = λ bundle. (s : ℕ) → has bundle s ≡ true → s < c.args.sections in
-    ((λ is. All-map P sections_of c.args.bundles.now (c.each_is_below.ensures.0 is)), (λ below. c.each_is_below.ensures.1 (unmapped P sections_of c.args.bundles.now below)))
+    let P : List ℕ → Type 0 = λ bundle. (s : ℕ) → has bundle s ≡ true → s < c.args.sections in (
+      (λ is. All-map P sections_of c.args.bundles.now (c.each_is_below.ensures.0 is)),
+      (λ below. c.each_is_below.ensures.1 (unmapped P sections_of c.args.bundles.now below)),
+    )

@@ -5,17 +5,20 @@ use Rattle.held_seats.proofs.counts.free_sections.Goals.{then-counts-place, else
 use Rattle.held_seats.proofs.counts.free_sections.Goals as goal
 
 pub loop-place-init : goal.loop-place-init
-loop-place-init c = subst (λ free. FreeBelow c.args.counts.now c.args.seats.now 0 free) (sym c.empty-free.ensures) (free_none c.args.counts.now c.args.seats.now)
+loop-place-init c =
+    subst (λ free. FreeBelow c.args.counts.now c.args.seats.now 0 free) (sym c.empty-free.ensures) (free_none c.args.counts.now c.args.seats.now)
 
 pub loop-place-preserved : goal.loop-place-preserved
 loop-place-preserved c =
     elim c.if-counts-place.branch [
       | then-counts-place w ↦
           subst (λ free. FreeBelow c.args.counts.now c.args.seats.now (c.loop-place.place + 1) free) (sym (w.free-is ∙ w.with-free.ensures))
-          (free_one c.args.counts.now c.args.seats.now c.loop-place.place c.loop-place.free c.loop-place.invariant (subst (λ n. slice_index c.args.counts.now c.loop-place.place < n) c.from.ensures w.if-counts-place.true))
+          (free_one c.args.counts.now c.args.seats.now c.loop-place.place c.loop-place.free c.loop-place.invariant
+          (subst (λ n. slice_index c.args.counts.now c.loop-place.place < n) c.from.ensures w.if-counts-place.true))
       | else-counts-place w ↦
           subst (λ free. FreeBelow c.args.counts.now c.args.seats.now (c.loop-place.place + 1) free) (sym w.free-is)
-          (free_same c.args.counts.now c.args.seats.now c.loop-place.place c.loop-place.free c.loop-place.invariant (subst (λ n. n ≤ slice_index c.args.counts.now c.loop-place.place) c.from.ensures w.if-counts-place.false))
+          (free_same c.args.counts.now c.args.seats.now c.loop-place.place c.loop-place.free c.loop-place.invariant
+          (subst (λ n. n ≤ slice_index c.args.counts.now c.loop-place.place) c.from.ensures w.if-counts-place.false))
     ]
 
 pub returns : goal.returns

@@ -8,13 +8,17 @@ use Rattle.market_certificate.proofs.bundles.put_bundle_field.Goals as goal
 
 pub name-requires : goal.name-requires
 name-requires c =
-    section_below c.sections-section-items.result.now (sections_of c.args.bundle.now) (length c.args.catalog.now.sections) c.sections.place _ c.sections-section-items.ensures.value c.requires (omega arith)
+    section_below c.sections-section-items.result.now (sections_of c.args.bundle.now) (length c.args.catalog.now.sections) c.sections.place _
+    c.sections-section-items.ensures.value c.requires (omega arith)
 
 pub sections-preserved : goal.sections-preserved
 sections-preserved c =
     let section = slice_index_or c.sections-section-items.result.now c.sections.place (record { 0 = 0 }) in
     let inside : c.sections.place < length c.sections-section-items.result.now = omega arith in
-    section_more c.args.catalog.now.sections c.sections-section-items.result.now (sections_of c.args.bundle.now) c.sections.place section c.extend_from_slice.new.self.items c.sections.text.items c.put_comma_behind.new.text.items
-    c.extend_from_slice-in-sections.new.self.items c.bytes.result.now c.sections-section-items.ensures.value inside (get_or_default c.sections-section-items.result.now c.sections.place (record { 0 = 0 }) section inside)
-    (section_below c.sections-section-items.result.now (sections_of c.args.bundle.now) (length c.args.catalog.now.sections) c.sections.place (record { 0 = 0 }) c.sections-section-items.ensures.value c.requires inside)
+    section_more c.args.catalog.now.sections c.sections-section-items.result.now (sections_of c.args.bundle.now) c.sections.place section
+    c.extend_from_slice.new.self.items c.sections.text.items c.put_comma_behind.new.text.items
+    c.extend_from_slice-in-sections.new.self.items c.bytes.result.now c.sections-section-items.ensures.value inside
+    (get_or_default c.sections-section-items.result.now c.sections.place (record { 0 = 0 }) section inside)
+    (section_below c.sections-section-items.result.now (sections_of c.args.bundle.now) (length c.args.catalog.now.sections) c.sections.place (record { 0 = 0 })
+    c.sections-section-items.ensures.value c.requires inside)
     c.sections.invariant c.in_ok-put_comma_behind.ensures c.in_ok-extend_from_slice-2.ensures.items (c.bytes.ensures.value ∙ c.name.ensures)

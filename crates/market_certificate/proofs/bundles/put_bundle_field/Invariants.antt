@@ -5,4 +5,5 @@ use Rattle.market_certificate.specs.Tables.{name_at, section_names}
 use Rattle.market_certificate.proofs.bundles.put_bundle_field.Given as goal
 
 abbrev pub invariant-sections : goal.invariant-sections
-invariant-sections l = l.text.items ≡ l.initial.text.items ++ join_with_byte 44 (map (name_at (section_names l.catalog.sections)) (take l.place (sections_of l.bundle)))
+invariant-sections l =
+    l.text.items ≡ l.initial.text.items ++ join_with_byte 44 (map (name_at (section_names l.catalog.sections)) (take l.place (sections_of l.bundle)))

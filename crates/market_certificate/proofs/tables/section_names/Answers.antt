@@ -4,4 +4,5 @@ use Rattle.market_certificate.proofs.tables.section_names.Goals as goal
 
 pub loop-section-preserved : goal.loop-section-preserved
 loop-section-preserved c =
-    sections_more c.args.catalog.now.sections c.loop-section.names.items c.push.new.self.items c.loop-section.section c.name.result (omega arith) c.loop-section.invariant c.name.ensures c.in_ok-push.ensures.items
+    sections_more c.args.catalog.now.sections c.loop-section.names.items c.push.new.self.items c.loop-section.section c.name.result (omega arith)
+    c.loop-section.invariant c.name.ensures c.in_ok-push.ensures.items

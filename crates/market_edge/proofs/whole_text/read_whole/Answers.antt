@@ -10,4 +10,5 @@ returns-then-count-eq0-clause-read_out g c =
 
 pub returns-then-len-count-clause-too_long : goal.returns-then-len-count-clause-too_long
 returns-then-len-count-clause-too_long g c _ =
-    taken_exactly (c.args.limit + 1) (g.H.Shelf.holds c.args.shelf.now) c.args.name.now c.pieces.text.items (take c.in_ok-count.count c.read.new.room) _ _ c.pieces.invariant.so_far c.in_ok-count.ensures.bytes.0 (grind (arith, common_steps))
+    taken_exactly (c.args.limit + 1) (g.H.Shelf.holds c.args.shelf.now) c.args.name.now c.pieces.text.items (take c.in_ok-count.count c.read.new.room) _ _
+    c.pieces.invariant.so_far c.in_ok-count.ensures.bytes.0 (grind (arith, common_steps))

@@ -14,13 +14,16 @@ returns-in_err-bytes-clause-trouble g c =
 
 pub returns-clause-read : goal.returns-clause-read
 returns-clause-read g c =
-    IfOk-weaker c.catalog_in.result _ _ (λ catalog is. (c.in_ok-bytes.bytes.items, c.in_ok-bytes.ensures.whole, c.in_ok-bytes.ensures.within, rw c.deref.ensures.value at is)) c.catalog_in.ensures.read
+    IfOk-weaker c.catalog_in.result _ _
+    (λ catalog is. (c.in_ok-bytes.bytes.items, c.in_ok-bytes.ensures.whole, c.in_ok-bytes.ensures.within, rw c.deref.ensures.value at is))
+    c.catalog_in.ensures.read
 
 pub returns-clause-trouble : goal.returns-clause-trouble
 returns-clause-trouble g c =
     IfErr-weaker c.catalog_in.result _ _
     (λ stop refusal form earlier texts later read of number. trouble_of_refusal form (sight g.H.Shelf c.args.shelf.now c.read_input.new.shelf) earlier texts later c.args.name.now c.args.input read number Catalog
-    (IsNoCatalog c.in_ok-bytes.bytes.items) c.in_ok-bytes.bytes.items stop of c.in_ok-bytes.ensures.end c.in_ok-bytes.ensures.whole c.in_ok-bytes.ensures.within (λ row cause is. is)
+    (IsNoCatalog c.in_ok-bytes.bytes.items) c.in_ok-bytes.bytes.items stop of c.in_ok-bytes.ensures.end c.in_ok-bytes.ensures.whole c.in_ok-bytes.ensures.within
+    (λ row cause is. is)
     (rw c.deref.ensures.value at refusal))
     c.catalog_in.ensures.refused
 
@@ -31,4 +34,5 @@ returns-in_err-bytes-clause-used g c =
 
 pub returns-clause-used : goal.returns-clause-used
 returns-clause-used g c =
-    uses_refused g.H.Shelf c.args.shelf.now c.read_input.new.shelf c.args.name.now c.args.input (IsNoCatalog c.in_ok-bytes.bytes.items) c.catalog_in.result c.in_ok-bytes.ensures.used (rw c.deref.ensures.value at c.catalog_in.ensures.refused)
+    uses_refused g.H.Shelf c.args.shelf.now c.read_input.new.shelf c.args.name.now c.args.input (IsNoCatalog c.in_ok-bytes.bytes.items) c.catalog_in.result
+    c.in_ok-bytes.ensures.used (rw c.deref.ensures.value at c.catalog_in.ensures.refused)

@@ -17,9 +17,12 @@ returns-in_err-published-clause-answer g c =
     let p = err_from_is_err_and c.from_residual.result c.from_residual.ensures.1 in
     let words = map string_bytes c.args.words.now in
     let long = length-explain c.args.words.now c.args.student c.args.section c.requires in
-    let named = inputs-explain c.args.words.now c.args.student c.args.section c.index-words-1.result c.index-words-2.result c.index-words-3.result c.index-words-4.result long.0 c.index-words-1.is c.index-words-2.is c.index-words-3.is c.index-words-4.is in
+    let named =
+    inputs-explain c.args.words.now c.args.student c.args.section c.index-words-1.result c.index-words-2.result c.index-words-3.result c.index-words-4.result
+    long.0 c.index-words-1.is c.index-words-2.is c.index-words-3.is c.index-words-4.is in
     rw (p.1, p.2) (published_stops words (Explain c.args.student c.args.section) (sight g.H.Shelf c.args.shelf.now c.take_published.new.shelf) (string_bytes c.index-words-1.result) (string_bytes c.index-words-2.result) (string_bytes c.index-words-3.result)
-    (string_bytes c.index-words-4.result) (map string_bytes (take (length c.args.words.now - 7) (drop 7 c.args.words.now))) c.in_err-published.field-0.0 c.requires named (opens_explain c.args.student c.args.section)
+    (string_bytes c.index-words-4.result) (map string_bytes (take (length c.args.words.now - 7) (drop 7 c.args.words.now))) c.in_err-published.field-0.0
+    c.requires named (opens_explain c.args.student c.args.section)
     (rw (c.as_str.ensures.value, c.as_str-2.ensures.value, c.as_str-3.ensures.value, c.as_str-4.ensures.value) at c.in_err-published.ensures.trouble))
 
 pub returns-in_err-ended-clause-answer : goal.returns-in_err-ended-clause-answer
@@ -32,13 +35,19 @@ returns-clause-answer g c =
     let words = map string_bytes c.args.words.now in
     let names = map string_bytes (take (length c.args.words.now - 7) (drop 7 c.args.words.now)) in
     let long = length-explain c.args.words.now c.args.student c.args.section c.requires in
-    let named = inputs-explain c.args.words.now c.args.student c.args.section c.index-words-1.result c.index-words-2.result c.index-words-3.result c.index-words-4.result long.0 c.index-words-1.is c.index-words-2.is c.index-words-3.is c.index-words-4.is in
-    let count : length (map string_bytes (take (length c.args.words.now - 7) (drop 7 c.args.words.now))) ≡ length c.args.words.now - 7 = length-words c.args.words.now 7 (omega (arith, long.0)) in
+    let named =
+    inputs-explain c.args.words.now c.args.student c.args.section c.index-words-1.result c.index-words-2.result c.index-words-3.result c.index-words-4.result
+    long.0 c.index-words-1.is c.index-words-2.is c.index-words-3.is c.index-words-4.is in
+    let count : length (map string_bytes (take (length c.args.words.now - 7) (drop 7 c.args.words.now))) ≡ length c.args.words.now - 7 =
+    length-words c.args.words.now 7 (omega (arith, long.0)) in
     let said = c.in_ok-published.ensures in
     let published = c.in_ok-published.published in
-    explain_ended words (sight g.H.Shelf c.args.shelf.now c.take_published.new.shelf) c.args.student c.args.section (string_bytes c.index-words-1.result) (string_bytes c.index-words-2.result) (string_bytes c.index-words-3.result)
-    (string_bytes c.index-words-4.result) names said.sessions.0 said.sessions.1 published.market.catalog published.market.roll published.market.settings published.text.items published.streams.items c.requires named (omega (arith, count, long.0))
-    (rw c.as_str.ensures.value at said.catalog) (rw c.as_str-2.ensures.value at said.roll) (rw c.as_str-3.ensures.value at said.settings) (rw c.as_str-4.ensures.value at said.text) said.sessions.2 said.end
+    explain_ended words (sight g.H.Shelf c.args.shelf.now c.take_published.new.shelf) c.args.student c.args.section (string_bytes c.index-words-1.result)
+    (string_bytes c.index-words-2.result) (string_bytes c.index-words-3.result)
+    (string_bytes c.index-words-4.result) names said.sessions.0 said.sessions.1 published.market.catalog published.market.roll published.market.settings
+    published.text.items published.streams.items c.requires named (omega (arith, count, long.0))
+    (rw c.as_str.ensures.value at said.catalog) (rw c.as_str-2.ensures.value at said.roll) (rw c.as_str-3.ensures.value at said.settings)
+    (rw c.as_str-4.ensures.value at said.text) said.sessions.2 said.end
     c.in_ok-ended.ended.status (bytes_of c.in_ok-ended.ended.output) c.in_ok-ended.ensures
 
 pub returns-in_err-published-clause-used : goal.returns-in_err-published-clause-used
@@ -46,20 +55,41 @@ returns-in_err-published-clause-used g c =
     let p = err_from_is_err_and c.from_residual.result c.from_residual.ensures.1 in
     let words = map string_bytes c.args.words.now in
     let long = length-explain c.args.words.now c.args.student c.args.section c.requires in
-    let named = inputs-explain c.args.words.now c.args.student c.args.section c.index-words-1.result c.index-words-2.result c.index-words-3.result c.index-words-4.result long.0 c.index-words-1.is c.index-words-2.is c.index-words-3.is c.index-words-4.is in
-    rw (p.1, p.2) (last_stops_once g.H.Shelf words (Explain c.args.student c.args.section) c.requires c.args.shelf.now c.take_published.new.shelf (string_bytes c.index-words-1.result ∷ string_bytes c.index-words-2.result ∷ string_bytes c.index-words-3.result ∷ string_bytes c.index-words-4.result ∷ map string_bytes (take (length c.args.words.now - 7) (drop 7 c.args.words.now))) c.in_err-published.field-0.0 named (rw (c.as_str.ensures.value, c.as_str-2.ensures.value, c.as_str-3.ensures.value, c.as_str-4.ensures.value) at c.in_err-published.ensures.used))
+    let named =
+    inputs-explain c.args.words.now c.args.student c.args.section c.index-words-1.result c.index-words-2.result c.index-words-3.result c.index-words-4.result
+    long.0 c.index-words-1.is c.index-words-2.is c.index-words-3.is c.index-words-4.is in
+    rw (p.1, p.2)
+    (last_stops_once g.H.Shelf words (Explain c.args.student c.args.section) c.requires c.args.shelf.now c.take_published.new.shelf
+    (string_bytes c.index-words-1.result ∷ string_bytes c.index-words-2.result ∷ string_bytes c.index-words-3.result
+    ∷ string_bytes c.index-words-4.result ∷ map string_bytes (take (length c.args.words.now - 7) (drop 7 c.args.words.now)))
+    c.in_err-published.field-0.0 named
+    (rw (c.as_str.ensures.value, c.as_str-2.ensures.value, c.as_str-3.ensures.value, c.as_str-4.ensures.value) at c.in_err-published.ensures.used))
 
 pub returns-in_err-ended-clause-used : goal.returns-in_err-ended-clause-used
 returns-in_err-ended-clause-used g c =
     let words = map string_bytes c.args.words.now in
     let p = err_from_is_err_and c.from_residual-in_err-ended.result c.from_residual-in_err-ended.ensures.1 in
     let long = length-explain c.args.words.now c.args.student c.args.section c.requires in
-    let named = inputs-explain c.args.words.now c.args.student c.args.section c.index-words-1.result c.index-words-2.result c.index-words-3.result c.index-words-4.result long.0 c.index-words-1.is c.index-words-2.is c.index-words-3.is c.index-words-4.is in
-    rw (p.1, p.2) (memory_wanted g.H.Shelf words c.args.shelf.now c.take_published.new.shelf (all_read_once g.H.Shelf words (Explain c.args.student c.args.section) c.requires c.args.shelf.now c.take_published.new.shelf (string_bytes c.index-words-1.result ∷ string_bytes c.index-words-2.result ∷ string_bytes c.index-words-3.result ∷ string_bytes c.index-words-4.result ∷ map string_bytes (take (length c.args.words.now - 7) (drop 7 c.args.words.now))) named (rw (c.as_str.ensures.value, c.as_str-2.ensures.value, c.as_str-3.ensures.value, c.as_str-4.ensures.value) at c.in_ok-published.ensures.used)))
+    let named =
+    inputs-explain c.args.words.now c.args.student c.args.section c.index-words-1.result c.index-words-2.result c.index-words-3.result c.index-words-4.result
+    long.0 c.index-words-1.is c.index-words-2.is c.index-words-3.is c.index-words-4.is in
+    rw (p.1, p.2)
+    (memory_wanted g.H.Shelf words c.args.shelf.now c.take_published.new.shelf
+    (all_read_once g.H.Shelf words (Explain c.args.student c.args.section) c.requires c.args.shelf.now c.take_published.new.shelf
+    (string_bytes c.index-words-1.result ∷ string_bytes c.index-words-2.result ∷ string_bytes c.index-words-3.result
+    ∷ string_bytes c.index-words-4.result ∷ map string_bytes (take (length c.args.words.now - 7) (drop 7 c.args.words.now)))
+    named
+    (rw (c.as_str.ensures.value, c.as_str-2.ensures.value, c.as_str-3.ensures.value, c.as_str-4.ensures.value) at c.in_ok-published.ensures.used)))
 
 pub returns-clause-used : goal.returns-clause-used
 returns-clause-used g c =
     let words = map string_bytes c.args.words.now in
     let long = length-explain c.args.words.now c.args.student c.args.section c.requires in
-    let named = inputs-explain c.args.words.now c.args.student c.args.section c.index-words-1.result c.index-words-2.result c.index-words-3.result c.index-words-4.result long.0 c.index-words-1.is c.index-words-2.is c.index-words-3.is c.index-words-4.is in
-    reason_used _ _ _ _ _ _ words (trace g.H.Shelf c.args.shelf.now c.take_published.new.shelf) c.in_ok-ended.ended.status c.in_ok-ended.ensures (all_read_once g.H.Shelf words (Explain c.args.student c.args.section) c.requires c.args.shelf.now c.take_published.new.shelf (string_bytes c.index-words-1.result ∷ string_bytes c.index-words-2.result ∷ string_bytes c.index-words-3.result ∷ string_bytes c.index-words-4.result ∷ map string_bytes (take (length c.args.words.now - 7) (drop 7 c.args.words.now))) named (rw (c.as_str.ensures.value, c.as_str-2.ensures.value, c.as_str-3.ensures.value, c.as_str-4.ensures.value) at c.in_ok-published.ensures.used))
+    let named =
+    inputs-explain c.args.words.now c.args.student c.args.section c.index-words-1.result c.index-words-2.result c.index-words-3.result c.index-words-4.result
+    long.0 c.index-words-1.is c.index-words-2.is c.index-words-3.is c.index-words-4.is in
+    reason_used _ _ _ _ _ _ words (trace g.H.Shelf c.args.shelf.now c.take_published.new.shelf) c.in_ok-ended.ended.status c.in_ok-ended.ensures
+    (all_read_once g.H.Shelf words (Explain c.args.student c.args.section) c.requires c.args.shelf.now c.take_published.new.shelf
+    (string_bytes c.index-words-1.result ∷ string_bytes c.index-words-2.result ∷ string_bytes c.index-words-3.result
+    ∷ string_bytes c.index-words-4.result ∷ map string_bytes (take (length c.args.words.now - 7) (drop 7 c.args.words.now)))
+    named (rw (c.as_str.ensures.value, c.as_str-2.ensures.value, c.as_str-3.ensures.value, c.as_str-4.ensures.value) at c.in_ok-published.ensures.used))

@@ -17,4 +17,5 @@ returns-in_err-make-in-Make-clause-used g c =
 
 pub returns-in_ok-make-in-Make-clause-used : goal.returns-in_ok-make-in-Make-clause-used
 returns-in_ok-make-in-Make-clause-used g c =
-    c.in_ok-make-in-Make.ensures.used (map string_bytes c.args.words.now) (trace g.H.Shelf c.args.shelf.now c.args.shelf.now) (rw c.in-Make.is at c.requires) (none_used g.H.Shelf c.args.shelf.now)
+    c.in_ok-make-in-Make.ensures.used (map string_bytes c.args.words.now) (trace g.H.Shelf c.args.shelf.now c.args.shelf.now) (rw c.in-Make.is at c.requires)
+    (none_used g.H.Shelf c.args.shelf.now)

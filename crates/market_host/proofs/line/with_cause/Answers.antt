@@ -7,7 +7,8 @@ returns-in-Name-clause-words c =
 
 pub returns-in-Repeated-clause-words : goal.returns-in-Repeated-clause-words
 returns-in-Repeated-clause-words c =
-    rw c.in-Repeated.is (text_and_number c.args.line _ _ _ _ _ c.with_number-in-Repeated.ensures.line c.with-in-Repeated.ensures.line c.from-in-Repeated.ensures)
+    rw c.in-Repeated.is
+    (text_and_number c.args.line _ _ _ _ _ c.with_number-in-Repeated.ensures.line c.with-in-Repeated.ensures.line c.from-in-Repeated.ensures)
 
 pub returns-in-Number-clause-words : goal.returns-in-Number-clause-words
 returns-in-Number-clause-words c =

@@ -10,7 +10,9 @@ use Rattle.market_host.proofs.market.take_market.Goals as goal
 pub returns-in_err-catalog-clause-trouble : goal.returns-in_err-catalog-clause-trouble
 returns-in_err-catalog-clause-trouble g c =
     let p = err_from_is_err_and c.from_residual.result c.from_residual.ensures.1 in
-    rw (p.1, p.2) (λ form later opens. c.in_err-catalog.ensures.trouble form [] [] (c.args.roll.now ∷ c.args.settings.now ∷ later) (none_read form (g.H.Shelf.holds c.args.shelf.now)) (first_is_catalog form opens) refl)
+    rw (p.1, p.2)
+    (λ form later opens. c.in_err-catalog.ensures.trouble form [] [] (c.args.roll.now ∷ c.args.settings.now ∷ later)
+    (none_read form (g.H.Shelf.holds c.args.shelf.now)) (first_is_catalog form opens) refl)
 
 pub returns-in_err-roll-clause-trouble : goal.returns-in_err-roll-clause-trouble
 returns-in_err-roll-clause-trouble g c =
@@ -41,7 +43,9 @@ returns-clause-settings g c = rw (c.in_ok-roll.ensures.holds, c.in_ok-catalog.en
 pub returns-in_err-catalog-clause-used : goal.returns-in_err-catalog-clause-used
 returns-in_err-catalog-clause-used g c =
     let p = err_from_is_err_and c.from_residual.result c.from_residual.ensures.1 in
-    rw (p.1, p.2) (until_before g.H.Shelf c.args.shelf.now c.take_catalog.new.shelf (c.args.catalog.now ∷ []) (c.args.roll.now ∷ c.args.settings.now ∷ []) 1 c.in_err-catalog.field-0.0 c.in_err-catalog.ensures.used)
+    rw (p.1, p.2)
+    (until_before g.H.Shelf c.args.shelf.now c.take_catalog.new.shelf (c.args.catalog.now ∷ []) (c.args.roll.now ∷ c.args.settings.now ∷ []) 1
+    c.in_err-catalog.field-0.0 c.in_err-catalog.ensures.used)
 
 pub returns-in_err-roll-clause-used : goal.returns-in_err-roll-clause-used
 returns-in_err-roll-clause-used g c =
@@ -52,10 +56,17 @@ returns-in_err-roll-clause-used g c =
 pub returns-in_err-settings-clause-used : goal.returns-in_err-settings-clause-used
 returns-in_err-settings-clause-used g c =
     let p = err_from_is_err_and c.from_residual-in_err-settings.result c.from_residual-in_err-settings.ensures.1 in
-    let front = read_behind g.H.Shelf c.args.shelf.now c.take_catalog.new.shelf c.take_roll.new.shelf (c.args.catalog.now ∷ []) (c.args.roll.now ∷ []) c.in_ok-catalog.ensures.used c.in_ok-roll.ensures.used in
-    rw (p.1, p.2) (until_behind g.H.Shelf c.args.shelf.now c.take_roll.new.shelf c.take_settings.new.shelf (c.args.catalog.now ∷ c.args.roll.now ∷ []) (c.args.settings.now ∷ []) 1 c.in_err-settings.field-0.0 front c.in_err-settings.ensures.used)
+    let front =
+    read_behind g.H.Shelf c.args.shelf.now c.take_catalog.new.shelf c.take_roll.new.shelf (c.args.catalog.now ∷ []) (c.args.roll.now ∷ [])
+    c.in_ok-catalog.ensures.used c.in_ok-roll.ensures.used in
+    rw (p.1, p.2)
+    (until_behind g.H.Shelf c.args.shelf.now c.take_roll.new.shelf c.take_settings.new.shelf (c.args.catalog.now ∷ c.args.roll.now ∷ [])
+    (c.args.settings.now ∷ []) 1 c.in_err-settings.field-0.0 front c.in_err-settings.ensures.used)
 
 pub returns-clause-used : goal.returns-clause-used
 returns-clause-used g c =
-    let front = read_behind g.H.Shelf c.args.shelf.now c.take_catalog.new.shelf c.take_roll.new.shelf (c.args.catalog.now ∷ []) (c.args.roll.now ∷ []) c.in_ok-catalog.ensures.used c.in_ok-roll.ensures.used in
-    read_behind g.H.Shelf c.args.shelf.now c.take_roll.new.shelf c.take_settings.new.shelf (c.args.catalog.now ∷ c.args.roll.now ∷ []) (c.args.settings.now ∷ []) front c.in_ok-settings.ensures.used
+    let front =
+    read_behind g.H.Shelf c.args.shelf.now c.take_catalog.new.shelf c.take_roll.new.shelf (c.args.catalog.now ∷ []) (c.args.roll.now ∷ [])
+    c.in_ok-catalog.ensures.used c.in_ok-roll.ensures.used in
+    read_behind g.H.Shelf c.args.shelf.now c.take_roll.new.shelf c.take_settings.new.shelf (c.args.catalog.now ∷ c.args.roll.now ∷ [])
+    (c.args.settings.now ∷ []) front c.in_ok-settings.ensures.used

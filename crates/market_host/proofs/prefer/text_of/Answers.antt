@@ -8,10 +8,16 @@ use Rattle.market_host.proofs.prefer.text_of.Goals as goal
 
 pub preferences_text-requires-clause-short : goal.preferences_text-requires-clause-short
 preferences_text-requires-clause-short g c =
-    subst (All HasShortCommand) (sym c.in_ok-closed.ensures.entries) (short_entries c.requires.told.0 c.args.streams.now _ c.requires.told.1 c.in_ok-closed.ensures.merges)
+    subst (All HasShortCommand) (sym c.in_ok-closed.ensures.entries)
+    (short_entries c.requires.told.0 c.args.streams.now _ c.requires.told.1 c.in_ok-closed.ensures.merges)
 
 pub returns : goal.returns
 returns g c =
     IfOk-weaker c.preferences_text.result _ _
-    (λ text is. (map entry_of_step c.in_ok-closed.closed.journal, c.in_ok-closed.ensures.legal, c.in_ok-closed.ensures.merges, rw c.in_ok-closed.ensures.entries at is))
+    (λ text is. (
+      map entry_of_step c.in_ok-closed.closed.journal,
+      c.in_ok-closed.ensures.legal,
+      c.in_ok-closed.ensures.merges,
+      rw c.in_ok-closed.ensures.entries at is,
+    ))
     c.preferences_text.ensures

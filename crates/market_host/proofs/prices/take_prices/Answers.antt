@@ -14,13 +14,16 @@ returns-in_err-bytes-clause-trouble g c =
 
 pub returns-clause-read : goal.returns-clause-read
 returns-clause-read g c =
-    IfOk-weaker c.prices_in.result _ _ (λ prices is. (c.in_ok-bytes.bytes.items, c.in_ok-bytes.ensures.whole, c.in_ok-bytes.ensures.within, rw c.deref.ensures.value at is)) c.prices_in.ensures.read
+    IfOk-weaker c.prices_in.result _ _
+    (λ prices is. (c.in_ok-bytes.bytes.items, c.in_ok-bytes.ensures.whole, c.in_ok-bytes.ensures.within, rw c.deref.ensures.value at is))
+    c.prices_in.ensures.read
 
 pub returns-clause-trouble : goal.returns-clause-trouble
 returns-clause-trouble g c =
     IfErr-weaker c.prices_in.result _ _
     (λ stop refusal form earlier texts later read of number begins. trouble_of_refusal form (sight g.H.Shelf c.args.shelf.now c.read_input.new.shelf) earlier texts later c.args.name.now c.args.input read number Prices
-    (AreNoPrices c.args.catalog.now.sections c.in_ok-bytes.bytes.items) c.in_ok-bytes.bytes.items stop of c.in_ok-bytes.ensures.end c.in_ok-bytes.ensures.whole c.in_ok-bytes.ensures.within
+    (AreNoPrices c.args.catalog.now.sections c.in_ok-bytes.bytes.items) c.in_ok-bytes.bytes.items stop of c.in_ok-bytes.ensures.end c.in_ok-bytes.ensures.whole
+    c.in_ok-bytes.ensures.within
     (λ row cause is. (c.args.catalog.now, begins, is)) (rw c.deref.ensures.value at refusal))
     c.prices_in.ensures.refused
 
@@ -31,4 +34,6 @@ returns-in_err-bytes-clause-used g c =
 
 pub returns-clause-used : goal.returns-clause-used
 returns-clause-used g c =
-    uses_refused g.H.Shelf c.args.shelf.now c.read_input.new.shelf c.args.name.now c.args.input (AreNoPrices c.args.catalog.now.sections c.in_ok-bytes.bytes.items) c.prices_in.result c.in_ok-bytes.ensures.used (rw c.deref.ensures.value at c.prices_in.ensures.refused)
+    uses_refused g.H.Shelf c.args.shelf.now c.read_input.new.shelf c.args.name.now c.args.input
+    (AreNoPrices c.args.catalog.now.sections c.in_ok-bytes.bytes.items) c.prices_in.result c.in_ok-bytes.ensures.used
+    (rw c.deref.ensures.value at c.prices_in.ensures.refused)

@@ -15,7 +15,8 @@ returns-in-Ok-words_behind_name-clause-replaced g c = λ fault.
     (told.0, told.1, inl (rw c.in-Ok.is (rw (c.deref.ensures.value, c.in-Ok-words_behind_name.ensures) at told.2)), told.4)
 
 pub returns-in-Err-words_behind_name-clause-replaced : goal.returns-in-Err-words_behind_name-clause-replaced
-returns-in-Err-words_behind_name-clause-replaced g c = λ fault. (OutOfMemory, line_of trouble.OutOfMemory, inr (refl, refl), c.no_memory_for_words.ensures.replaced fault)
+returns-in-Err-words_behind_name-clause-replaced g c =
+    λ fault. (OutOfMemory, line_of trouble.OutOfMemory, inr (refl, refl), c.no_memory_for_words.ensures.replaced fault)
 
 pub returns-in-Err-clause-replaced : goal.returns-in-Err-clause-replaced
 returns-in-Err-clause-replaced g c = λ fault. (OutOfMemory, line_of trouble.OutOfMemory, inr (refl, refl), c.no_memory_for_words-in-Err.ensures.replaced fault)

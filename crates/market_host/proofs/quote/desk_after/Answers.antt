@@ -11,6 +11,8 @@ commands-preserved c =
     record {
       names = c.post.ensures.names ∙ c.commands.invariant.names;
       room = omega (arith, c.post.ensures.room, c.commands.invariant.room);
-      state = said_next names (names_of c.commands.desk) (opening names) (state_of c.commands.desk) (state_of c.post.new.self) c.args.commands.now c.commands.command-index _
+      state =
+          said_next names (names_of c.commands.desk) (opening names) (state_of c.commands.desk) (state_of c.post.new.self) c.args.commands.now
+          c.commands.command-index _
           (omega arith) c.command-item.is c.commands.invariant.names c.commands.invariant.state c.post.ensures.state;
     }

@@ -15,13 +15,16 @@ returns-in_err-bytes-clause-trouble g c =
 
 pub returns-clause-read : goal.returns-clause-read
 returns-clause-read g c =
-    IfOk-weaker c.items_in.result _ _ (λ items is. (c.in_ok-bytes.bytes.items, c.in_ok-bytes.ensures.whole, c.in_ok-bytes.ensures.within, rw c.deref.ensures.value at is)) c.items_in.ensures.items
+    IfOk-weaker c.items_in.result _ _
+    (λ items is. (c.in_ok-bytes.bytes.items, c.in_ok-bytes.ensures.whole, c.in_ok-bytes.ensures.within, rw c.deref.ensures.value at is))
+    c.items_in.ensures.items
 
 pub returns-clause-trouble : goal.returns-clause-trouble
 returns-clause-trouble g c =
     IfErr-weaker c.items_in.result _ _
     (λ stop surplus form earlier texts later read streams behind number left.
-    trouble_of_session form (sight g.H.Shelf c.args.shelf.now c.read_input.new.shelf) earlier texts later c.args.name.now c.in_ok-bytes.bytes.items c.args.input c.args.room stop read number streams behind left
+    trouble_of_session form (sight g.H.Shelf c.args.shelf.now c.read_input.new.shelf) earlier texts later c.args.name.now c.in_ok-bytes.bytes.items c.args.input
+    c.args.room stop read number streams behind left
     c.in_ok-bytes.ensures.end c.in_ok-bytes.ensures.whole c.in_ok-bytes.ensures.within (rw c.deref.ensures.value at surplus))
     c.items_in.ensures.surplus
 
@@ -35,4 +38,5 @@ returns-in_err-bytes-clause-used g c =
 
 pub returns-clause-used : goal.returns-clause-used
 returns-clause-used g c =
-    uses_surplus g.H.Shelf c.args.shelf.now c.read_input.new.shelf c.args.name.now c.in_ok-bytes.bytes.items c.args.room c.args.input c.items_in.result c.in_ok-bytes.ensures.used (rw c.deref.ensures.value at c.items_in.ensures.surplus)
+    uses_surplus g.H.Shelf c.args.shelf.now c.read_input.new.shelf c.args.name.now c.in_ok-bytes.bytes.items c.args.room c.args.input c.items_in.result
+    c.in_ok-bytes.ensures.used (rw c.deref.ensures.value at c.items_in.ensures.surplus)

@@ -26,13 +26,15 @@ sessions-init g c = record {
 pub overflow_cast-room : goal.overflow_cast-room
 overflow_cast-room g c =
     let read = c.in_ok-stream.ensures.read in
-    let many : length c.in_ok-stream.stream.items ≡ command_count read.0 = count_of_session g.S.StreamItem.is_item_of read.0 c.in_ok-stream.stream.items read.3.0 in
+    let many : length c.in_ok-stream.stream.items ≡ command_count read.0 =
+    count_of_session g.S.StreamItem.is_item_of read.0 c.in_ok-stream.stream.items read.3.0 in
     omega (arith, read.3.1, c.len.ensures, c.in_ok-stream.stream.ok.0)
 
 pub overflow_sub-room : goal.overflow_sub-room
 overflow_sub-room g c =
     let read = c.in_ok-stream.ensures.read in
-    let many : length c.in_ok-stream.stream.items ≡ command_count read.0 = count_of_session g.S.StreamItem.is_item_of read.0 c.in_ok-stream.stream.items read.3.0 in
+    let many : length c.in_ok-stream.stream.items ≡ command_count read.0 =
+    count_of_session g.S.StreamItem.is_item_of read.0 c.in_ok-stream.stream.items read.3.0 in
     omega (arith, read.3.1, c.len.ensures, c.in_ok-stream.stream.ok.0)
 
 pub sessions-preserved : goal.sessions-preserved
@@ -41,13 +43,18 @@ sessions-preserved g c =
     let said = c.in_ok-stream.ensures in
     let below : c.sessions.name-index < length c.args.names.now = omega arith in
     let read = rw (c.as_str.ensures.value, before.holds) at said.read in
-    let ended = end_from (g.H.Shelf.holds c.args.shelf.now) (g.H.Shelf.faults c.args.shelf.now) (sight g.H.Shelf c.sessions.shelf c.take_session.new.shelf) (string_bytes c.name-item.result) before.holds
+    let ended =
+    end_from (g.H.Shelf.holds c.args.shelf.now) (g.H.Shelf.faults c.args.shelf.now) (sight g.H.Shelf c.sessions.shelf c.take_session.new.shelf)
+    (string_bytes c.name-item.result) before.holds
     (rw c.as_str.ensures.value at said.end) in
-    let many : length c.in_ok-stream.stream.items ≡ command_count said.read.0 = count_of_session g.S.StreamItem.is_item_of said.read.0 c.in_ok-stream.stream.items said.read.3.0 in
+    let many : length c.in_ok-stream.stream.items ≡ command_count said.read.0 =
+    count_of_session g.S.StreamItem.is_item_of said.read.0 c.in_ok-stream.stream.items said.read.3.0 in
     record {
       holds = said.holds ∙ before.holds;
       later = λ other. omega (arith, before.later other, said.later other);
-      used = subst (AreReadOut (trace g.H.Shelf c.args.shelf.now c.take_session.new.shelf)) (sym (names_more c.args.names.now c.sessions.name-index c.name-item.result below c.name-item.is))
+      used =
+          subst (AreReadOut (trace g.H.Shelf c.args.shelf.now c.take_session.new.shelf))
+          (sym (names_more c.args.names.now c.sessions.name-index c.name-item.result below c.name-item.is))
           (read_behind g.H.Shelf c.args.shelf.now c.sessions.shelf c.take_session.new.shelf (map string_bytes (take c.sessions.name-index c.args.names.now)) (string_bytes c.name-item.result ∷ []) before.used
           (rw c.as_str.ensures.value at said.used));
       number = omega (arith, before.number);
@@ -56,7 +63,9 @@ sessions-preserved g c =
         rw c.in_ok-push.ensures.items (sessions_more g.S.StreamItem.is_item_of (g.H.Shelf.holds c.args.shelf.now) c.args.names.now c.sessions.name-index c.name-item.result before.read.0 c.sessions.streams.items c.sessions.room _
             c.in_ok-stream.stream below c.name-item.is before.read.1 read (omega (arith, said.read.3.1, many, c.len.ensures, c.in_ok-stream.stream.ok.0))),
       );
-      ended = added_at_end (sight g.H.Shelf c.args.shelf.now c.take_session.new.shelf) (map string_bytes (take (c.sessions.name-index + 1) c.args.names.now)) (map string_bytes (take c.sessions.name-index c.args.names.now))
+      ended =
+          added_at_end (sight g.H.Shelf c.args.shelf.now c.take_session.new.shelf) (map string_bytes (take (c.sessions.name-index + 1) c.args.names.now))
+          (map string_bytes (take c.sessions.name-index c.args.names.now))
           (string_bytes c.name-item.result) (names_more c.args.names.now c.sessions.name-index c.name-item.result below c.name-item.is) ended;
     }
 
@@ -65,7 +74,8 @@ returns-in_err-stream-clause-trouble g c =
     let p = err_from_is_err_and c.from_residual.result c.from_residual.ensures.1 in
     let before = c.sessions.invariant in
     rw (p.1, p.2) (trouble_behind (g.H.Shelf.holds c.args.shelf.now) (g.H.Shelf.faults c.args.shelf.now) (sight g.H.Shelf c.sessions.shelf c.take_session.new.shelf) c.args.names.now c.sessions.name-index c.name-item.result
-    c.args.first c.sessions.input c.sessions.room before.read.0 c.in_err-stream.field-0.0 (omega arith) c.name-item.is before.number before.holds before.later before.read.1.each before.read.1.count
+    c.args.first c.sessions.input c.sessions.room before.read.0 c.in_err-stream.field-0.0 (omega arith) c.name-item.is before.number before.holds before.later
+    before.read.1.each before.read.1.count
     (rw c.as_str.ensures.value at c.in_err-stream.ensures.trouble))
 
 pub returns-in_err-stream-clause-used : goal.returns-in_err-stream-clause-used

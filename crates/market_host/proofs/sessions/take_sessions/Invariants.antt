@@ -13,6 +13,7 @@ invariant-sessions g l = record {
   later : (other : List ℕ) → g.H.Shelf.faults l.fn.shelf other ≤ g.H.Shelf.faults l.shelf other;
   used : AreReadOut (trace g.H.Shelf l.fn.shelf l.shelf) (map string_bytes (take l.name-index l.names));
   number : l.input ≡ l.first + l.name-index;
-  read : (texts : List (List ℕ)) × AreReadStreams g.S.StreamItem.is_item_of (g.H.Shelf.holds l.fn.shelf) (map string_bytes (take l.name-index l.names)) texts l.streams.items l.room;
+  read : (texts : List (List ℕ))
+      × AreReadStreams g.S.StreamItem.is_item_of (g.H.Shelf.holds l.fn.shelf) (map string_bytes (take l.name-index l.names)) texts l.streams.items l.room;
   ended : IsLastAtEnd (sight g.H.Shelf l.fn.shelf l.shelf) (map string_bytes (take l.name-index l.names));
 }

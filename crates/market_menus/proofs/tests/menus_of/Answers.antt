@@ -10,9 +10,11 @@ use Rattle.market_menus.proofs.tests.menus_of.Goals as goal
 
 pub menus-requires-clause-students : goal.menus-requires-clause-students
 menus-requires-clause-students c =
-    c.closed.ensures.rows ∙ ap (λ (names : DeskNames). length names.students) c.requires ∙ length-map c.args.roll.now.students (λ (student : Student). student.name)
+    c.closed.ensures.rows ∙ ap (λ (names : DeskNames). length names.students) c.requires
+    ∙ length-map c.args.roll.now.students (λ (student : Student). student.name)
 
 pub menus-requires-clause-sections : goal.menus-requires-clause-sections
 menus-requires-clause-sections c =
     subst (λ n. All (SectionsBelow n) (preferences_of c.closed.result.now))
-    (ap (λ (names : DeskNames). length names.sections) c.requires ∙ length-map c.args.catalog.now.sections (λ (section : Section). section.name)) c.closed.ensures.sections
+    (ap (λ (names : DeskNames). length names.sections) c.requires ∙ length-map c.args.catalog.now.sections (λ (section : Section). section.name))
+    c.closed.ensures.sections

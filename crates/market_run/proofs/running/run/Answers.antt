@@ -9,4 +9,5 @@ pub returns-in_err-published-clause-no_prices : goal.returns-in_err-published-cl
 returns-in_err-published-clause-no_prices g c =
     let market = market_of c.args.catalog.now c.args.roll.now c.args.settings.now in
     let none : (least : ℕ) → c.from_residual-in_err-published.result ≡ Err (NoPrices least) → HasNoPrices market c.journal.result.now least = search rules in
-    subst (λ (journal : List Entry). (least : ℕ) → c.from_residual-in_err-published.result ≡ Err (NoPrices least) → HasNoPrices market journal least) c.journal.ensures.entries none
+    subst (λ (journal : List Entry). (least : ℕ) → c.from_residual-in_err-published.result ≡ Err (NoPrices least) → HasNoPrices market journal least)
+    c.journal.ensures.entries none

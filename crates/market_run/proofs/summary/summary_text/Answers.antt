@@ -25,16 +25,25 @@ returns c =
     let menus = c.args.crowd.now.menus.items in
     let budgets = c.args.crowd.now.budgets.items in
     let p = c.args.published.now.publication in
-    let students : c.len.result ≡ length (students_of menus budgets) = let count : length (students_of menus budgets) ≡ length menus = students_length menus budgets c.requires.crowd.same in omega arith in
+    let students : c.len.result ≡ length (students_of menus budgets) =
+    let count : length (students_of menus budgets) ≡ length menus = students_length menus budgets c.requires.crowd.same in omega arith in
     let commands : c.len-2.result ≡ length p.order.items = omega arith in
-    let seats : c.used_seats-seats.result ≡ total (λ (one : ℕ × ℕ). one.0) p.used.items = c.used_seats-seats.ensures ∙ ap (total (λ (one : ℕ × ℕ). one.0)) c.deref.ensures.value in
+    let seats : c.used_seats-seats.result ≡ total (λ (one : ℕ × ℕ). one.0) p.used.items =
+    c.used_seats-seats.ensures ∙ ap (total (λ (one : ℕ × ℕ). one.0)) c.deref.ensures.value in
     let utility : c.worth-utility.result ≡ worth_of (students_of menus budgets) (map sections_of p.allocation.items) =
-    (rw (c.deref-2.ensures.value, c.deref-3.ensures.value) at c.worth-utility.ensures.value) ∙ worth_told menus budgets (map sections_of p.allocation.items) c.requires.crowd.same in
+    (rw (c.deref-2.ensures.value, c.deref-3.ensures.value) at c.worth-utility.ensures.value)
+    ∙ worth_told menus budgets (map sections_of p.allocation.items) c.requires.crowd.same in
     let passed : to_z w64 (of_z w64 c.worth-utility.result) ≡ c.worth-utility.result = omega (arith, ints) in
-    let bundles : c.bundle_trees.result ≡ total (λ (proved : Proved). length proved.tree) (map proved_of p.bundles.items) = rw c.deref-4.ensures.value at c.bundle_trees.ensures.value in
-    let turns : c.turn_trees.result ≡ total (λ (turn : ProvedTurn). length turn.tree) (map turn_of p.turns.items) = rw c.deref-5.ensures.value at c.turn_trees.ensures.value in
-    let proof : c.bundle_trees.result + c.turn_trees.result ≡ total (λ (proved : Proved). length proved.tree) (map proved_of p.bundles.items) + total (λ (turn : ProvedTurn). length turn.tree) (map turn_of p.turns.items) = omega arith in
-    ten_lines c.new-text.ensures.items c.in_ok-put_count.ensures c.in_ok-put_count-2.ensures c.in_ok-put_count-3.ensures c.in_ok-put_count-4.ensures c.in_ok-put_count-5.ensures c.in_ok-put_count-6.ensures c.in_ok-put_count-7.ensures
+    let bundles : c.bundle_trees.result ≡ total (λ (proved : Proved). length proved.tree) (map proved_of p.bundles.items) =
+    rw c.deref-4.ensures.value at c.bundle_trees.ensures.value in
+    let turns : c.turn_trees.result ≡ total (λ (turn : ProvedTurn). length turn.tree) (map turn_of p.turns.items) =
+    rw c.deref-5.ensures.value at c.turn_trees.ensures.value in
+    let proof : c.bundle_trees.result + c.turn_trees.result
+    ≡ total (λ (proved : Proved). length proved.tree) (map proved_of p.bundles.items)
+    + total (λ (turn : ProvedTurn). length turn.tree) (map turn_of p.turns.items) =
+    omega arith in
+    ten_lines c.new-text.ensures.items c.in_ok-put_count.ensures c.in_ok-put_count-2.ensures c.in_ok-put_count-3.ensures c.in_ok-put_count-4.ensures
+    c.in_ok-put_count-5.ensures c.in_ok-put_count-6.ensures c.in_ok-put_count-7.ensures
     c.in_ok-put_count-8.ensures c.in_ok-put_signed.ensures c.in_ok-put_count-9.ensures
     (ap (λ n. line (codes "students") (decimal n)) students)
     (ap (λ n. line (codes "sections") (decimal n)) c.from.ensures)

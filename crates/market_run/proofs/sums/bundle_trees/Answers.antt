@@ -10,7 +10,10 @@ bundles-preserved c =
     let low : c.bundles.proved-index < length c.args.bundles.now = c.bundles-test.true in
     let size : c.len.result ≡ length c.proved-item.result.tree.items = omega arith in
     record {
-      sum = total_more (λ (proved : Told). length proved.tree) proved_of c.args.bundles.now c.bundles.proved-index c.proved-item.result c.bundles.bytes c.len.result low c.bundles.invariant.sum
+      sum =
+          total_more (λ (proved : Told). length proved.tree) proved_of c.args.bundles.now c.bundles.proved-index c.proved-item.result c.bundles.bytes
+          c.len.result
+          low c.bundles.invariant.sum
           (size ∙ ap (λ (proved : Proved). length proved.tree.items) c.proved-item.is);
       most = omega arith;
     }

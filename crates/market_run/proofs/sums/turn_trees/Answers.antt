@@ -10,7 +10,9 @@ turns-preserved c =
     let low : c.turns.turn-index < length c.args.turns.now = c.turns-test.true in
     let size : c.len.result ≡ length c.turn-item.result.tree.items = omega arith in
     record {
-      sum = total_more (λ (turn : Told). length turn.tree) turn_of c.args.turns.now c.turns.turn-index c.turn-item.result c.turns.bytes c.len.result low c.turns.invariant.sum
+      sum =
+          total_more (λ (turn : Told). length turn.tree) turn_of c.args.turns.now c.turns.turn-index c.turn-item.result c.turns.bytes c.len.result low
+          c.turns.invariant.sum
           (size ∙ ap (λ (turn : ProvedTurn). length turn.tree.items) c.turn-item.is);
       most = omega arith;
     }

@@ -7,7 +7,9 @@ pub sections-preserved : goal.sections-preserved
 sections-preserved c =
     let low : c.sections.seats-index < length c.args.used.now = c.sections-test.true in
     record {
-      sum = total_more (λ (seats : ℕ × ℕ). seats.0) (λ (seats : ℕ × ℕ). seats) c.args.used.now c.sections.seats-index _ c.sections.count c.from-count.result low c.sections.invariant.sum c.from-count.ensures;
+      sum =
+          total_more (λ (seats : ℕ × ℕ). seats.0) (λ (seats : ℕ × ℕ). seats) c.args.used.now c.sections.seats-index _ c.sections.count c.from-count.result low
+          c.sections.invariant.sum c.from-count.ensures;
       most = omega arith;
     }
 

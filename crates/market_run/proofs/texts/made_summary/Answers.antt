@@ -13,4 +13,5 @@ summary_text-requires-clause-outcome g c =
     let crowd = crowd_of c.deref.result.now.menus.items c.deref.result.now.budgets.items c.deref.result.now.sections in
     let ran = c.in_ok-ran.ran in
     let are : IsCrowdIn market (entries_of c.args.desk.now) crowd = rw c.deref.ensures c.in_ok-ran.ensures.crowd in
-    some_outcome market (entries_of c.args.desk.now) crowd (lengths_of ran.published.turns ran.published.rounds ran.published.passes) (publication_of ran.published.publication) are c.in_ok-ran.ensures.published
+    some_outcome market (entries_of c.args.desk.now) crowd (lengths_of ran.published.turns ran.published.rounds ran.published.passes)
+    (publication_of ran.published.publication) are c.in_ok-ran.ensures.published

@@ -6,7 +6,8 @@ use Rattle.market_settings.proofs.values.sizes_within.Given as goal
 
 abbrev pub invariant-loop-item : goal.invariant-loop-item
 invariant-loop-item l = record {
-  left : numbers_within 1 100000 (items_view l.items) ≡ option_map (λ ns. l.sizes.items ++ ns) (numbers_within 1 100000 (items_view (drop l.item-index l.items)));
+  left : numbers_within 1 100000 (items_view l.items)
+      ≡ option_map (λ ns. l.sizes.items ++ ns) (numbers_within 1 100000 (items_view (drop l.item-index l.items)));
   count : length l.sizes.items ≡ l.item-index;
   within : All (λ size. (1 ≤ size) × (size ≤ 100000)) l.sizes.items;
 }

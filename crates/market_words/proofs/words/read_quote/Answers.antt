@@ -8,7 +8,9 @@ use Rattle.market_words.proofs.words.read_quote.Goals as goal
 
 pub returns-clause-form : goal.returns-clause-form
 returns-clause-form c =
-    let five = quote_words c.args.more.now c.name-item.result c.credits-item.result c.courses-item.result (omega arith) c.name-item.is c.credits-item.is c.courses-item.is in
+    let five =
+    quote_words c.args.more.now c.name-item.result c.credits-item.result c.courses-item.result (omega arith) c.name-item.is c.credits-item.is
+    c.courses-item.is in
     let name : string_bytes c.name-item.result ≡ name_bytes c.in_ok-name.name = search rules in
     let credits : string_bytes c.credits-item.result ≡ decimal c.in_ok-credits.credits = search rules in
     let courses : string_bytes c.courses-item.result ≡ decimal c.in_ok-courses.courses = search rules in

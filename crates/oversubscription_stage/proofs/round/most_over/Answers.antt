@@ -13,16 +13,24 @@ loop-place-preserved c =
     let many : ℕ → ℕ = λ s. holders s c.args.held.now.bundles in
     let is : c.saturating_sub-over.result ≡ many c.loop-place.place - slice_index c.args.seats.now c.loop-place.place = search rules in
     elim c.if-over-greatest.branch [
-      | then-over-greatest w ↦ rw (w.most-is, w.greatest-is) (most_more many c.args.seats.now c.loop-place.place c.loop-place.greatest c.saturating_sub-over.result c.loop-place.most (record { 0 = c.loop-place.place }) refl c.loop-place.invariant is w.if-over-greatest.true)
-      | else-over-greatest w ↦ rw (w.most-is, w.greatest-is) (most_same many c.args.seats.now c.loop-place.place c.loop-place.greatest c.saturating_sub-over.result c.loop-place.most c.loop-place.invariant is w.if-over-greatest.false)
+      | then-over-greatest w ↦
+          rw (w.most-is, w.greatest-is)
+          (most_more many c.args.seats.now c.loop-place.place c.loop-place.greatest c.saturating_sub-over.result c.loop-place.most
+          (record { 0 = c.loop-place.place }) refl c.loop-place.invariant is w.if-over-greatest.true)
+      | else-over-greatest w ↦
+          rw (w.most-is, w.greatest-is)
+          (most_same many c.args.seats.now c.loop-place.place c.loop-place.greatest c.saturating_sub-over.result c.loop-place.most c.loop-place.invariant is
+          w.if-over-greatest.false)
     ]
 
 pub returns-clause-some : goal.returns-clause-some
 returns-clause-some c =
     let past : length c.args.seats.now ≡ c.loop-place.place = search rules in
-    rw past (most_some (λ s. holders s c.args.held.now.bundles) c.args.seats.now c.loop-place.place c.loop-place.greatest c.loop-place.most c.loop-place.invariant)
+    rw past
+    (most_some (λ s. holders s c.args.held.now.bundles) c.args.seats.now c.loop-place.place c.loop-place.greatest c.loop-place.most c.loop-place.invariant)
 
 pub returns-clause-none : goal.returns-clause-none
 returns-clause-none c =
     let past : length c.args.seats.now ≡ c.loop-place.place = search rules in
-    rw past (most_none (λ s. holders s c.args.held.now.bundles) c.args.seats.now c.loop-place.place c.loop-place.greatest c.loop-place.most c.loop-place.invariant)
+    rw past
+    (most_none (λ s. holders s c.args.held.now.bundles) c.args.seats.now c.loop-place.place c.loop-place.greatest c.loop-place.most c.loop-place.invariant)

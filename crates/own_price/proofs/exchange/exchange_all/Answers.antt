@@ -9,7 +9,9 @@ use Rattle.own_price.proofs.exchange.exchange_all.Goals as goal
 pub exchange-requires-clause-within : goal.exchange-requires-clause-within
 exchange-requires-clause-within c =
     let low : c.loop-place.place < length c.args.students.now = search rules in
-    rw c.loop-place.invariant.0 (within_at (length c.args.counts.now) c.args.others.now c.loop-place.place c.index-others-place.result c.requires.within (rw c.requires.same low) c.index-others-place.is)
+    rw c.loop-place.invariant.0
+    (within_at (length c.args.counts.now) c.args.others.now c.loop-place.place c.index-others-place.result c.requires.within (rw c.requires.same low)
+    c.index-others-place.is)
 
 pub loop-place-preserved : goal.loop-place-preserved
 loop-place-preserved c =
@@ -17,7 +19,10 @@ loop-place-preserved c =
     let student = slice_index_or c.args.students.now c.loop-place.place (record { 0 = 0 }) in
     let so_far = exchanged c.args.bundles.now (take c.loop-place.place c.args.students.now) (take c.loop-place.place c.args.others.now) in (
       c.exchange.ensures.tally.len ∙ c.loop-place.invariant.0,
-      c.exchange.ensures.bundles ∙ ap (λ bundles. slice_set bundles student.0 c.index-others-place.result) c.loop-place.invariant.1 ∙ ap (slice_set so_far student.0) c.index-others-place.is
-          ∙ sym (exchanged_more c.args.bundles.now c.args.students.now c.args.others.now c.loop-place.place (record { 0 = 0 }) c.index-others-place.result low c.requires.same),
+      c.exchange.ensures.bundles ∙ ap (λ bundles. slice_set bundles student.0 c.index-others-place.result) c.loop-place.invariant.1
+          ∙ ap (slice_set so_far student.0) c.index-others-place.is
+          ∙ sym
+          (exchanged_more c.args.bundles.now c.args.students.now c.args.others.now c.loop-place.place (record { 0 = 0 }) c.index-others-place.result low
+          c.requires.same),
       subst (λ n. IsTally n c.exchange.new.bundles c.exchange.new.counts) c.loop-place.invariant.0 c.exchange.ensures.tally,
     )

@@ -8,5 +8,13 @@ pub returns-clause-value : goal.returns-clause-value
 returns-clause-value g c =
     let low : c.args.section.0 < length c.args.prices.now = rw c.requires.prices.same c.requires.section in
     let copied : c.in_ok-from_zero.from_zero.items ≡ c.args.prices.now = search rules in
-    let least = subst (λ ps. AreLeastPrices (g.D.Demands.crowd c.args.demands.now) (price_in ps) ((c.args.section, c.args.limit) ∷ []) c.in_ok-least.least.items) c.deref.ensures.value c.in_ok-least.ensures.value in
-    rw c.index.ensures (least_found (g.D.Demands.crowd c.args.demands.now) c.args.prices.now c.args.section c.args.limit c.from.result c.in_ok-least.least.items _ c.from.ensures low (subst (λ ps. AreLeastPrices (g.D.Demands.crowd c.args.demands.now) (price_in (slice_set ps c.from.result (record { 0 = 0 }))) ((c.args.section, c.args.limit) ∷ []) c.in_ok-least.least.items) copied least))
+    let least =
+    subst (λ ps. AreLeastPrices (g.D.Demands.crowd c.args.demands.now) (price_in ps) ((c.args.section, c.args.limit) ∷ []) c.in_ok-least.least.items)
+    c.deref.ensures.value c.in_ok-least.ensures.value in
+    rw c.index.ensures
+    (least_found (g.D.Demands.crowd c.args.demands.now) c.args.prices.now c.args.section c.args.limit c.from.result c.in_ok-least.least.items _
+    c.from.ensures low
+    (subst
+    (λ ps. AreLeastPrices (g.D.Demands.crowd c.args.demands.now) (price_in (slice_set ps c.from.result (record { 0 = 0 })))
+    ((c.args.section, c.args.limit) ∷ []) c.in_ok-least.least.items)
+    copied least))

@@ -6,5 +6,6 @@ use Rattle.preference_desk.proofs.steps.pair.Goals as goal
 pub pair-requires-clause-order : goal.pair-requires-clause-order
 pair-requires-clause-order c =
     let apart : c.in-Some-section.one.0 ≡ c.in-Some-section-2.other.0 → ⊥ =
-    other_ordinals (map name_bytes c.args.names.now.sections.keys) c.args.first.now c.args.second.now _ _ c.in-Some-section.ensures.has c.in-Some-section-2.ensures.has c.in-Some-section.ensures.ordinal c.in-Some-section-2.ensures.ordinal (sym c.eq.ensures ∙ c.if-eq.false) in
+    other_ordinals (map name_bytes c.args.names.now.sections.keys) c.args.first.now c.args.second.now _ _ c.in-Some-section.ensures.has
+    c.in-Some-section-2.ensures.has c.in-Some-section.ensures.ordinal c.in-Some-section-2.ensures.ordinal (sym c.eq.ensures ∙ c.if-eq.false) in
     omega (arith, apart)

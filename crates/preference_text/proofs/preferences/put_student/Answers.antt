@@ -7,9 +7,11 @@ use Rattle.preference_text.proofs.preferences.put_student.Goals as goal
 pub put_ratings-requires : goal.put_ratings-requires
 put_ratings-requires c =
     let wanted = wanted_by c.args.preferences.now c.args.student.0 in
-    rated_below (length c.args.catalog.now.sections) wanted c.ratings.result.now (c.requires.sections c.args.student.0 no_preferences (omega arith)) c.ratings.ensures.entries
+    rated_below (length c.args.catalog.now.sections) wanted c.ratings.result.now (c.requires.sections c.args.student.0 no_preferences (omega arith))
+    c.ratings.ensures.entries
 
 pub put_adjustments-requires : goal.put_adjustments-requires
 put_adjustments-requires c =
     let wanted = wanted_by c.args.preferences.now c.args.student.0 in
-    adjusted_below (length c.args.catalog.now.sections) wanted c.pairs.result.now (c.requires.sections c.args.student.0 no_preferences (omega arith)) c.pairs.ensures.entries
+    adjusted_below (length c.args.catalog.now.sections) wanted c.pairs.result.now (c.requires.sections c.args.student.0 no_preferences (omega arith))
+    c.pairs.ensures.entries

@@ -10,4 +10,5 @@ use Rattle.preference_text.proofs.text.preferences_text.Goals as goal
 pub put_students-requires-clause-sections : goal.put_students-requires-clause-sections
 put_students-requires-clause-sections c =
     subst (λ n. All (SectionsBelow n) (preferences_of c.closed.result.now))
-    (ap (λ (names : DeskNames). length names.sections) c.requires.names ∙ length-map c.args.catalog.now.sections (λ (section : Section). section.name)) c.closed.ensures.sections
+    (ap (λ (names : DeskNames). length names.sections) c.requires.names ∙ length-map c.args.catalog.now.sections (λ (section : Section). section.name))
+    c.closed.ensures.sections

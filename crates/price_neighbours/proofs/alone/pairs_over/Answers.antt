@@ -12,4 +12,5 @@ loop-place-preserved-then-count-from c =
 pub loop-place-preserved : goal.loop-place-preserved
 loop-place-preserved c =
     let many : slice_index c.args.seats.now c.loop-place.place < slice_index c.args.counts.now c.loop-place.place = search rules in
-    pairs_then c.args.counts.now c.args.seats.now c.loop-place.place c.loop-place.pairs.items c.push.new.self.items (pair_of c.args.counts.now c.loop-place.place) c.loop-place.invariant (grind (arith, nat_tests)) refl (search rules)
+    pairs_then c.args.counts.now c.args.seats.now c.loop-place.place c.loop-place.pairs.items c.push.new.self.items
+    (pair_of c.args.counts.now c.loop-place.place) c.loop-place.invariant (grind (arith, nat_tests)) refl (search rules)

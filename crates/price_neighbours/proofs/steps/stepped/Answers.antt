@@ -9,5 +9,7 @@ loop-place-preserved c =
     let s = c.loop-place.place in
     let low : s < length c.args.prices.now = search rules in
     stepped_more _ c.loop-place.moved.items c.push.new.self.items c.stepped_price-price.result s c.loop-place.invariant
-    (c.stepped_price-price.ensures ∙ ap (λ p. stepped_price c.args.top.0 p (slice_index c.args.counts.now s) (slice_index c.args.seats.now s) c.args.step) (sym (get_or-map (λ price. price.0) c.args.prices.now s _ 0 low)))
+    (c.stepped_price-price.ensures
+    ∙ ap (λ p. stepped_price c.args.top.0 p (slice_index c.args.counts.now s) (slice_index c.args.seats.now s) c.args.step)
+    (sym (get_or-map (λ price. price.0) c.args.prices.now s _ 0 low)))
     (search rules)

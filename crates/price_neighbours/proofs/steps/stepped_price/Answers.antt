@@ -8,7 +8,8 @@ use Rattle.price_neighbours.proofs.steps.stepped_price.Goals as goal
 pub returns : goal.returns
 returns c =
     let back : to_z w64 (of_z w64 c.clamp.result) ≡ c.clamp.result = omega (arith, ints) in
-    let moved : to_z w64 (of_z w64 (to_z w64 (of_z w64 c.from.result) +ℤ to_z w64 (of_z w64 c.change.result))) ≡ pos c.args.price.0 +ℤ c.change.result = omega (arith, ints) in
+    let moved : to_z w64 (of_z w64 (to_z w64 (of_z w64 c.from.result) +ℤ to_z w64 (of_z w64 c.change.result))) ≡ pos c.args.price.0 +ℤ c.change.result =
+    omega (arith, ints) in
     let most : to_z w64 (of_z w64 c.from-2.result) ≡ pos c.args.top.0 = omega (arith, ints) in
     ap nat_abs back
     ∙ clamped c.args.top.0 (pos c.args.price.0 +ℤ c.change.result) _ _ c.clamp.result c.clamp.ensures.value moved most

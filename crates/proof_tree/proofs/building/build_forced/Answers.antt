@@ -15,13 +15,20 @@ use Rattle.proof_tree.proofs.building.build_forced.Goals as goal
 pub written-requires-clause-required : goal.written-requires-clause-required
 written-requires-clause-required c =
     let offer = offer_of c.args.menu.now c.args.prices.now c.args.budget.0 c.args.allowed.now in
-    subst (λ p. p < length c.args.menu.now.places) (sym c.place-place.ensures.value) (on_menu offer (sections_of c.args.champion.now) c.requires.best.choice c.args.section.0 c.requires.best.is_wanted)
+    subst (λ p. p < length c.args.menu.now.places) (sym c.place-place.ensures.value)
+    (on_menu offer (sections_of c.args.champion.now) c.requires.best.choice c.args.section.0 c.requires.best.is_wanted)
 
 pub written-requires-clause-tree : goal.written-requires-clause-tree
 written-requires-clause-tree c =
     let offer = offer_of c.args.menu.now c.args.prices.now c.args.budget.0 c.args.allowed.now in
     let champion = sections_of c.args.champion.now in
     let low = on_menu offer (sections_of c.args.champion.now) c.requires.best.choice c.args.section.0 c.requires.best.is_wanted in
-    let back : section_at c.args.menu.now.places (place_in c.args.menu.now.places c.args.section.0) ≡ c.args.section.0 = section_at-place_in c.args.menu.now.places c.args.section.0 low in
-    let best = subst (λ s. IsBestWith (wishes_of c.args.menu.now) (price_in c.args.prices.now) c.args.budget.0 (set.contains c.args.allowed.now) s champion) (sym back) c.requires.best in
-    subst (λ p. HasTree offer (Some p) champion) (sym c.place-place.ensures.value) ((trees_prove_the_best_with offer (place_in c.args.menu.now.places c.args.section.0) champion c.len.ensures.menu low c.requires.best.choice (ap (has champion) back ∙ c.requires.best.is_wanted)).1 best)
+    let back : section_at c.args.menu.now.places (place_in c.args.menu.now.places c.args.section.0) ≡ c.args.section.0 =
+    section_at-place_in c.args.menu.now.places c.args.section.0 low in
+    let best =
+    subst (λ s. IsBestWith (wishes_of c.args.menu.now) (price_in c.args.prices.now) c.args.budget.0 (set.contains c.args.allowed.now) s champion) (sym back)
+    c.requires.best in
+    subst (λ p. HasTree offer (Some p) champion) (sym c.place-place.ensures.value)
+    ((trees_prove_the_best_with offer (place_in c.args.menu.now.places c.args.section.0) champion c.len.ensures.menu low c.requires.best.choice
+    (ap (has champion) back ∙ c.requires.best.is_wanted)).1
+    best)

@@ -18,7 +18,10 @@ nodes-init c =
     record {
       waiting = c.start-walk.ensures.may_wait offer;
       stems = c.start-walk.ensures.stems;
-      written = subst (IsWritten offer None (sections_of c.args.champion.now) []) (sym (c.start-walk.ensures.waiting c.args.menu.now)) (nothing_written offer None (sections_of c.args.champion.now) ((trees_prove_the_best offer (sections_of c.args.champion.now) c.len.ensures.menu c.requires.best.choice).1 c.requires.best));
+      written =
+          subst (IsWritten offer None (sections_of c.args.champion.now) []) (sym (c.start-walk.ensures.waiting c.args.menu.now))
+          (nothing_written offer None (sections_of c.args.champion.now)
+          ((trees_prove_the_best offer (sections_of c.args.champion.now) c.len.ensures.menu c.requires.best.choice).1 c.requires.best));
       within = omega arith;
       size = refl;
       same = refl;
@@ -30,13 +33,22 @@ spell-symbol-requires c = c.step.ensures.short c.in-Signed.sign c.in-Signed.is
 pub nodes-smaller : goal.nodes-smaller
 nodes-smaller c =
     let offer = offer_of c.args.menu.now c.args.prices.now c.args.budget.0 c.args.allowed.now in
-    let step = subst (λ s. IsStep offer None (places_of c.args.menu.now (sections_of c.args.champion.now)) (spots_of c.args.menu.now (waiting_of c.nodes.walk)) s (spots_of c.args.menu.now (waiting_of c.step.new.self))) c.in-Signed.is c.step.ensures.step in
-    fewer offer None (places_of c.args.menu.now (sections_of c.args.champion.now)) (spots_of c.args.menu.now (waiting_of c.nodes.walk)) (spots_of c.args.menu.now (waiting_of c.step.new.self)) c.in-Signed.sign step
+    let step =
+    subst
+    (λ s. IsStep offer None (places_of c.args.menu.now (sections_of c.args.champion.now)) (spots_of c.args.menu.now (waiting_of c.nodes.walk)) s
+    (spots_of c.args.menu.now (waiting_of c.step.new.self)))
+    c.in-Signed.is c.step.ensures.step in
+    fewer offer None (places_of c.args.menu.now (sections_of c.args.champion.now)) (spots_of c.args.menu.now (waiting_of c.nodes.walk))
+    (spots_of c.args.menu.now (waiting_of c.step.new.self)) c.in-Signed.sign step
 
 pub nodes-preserved : goal.nodes-preserved
 nodes-preserved c =
     let offer = offer_of c.args.menu.now c.args.prices.now c.args.budget.0 c.args.allowed.now in
-    let step = subst (λ s. IsStep offer None (places_of c.args.menu.now (sections_of c.args.champion.now)) (spots_of c.args.menu.now (waiting_of c.nodes.walk)) s (spots_of c.args.menu.now (waiting_of c.step.new.self))) c.in-Signed.is c.step.ensures.step in
+    let step =
+    subst
+    (λ s. IsStep offer None (places_of c.args.menu.now (sections_of c.args.champion.now)) (spots_of c.args.menu.now (waiting_of c.nodes.walk)) s
+    (spots_of c.args.menu.now (waiting_of c.step.new.self)))
+    c.in-Signed.is c.step.ensures.step in
     let put = c.in_ok-count-in-Signed.ensures.some in
     let symbol_is = c.as_slice.ensures ∙ c.spell-symbol.ensures.bytes in
     let size : length c.put_at.new.room ≡ length c.nodes.room = c.put_at.ensures.size in
@@ -45,16 +57,27 @@ nodes-preserved c =
     record {
       waiting = c.step.ensures.waiting;
       stems = c.step.ensures.stems;
-      written = subst (λ t. IsWritten offer None (sections_of c.args.champion.now) t (spots_of c.args.menu.now (waiting_of c.step.new.self))) (sym (put.2 ∙ ap (λ t. take c.nodes.count c.nodes.room ++ t) symbol_is)) (written_more offer None (sections_of c.args.champion.now) (take c.nodes.count c.nodes.room) (spots_of c.args.menu.now (waiting_of c.nodes.walk)) c.nodes.invariant.written c.in-Signed.sign (spots_of c.args.menu.now (waiting_of c.step.new.self)) step);
+      written =
+          subst (λ t. IsWritten offer None (sections_of c.args.champion.now) t (spots_of c.args.menu.now (waiting_of c.step.new.self)))
+          (sym (put.2 ∙ ap (λ t. take c.nodes.count c.nodes.room ++ t) symbol_is))
+          (written_more offer None (sections_of c.args.champion.now) (take c.nodes.count c.nodes.room) (spots_of c.args.menu.now (waiting_of c.nodes.walk))
+          c.nodes.invariant.written c.in-Signed.sign (spots_of c.args.menu.now (waiting_of c.step.new.self)) step);
       within = omega arith;
       size = c.put_at.ensures.size ∙ c.nodes.invariant.size;
-      same = put.3 ∙ drop_later c.nodes.room c.args.room.now c.nodes.count c.in_ok-count-in-Signed.count (next_above c.nodes.count _ c.in_ok-count-in-Signed.count put.0) c.nodes.invariant.same;
+      same =
+          put.3
+          ∙ drop_later c.nodes.room c.args.room.now c.nodes.count c.in_ok-count-in-Signed.count
+          (next_above c.nodes.count _ c.in_ok-count-in-Signed.count put.0) c.nodes.invariant.same;
     }
 
 pub returns-in_err-count-in-Signed-clause-none : goal.returns-in_err-count-in-Signed-clause-none
 returns-in_err-count-in-Signed-clause-none c =
     let offer = offer_of c.args.menu.now c.args.prices.now c.args.budget.0 c.args.allowed.now in
-    let step = subst (λ s. IsStep offer None (places_of c.args.menu.now (sections_of c.args.champion.now)) (spots_of c.args.menu.now (waiting_of c.nodes.walk)) s (spots_of c.args.menu.now (waiting_of c.step.new.self))) c.in-Signed.is c.step.ensures.step in
+    let step =
+    subst
+    (λ s. IsStep offer None (places_of c.args.menu.now (sections_of c.args.champion.now)) (spots_of c.args.menu.now (waiting_of c.nodes.walk)) s
+    (spots_of c.args.menu.now (waiting_of c.step.new.self)))
+    c.in-Signed.is c.step.ensures.step in
     let full : length c.nodes.room < c.nodes.count + length c.as_slice.result.now = c.in_err-count-in-Signed.ensures.none in
     let size' : length c.nodes.room ≡ length c.args.room.now = c.nodes.invariant.size in
     let symbol_is : length c.as_slice.result.now ≡ length (symbol c.in-Signed.sign) = ap length (c.as_slice.ensures ∙ c.spell-symbol.ensures.bytes) in
@@ -65,13 +88,26 @@ returns-in_err-count-in-Signed-clause-none c =
 pub returns-in-Unsigned-clause-some : goal.returns-in-Unsigned-clause-some
 returns-in-Unsigned-clause-some c =
     let offer = offer_of c.args.menu.now c.args.prices.now c.args.budget.0 c.args.allowed.now in
-    let step = subst (λ s. IsStep offer None (places_of c.args.menu.now (sections_of c.args.champion.now)) (spots_of c.args.menu.now (waiting_of c.nodes.walk)) s (spots_of c.args.menu.now (waiting_of c.step.new.self))) c.in-Unsigned.is c.step.ensures.step in
-    absurd (never_unsigned offer None (sections_of c.args.champion.now) (take c.nodes.count c.nodes.room) (spots_of c.args.menu.now (waiting_of c.nodes.walk)) c.nodes.invariant.written (spots_of c.args.menu.now (waiting_of c.step.new.self)) step)
+    let step =
+    subst
+    (λ s. IsStep offer None (places_of c.args.menu.now (sections_of c.args.champion.now)) (spots_of c.args.menu.now (waiting_of c.nodes.walk)) s
+    (spots_of c.args.menu.now (waiting_of c.step.new.self)))
+    c.in-Unsigned.is c.step.ensures.step in
+    absurd
+    (never_unsigned offer None (sections_of c.args.champion.now) (take c.nodes.count c.nodes.room) (spots_of c.args.menu.now (waiting_of c.nodes.walk))
+    c.nodes.invariant.written (spots_of c.args.menu.now (waiting_of c.step.new.self)) step)
 
 pub returns-in-Ended-clause-some : goal.returns-in-Ended-clause-some
 returns-in-Ended-clause-some c =
     let offer = offer_of c.args.menu.now c.args.prices.now c.args.budget.0 c.args.allowed.now in
-    let step = subst (λ s. IsStep offer None (places_of c.args.menu.now (sections_of c.args.champion.now)) (spots_of c.args.menu.now (waiting_of c.nodes.walk)) s (spots_of c.args.menu.now (waiting_of c.step.new.self))) c.in-Ended.is c.step.ensures.step in
+    let step =
+    subst
+    (λ s. IsStep offer None (places_of c.args.menu.now (sections_of c.args.champion.now)) (spots_of c.args.menu.now (waiting_of c.nodes.walk)) s
+    (spots_of c.args.menu.now (waiting_of c.step.new.self)))
+    c.in-Ended.is c.step.ensures.step in
     let within : c.nodes.count ≤ length c.nodes.room = c.nodes.invariant.within in
-    let size' : length c.nodes.room ≡ length c.args.room.now = c.nodes.invariant.size in
-    (omega arith, written_whole offer None (sections_of c.args.champion.now) (take c.nodes.count c.nodes.room) (spots_of c.args.menu.now (waiting_of c.nodes.walk)) c.nodes.invariant.written step)
+    let size' : length c.nodes.room ≡ length c.args.room.now = c.nodes.invariant.size in (
+      omega arith,
+      written_whole offer None (sections_of c.args.champion.now) (take c.nodes.count c.nodes.room) (spots_of c.args.menu.now (waiting_of c.nodes.walk))
+          c.nodes.invariant.written step,
+    )

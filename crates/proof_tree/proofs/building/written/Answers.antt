@@ -12,7 +12,11 @@ nodes-init c =
     record {
       waiting = c.start-walk.ensures.may_wait offer;
       stems = c.start-walk.ensures.stems;
-      written = subst (λ t. IsWritten offer c.args.required (sections_of c.args.champion.now) t (spots_of c.args.menu.now (waiting_of c.start-walk.result))) (sym c.new-text.ensures.items) (subst (IsWritten offer c.args.required (sections_of c.args.champion.now) []) (sym (c.start-walk.ensures.waiting c.args.menu.now)) (nothing_written offer c.args.required (sections_of c.args.champion.now) c.requires.tree));
+      written =
+          subst (λ t. IsWritten offer c.args.required (sections_of c.args.champion.now) t (spots_of c.args.menu.now (waiting_of c.start-walk.result)))
+          (sym c.new-text.ensures.items)
+          (subst (IsWritten offer c.args.required (sections_of c.args.champion.now) []) (sym (c.start-walk.ensures.waiting c.args.menu.now))
+          (nothing_written offer c.args.required (sections_of c.args.champion.now) c.requires.tree));
     }
 
 pub spell-symbol-requires : goal.spell-symbol-requires
@@ -21,28 +25,52 @@ spell-symbol-requires c = c.step.ensures.short c.in-Signed.sign c.in-Signed.is
 pub nodes-smaller : goal.nodes-smaller
 nodes-smaller c =
     let offer = offer_of c.args.menu.now c.args.prices.now c.args.budget.0 c.args.allowed.now in
-    let step = subst (λ s. IsStep offer c.args.required (places_of c.args.menu.now (sections_of c.args.champion.now)) (spots_of c.args.menu.now (waiting_of c.nodes.walk)) s (spots_of c.args.menu.now (waiting_of c.step.new.self))) c.in-Signed.is c.step.ensures.step in
-    fewer offer c.args.required (places_of c.args.menu.now (sections_of c.args.champion.now)) (spots_of c.args.menu.now (waiting_of c.nodes.walk)) (spots_of c.args.menu.now (waiting_of c.step.new.self)) c.in-Signed.sign step
+    let step =
+    subst
+    (λ s. IsStep offer c.args.required (places_of c.args.menu.now (sections_of c.args.champion.now)) (spots_of c.args.menu.now (waiting_of c.nodes.walk))
+    s (spots_of c.args.menu.now (waiting_of c.step.new.self)))
+    c.in-Signed.is c.step.ensures.step in
+    fewer offer c.args.required (places_of c.args.menu.now (sections_of c.args.champion.now)) (spots_of c.args.menu.now (waiting_of c.nodes.walk))
+    (spots_of c.args.menu.now (waiting_of c.step.new.self)) c.in-Signed.sign step
 
 pub nodes-preserved : goal.nodes-preserved
 nodes-preserved c =
     let offer = offer_of c.args.menu.now c.args.prices.now c.args.budget.0 c.args.allowed.now in
-    let step = subst (λ s. IsStep offer c.args.required (places_of c.args.menu.now (sections_of c.args.champion.now)) (spots_of c.args.menu.now (waiting_of c.nodes.walk)) s (spots_of c.args.menu.now (waiting_of c.step.new.self))) c.in-Signed.is c.step.ensures.step in
-    let more : c.put_behind.new.text.items ≡ c.nodes.text.items ++ symbol c.in-Signed.sign = c.in_ok-put_behind-in-Signed.ensures ∙ ap (λ t. c.nodes.text.items ++ t) (c.as_slice.ensures ∙ c.spell-symbol.ensures.bytes) in
+    let step =
+    subst
+    (λ s. IsStep offer c.args.required (places_of c.args.menu.now (sections_of c.args.champion.now)) (spots_of c.args.menu.now (waiting_of c.nodes.walk))
+    s (spots_of c.args.menu.now (waiting_of c.step.new.self)))
+    c.in-Signed.is c.step.ensures.step in
+    let more : c.put_behind.new.text.items ≡ c.nodes.text.items ++ symbol c.in-Signed.sign =
+    c.in_ok-put_behind-in-Signed.ensures ∙ ap (λ t. c.nodes.text.items ++ t) (c.as_slice.ensures ∙ c.spell-symbol.ensures.bytes) in
     record {
       waiting = c.step.ensures.waiting;
       stems = c.step.ensures.stems;
-      written = subst (λ t. IsWritten offer c.args.required (sections_of c.args.champion.now) t (spots_of c.args.menu.now (waiting_of c.step.new.self))) (sym more) (written_more offer c.args.required (sections_of c.args.champion.now) c.nodes.text.items (spots_of c.args.menu.now (waiting_of c.nodes.walk)) c.nodes.invariant.written c.in-Signed.sign (spots_of c.args.menu.now (waiting_of c.step.new.self)) step);
+      written =
+          subst (λ t. IsWritten offer c.args.required (sections_of c.args.champion.now) t (spots_of c.args.menu.now (waiting_of c.step.new.self))) (sym more)
+          (written_more offer c.args.required (sections_of c.args.champion.now) c.nodes.text.items (spots_of c.args.menu.now (waiting_of c.nodes.walk))
+          c.nodes.invariant.written c.in-Signed.sign (spots_of c.args.menu.now (waiting_of c.step.new.self)) step);
     }
 
 pub returns-in-Unsigned : goal.returns-in-Unsigned
 returns-in-Unsigned c =
     let offer = offer_of c.args.menu.now c.args.prices.now c.args.budget.0 c.args.allowed.now in
-    let step = subst (λ s. IsStep offer c.args.required (places_of c.args.menu.now (sections_of c.args.champion.now)) (spots_of c.args.menu.now (waiting_of c.nodes.walk)) s (spots_of c.args.menu.now (waiting_of c.step.new.self))) c.in-Unsigned.is c.step.ensures.step in
-    absurd (never_unsigned offer c.args.required (sections_of c.args.champion.now) c.nodes.text.items (spots_of c.args.menu.now (waiting_of c.nodes.walk)) c.nodes.invariant.written (spots_of c.args.menu.now (waiting_of c.step.new.self)) step)
+    let step =
+    subst
+    (λ s. IsStep offer c.args.required (places_of c.args.menu.now (sections_of c.args.champion.now)) (spots_of c.args.menu.now (waiting_of c.nodes.walk))
+    s (spots_of c.args.menu.now (waiting_of c.step.new.self)))
+    c.in-Unsigned.is c.step.ensures.step in
+    absurd
+    (never_unsigned offer c.args.required (sections_of c.args.champion.now) c.nodes.text.items (spots_of c.args.menu.now (waiting_of c.nodes.walk))
+    c.nodes.invariant.written (spots_of c.args.menu.now (waiting_of c.step.new.self)) step)
 
 pub returns-in-Ended : goal.returns-in-Ended
 returns-in-Ended c =
     let offer = offer_of c.args.menu.now c.args.prices.now c.args.budget.0 c.args.allowed.now in
-    let step = subst (λ s. IsStep offer c.args.required (places_of c.args.menu.now (sections_of c.args.champion.now)) (spots_of c.args.menu.now (waiting_of c.nodes.walk)) s (spots_of c.args.menu.now (waiting_of c.step.new.self))) c.in-Ended.is c.step.ensures.step in
-    written_whole offer c.args.required (sections_of c.args.champion.now) c.nodes.text.items (spots_of c.args.menu.now (waiting_of c.nodes.walk)) c.nodes.invariant.written step
+    let step =
+    subst
+    (λ s. IsStep offer c.args.required (places_of c.args.menu.now (sections_of c.args.champion.now)) (spots_of c.args.menu.now (waiting_of c.nodes.walk))
+    s (spots_of c.args.menu.now (waiting_of c.step.new.self)))
+    c.in-Ended.is c.step.ensures.step in
+    written_whole offer c.args.required (sections_of c.args.champion.now) c.nodes.text.items (spots_of c.args.menu.now (waiting_of c.nodes.walk))
+    c.nodes.invariant.written step

@@ -19,7 +19,8 @@ use Rattle.proof_tree.proofs.checking.check_forced.Goals as goal
 pub follow-requires-clause-required : goal.follow-requires-clause-required
 follow-requires-clause-required c =
     let offer = offer_of c.args.menu.now c.args.prices.now c.args.budget.0 c.args.allowed.now in
-    subst (λ p. p < length c.args.menu.now.places) (sym c.place-place.ensures.value) (on_menu offer (sections_of c.args.champion.now) c.requires.champion c.args.section.0 c.requires.section)
+    subst (λ p. p < length c.args.menu.now.places) (sym c.place-place.ensures.value)
+    (on_menu offer (sections_of c.args.champion.now) c.requires.champion c.args.section.0 c.requires.section)
 
 pub returns-in-Ok-clause-ok : goal.returns-in-Ok-clause-ok
 returns-in-Ok-clause-ok c =
@@ -27,14 +28,29 @@ returns-in-Ok-clause-ok c =
     let champion = sections_of c.args.champion.now in
     let places = c.args.menu.now.places in
     let low = on_menu offer (sections_of c.args.champion.now) c.requires.champion c.args.section.0 c.requires.section in
-    let back : section_at c.args.menu.now.places (place_in c.args.menu.now.places c.args.section.0) ≡ c.args.section.0 = section_at-place_in c.args.menu.now.places c.args.section.0 low in
+    let back : section_at c.args.menu.now.places (place_in c.args.menu.now.places c.args.section.0) ≡ c.args.section.0 =
+    section_at-place_in c.args.menu.now.places c.args.section.0 low in
     let is = subst (λ p. IsTreeText offer (Some p) champion c.args.text.now) c.place-place.ensures.value c.in-Ok.ensures.ok in
-    let best = (trees_prove_the_best_with offer (place_in c.args.menu.now.places c.args.section.0) champion c.len.ensures.menu low c.requires.champion (ap (has champion) back ∙ c.requires.section)).0 (is.0, is.1) in
-    ((λ ok. (subst (λ s. IsBestWith (wishes_of c.args.menu.now) (price_in c.args.prices.now) c.args.budget.0 (set.contains c.args.allowed.now) s champion) back best, is)), (λ both. refl))
+    let best =
+    (trees_prove_the_best_with offer (place_in c.args.menu.now.places c.args.section.0) champion c.len.ensures.menu low c.requires.champion
+    (ap (has champion) back ∙ c.requires.section)).0
+    (is.0, is.1) in (
+      (λ ok. (
+        subst (λ s. IsBestWith (wishes_of c.args.menu.now) (price_in c.args.prices.now) c.args.budget.0 (set.contains c.args.allowed.now) s champion) back
+            best,
+        is,
+      )),
+      (λ both. refl),
+    )
 
 pub returns-in-Err-clause-ok : goal.returns-in-Err-clause-ok
 returns-in-Err-clause-ok c =
     let offer = offer_of c.args.menu.now c.args.prices.now c.args.budget.0 c.args.allowed.now in
     let champion = sections_of c.args.champion.now in
-    let fails = subst (λ p. FirstFailsAt offer (Some p) champion c.args.text.now (offset_in c.in-Err.defect)) c.place-place.ensures.value c.in-Err.ensures.fails in
-    ((λ ok. absurd (false≢true ok)), (λ both. absurd (no_failure_in_a_tree offer (Some (place_in c.args.menu.now.places c.args.section.0)) champion c.args.text.now (offset_in c.in-Err.defect) c.len.ensures.menu both.1 fails)))
+    let fails =
+    subst (λ p. FirstFailsAt offer (Some p) champion c.args.text.now (offset_in c.in-Err.defect)) c.place-place.ensures.value c.in-Err.ensures.fails in (
+      (λ ok. absurd (false≢true ok)),
+      (λ both. absurd
+          (no_failure_in_a_tree offer (Some (place_in c.args.menu.now.places c.args.section.0)) champion c.args.text.now (offset_in c.in-Err.defect)
+          c.len.ensures.menu both.1 fails)),
+    )

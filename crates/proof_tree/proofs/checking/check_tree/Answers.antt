@@ -10,7 +10,9 @@ pub returns-clause-ok : goal.returns-clause-ok
 returns-clause-ok c =
     let offer = offer_of c.args.menu.now c.args.prices.now c.args.budget.0 c.args.allowed.now in
     let champion = sections_of c.args.champion.now in
-    ok_iff c.follow.result _ _ _ c.follow.ensures.ok c.follow.ensures.defect (λ is. ((trees_prove_the_best offer champion c.len.ensures.menu c.requires.champion).0 (is.0, is.1), is)) (λ defect found both. no_defect_in_a_tree offer champion c.args.text.now defect c.len.ensures.menu both.1 (found refl))
+    ok_iff c.follow.result _ _ _ c.follow.ensures.ok c.follow.ensures.defect
+    (λ is. ((trees_prove_the_best offer champion c.len.ensures.menu c.requires.champion).0 (is.0, is.1), is))
+    (λ defect found both. no_defect_in_a_tree offer champion c.args.text.now defect c.len.ensures.menu both.1 (found refl))
 
 pub returns-clause-defect : goal.returns-clause-defect
 returns-clause-defect c = if_err c.follow.result _ _ c.follow.ensures.defect (λ defect found. found refl)

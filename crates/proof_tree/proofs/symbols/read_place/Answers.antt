@@ -10,13 +10,15 @@ empty (x ∷ xs) low = absurd (omega arith)
 
 pub returns-then-not-is_digit-clause-none : goal.returns-then-not-is_digit-clause-none
 returns-then-not-is_digit-clause-none c =
-    let whole : c.args.text.now ≡ slice_index_or c.args.text.now 0 0 ∷ take (length c.args.text.now - 1) (drop 1 c.args.text.now) = first_rest c.args.text.now 0 c.in-len1-up.len_at_least in
+    let whole : c.args.text.now ≡ slice_index_or c.args.text.now 0 0 ∷ take (length c.args.text.now - 1) (drop 1 c.args.text.now) =
+    first_rest c.args.text.now 0 c.in-len1-up.len_at_least in
     let other : ¬ IsDigit (slice_index_or c.args.text.now 0 0) = search rules in
     subst NoPlace (sym whole) (none_without_digit (slice_index_or c.args.text.now 0 0) (take (length c.args.text.now - 1) (drop 1 c.args.text.now)) other)
 
 pub returns-then-ends_here-clause-some : goal.returns-then-ends_here-clause-some
 returns-then-ends_here-clause-some c =
-    let whole : c.args.text.now ≡ slice_index_or c.args.text.now 0 0 ∷ take (length c.args.text.now - 1) (drop 1 c.args.text.now) = first_rest c.args.text.now 0 c.in-len1-up.len_at_least in
+    let whole : c.args.text.now ≡ slice_index_or c.args.text.now 0 0 ∷ take (length c.args.text.now - 1) (drop 1 c.args.text.now) =
+    first_rest c.args.text.now 0 c.in-len1-up.len_at_least in
     let digit : IsDigit (slice_index_or c.args.text.now 0 0) = search rules in
     let low : 48 ≤ slice_index_or c.args.text.now 0 0 = digit.0 in
     let high : slice_index_or c.args.text.now 0 0 ≤ 57 = digit.1 in
@@ -25,9 +27,11 @@ returns-then-ends_here-clause-some c =
 
 pub returns-then-first-eq48-clause-none : goal.returns-then-first-eq48-clause-none
 returns-then-first-eq48-clause-none c =
-    let whole : c.args.text.now ≡ slice_index_or c.args.text.now 0 0 ∷ take (length c.args.text.now - 1) (drop 1 c.args.text.now) = first_rest c.args.text.now 0 c.in-len1-up.len_at_least in
+    let whole : c.args.text.now ≡ slice_index_or c.args.text.now 0 0 ∷ take (length c.args.text.now - 1) (drop 1 c.args.text.now) =
+    first_rest c.args.text.now 0 c.in-len1-up.len_at_least in
     let more : ¬ NoDigitFirst (take (length c.args.text.now - 1) (drop 1 c.args.text.now)) = search rules in
-    subst NoPlace (sym whole) (none_after_zero (take (length c.args.text.now - 1) (drop 1 c.args.text.now)) (slice_index_or c.args.text.now 0 0) c.if-first-eq48.true more)
+    subst NoPlace (sym whole)
+    (none_after_zero (take (length c.args.text.now - 1) (drop 1 c.args.text.now)) (slice_index_or c.args.text.now 0 0) c.if-first-eq48.true more)
 
 pub returns-in-empty-clause-none : goal.returns-in-empty-clause-none
 returns-in-empty-clause-none c =

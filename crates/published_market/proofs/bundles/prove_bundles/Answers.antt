@@ -12,9 +12,12 @@ use Rattle.published_market.proofs.bundles.prove_bundles.Goals as goal
 pub returns-clause-proved : goal.returns-clause-proved
 returns-clause-proved g c =
     let menus = c.args.crowd.now.menus.items in
-    let bundles : length c.args.bundles.now ≡ length menus = taken_count menus c.args.crowd.now.budgets.items c.args.crowd.now.sections c.args.prices.now c.args.bundles.now c.requires.crowd.same c.requires.bundles in
+    let bundles : length c.args.bundles.now ≡ length menus =
+    taken_count menus c.args.crowd.now.budgets.items c.args.crowd.now.sections c.args.prices.now c.args.bundles.now c.requires.crowd.same
+    c.requires.bundles in
     let budgets = c.args.crowd.now.budgets.items in
     let students : length (students_of menus budgets) ≡ length menus = students_length menus budgets c.requires.crowd.same in
     let past : length c.args.bundles.now ≤ length c.groups.all.items = search rules in
     let all : length (students_of menus budgets) ≤ length c.groups.all.items = omega arith in
-    subst (λ listed. AllZip (IsProvedDemand c.args.crowd.now.sections (price_in c.args.prices.now)) listed (map proved_of c.groups.all.items)) (take_all (length c.groups.all.items) (students_of menus budgets) all) c.groups.invariant.proved.proved
+    subst (λ listed. AllZip (IsProvedDemand c.args.crowd.now.sections (price_in c.args.prices.now)) listed (map proved_of c.groups.all.items))
+    (take_all (length c.groups.all.items) (students_of menus budgets) all) c.groups.invariant.proved.proved

@@ -15,17 +15,22 @@ use Rattle.published_market.proofs.crowd.crowd_after.Goals as goal
 
 pub make_crowd-requires-clause-students : goal.make_crowd-requires-clause-students
 make_crowd-requires-clause-students c =
-    c.closed.ensures.rows ∙ ap (λ (names : DeskNames). length names.students) c.requires.names ∙ length-map c.args.roll.now.students (λ (student : Student). student.name)
+    c.closed.ensures.rows ∙ ap (λ (names : DeskNames). length names.students) c.requires.names
+    ∙ length-map c.args.roll.now.students (λ (student : Student). student.name)
 
 pub make_crowd-requires-clause-sections : goal.make_crowd-requires-clause-sections
 make_crowd-requires-clause-sections c =
     subst (λ n. All (SectionsBelow n) (preferences_of c.closed.result.now))
-    (ap (λ (names : DeskNames). length names.sections) c.requires.names ∙ length-map c.args.catalog.now.sections (λ (section : Section). section.name)) c.closed.ensures.sections
+    (ap (λ (names : DeskNames). length names.sections) c.requires.names ∙ length-map c.args.catalog.now.sections (λ (section : Section). section.name))
+    c.closed.ensures.sections
 
 pub returns-clause-crowd : goal.returns-clause-crowd
 returns-clause-crowd c =
     let market = market_of c.args.catalog.now c.args.roll.now c.args.settings.now in
     let same : preferences_of c.closed.result.now ≡ closed_preferences (names_in market) (entries_of c.args.desk.now) =
     c.closed.ensures.after ∙ ap (λ (names : DeskNames). closed_preferences names (entries_of c.args.desk.now)) c.requires.names in
-    subst (λ wanted. IfOk c.make_crowd.result (λ crowd. IsCrowdOf c.args.catalog.now.sections c.args.roll.now.students wanted c.args.settings.now.seed c.args.settings.now.spread (crowd_of crowd.menus.items crowd.budgets.items crowd.sections)))
+    subst
+    (λ wanted. IfOk c.make_crowd.result
+    (λ crowd. IsCrowdOf c.args.catalog.now.sections c.args.roll.now.students wanted c.args.settings.now.seed c.args.settings.now.spread
+    (crowd_of crowd.menus.items crowd.budgets.items crowd.sections)))
     same c.make_crowd.ensures.crowd

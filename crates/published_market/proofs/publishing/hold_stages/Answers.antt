@@ -24,24 +24,41 @@ aftermarket-requires-clause-prices g c =
     let crowd = crowd_of c.args.crowd.now.menus.items c.args.crowd.now.budgets.items c.args.crowd.now.sections in
     let known = crowd_made c.args.crowd.now.menus.items c.args.crowd.now.budgets.items c.args.crowd.now.sections c.requires.crowd in
     let found : IsFound crowd c.args.seats.now c.args.settings.now c.in_ok-found.found.prices.items c.in_ok-found.found.error c.in_ok-found.found.turns =
-    subst (λ (asked : CrowdData). IsFound asked c.args.seats.now c.args.settings.now c.in_ok-found.found.prices.items c.in_ok-found.found.error c.in_ok-found.found.turns) c.requires.asked c.in_ok-found.ensures.found in
-    let start = found_prices crowd c.args.seats.now c.args.settings.now c.in_ok-found.found.prices.items c.in_ok-found.found.error c.in_ok-found.found.turns found in
+    subst
+    (λ (asked : CrowdData). IsFound asked c.args.seats.now c.args.settings.now c.in_ok-found.found.prices.items c.in_ok-found.found.error
+    c.in_ok-found.found.turns)
+    c.requires.asked c.in_ok-found.ensures.found in
+    let start =
+    found_prices crowd c.args.seats.now c.args.settings.now c.in_ok-found.found.prices.items c.in_ok-found.found.error c.in_ok-found.found.turns found in
     let settled : IsSettled crowd c.args.seats.now c.in_ok-found.found.prices.items c.in_ok-settled.settled.prices.items c.in_ok-settled.settled.rounds =
-    subst (λ (asked : CrowdData). IsSettled asked c.args.seats.now c.in_ok-found.found.prices.items c.in_ok-settled.settled.prices.items c.in_ok-settled.settled.rounds) (c.find_prices.ensures.crowd ∙ c.requires.asked)
+    subst
+    (λ (asked : CrowdData). IsSettled asked c.args.seats.now c.in_ok-found.found.prices.items c.in_ok-settled.settled.prices.items
+    c.in_ok-settled.settled.rounds)
+    (c.find_prices.ensures.crowd ∙ c.requires.asked)
     (rw c.deref.ensures.value at c.in_ok-settled.ensures.value) in
-    rw c.deref-2.ensures.value (last_priced crowd c.args.seats.now c.in_ok-found.found.prices.items c.in_ok-settled.settled.prices.items c.in_ok-settled.settled.rounds known start settled)
+    rw c.deref-2.ensures.value
+    (last_priced crowd c.args.seats.now c.in_ok-found.found.prices.items c.in_ok-settled.settled.prices.items c.in_ok-settled.settled.rounds known start
+    settled)
 
 pub returns-clause-stages : goal.returns-clause-stages
 returns-clause-stages g c =
     let crowd = crowd_of c.args.crowd.now.menus.items c.args.crowd.now.budgets.items c.args.crowd.now.sections in
     let found : IsFound crowd c.args.seats.now c.args.settings.now c.in_ok-found.found.prices.items c.in_ok-found.found.error c.in_ok-found.found.turns =
-    subst (λ (asked : CrowdData). IsFound asked c.args.seats.now c.args.settings.now c.in_ok-found.found.prices.items c.in_ok-found.found.error c.in_ok-found.found.turns) c.requires.asked c.in_ok-found.ensures.found in
-    let start = found_prices crowd c.args.seats.now c.args.settings.now c.in_ok-found.found.prices.items c.in_ok-found.found.error c.in_ok-found.found.turns found in
+    subst
+    (λ (asked : CrowdData). IsFound asked c.args.seats.now c.args.settings.now c.in_ok-found.found.prices.items c.in_ok-found.found.error
+    c.in_ok-found.found.turns)
+    c.requires.asked c.in_ok-found.ensures.found in
+    let start =
+    found_prices crowd c.args.seats.now c.args.settings.now c.in_ok-found.found.prices.items c.in_ok-found.found.error c.in_ok-found.found.turns found in
     let settled : IsSettled crowd c.args.seats.now c.in_ok-found.found.prices.items c.in_ok-settled.settled.prices.items c.in_ok-settled.settled.rounds =
-    subst (λ (asked : CrowdData). IsSettled asked c.args.seats.now c.in_ok-found.found.prices.items c.in_ok-settled.settled.prices.items c.in_ok-settled.settled.rounds) (c.find_prices.ensures.crowd ∙ c.requires.asked)
+    subst
+    (λ (asked : CrowdData). IsSettled asked c.args.seats.now c.in_ok-found.found.prices.items c.in_ok-settled.settled.prices.items
+    c.in_ok-settled.settled.rounds)
+    (c.find_prices.ensures.crowd ∙ c.requires.asked)
     (rw c.deref.ensures.value at c.in_ok-settled.ensures.value) in
     let taken : map sections_of c.in_ok-settled.settled.bundles.items ≡ demands crowd (price_in c.in_ok-settled.settled.prices.items) =
-    subst (λ (asked : CrowdData). map sections_of c.in_ok-settled.settled.bundles.items ≡ demands asked (price_in c.in_ok-settled.settled.prices.items)) (c.find_prices.ensures.crowd ∙ c.requires.asked) c.in_ok-settled.ensures.bundles in
+    subst (λ (asked : CrowdData). map sections_of c.in_ok-settled.settled.bundles.items ≡ demands asked (price_in c.in_ok-settled.settled.prices.items))
+    (c.find_prices.ensures.crowd ∙ c.requires.asked) c.in_ok-settled.ensures.bundles in
     record {
       found = found;
       settled = settled;
@@ -51,5 +68,7 @@ returns-clause-stages g c =
       used = c.in_ok-after.ensures.used;
       within = c.in_ok-after.ensures.within;
       start_are = start;
-      prices_are = settled_prices crowd c.args.seats.now c.in_ok-found.found.prices.items c.in_ok-settled.settled.prices.items c.in_ok-settled.settled.rounds start settled;
+      prices_are =
+          settled_prices crowd c.args.seats.now c.in_ok-found.found.prices.items c.in_ok-settled.settled.prices.items c.in_ok-settled.settled.rounds start
+          settled;
     }

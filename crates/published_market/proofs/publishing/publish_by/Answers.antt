@@ -11,12 +11,16 @@ use Rattle.published_market.proofs.Telling.{seats_low}
 use Rattle.published_market.proofs.publishing.publish_by.Goals as goal
 
 pub put_together-requires-clause-low : goal.put_together-requires-clause-low
-put_together-requires-clause-low g c κs within = seats_low c.args.catalog.now c.all_seats-seats.result.now c.all_seats-seats.ensures c.len-few_sections.ensures.kept
+put_together-requires-clause-low g c κs within =
+    seats_low c.args.catalog.now c.all_seats-seats.result.now c.all_seats-seats.ensures c.len-few_sections.ensures.kept
 
 pub returns-clause-in_range : goal.returns-clause-in_range
 returns-clause-in_range g c =
     let count : length c.args.roll.now.students ≡ length c.args.crowd.now.menus.items =
-    sym (crowd_count (market_of c.args.catalog.now c.args.roll.now c.args.settings.now) c.args.journal.now (crowd_of c.args.crowd.now.menus.items c.args.crowd.now.budgets.items c.args.crowd.now.sections) c.requires.is_crowd)
+    sym
+    (crowd_count (market_of c.args.catalog.now c.args.roll.now c.args.settings.now) c.args.journal.now
+    (crowd_of c.args.crowd.now.menus.items c.args.crowd.now.budgets.items c.args.crowd.now.sections) c.requires.is_crowd)
     ∙ students_length c.args.crowd.now.menus.items c.args.crowd.now.budgets.items c.requires.crowd.same in
-    c.in_ok-put_together.ensures.in_range (tables_of c.args.catalog.now c.args.roll.now) (length-map c.args.roll.now.students (λ (student : Student). student.name) ∙ count)
+    c.in_ok-put_together.ensures.in_range (tables_of c.args.catalog.now c.args.roll.now)
+    (length-map c.args.roll.now.students (λ (student : Student). student.name) ∙ count)
     (length-map c.args.catalog.now.sections (λ (section : Section). section.name) ∙ sym c.requires.is_crowd.sections)

@@ -21,7 +21,8 @@ prove_turns-requires-clause-best g c κs within =
 pub used_seats-requires : goal.used_seats-requires
 used_seats-requires g c =
     rw c.deref-6.ensures.value
-    (used_count c.args.stages.after.used.items (map sections_of c.args.stages.after.bundles.items) c.args.crowd.now.sections (length c.args.seats.now) c.requires.stages.used c.requires.seats)
+    (used_count c.args.stages.after.used.items (map sections_of c.args.stages.after.bundles.items) c.args.crowd.now.sections (length c.args.seats.now)
+    c.requires.stages.used c.requires.seats)
 
 pub returns-clause-outcome : goal.returns-clause-outcome
 returns-clause-outcome g c =
@@ -77,7 +78,8 @@ returns-clause-in_range g c = λ tables students sections.
     } in
     let accepted : c.args.stages.found.error ≤ c.args.settings.now.accept = c.requires.stages.found.accepted in
     let most : c.args.settings.now.accept ≤ 1000000000000 = c.requires.settings.accept_in_range in
-    publication_in_range crowd c.args.seats.now c.args.settings.now (stages_of c.args.stages) p tables (crowd_made c.args.crowd.now.menus.items c.args.crowd.now.budgets.items c.args.crowd.now.sections c.requires.crowd) c.requires.seats
+    publication_in_range crowd c.args.seats.now c.args.settings.now (stages_of c.args.stages) p tables
+    (crowd_made c.args.crowd.now.menus.items c.args.crowd.now.budgets.items c.args.crowd.now.sections c.requires.crowd) c.requires.seats
     (students_length c.args.crowd.now.menus.items c.args.crowd.now.budgets.items c.requires.crowd.same ∙ sym students) (sym sections) c.requires.stages told (record {
       order = order_told c.args.journal.now c.in_ok-order.order.items c.in_ok-order.ensures c.requires.sessions;
       error = omega arith;

@@ -22,20 +22,23 @@ use Rattle.published_market.proofs.turns.prove_turn.Goals as goal
 pub index-menu-requires : goal.index-menu-requires
 index-menu-requires c =
     let inside : c.from-student.result < length c.args.crowd.now.menus.items =
-    turn_inside c.args.crowd.now.menus.items c.args.crowd.now.budgets.items c.args.crowd.now.sections c.args.prices.now c.args.raise c.from-student.result (turn_of c.args.turn.now) c.requires.crowd.same c.from-student.ensures c.requires.best in
+    turn_inside c.args.crowd.now.menus.items c.args.crowd.now.budgets.items c.args.crowd.now.sections c.args.prices.now c.args.raise c.from-student.result
+    (turn_of c.args.turn.now) c.requires.crowd.same c.from-student.ensures c.requires.best in
     omega arith
 
 pub index-requires : goal.index-requires
 index-requires c =
     let inside : c.from-student.result < length c.args.crowd.now.menus.items =
-    turn_inside c.args.crowd.now.menus.items c.args.crowd.now.budgets.items c.args.crowd.now.sections c.args.prices.now c.args.raise c.from-student.result (turn_of c.args.turn.now) c.requires.crowd.same c.from-student.ensures c.requires.best in
+    turn_inside c.args.crowd.now.menus.items c.args.crowd.now.budgets.items c.args.crowd.now.sections c.args.prices.now c.args.raise c.from-student.result
+    (turn_of c.args.turn.now) c.requires.crowd.same c.from-student.ensures c.requires.best in
     let same : length c.args.crowd.now.budgets.items ≡ length c.args.crowd.now.menus.items = c.requires.crowd.same in
     omega arith
 
 pub raised-budget-requires-clause-budget : goal.raised-budget-requires-clause-budget
 raised-budget-requires-clause-budget c =
     let inside : c.from-student.result < length c.args.crowd.now.menus.items =
-    turn_inside c.args.crowd.now.menus.items c.args.crowd.now.budgets.items c.args.crowd.now.sections c.args.prices.now c.args.raise c.from-student.result (turn_of c.args.turn.now) c.requires.crowd.same c.from-student.ensures c.requires.best in
+    turn_inside c.args.crowd.now.menus.items c.args.crowd.now.budgets.items c.args.crowd.now.sections c.args.prices.now c.args.raise c.from-student.result
+    (turn_of c.args.turn.now) c.requires.crowd.same c.from-student.ensures c.requires.best in
     let same : length c.args.crowd.now.budgets.items ≡ length c.args.crowd.now.menus.items = c.requires.crowd.same in
     let low : c.from-student.result < length c.args.crowd.now.budgets.items = omega arith in
     subst (λ budget. budget.0 ≤ 1000000) (sym c.index.ensures) (c.requires.crowd.high c.from-student.result c.index.result.now low)
@@ -43,31 +46,56 @@ raised-budget-requires-clause-budget c =
 pub prove_bundle-requires-clause-prices : goal.prove_bundle-requires-clause-prices
 prove_bundle-requires-clause-prices c =
     let inside : c.from-student.result < length c.args.crowd.now.menus.items =
-    turn_inside c.args.crowd.now.menus.items c.args.crowd.now.budgets.items c.args.crowd.now.sections c.args.prices.now c.args.raise c.from-student.result (turn_of c.args.turn.now) c.requires.crowd.same c.from-student.ensures c.requires.best in
-    priced_at c.args.crowd.now.menus.items c.args.crowd.now.budgets.items c.args.crowd.now.sections c.args.prices.now c.from-student.result c.index-menu.result.now c.requires.crowd c.requires.prices inside c.index-menu.ensures
+    turn_inside c.args.crowd.now.menus.items c.args.crowd.now.budgets.items c.args.crowd.now.sections c.args.prices.now c.args.raise c.from-student.result
+    (turn_of c.args.turn.now) c.requires.crowd.same c.from-student.ensures c.requires.best in
+    priced_at c.args.crowd.now.menus.items c.args.crowd.now.budgets.items c.args.crowd.now.sections c.args.prices.now c.from-student.result
+    c.index-menu.result.now c.requires.crowd c.requires.prices inside c.index-menu.ensures
 
 pub prove_bundle-requires-clause-best : goal.prove_bundle-requires-clause-best
 prove_bundle-requires-clause-best c =
     let who : c.requires.best.who ≡ asked c.index-menu.result.now c.index.result.now =
-    turn_student c.args.crowd.now.menus.items c.args.crowd.now.budgets.items c.args.crowd.now.sections c.args.prices.now c.args.raise c.from-student.result (turn_of c.args.turn.now) c.index-menu.result.now c.index.result.now
+    turn_student c.args.crowd.now.menus.items c.args.crowd.now.budgets.items c.args.crowd.now.sections c.args.prices.now c.args.raise c.from-student.result
+    (turn_of c.args.turn.now) c.index-menu.result.now c.index.result.now
     c.requires.crowd.same c.from-student.ensures c.index-menu.ensures c.index.ensures c.requires.best in
-    subst (λ budget. IsBest (wishes_of c.index-menu.result.now) (price_in c.args.prices.now) budget (set.contains c.args.turn.now.allowed) (sections_of c.args.turn.now.bundle)) (sym c.raised-budget.ensures)
-    (subst (λ (student : Student). IsBest (wishes_of student.menu) (price_in c.args.prices.now) (raised_by c.args.raise student.budget) (set.contains c.args.turn.now.allowed) (sections_of c.args.turn.now.bundle)) who c.requires.best.best)
+    subst
+    (λ budget. IsBest (wishes_of c.index-menu.result.now) (price_in c.args.prices.now) budget (set.contains c.args.turn.now.allowed)
+    (sections_of c.args.turn.now.bundle))
+    (sym c.raised-budget.ensures)
+    (subst
+    (λ (student : Student). IsBest (wishes_of student.menu) (price_in c.args.prices.now) (raised_by c.args.raise student.budget)
+    (set.contains c.args.turn.now.allowed) (sections_of c.args.turn.now.bundle))
+    who c.requires.best.best)
 
 pub prove_bundle-requires-clause-room : goal.prove_bundle-requires-clause-room
 prove_bundle-requires-clause-room c =
-    subst (λ budget. IsRoomOf (offer_of c.index-menu.result.now c.args.prices.now budget c.args.turn.now.allowed) (sections_of c.args.turn.now.bundle) c.args.room.now) (sym c.raised-budget.ensures)
-    (turn_room c.args.crowd.now c.args.prices.now c.args.raise c.args.turn.now c.from-student.result c.index-menu.result.now c.index.result.now c.args.room.now c.from-student.ensures c.index-menu.ensures c.index.ensures c.requires.room)
+    subst
+    (λ budget. IsRoomOf (offer_of c.index-menu.result.now c.args.prices.now budget c.args.turn.now.allowed) (sections_of c.args.turn.now.bundle)
+    c.args.room.now)
+    (sym c.raised-budget.ensures)
+    (turn_room c.args.crowd.now c.args.prices.now c.args.raise c.args.turn.now c.from-student.result c.index-menu.result.now c.index.result.now c.args.room.now
+    c.from-student.ensures c.index-menu.ensures c.index.ensures c.requires.room)
 
 pub returns-clause-published : goal.returns-clause-published
 returns-clause-published c =
     let who : c.requires.best.who ≡ asked c.index-menu.result.now c.index.result.now =
-    turn_student c.args.crowd.now.menus.items c.args.crowd.now.budgets.items c.args.crowd.now.sections c.args.prices.now c.args.raise c.from-student.result (turn_of c.args.turn.now) c.index-menu.result.now c.index.result.now
+    turn_student c.args.crowd.now.menus.items c.args.crowd.now.budgets.items c.args.crowd.now.sections c.args.prices.now c.args.raise c.from-student.result
+    (turn_of c.args.turn.now) c.index-menu.result.now c.index.result.now
     c.requires.crowd.same c.from-student.ensures c.index-menu.ensures c.index.ensures c.requires.best in
     let turn : ProvedTurn =
-    record { pass = c.args.turn.now.pass; student = c.args.turn.now.student.0; bundle = sections_of c.in_ok-proved.proved.bundle; tree = c.in_ok-proved.proved.tree.items } in
-    let proved : IsProvedBest (offer_to c.requires.best.who (price_in c.args.prices.now) (raised_by c.args.raise c.requires.best.who.budget) (set.contains c.args.turn.now.allowed)) (sections_of c.in_ok-proved.proved.bundle) c.in_ok-proved.proved.tree.items =
-    subst (λ (student : Student). IsProvedBest (offer_to student (price_in c.args.prices.now) (raised_by c.args.raise student.budget) (set.contains c.args.turn.now.allowed)) (sections_of c.in_ok-proved.proved.bundle) c.in_ok-proved.proved.tree.items) (sym who)
+    record {
+      pass = c.args.turn.now.pass;
+      student = c.args.turn.now.student.0;
+      bundle = sections_of c.in_ok-proved.proved.bundle;
+      tree = c.in_ok-proved.proved.tree.items;
+    } in
+    let proved : IsProvedBest
+    (offer_to c.requires.best.who (price_in c.args.prices.now) (raised_by c.args.raise c.requires.best.who.budget) (set.contains c.args.turn.now.allowed))
+    (sections_of c.in_ok-proved.proved.bundle) c.in_ok-proved.proved.tree.items =
+    subst
+    (λ (student : Student). IsProvedBest
+    (offer_to student (price_in c.args.prices.now) (raised_by c.args.raise student.budget) (set.contains c.args.turn.now.allowed))
+    (sections_of c.in_ok-proved.proved.bundle) c.in_ok-proved.proved.tree.items)
+    (sym who)
     (subst (λ budget. IsProvedBest (offer_to (asked c.index-menu.result.now c.index.result.now) (price_in c.args.prices.now) budget (set.contains c.args.turn.now.allowed)) (sections_of c.in_ok-proved.proved.bundle) c.in_ok-proved.proved.tree.items)
     c.raised-budget.ensures c.in_ok-proved.ensures.proved) in
     let made : IsPublishedTurn (crowd_of c.args.crowd.now.menus.items c.args.crowd.now.budgets.items c.args.crowd.now.sections) c.args.prices.now c.args.raise (turn_of c.args.turn.now) turn = record {
@@ -78,7 +106,10 @@ returns-clause-published c =
       listed = c.requires.best.listed;
       proved = proved;
     } in
-    subst (IsPublishedTurn (crowd_of c.args.crowd.now.menus.items c.args.crowd.now.budgets.items c.args.crowd.now.sections) c.args.prices.now c.args.raise (turn_of c.args.turn.now)) (sym c.of_turn.ensures.turn) made
+    subst
+    (IsPublishedTurn (crowd_of c.args.crowd.now.menus.items c.args.crowd.now.budgets.items c.args.crowd.now.sections) c.args.prices.now c.args.raise
+    (turn_of c.args.turn.now))
+    (sym c.of_turn.ensures.turn) made
 
 pub returns-clause-form : goal.returns-clause-form
 returns-clause-form c =

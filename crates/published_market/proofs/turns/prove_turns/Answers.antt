@@ -11,4 +11,8 @@ pub returns-clause-published : goal.returns-clause-published
 returns-clause-published g c =
     let past : length c.args.turns.now ≤ length c.groups.all.items = search rules in
     let all : length (turns_of c.args.turns.now) ≤ length c.groups.all.items = rw (length-map c.args.turns.now turn_of) past in
-    subst (λ listed. AllZip (IsPublishedTurn (crowd_of c.args.crowd.now.menus.items c.args.crowd.now.budgets.items c.args.crowd.now.sections) c.args.prices.now c.args.raise) listed (map published_of c.groups.all.items)) (take_all (length c.groups.all.items) (turns_of c.args.turns.now) all) c.groups.invariant.proved.published
+    subst
+    (λ listed. AllZip
+    (IsPublishedTurn (crowd_of c.args.crowd.now.menus.items c.args.crowd.now.budgets.items c.args.crowd.now.sections) c.args.prices.now c.args.raise)
+    listed (map published_of c.groups.all.items))
+    (take_all (length c.groups.all.items) (turns_of c.args.turns.now) all) c.groups.invariant.proved.published

@@ -18,7 +18,9 @@ prove_turn-requires-clause-best c =
     let place : c.len.result ≡ length c.rooms.all.items = search rules in
     let read : c.len.result < length c.args.turns.now = omega arith in
     let listed : c.len.result < length (turns_of c.args.turns.now) = rw (length-map c.args.turns.now turn_of) read in
-    subst (IsBestTurn (crowd_of c.args.crowd.now.menus.items c.args.crowd.now.budgets.items c.args.crowd.now.sections) c.args.prices.now c.args.raise) (turn_at c.args.turns.now c.len.result c.index-turns-len.result read c.index-turns-len.is) (c.requires.best c.len.result (turn_of c.index-turns-len.result) listed)
+    subst (IsBestTurn (crowd_of c.args.crowd.now.menus.items c.args.crowd.now.budgets.items c.args.crowd.now.sections) c.args.prices.now c.args.raise)
+    (turn_at c.args.turns.now c.len.result c.index-turns-len.result read c.index-turns-len.is)
+    (c.requires.best c.len.result (turn_of c.index-turns-len.result) listed)
 
 pub prove_turn-requires-clause-room : goal.prove_turn-requires-clause-room
 prove_turn-requires-clause-room c =
@@ -28,7 +30,8 @@ prove_turn-requires-clause-room c =
     let inside : length c.rooms.all.items < length c.args.turns.now = omega arith in
     let place : c.len.result ≡ length c.rooms.all.items = search rules in
     subst (IsRoomOfTurn c.args.crowd.now c.args.prices.now c.args.raise c.index-turns-len.result) (sym c.room-item.is)
-    (c.requires.rooms c.rooms.room-index c.room-item.result low c.index-turns-len.result (subst (λ n. c.index-turns-len.result ≡ get_or c.args.turns.now n c.index-turns-len.result) (place ∙ count) c.index-turns-len.is))
+    (c.requires.rooms c.rooms.room-index c.room-item.result low c.index-turns-len.result
+    (subst (λ n. c.index-turns-len.result ≡ get_or c.args.turns.now n c.index-turns-len.result) (place ∙ count) c.index-turns-len.is))
 
 pub rooms-preserved : goal.rooms-preserved
 rooms-preserved c =
@@ -41,7 +44,9 @@ rooms-preserved c =
     let read : c.len.result < length c.args.turns.now = omega arith in
     record {
       count = search rules;
-      proved = turns_more c.args.crowd.now c.args.prices.now c.args.raise c.args.turns.now (turn_of c.index-turns-len.result) c.rooms.all.items c.in_ok-prove_turn.field-0 c.push.new.self.items listed c.in_ok-push.ensures.items c.rooms.invariant.proved
+      proved =
+          turns_more c.args.crowd.now c.args.prices.now c.args.raise c.args.turns.now (turn_of c.index-turns-len.result) c.rooms.all.items
+          c.in_ok-prove_turn.field-0 c.push.new.self.items listed c.in_ok-push.ensures.items c.rooms.invariant.proved
           (subst (λ n. IsPublishedTurn (crowd_of c.args.crowd.now.menus.items c.args.crowd.now.budgets.items c.args.crowd.now.sections) c.args.prices.now c.args.raise (get_or (turns_of c.args.turns.now) n (turn_of c.index-turns-len.result)) (published_of c.in_ok-prove_turn.field-0)) place
           (subst (λ turn. IsPublishedTurn (crowd_of c.args.crowd.now.menus.items c.args.crowd.now.budgets.items c.args.crowd.now.sections) c.args.prices.now c.args.raise turn (published_of c.in_ok-prove_turn.field-0)) (sym (turn_at c.args.turns.now c.len.result c.index-turns-len.result read c.index-turns-len.is)) c.in_ok-prove_turn.ensures.published))
           c.in_ok-prove_turn.ensures.form;

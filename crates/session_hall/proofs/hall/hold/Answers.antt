@@ -18,7 +18,8 @@ returns-clause-entries g c =
 
 pub returns-clause-legal : goal.returns-clause-legal
 returns-clause-legal g c =
-    steps_are_legal (market_names c.args.catalog.now.sections c.args.roll.now.students) _ _ c.in_ok-desk-2.journal c.in_ok-desk-2.ensures.legal c.in_ok-desk.ensures.names c.in_ok-desk.ensures.state
+    steps_are_legal (market_names c.args.catalog.now.sections c.args.roll.now.students) _ _ c.in_ok-desk-2.journal c.in_ok-desk-2.ensures.legal
+    c.in_ok-desk.ensures.names c.in_ok-desk.ensures.state
 
 pub returns-clause-merges : goal.returns-clause-merges
 returns-clause-merges g c = entries_merge c.args.streams.now c.in_ok-desk-2.journal c.in_ok-desk-2.ensures.merges

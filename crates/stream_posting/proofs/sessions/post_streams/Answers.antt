@@ -21,8 +21,10 @@ post_and_close-object-requires-clause-sound g c κs within = λ request.
 pub post_and_close-object-requires-clause-count : goal.post_and_close-object-requires-clause-count
 post_and_close-object-requires-clause-count g c κs within =
     let streams = c.args.streams.now in
-    let many = c.in_ok-allotments.allotments.ok.0 ∙ ap length c.in_ok-allotments.ensures ∙ length-map streams vec_len in
-    (c.in_ok-chronicle.ensures.count ∙ many, ap length c.in_ok-chronicle.ensures.chronicle.2 ∙ ap length c.in_ok-allotments.ensures ∙ length-map streams vec_len)
+    let many = c.in_ok-allotments.allotments.ok.0 ∙ ap length c.in_ok-allotments.ensures ∙ length-map streams vec_len in (
+      c.in_ok-chronicle.ensures.count ∙ many,
+      ap length c.in_ok-chronicle.ensures.chronicle.2 ∙ ap length c.in_ok-allotments.ensures ∙ length-map streams vec_len,
+    )
 
 pub post_and_close-object-requires-clause-ready : goal.post_and_close-object-requires-clause-ready
 post_and_close-object-requires-clause-ready g c κs within = λ n d none below.
@@ -35,7 +37,9 @@ post_and_close-object-requires-clause-ready g c κs within = λ n d none below.
     let seat = c.in_ok-chronicle.ensures.seats n d (let goal : n < allotted = omega arith in goal) in
     record {
       of = ap (λ s. s.chronicle) seat;
-      left = ap (λ s. s.left) seat ∙ ap (λ lengths. slice_index lengths n) c.in_ok-allotments.ensures ∙ get_or-map vec_len streams n none 0 there ∙ (slice_index_or streams n none).ok.0;
+      left =
+          ap (λ s. s.left) seat ∙ ap (λ lengths. slice_index lengths n) c.in_ok-allotments.ensures ∙ get_or-map vec_len streams n none 0 there
+          ∙ (slice_index_or streams n none).ok.0;
       own = ap (λ s. s.own) seat;
     }
 
@@ -46,10 +50,12 @@ pub returns-clause-legal : goal.returns-clause-legal
 returns-clause-legal g c =
     let journal = c.post_and_close-object.result.1 in
     subst (λ s. IsLegal g.O.Object.sound g.O.Object.after g.O.Object.reply (g.O.Object.base c.args.object) s journal) c.in_ok-chronicle.ensures.chronicle.1
-    (subst (λ b. IsLegal g.O.Object.sound g.O.Object.after g.O.Object.reply b c.in_ok-chronicle.chronicle.opening journal) c.in_ok-chronicle.ensures.chronicle.0 c.post_and_close-object.ensures.legal)
+    (subst (λ b. IsLegal g.O.Object.sound g.O.Object.after g.O.Object.reply b c.in_ok-chronicle.chronicle.opening journal) c.in_ok-chronicle.ensures.chronicle.0
+    c.post_and_close-object.ensures.legal)
 
 pub returns-clause-state : goal.returns-clause-state
 returns-clause-state g c =
     let journal = c.post_and_close-object.result.1 in
-    c.post_and_close-object.ensures.state ∙ ap (λ b. state_after g.O.Object.after b c.in_ok-chronicle.chronicle.opening journal) c.in_ok-chronicle.ensures.chronicle.0
+    c.post_and_close-object.ensures.state
+    ∙ ap (λ b. state_after g.O.Object.after b c.in_ok-chronicle.chronicle.opening journal) c.in_ok-chronicle.ensures.chronicle.0
     ∙ ap (λ s. state_after g.O.Object.after (g.O.Object.base c.args.object) s journal) c.in_ok-chronicle.ensures.chronicle.1

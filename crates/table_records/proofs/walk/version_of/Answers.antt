@@ -13,9 +13,12 @@ returns-then-is_header c =
 
 pub loop-place-preserved : goal.loop-place-preserved
 loop-place-preserved c =
-    header_is_not (pointwise bytes_eq (fields_of c.args.fields.now)) c.loop-place.place c.args.headers.now _ _ (omega arith) c.loop-place.invariant (sym (sym c.is_header.ensures ∙ c.if-is_header.false))
+    header_is_not (pointwise bytes_eq (fields_of c.args.fields.now)) c.loop-place.place c.args.headers.now _ _ (omega arith) c.loop-place.invariant
+    (sym (sym c.is_header.ensures ∙ c.if-is_header.false))
 
 pub returns : goal.returns
 returns c =
     let test = pointwise bytes_eq (fields_of c.args.fields.now) in
-    sym (version_of-place test (headers_of c.args.headers.now) None (header_none test c.loop-place.place c.args.headers.now _ (omega arith) c.loop-place.invariant))
+    sym
+    (version_of-place test (headers_of c.args.headers.now) None
+    (header_none test c.loop-place.place c.args.headers.now _ (omega arith) c.loop-place.invariant))

@@ -5,7 +5,8 @@ use Rattle.tabu_search.proofs.counting.count_all.Given as goal
 abbrev pub invariant-batches : goal.invariant-batches
 invariant-batches g l = record {
   same : g.D.Demands.crowd l.demands ≡ g.D.Demands.crowd l.fn.demands;
-  counted : map (λ counts. counts.items) l.counted.items ≡ map (λ vector. counts_at (g.D.Demands.crowd l.fn.demands) vector.items) (take (vec_len l.counted) l.vectors);
+  counted : map (λ counts. counts.items) l.counted.items
+      ≡ map (λ vector. counts_at (g.D.Demands.crowd l.fn.demands) vector.items) (take (vec_len l.counted) l.vectors);
   within : vec_len l.counted ≤ length l.vectors;
 }
 

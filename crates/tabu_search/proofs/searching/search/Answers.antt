@@ -7,11 +7,14 @@ use Rattle.tabu_search.proofs.searching.search.Goals as goal
 pub returns-then-best-settings-clause-none : goal.returns-then-best-settings-clause-none
 returns-then-best-settings-clause-none g c = λ least is.
     let same : c.turns.walk.best.error ≡ least = cc in
-    let end = end_of (g.D.Demands.crowd c.args.demands.now) c.args.seats.now c.args.settings.now c.turns.walk c.turns.invariant.walk c.turns.invariant.few c.turns.invariant.before (λ on. false≢true (sym c.turns-test.false ∙ c.goes_on.ensures.value.1 on)) in
+    let end =
+    end_of (g.D.Demands.crowd c.args.demands.now) c.args.seats.now c.args.settings.now c.turns.walk c.turns.invariant.walk c.turns.invariant.few
+    c.turns.invariant.before (λ on. false≢true (sym c.turns-test.false ∙ c.goes_on.ensures.value.1 on)) in
     let best = best_of (g.D.Demands.crowd c.args.demands.now) c.args.seats.now c.args.settings.now c.turns.walk c.turns.invariant.walk end in
     let more : c.args.settings.now.accept < c.turns.walk.best.error = c.if-best-settings.true in (
       c.turns.walk.best.prices.items,
       c.turns.walk.turns,
-      subst (λ n. IsBest (g.D.Demands.crowd c.args.demands.now) c.args.seats.now c.args.settings.now c.turns.walk.best.prices.items n c.turns.walk.turns) same best,
+      subst (λ n. IsBest (g.D.Demands.crowd c.args.demands.now) c.args.seats.now c.args.settings.now c.turns.walk.best.prices.items n c.turns.walk.turns) same
+          best,
       subst (λ n. c.args.settings.now.accept < n) same more,
     )

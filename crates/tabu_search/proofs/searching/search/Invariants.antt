@@ -8,7 +8,8 @@ invariant-turns g l = record {
   same : g.D.Demands.crowd l.demands ≡ g.D.Demands.crowd l.fn.demands;
   walk : IsWalk (g.D.Demands.crowd l.fn.demands) l.seats l.settings l.walk;
   few : l.walk.turns ≤ l.settings.turns;
-  before : (n : ℕ) → n < l.walk.turns → l.settings.accept < error_at (g.D.Demands.crowd l.fn.demands) l.seats (after_turns (g.D.Demands.crowd l.fn.demands) l.seats l.settings n).current;
+  before : (n : ℕ) → n < l.walk.turns
+      → l.settings.accept < error_at (g.D.Demands.crowd l.fn.demands) l.seats (after_turns (g.D.Demands.crowd l.fn.demands) l.seats l.settings n).current;
 }
 
 abbrev pub decreases-turns : goal.decreases-turns

@@ -11,20 +11,33 @@ use Rattle.tabu_search.proofs.walking.first_candidate.Goals as goal
 use Rattle.tabu_search.proofs.walking.first_candidate.Goals.{After-deref-in-loop-place-3}
 
 -- what is read at a place
-read : (g : Over) (c : After-deref-in-loop-place-3 g) → AreAt (g.D.Demands.crowd c.args.demands.now) c.args.seats.now c.args.vectors.items c.loop-place.place c.index-in-loop-place-2.result.now.items c.index-in-loop-place.result.now.items
+read : (g : Over) (c : After-deref-in-loop-place-3 g)
+    → AreAt (g.D.Demands.crowd c.args.demands.now) c.args.seats.now c.args.vectors.items c.loop-place.place c.index-in-loop-place-2.result.now.items
+    c.index-in-loop-place.result.now.items
 read g c =
-    let all : map (λ counts. counts.items) c.in_ok-counted.counted.items ≡ map (λ vector. counts_at (g.D.Demands.crowd c.args.demands.now) vector.items) c.args.vectors.items = rw c.deref.ensures.value at c.in_ok-counted.ensures.value in
+    let all : map (λ counts. counts.items) c.in_ok-counted.counted.items
+    ≡ map (λ vector. counts_at (g.D.Demands.crowd c.args.demands.now) vector.items) c.args.vectors.items =
+    rw c.deref.ensures.value at c.in_ok-counted.ensures.value in
     let low : c.loop-place.place < length c.args.vectors.items = search rules in
-    are_at (g.D.Demands.crowd c.args.demands.now) c.args.seats.now c.args.vectors.items c.in_ok-counted.counted.items c.loop-place.place c.index-in-loop-place-2.result.now c.index-in-loop-place.result.now c.requires.known c.requires.seats c.requires.vectors all low c.index-in-loop-place-2.ensures c.index-in-loop-place.ensures
+    are_at (g.D.Demands.crowd c.args.demands.now) c.args.seats.now c.args.vectors.items c.in_ok-counted.counted.items c.loop-place.place
+    c.index-in-loop-place-2.result.now c.index-in-loop-place.result.now c.requires.known c.requires.seats c.requires.vectors all low
+    c.index-in-loop-place-2.ensures c.index-in-loop-place.ensures
 
 pub loop-place-preserved-then-is_tabu : goal.loop-place-preserved-then-is_tabu
 loop-place-preserved-then-is_tabu g c =
     let crowd = g.D.Demands.crowd c.args.demands.now in
-    let all : map (λ counts. counts.items) c.in_ok-counted.counted.items ≡ map (λ vector. counts_at (g.D.Demands.crowd c.args.demands.now) vector.items) c.args.vectors.items = rw c.deref.ensures.value at c.in_ok-counted.ensures.value in
+    let all : map (λ counts. counts.items) c.in_ok-counted.counted.items
+    ≡ map (λ vector. counts_at (g.D.Demands.crowd c.args.demands.now) vector.items) c.args.vectors.items =
+    rw c.deref.ensures.value at c.in_ok-counted.ensures.value in
     let low : c.loop-place.place < length c.args.vectors.items = search rules in
-    let at = some_at crowd c.args.seats.now c.args.vectors.items c.in_ok-counted.counted.items c.loop-place.place c.index.result.now c.requires.known c.requires.seats c.requires.vectors all low c.index.ensures in
-    best_tabu crowd c.args.seats.now (map (λ counts. counts.items) c.args.window.now.items) (vectors_of c.args.vectors.items) c.loop-place.place c.loop-place.best (rw (length-map c.args.vectors.items (λ (v : Vec Tokens Global). v.items)) low)
-    (allowed_at crowd c.args.seats.now c.args.window.now.items c.args.vectors.items c.loop-place.place at.0 c.index.result.now.items c.is_tabu.result at.1 (rw c.deref-in-loop-place.ensures.value at c.is_tabu.ensures) ∙ ap not c.if-is_tabu.true)
+    let at =
+    some_at crowd c.args.seats.now c.args.vectors.items c.in_ok-counted.counted.items c.loop-place.place c.index.result.now c.requires.known c.requires.seats
+    c.requires.vectors all low c.index.ensures in
+    best_tabu crowd c.args.seats.now (map (λ counts. counts.items) c.args.window.now.items) (vectors_of c.args.vectors.items) c.loop-place.place
+    c.loop-place.best (rw (length-map c.args.vectors.items (λ (v : Vec Tokens Global). v.items)) low)
+    (allowed_at crowd c.args.seats.now c.args.window.now.items c.args.vectors.items c.loop-place.place at.0 c.index.result.now.items c.is_tabu.result at.1
+    (rw c.deref-in-loop-place.ensures.value at c.is_tabu.ensures)
+    ∙ ap not c.if-is_tabu.true)
     c.loop-place.invariant
 
 pub error-error-requires-clause-counts : goal.error-error-requires-clause-counts
@@ -41,41 +54,75 @@ error-error-requires-clause-seats g c =
 
 pub error-error-requires-clause-prices : goal.error-error-requires-clause-prices
 error-error-requires-clause-prices g c =
-    ap length c.deref-in-loop-place-3.ensures.value ∙ (read g (goal.at.error-error-requires-clause-prices g c).After-deref-in-loop-place-3).prices_long ∙ ap length (sym c.deref-in-loop-place-2.ensures.value)
+    ap length c.deref-in-loop-place-3.ensures.value ∙ (read g (goal.at.error-error-requires-clause-prices g c).After-deref-in-loop-place-3).prices_long
+    ∙ ap length (sym c.deref-in-loop-place-2.ensures.value)
 
 pub loop-place-preserved-then-not-is_lower : goal.loop-place-preserved-then-not-is_lower
 loop-place-preserved-then-not-is_lower g c =
-    let all : map (λ counts. counts.items) c.in_ok-counted.counted.items ≡ map (λ vector. counts_at (g.D.Demands.crowd c.args.demands.now) vector.items) c.args.vectors.items = rw c.deref.ensures.value at c.in_ok-counted.ensures.value in
+    let all : map (λ counts. counts.items) c.in_ok-counted.counted.items
+    ≡ map (λ vector. counts_at (g.D.Demands.crowd c.args.demands.now) vector.items) c.args.vectors.items =
+    rw c.deref.ensures.value at c.in_ok-counted.ensures.value in
     let low : c.loop-place.place < length c.args.vectors.items = search rules in
     let low' : c.loop-place.place < length (vectors_of c.args.vectors.items) = rw (length-map c.args.vectors.items (λ (v : Vec Tokens Global). v.items)) low in
-    let seen = are_at (g.D.Demands.crowd c.args.demands.now) c.args.seats.now c.args.vectors.items c.in_ok-counted.counted.items c.loop-place.place c.index-in-loop-place-2.result.now c.index.result.now c.requires.known c.requires.seats c.requires.vectors all low c.index-in-loop-place-2.ensures c.index.ensures in
+    let seen =
+    are_at (g.D.Demands.crowd c.args.demands.now) c.args.seats.now c.args.vectors.items c.in_ok-counted.counted.items c.loop-place.place
+    c.index-in-loop-place-2.result.now c.index.result.now c.requires.known c.requires.seats c.requires.vectors all low c.index-in-loop-place-2.ensures
+    c.index.ensures in
     let at = read g (goal.at.loop-place-preserved-then-not-is_lower g c).After-deref-in-loop-place-3 in
-    let told : c.error-error.result ≡ error c.index-in-loop-place.result.now.items c.args.seats.now c.index-in-loop-place-2.result.now.items = rw (c.deref-in-loop-place-2.ensures.value, c.deref-in-loop-place-3.ensures.value) at c.error-error.ensures in
-    let free = allowed_at (g.D.Demands.crowd c.args.demands.now) c.args.seats.now c.args.window.now.items c.args.vectors.items c.loop-place.place c.index-in-loop-place-2.result.now.items c.index.result.now.items c.is_tabu.result seen (rw c.deref-in-loop-place.ensures.value at c.is_tabu.ensures) ∙ ap not c.if-is_tabu.false in
-    let is = error_is (g.D.Demands.crowd c.args.demands.now) c.args.seats.now c.args.vectors.items c.loop-place.place c.error-error.result c.index-in-loop-place-2.result.now.items c.index-in-loop-place.result.now.items at told in
-    best_stays (g.D.Demands.crowd c.args.demands.now) c.args.seats.now (map (λ counts. counts.items) c.args.window.now.items) (vectors_of c.args.vectors.items) c.loop-place.place c.error-error.result c.loop-place.best low' free is
+    let told : c.error-error.result ≡ error c.index-in-loop-place.result.now.items c.args.seats.now c.index-in-loop-place-2.result.now.items =
+    rw (c.deref-in-loop-place-2.ensures.value, c.deref-in-loop-place-3.ensures.value) at c.error-error.ensures in
+    let free =
+    allowed_at (g.D.Demands.crowd c.args.demands.now) c.args.seats.now c.args.window.now.items c.args.vectors.items c.loop-place.place
+    c.index-in-loop-place-2.result.now.items c.index.result.now.items c.is_tabu.result seen
+    (rw c.deref-in-loop-place.ensures.value at c.is_tabu.ensures)
+    ∙ ap not c.if-is_tabu.false in
+    let is =
+    error_is (g.D.Demands.crowd c.args.demands.now) c.args.seats.now c.args.vectors.items c.loop-place.place c.error-error.result
+    c.index-in-loop-place-2.result.now.items c.index-in-loop-place.result.now.items at told in
+    best_stays (g.D.Demands.crowd c.args.demands.now) c.args.seats.now (map (λ counts. counts.items) c.args.window.now.items) (vectors_of c.args.vectors.items)
+    c.loop-place.place c.error-error.result c.loop-place.best low' free is
     (λ lower. false≢true (sym c.if-not-is_lower.true ∙ c.is_lower.ensures.1 lower)) c.loop-place.invariant
 
 pub loop-place-preserved : goal.loop-place-preserved
 loop-place-preserved g c =
-    let all : map (λ counts. counts.items) c.in_ok-counted.counted.items ≡ map (λ vector. counts_at (g.D.Demands.crowd c.args.demands.now) vector.items) c.args.vectors.items = rw c.deref.ensures.value at c.in_ok-counted.ensures.value in
+    let all : map (λ counts. counts.items) c.in_ok-counted.counted.items
+    ≡ map (λ vector. counts_at (g.D.Demands.crowd c.args.demands.now) vector.items) c.args.vectors.items =
+    rw c.deref.ensures.value at c.in_ok-counted.ensures.value in
     let low : c.loop-place.place < length c.args.vectors.items = search rules in
     let low' : c.loop-place.place < length (vectors_of c.args.vectors.items) = rw (length-map c.args.vectors.items (λ (v : Vec Tokens Global). v.items)) low in
-    let seen = are_at (g.D.Demands.crowd c.args.demands.now) c.args.seats.now c.args.vectors.items c.in_ok-counted.counted.items c.loop-place.place c.index-in-loop-place-2.result.now c.index.result.now c.requires.known c.requires.seats c.requires.vectors all low c.index-in-loop-place-2.ensures c.index.ensures in
+    let seen =
+    are_at (g.D.Demands.crowd c.args.demands.now) c.args.seats.now c.args.vectors.items c.in_ok-counted.counted.items c.loop-place.place
+    c.index-in-loop-place-2.result.now c.index.result.now c.requires.known c.requires.seats c.requires.vectors all low c.index-in-loop-place-2.ensures
+    c.index.ensures in
     let at = read g (goal.at.loop-place-preserved g c).After-deref-in-loop-place-3 in
-    let told : c.error-error.result ≡ error c.index-in-loop-place.result.now.items c.args.seats.now c.index-in-loop-place-2.result.now.items = rw (c.deref-in-loop-place-2.ensures.value, c.deref-in-loop-place-3.ensures.value) at c.error-error.ensures in
-    let free = allowed_at (g.D.Demands.crowd c.args.demands.now) c.args.seats.now c.args.window.now.items c.args.vectors.items c.loop-place.place c.index-in-loop-place-2.result.now.items c.index.result.now.items c.is_tabu.result seen (rw c.deref-in-loop-place.ensures.value at c.is_tabu.ensures) ∙ ap not c.if-is_tabu.false in
-    let is = error_is (g.D.Demands.crowd c.args.demands.now) c.args.seats.now c.args.vectors.items c.loop-place.place c.error-error.result c.index-in-loop-place-2.result.now.items c.index-in-loop-place.result.now.items at told in
-    best_lower (g.D.Demands.crowd c.args.demands.now) c.args.seats.now (map (λ counts. counts.items) c.args.window.now.items) (vectors_of c.args.vectors.items) c.loop-place.place c.error-error.result c.loop-place.best low' free is
+    let told : c.error-error.result ≡ error c.index-in-loop-place.result.now.items c.args.seats.now c.index-in-loop-place-2.result.now.items =
+    rw (c.deref-in-loop-place-2.ensures.value, c.deref-in-loop-place-3.ensures.value) at c.error-error.ensures in
+    let free =
+    allowed_at (g.D.Demands.crowd c.args.demands.now) c.args.seats.now c.args.window.now.items c.args.vectors.items c.loop-place.place
+    c.index-in-loop-place-2.result.now.items c.index.result.now.items c.is_tabu.result seen
+    (rw c.deref-in-loop-place.ensures.value at c.is_tabu.ensures)
+    ∙ ap not c.if-is_tabu.false in
+    let is =
+    error_is (g.D.Demands.crowd c.args.demands.now) c.args.seats.now c.args.vectors.items c.loop-place.place c.error-error.result
+    c.index-in-loop-place-2.result.now.items c.index-in-loop-place.result.now.items at told in
+    best_lower (g.D.Demands.crowd c.args.demands.now) c.args.seats.now (map (λ counts. counts.items) c.args.window.now.items) (vectors_of c.args.vectors.items)
+    c.loop-place.place c.error-error.result c.loop-place.best low' free is
     (c.is_lower.ensures.0 c.if-not-is_lower.false) c.loop-place.invariant
 
 pub returns-clause-next : goal.returns-clause-next
 returns-clause-next g c =
-    let all : map (λ counts. counts.items) c.in_ok-counted.counted.items ≡ map (λ vector. counts_at (g.D.Demands.crowd c.args.demands.now) vector.items) c.args.vectors.items = rw c.deref.ensures.value at c.in_ok-counted.ensures.value in
+    let all : map (λ counts. counts.items) c.in_ok-counted.counted.items
+    ≡ map (λ vector. counts_at (g.D.Demands.crowd c.args.demands.now) vector.items) c.args.vectors.items =
+    rw c.deref.ensures.value at c.in_ok-counted.ensures.value in
     let long : length (vectors_of c.args.vectors.items) ≡ length c.args.vectors.items = length-map c.args.vectors.items (λ (v : Vec Tokens Global). v.items) in
     let past : length c.args.vectors.items ≤ c.loop-place.place = search rules in
-    let best = subst (IsBestOf (g.D.Demands.crowd c.args.demands.now) c.args.seats.now (map (λ counts. counts.items) c.args.window.now.items) (vectors_of c.args.vectors.items) c.loop-place.place) c.in-Some.is c.loop-place.invariant in
+    let best =
+    subst
+    (IsBestOf (g.D.Demands.crowd c.args.demands.now) c.args.seats.now (map (λ counts. counts.items) c.args.window.now.items)
+    (vectors_of c.args.vectors.items) c.loop-place.place)
+    c.in-Some.is c.loop-place.invariant in
     let at = are_at (g.D.Demands.crowd c.args.demands.now) c.args.seats.now c.args.vectors.items c.in_ok-counted.counted.items c.in-Some.place c.swap_remove.result c.swap_remove-2.result c.requires.known c.requires.seats c.requires.vectors all (rw long at best.0) c.swap_remove.ensures.value c.swap_remove-2.ensures.value in (
-      some_found (g.D.Demands.crowd c.args.demands.now) c.args.seats.now (map (λ counts. counts.items) c.args.window.now.items) (vectors_of c.args.vectors.items) c.loop-place.place c.in-Some.place c.in-Some.error c.swap_remove.result.items (rw long past) best (sym at.at),
+      some_found (g.D.Demands.crowd c.args.demands.now) c.args.seats.now (map (λ counts. counts.items) c.args.window.now.items)
+          (vectors_of c.args.vectors.items) c.loop-place.place c.in-Some.place c.in-Some.error c.swap_remove.result.items (rw long past) best (sym at.at),
       record { prices = at.are; counts = at.counted; error = best.2 ∙ ap (error_at (g.D.Demands.crowd c.args.demands.now) c.args.seats.now) at.at },
     )

@@ -4,4 +4,5 @@ use Rattle.tabu_search.proofs.Candidates.{IsBestOf}
 use Rattle.tabu_search.proofs.walking.first_candidate.Given as goal
 
 abbrev pub invariant-loop-place : goal.invariant-loop-place
-invariant-loop-place g l = IsBestOf (g.D.Demands.crowd l.fn.demands) l.seats (map (λ counts. counts.items) l.window.items) (vectors_of l.vectors.items) l.place l.best
+invariant-loop-place g l =
+    IsBestOf (g.D.Demands.crowd l.fn.demands) l.seats (map (λ counts. counts.items) l.window.items) (vectors_of l.vectors.items) l.place l.best

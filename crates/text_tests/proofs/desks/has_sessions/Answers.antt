@@ -5,4 +5,6 @@ use Rattle.preference_desk.specs.declared.entry.Entry.{Entry}
 use Rattle.text_tests.proofs.desks.has_sessions.Goals as goal
 
 pub returns : goal.returns
-returns c = subst (λ (journal : List Entry). IsTrue c.are_sessions.result → All (λ (entry : Entry). IsSession entry.session) journal) c.journal.ensures.entries c.are_sessions.ensures.0
+returns c =
+    subst (λ (journal : List Entry). IsTrue c.are_sessions.result → All (λ (entry : Entry). IsSession entry.session) journal) c.journal.ensures.entries
+    c.are_sessions.ensures.0

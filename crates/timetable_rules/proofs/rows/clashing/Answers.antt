@@ -12,6 +12,9 @@ pub loop-other-preserved : goal.loop-other-preserved
 loop-other-preserved c = λ s.
     let test = clashes (map meetings_of c.args.meetings.now) c.args.courses.now c.args.parts.now c.args.section in
     elim c.if-do_clash.branch [
-      | then-do_clash w ↦ rw (w.row-is, w.with-row.ensures) (with_next c.loop-other.row test c.loop-other.other s (sym c.do_clash.ensures ∙ w.if-do_clash.true) (c.loop-other.invariant s))
-      | else-do_clash w ↦ rw w.row-is (without_next c.loop-other.row test c.loop-other.other s (sym c.do_clash.ensures ∙ w.if-do_clash.false) (c.loop-other.invariant s))
+      | then-do_clash w ↦
+          rw (w.row-is, w.with-row.ensures)
+          (with_next c.loop-other.row test c.loop-other.other s (sym c.do_clash.ensures ∙ w.if-do_clash.true) (c.loop-other.invariant s))
+      | else-do_clash w ↦
+          rw w.row-is (without_next c.loop-other.row test c.loop-other.other s (sym c.do_clash.ensures ∙ w.if-do_clash.false) (c.loop-other.invariant s))
     ]

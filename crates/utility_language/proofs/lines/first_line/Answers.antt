@@ -5,7 +5,8 @@ use Rattle.utility_language.proofs.lines.first_line.Goals as goal
 
 pub returns-in-Some-clause-lines : goal.returns-in-Some-clause-lines
 returns-in-Some-clause-lines c =
-    rw (c.without_return.ensures, take_rest c.args.text.now (c.in-Some.end + 1)) (first_line_ended c.args.text.now c.in-Some.end (sym c.find_line_feed.ensures ∙ c.in-Some.is))
+    rw (c.without_return.ensures, take_rest c.args.text.now (c.in-Some.end + 1))
+    (first_line_ended c.args.text.now c.in-Some.end (sym c.find_line_feed.ensures ∙ c.in-Some.is))
 
 pub returns-in-None-clause-lines : goal.returns-in-None-clause-lines
 returns-in-None-clause-lines c =

@@ -6,7 +6,8 @@ use Rattle.utility_language.proofs.numbers.read_short.Goals as goal
 
 pub returns-in_err-n-2-clause-none : goal.returns-in_err-n-2-clause-none
 returns-in_err-n-2-clause-none c =
-    rw c.from_residual-in_err-n-2.ensures (no_signed_word c.args.word.now c.if-word-ne45.false (λ n some short e. c.in_err-n-2.ensures.none n (omega arith) (take_rest c.args.word.now 1 ∙ e)))
+    rw c.from_residual-in_err-n-2.ensures
+    (no_signed_word c.args.word.now c.if-word-ne45.false (λ n some short e. c.in_err-n-2.ensures.none n (omega arith) (take_rest c.args.word.now 1 ∙ e)))
 
 pub returns-then-n-eq0-clause-none : goal.returns-then-n-eq0-clause-none
 returns-then-n-eq0-clause-none c =

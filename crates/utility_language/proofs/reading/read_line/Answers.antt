@@ -4,4 +4,5 @@ use Rattle.utility_language.proofs.Printed.{read_back}
 use Rattle.utility_language.proofs.reading.read_line.Goals as goal
 
 pub returns-clause-printed : goal.returns-clause-printed
-returns-clause-printed c = λ command short e. ap Some (read_back c.args.line.now _ c.command_of.result command c.in_ok-word.ensures.words c.command_of.ensures.command short e)
+returns-clause-printed c =
+    λ command short e. ap Some (read_back c.args.line.now _ c.command_of.result command c.in_ok-word.ensures.words c.command_of.ensures.command short e)

@@ -7,4 +7,5 @@ returns-in_err-first-clause-none c =
 
 pub returns-in_err-second-clause-none : goal.returns-in_err-second-clause-none
 returns-in_err-second-clause-none c =
-    rw c.from_residual-in_err-second.ensures (no_second _ _ _ c.in_ok-student.student c.in_ok-first.first c.in_ok-student.ensures.spelled c.in_ok-first.ensures.spelled c.in_err-second.ensures.none)
+    rw c.from_residual-in_err-second.ensures
+    (no_second _ _ _ c.in_ok-student.student c.in_ok-first.first c.in_ok-student.ensures.spelled c.in_ok-first.ensures.spelled c.in_err-second.ensures.none)

@@ -8,7 +8,9 @@ pub returns-then-len-room-clause-too_many : goal.returns-then-len-room-clause-to
 returns-then-len-room-clause-too_many c =
     let read = c.loop-rest.invariant.1.0 in
     let taken = line_taken c.loop-rest.rest.now c.first_line.result.0.now c.first_line.result.1.now c.first_line.ensures.lines c.in-Some.ensures.is_command in
-    let all = ap length (c.loop-rest.invariant.1.1 ∙ ap (λ lines. read ++ lines) taken) ∙ length-append read (words_of c.first_line.result.0.now ∷ command_lines c.first_line.result.1.now) in
+    let all =
+    ap length (c.loop-rest.invariant.1.1 ∙ ap (λ lines. read ++ lines) taken)
+    ∙ length-append read (words_of c.first_line.result.0.now ∷ command_lines c.first_line.result.1.now) in
     let same = zip_length IsCommandOf read c.loop-rest.commands.items c.loop-rest.invariant.1.2 in
     λ _. omega (arith, all, same)
 
@@ -21,7 +23,8 @@ loop-rest-preserved c =
       (
         read ++ words ∷ [],
         c.loop-rest.invariant.1.1 ∙ ap (λ lines. read ++ lines) taken ∙ sym (append_assoc read (words ∷ []) (command_lines c.first_line.result.1.now)),
-        rw c.in_ok-push.ensures.items (zip_more IsCommandOf read c.loop-rest.commands.items words c.in-Some.command c.loop-rest.invariant.1.2 c.in-Some.ensures.command),
+        rw c.in_ok-push.ensures.items
+            (zip_more IsCommandOf read c.loop-rest.commands.items words c.in-Some.command c.loop-rest.invariant.1.2 c.in-Some.ensures.command),
       ),
     )
 

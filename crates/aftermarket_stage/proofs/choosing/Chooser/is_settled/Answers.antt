@@ -5,6 +5,8 @@ use Rattle.aftermarket_stage.proofs.choosing.Chooser.is_settled.Goals as goal
 pub returns-in-Some : goal.returns-in-Some
 returns-in-Some c = λ is. record {
   sections = c.in-Some.known;
-  are_known = slice_get_read c.args.self.now.known.items (length c.args.self.now.known.items) c.args.place c.index.result.now refl c.requires.place c.index.ensures ∙ ap (λ one. Some one) c.in-Some.is;
+  are_known =
+      slice_get_read c.args.self.now.known.items (length c.args.self.now.known.items) c.args.place c.index.result.now refl c.requires.place c.index.ensures
+      ∙ ap (λ one. Some one) c.in-Some.is;
   none_new = c.none_new.ensures is;
 }

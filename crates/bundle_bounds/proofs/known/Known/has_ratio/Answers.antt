@@ -5,4 +5,5 @@ use Rattle.bundle_bounds.proofs.known.Known.has_ratio.Goals as goal
 
 pub returns : goal.returns
 returns c = λ is some base limit rest resource all known.
-    known_above base limit rest resource all c.args.self.now c.args.worth c.args.taken known some c.requires.worth (let above : c.args.self.now.high * c.args.taken ≤ c.args.worth = grind (arith, nat_tests) in above)
+    known_above base limit rest resource all c.args.self.now c.args.worth c.args.taken known some c.requires.worth
+    (let above : c.args.self.now.high * c.args.taken ≤ c.args.worth = grind (arith, nat_tests) in above)

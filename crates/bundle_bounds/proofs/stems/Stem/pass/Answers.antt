@@ -12,19 +12,29 @@ pub plain_after-plain-requires-clause-some : goal.plain_after-plain-requires-cla
 plain_after-plain-requires-clause-some c = lent_some _ _ _ _ _ c.requires.stem c.requires.left (sym c.is_next_open.ensures ∙ c.if-not-is_next_open.false)
 
 pub plain_after-plain-requires-clause-modest : goal.plain_after-plain-requires-clause-modest
-plain_after-plain-requires-clause-modest c = subst (All IsModest) (sym (rest_of_room c.args.self.now.room c.args.self.now.start c.requires.stem.keeps.whole)) c.requires.stem.keeps.modest
+plain_after-plain-requires-clause-modest c =
+    subst (All IsModest) (sym (rest_of_room c.args.self.now.room c.args.self.now.start c.requires.stem.keeps.whole)) c.requires.stem.keeps.modest
 
 pub tangents_after-tangents-requires-clause-some : goal.tangents_after-tangents-requires-clause-some
 tangents_after-tangents-requires-clause-some c = lent_some _ _ _ _ _ c.requires.stem c.requires.left (sym c.is_next_open.ensures ∙ c.if-not-is_next_open.false)
 
 pub tangents_after-tangents-requires-clause-modest : goal.tangents_after-tangents-requires-clause-modest
-tangents_after-tangents-requires-clause-modest c = subst (All IsModest) (sym (rest_of_room c.args.self.now.room c.args.self.now.start c.requires.stem.keeps.whole)) c.requires.stem.keeps.modest
+tangents_after-tangents-requires-clause-modest c =
+    subst (All IsModest) (sym (rest_of_room c.args.self.now.room c.args.self.now.start c.requires.stem.keeps.whole)) c.requires.stem.keeps.modest
 
 pub tangents_after-tangents-requires-clause-tangents : goal.tangents_after-tangents-requires-clause-tangents
 tangents_after-tangents-requires-clause-tangents c =
     let rests = c.args.self.now.rests in
-    let room = rest_of_room c.args.self.now.room c.args.self.now.start c.requires.stem.keeps.whole in
-    (rests.budget, (rests.credits, (rests.courses, subst (λ ps. AreTangents rests.budget rests.credits rests.courses ps c.args.self.now.tangents) (sym room) c.requires.stem.keeps.tangents_are)))
+    let room = rest_of_room c.args.self.now.room c.args.self.now.start c.requires.stem.keeps.whole in (
+      rests.budget,
+      (
+        rests.credits,
+        (
+          rests.courses,
+          subst (λ ps. AreTangents rests.budget rests.credits rests.courses ps c.args.self.now.tangents) (sym room) c.requires.stem.keeps.tangents_are,
+        ),
+      ),
+    )
 
 pub returns-then-not-is_next_open : goal.returns-then-not-is_next_open
 returns-then-not-is_next_open c =
@@ -32,7 +42,8 @@ returns-then-not-is_next_open c =
     let l : to_z w64 (of_z w64 c.limit_after-limit.result) ≡ c.limit_after-limit.result = omega (arith, ints) in
     let limit = next_limit _ _ _ _ _ c.requires.stem _ _ _ _ m l c.limit_after-limit.ensures c.as_slice-champions.ensures.value in
     let s : to_z w64 (of_z w64 c.args.self.now.limit) ≡ c.args.self.now.limit = omega (arith, ints) in
-    stem_shut _ _ _ _ _ c.requires.stem c.requires.left (to_z w64 (of_z w64 c.limit_after-limit.result)) c.is_still_quiet-self.result (sym c.is_next_open.ensures ∙ c.if-not-is_next_open.true) limit
+    stem_shut _ _ _ _ _ c.requires.stem c.requires.left (to_z w64 (of_z w64 c.limit_after-limit.result)) c.is_still_quiet-self.result
+    (sym c.is_next_open.ensures ∙ c.if-not-is_next_open.true) limit
     (λ yes. let still = c.is_still_quiet-self.ensures yes in (still.0, sym s ∙ still.1))
 
 pub returns : goal.returns
@@ -42,7 +53,8 @@ returns c =
     let m : to_z w32 (of_z w32 c.args.self.now.most) ≡ c.args.self.now.most = omega (arith, ints) in
     let l : to_z w64 (of_z w64 c.limit_after-limit.result) ≡ c.limit_after-limit.result = omega (arith, ints) in
     let limit = next_limit _ _ _ _ _ c.requires.stem _ _ _ _ m l c.limit_after-limit.ensures c.as_slice-champions.ensures.value in
-    stem_open _ _ _ _ _ c.requires.stem c.requires.left (sym c.is_next_open.ensures ∙ c.if-not-is_next_open.false) (to_z w64 (of_z w64 c.limit_after-limit.result)) c.plain_after-plain.result c.tangents_after-tangents.result limit
+    stem_open _ _ _ _ _ c.requires.stem c.requires.left (sym c.is_next_open.ensures ∙ c.if-not-is_next_open.false)
+    (to_z w64 (of_z w64 c.limit_after-limit.result)) c.plain_after-plain.result c.tangents_after-tangents.result limit
     (c.plain_after-plain.ensures.value ∙ ap (λ ps. by_course (λ p. 1000 * p.worth) (drop 1 ps)) room) c.plain_after-plain.ensures.less
     (subst (λ ps. AreTangents rests.budget rests.credits rests.courses (drop 1 ps) c.tangents_after-tangents.result) room
     (c.tangents_after-tangents.ensures rests.budget rests.credits rests.courses (subst (λ ps. AreTangents rests.budget rests.credits rests.courses ps c.args.self.now.tangents) (sym room) c.requires.stem.keeps.tangents_are)))

@@ -14,7 +14,8 @@ pub returns : goal.returns
 returns c =
     let back : to_z w32 (of_z w32 c.utility-most.result) ≡ c.utility-most.result = omega (arith, ints) in
     let from_most = c.from.ensures in
-    let least : to_z w64 (of_z w64 (pos 1000 *ℤ to_z w64 (of_z w64 c.from.result))) ≡ pos 1000 *ℤ to_z w32 (of_z w32 c.utility-most.result) = omega (arith, ints, from_most) in
+    let least : to_z w64 (of_z w64 (pos 1000 *ℤ to_z w64 (of_z w64 c.from.result))) ≡ pos 1000 *ℤ to_z w32 (of_z w32 c.utility-most.result) =
+    omega (arith, ints, from_most) in
     let budget = c.rests_of-rests.ensures.budget c.args.allowed.now in
     let credits = c.rests_of-rests.ensures.credits c.args.allowed.now in
     let courses = c.rests_of-rests.ensures.courses c.args.allowed.now in
@@ -34,14 +35,17 @@ returns c =
         credits_is = credits;
         courses_is = courses;
       };
-      limit_is = least ∙ ap (limit_of (to_z w32 (of_z w32 c.utility-most.result))) (sym (not_ahead (places_of c.args.menu.now (sections_of c.args.champion.now))));
+      limit_is =
+          least ∙ ap (limit_of (to_z w32 (of_z w32 c.utility-most.result))) (sym (not_ahead (places_of c.args.menu.now (sections_of c.args.champion.now))));
       keeps = record {
         whole = c.collect-start.auto.room;
         within = c.collect-start.ensures.within;
         kept_is = c.collect-start.ensures.value c.args.budget.0 budget credits courses;
         modest = c.collect-start.ensures.modest;
         on_menu = c.collect-start.ensures.on_menu;
-        plain_is = c.at_price-plain.ensures.value ∙ plain_sum_is (take (60 - c.collect-start.result) (drop c.collect-start.result c.collect-start.new.room)) ∙ ap (by_course (λ p. 1000 * p.worth)) room;
+        plain_is =
+            c.at_price-plain.ensures.value ∙ plain_sum_is (take (60 - c.collect-start.result) (drop c.collect-start.result c.collect-start.new.room))
+            ∙ ap (by_course (λ p. 1000 * p.worth)) room;
         small = omega arith;
         tangents_are = no_tangents _ _ _ _ c.none.result c.none.ensures.money c.none.ensures.credits c.none.ensures.courses;
       };

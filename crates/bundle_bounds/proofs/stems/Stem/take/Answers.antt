@@ -20,7 +20,8 @@ use Rattle.bundle_bounds.proofs.StemTaken.{before_on_menu, next_on_menu, chosen_
 use Rattle.bundle_bounds.proofs.stems.Stem.take.Goals as goal
 
 pub adjustments_with-requires-clause-on_menu : goal.adjustments_with-requires-clause-on_menu
-adjustments_with-requires-clause-on_menu c = before_on_menu _ c.len.ensures.menu c.args.node.now.place c.requires.left _ _ _ _ _ _ _ _ c.requires.stem.has_chosen c.requires.node
+adjustments_with-requires-clause-on_menu c =
+    before_on_menu _ c.len.ensures.menu c.args.node.now.place c.requires.left _ _ _ _ _ _ _ _ c.requires.stem.has_chosen c.requires.node
 
 pub bounds-self-self : goal.bounds-self-self
 bounds-self-self c = kept_some _ _ _ _ _ c.requires.stem c.requires.left c.requires.open
@@ -32,15 +33,18 @@ pub slice_bounds-later-start : goal.slice_bounds-later-start
 slice_bounds-later-start c = let some : c.args.self.now.start < 60 = kept_some _ _ _ _ _ c.requires.stem c.requires.left c.requires.open in omega arith
 
 pub sift-start-requires-clause-on_menu : goal.sift-start-requires-clause-on_menu
-sift-start-requires-clause-on_menu c = next_on_menu _ c.len.ensures.menu c.args.node.now.place c.requires.left _ _ _ _ _ _ _ _ c.requires.stem.has_chosen c.requires.node c.requires.open
+sift-start-requires-clause-on_menu c =
+    next_on_menu _ c.len.ensures.menu c.args.node.now.place c.requires.left _ _ _ _ _ _ _ _ c.requires.stem.has_chosen c.requires.node c.requires.open
 
 pub sift-start-requires-clause-modest : goal.sift-start-requires-clause-modest
 sift-start-requires-clause-modest c =
-    subst (All IsModest) (sym (rest_of_room c.args.self.now.room (c.args.self.now.start + 1) c.requires.stem.keeps.whole)) (tail_all IsModest c.args.self.now.room c.args.self.now.start c.requires.stem.keeps.modest)
+    subst (All IsModest) (sym (rest_of_room c.args.self.now.room (c.args.self.now.start + 1) c.requires.stem.keeps.whole))
+    (tail_all IsModest c.args.self.now.room c.args.self.now.start c.requires.stem.keeps.modest)
 
 pub sift-start-requires-clause-all_on_menu : goal.sift-start-requires-clause-all_on_menu
 sift-start-requires-clause-all_on_menu c =
-    subst (All (λ (p : Prospect). p.place < length c.args.menu.now.places)) (sym (rest_of_room c.args.self.now.room (c.args.self.now.start + 1) c.requires.stem.keeps.whole))
+    subst (All (λ (p : Prospect). p.place < length c.args.menu.now.places))
+    (sym (rest_of_room c.args.self.now.room (c.args.self.now.start + 1) c.requires.stem.keeps.whole))
     (tail_all (λ (p : Prospect). p.place < length c.args.menu.now.places) c.args.self.now.room c.args.self.now.start c.requires.stem.keeps.on_menu)
 
 pub at_price-plain-requires-clause-modest : goal.at_price-plain-requires-clause-modest
@@ -66,16 +70,28 @@ returns c =
     let is = c.requires.stem in
     let old : length c.args.below.now.room ≡ 60 = search rules in
     let size : length c.sift-start.new.room ≡ 60 = c.sift-start.auto.room ∙ old in
-    let first_is : get_or c.args.self.now.room c.args.self.now.start no_prospect ≡ prospect offer (places_of c.args.menu.now chosen) k (open_places offer (k + 1) (places_of c.args.menu.now chosen)) = first_here c.args.self.now.room c.args.self.now.start _ _ (kept_first offer champion k chosen stem is c.requires.left c.requires.open) in
+    let first_is : get_or c.args.self.now.room c.args.self.now.start no_prospect
+    ≡ prospect offer (places_of c.args.menu.now chosen) k (open_places offer (k + 1) (places_of c.args.menu.now chosen)) =
+    first_here c.args.self.now.room c.args.self.now.start _ _ (kept_first offer champion k chosen stem is c.requires.left c.requires.open) in
     let price_is : (get_or c.args.self.now.room c.args.self.now.start no_prospect).price ≡ price_at offer k = ap (λ p. p.price) first_is in
-    let credits_is : (get_or c.args.self.now.room c.args.self.now.start no_prospect).credits ≡ credits_at c.args.menu.now.places k = ap (λ p. p.credits) first_is in
+    let credits_is : (get_or c.args.self.now.room c.args.self.now.start no_prospect).credits ≡ credits_at c.args.menu.now.places k =
+    ap (λ p. p.credits) first_is in
     let m : to_z w32 (of_z w32 c.args.self.now.most) ≡ c.args.self.now.most = omega (arith, ints) in
     let l : to_z w64 (of_z w64 c.limit_after-limit.result) ≡ c.limit_after-limit.result = omega (arith, ints) in
-    let next = chosen_next offer c.len.ensures.menu k c.requires.left champion chosen c.args.self.now.champion c.args.self.now.most c.args.self.now.chosen c.args.self.now.count c.args.self.now.utility c.args.self.now.rests is.has_chosen c.requires.open in
-    let places = places_next offer c.len.ensures.menu k c.requires.left champion chosen c.args.self.now.champion c.args.self.now.most c.args.self.now.chosen c.args.self.now.count c.args.self.now.utility c.args.self.now.rests is.has_chosen in
+    let next =
+    chosen_next offer c.len.ensures.menu k c.requires.left champion chosen c.args.self.now.champion c.args.self.now.most c.args.self.now.chosen
+    c.args.self.now.count c.args.self.now.utility c.args.self.now.rests is.has_chosen c.requires.open in
+    let places =
+    places_next offer c.len.ensures.menu k c.requires.left champion chosen c.args.self.now.champion c.args.self.now.most c.args.self.now.chosen
+    c.args.self.now.count c.args.self.now.utility c.args.self.now.rests is.has_chosen in
     let champions = c.as_slice.ensures.value ∙ is.has_chosen.champion_is in
-    let rests = rests_taken offer c.len.ensures.menu k c.requires.left champion chosen c.args.self.now.champion c.args.self.now.most c.args.self.now.chosen c.args.self.now.count c.args.self.now.utility c.args.self.now.rests is.has_chosen c.requires.open c.rests_after-rests.result (get_or c.args.self.now.room c.args.self.now.start no_prospect).price (get_or c.args.self.now.room c.args.self.now.start no_prospect).credits price_is credits_is c.rests_after-rests.ensures.budget c.rests_after-rests.ensures.credits c.rests_after-rests.ensures.courses in
-    let size_before : length (take c.args.self.now.count c.args.self.now.chosen) ≡ min c.args.self.now.count (length c.args.self.now.chosen) = length-take c.args.self.now.count c.args.self.now.chosen in
+    let rests =
+    rests_taken offer c.len.ensures.menu k c.requires.left champion chosen c.args.self.now.champion c.args.self.now.most c.args.self.now.chosen
+    c.args.self.now.count c.args.self.now.utility c.args.self.now.rests is.has_chosen c.requires.open c.rests_after-rests.result
+    (get_or c.args.self.now.room c.args.self.now.start no_prospect).price (get_or c.args.self.now.room c.args.self.now.start no_prospect).credits price_is
+    credits_is c.rests_after-rests.ensures.budget c.rests_after-rests.ensures.credits c.rests_after-rests.ensures.courses in
+    let size_before : length (take c.args.self.now.count c.args.self.now.chosen) ≡ min c.args.self.now.count (length c.args.self.now.chosen) =
+    length-take c.args.self.now.count c.args.self.now.chosen in
     let few = is.has_chosen.few in
     let n : ℕ = length (take c.args.self.now.count c.args.self.now.chosen) in
     let n_few : n ≤ 8 = omega arith in
@@ -88,21 +104,36 @@ returns c =
     let so_high = is.has_chosen.high in
     let rating = c.rated-rated.ensures.range.rating_high in
     let from_rating = c.from.ensures in
-    let next_is : to_z w32 (of_z w32 (to_z w32 (of_z w32 c.args.self.now.utility) +ℤ to_z w32 (of_z w32 (to_z w32 (of_z w32 c.from.result) +ℤ to_z w32 (of_z w32 c.adjustments_with.result))))) ≡ c.args.self.now.utility +ℤ (pos c.rated-rated.result.now.rating +ℤ a) = omega (arith, ints, from_rating) in
+    let next_is : to_z w32
+    (of_z w32
+    (to_z w32 (of_z w32 c.args.self.now.utility)
+    +ℤ to_z w32 (of_z w32 (to_z w32 (of_z w32 c.from.result) +ℤ to_z w32 (of_z w32 c.adjustments_with.result)))))
+    ≡ c.args.self.now.utility +ℤ (pos c.rated-rated.result.now.rating +ℤ a) =
+    omega (arith, ints, from_rating) in
     record {
       has_chosen = rw m (chosen_taken offer c.len.ensures.menu k c.requires.left champion chosen c.args.self.now.champion c.args.self.now.most c.args.self.now.chosen c.args.self.now.count c.args.self.now.utility c.args.self.now.rests is.has_chosen c.requires.open c.rated-rated.result.now a (to_z w32 (of_z w32 (to_z w32 (of_z w32 c.args.self.now.utility) +ℤ to_z w32 (of_z w32 (to_z w32 (of_z w32 c.from.result) +ℤ to_z w32 (of_z w32 c.adjustments_with.result)))))) c.rests_after-rests.result (get_or c.args.self.now.room c.args.self.now.start no_prospect).price (get_or c.args.self.now.room c.args.self.now.start no_prospect).credits
           c.rated-rated.ensures.value rating c.adjustments_with.ensures.value low' high' next_is price_is credits_is c.rests_after-rests.ensures.budget c.rests_after-rests.ensures.credits c.rests_after-rests.ensures.courses);
-      limit_is = l ∙ c.limit_after-limit.ensures ∙ (λ i. limit_of (to_z w32 (of_z w32 c.args.self.now.most)) (is_ahead (c.args.node.now.place + 1) (champions i) (next i))) ∙ ap (λ cs. limit_of (to_z w32 (of_z w32 c.args.self.now.most)) (is_ahead (c.args.node.now.place + 1) (places_of c.args.menu.now (sections_of c.args.champion.now)) cs)) (sym places);
+      limit_is =
+          l ∙ c.limit_after-limit.ensures
+          ∙ (λ i. limit_of (to_z w32 (of_z w32 c.args.self.now.most)) (is_ahead (c.args.node.now.place + 1) (champions i) (next i)))
+          ∙ ap
+          (λ cs. limit_of (to_z w32 (of_z w32 c.args.self.now.most))
+          (is_ahead (c.args.node.now.place + 1) (places_of c.args.menu.now (sections_of c.args.champion.now)) cs))
+          (sym places);
       keeps = record {
         whole = size;
         within = c.sift-start.ensures.within;
-        kept_is = kept_taken offer c.len.ensures.menu k c.requires.left champion chosen c.args.self.now.champion c.args.self.now.most c.args.self.now.chosen c.args.self.now.count c.args.self.now.utility c.args.self.now.rests is.has_chosen c.requires.open (drop c.sift-start.result c.sift-start.new.room)
+        kept_is =
+            kept_taken offer c.len.ensures.menu k c.requires.left champion chosen c.args.self.now.champion c.args.self.now.most c.args.self.now.chosen
+            c.args.self.now.count c.args.self.now.utility c.args.self.now.rests is.has_chosen c.requires.open (drop c.sift-start.result c.sift-start.new.room)
             (c.sift-start.ensures.value c.args.prices.now c.args.budget.0 c.args.allowed.now (places_of c.args.menu.now chosen) (open_places offer (k + 1) (places_of c.args.menu.now chosen)) next rests.0 rests.1 rests.2
             (opens_all offer (places_of c.args.menu.now chosen) (k + 1) (length c.args.menu.now.places - (k + 1)))
             (rest_of_room c.args.self.now.room (c.args.self.now.start + 1) c.requires.stem.keeps.whole ∙ kept_later offer champion k chosen stem is c.requires.left c.requires.open));
         modest = c.sift-start.ensures.modest;
         on_menu = c.sift-start.ensures.on_menu;
-        plain_is = c.at_price-plain.ensures.value ∙ plain_sum_is (take (60 - c.sift-start.result) (drop c.sift-start.result c.sift-start.new.room)) ∙ ap (by_course (λ p. 1000 * p.worth)) (rest_of_room c.sift-start.new.room c.sift-start.result size);
+        plain_is =
+            c.at_price-plain.ensures.value ∙ plain_sum_is (take (60 - c.sift-start.result) (drop c.sift-start.result c.sift-start.new.room))
+            ∙ ap (by_course (λ p. 1000 * p.worth)) (rest_of_room c.sift-start.new.room c.sift-start.result size);
         small = c.at_price-plain.ensures.high;
         tangents_are = no_tangents _ _ _ _ c.none-below.result c.none-below.ensures.money c.none-below.ensures.credits c.none-below.ensures.courses;
       };

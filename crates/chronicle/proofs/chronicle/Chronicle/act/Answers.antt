@@ -10,7 +10,9 @@ slot_mut-kept-requires g c =
 
 pub step-requires : goal.step-requires
 step-requires g c =
-    let may = may_step_now g.O.Object.base g.O.Object.state g.O.Object.room g.O.Object.sound g.O.Object.after g.O.Object.reply c.args.place.now.me c.args.number c.args.request
+    let may =
+    may_step_now g.O.Object.base g.O.Object.state g.O.Object.room g.O.Object.sound g.O.Object.after g.O.Object.reply c.args.place.now.me c.args.number
+    c.args.request
     c.slot_mut-kept.result.now c.requires.may_step c.slot_mut-kept.ensures.value in record {
       sound = may.0;
       room = may.1;
@@ -21,5 +23,7 @@ step-requires g c =
 pub returns-clause-steps : goal.returns-clause-steps
 returns-clause-steps g c =
     let made = c.step.ensures in
-    steps_on g.O.Object.base g.O.Object.state g.O.Object.room g.O.Object.sound g.O.Object.after g.O.Object.reply c.args.place.now.me c.slot_mut-kept.result.now c.step.new.self
-    c.args.number c.args.request c.step.result c.requires.may_step c.slot_mut-kept.ensures.value made.base made.state made.reply made.room made.noted made.reserved
+    steps_on g.O.Object.base g.O.Object.state g.O.Object.room g.O.Object.sound g.O.Object.after g.O.Object.reply c.args.place.now.me c.slot_mut-kept.result.now
+    c.step.new.self
+    c.args.number c.args.request c.step.result c.requires.may_step c.slot_mut-kept.ensures.value made.base made.state made.reply made.room made.noted
+    made.reserved

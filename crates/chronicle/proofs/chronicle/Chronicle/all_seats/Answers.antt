@@ -32,4 +32,5 @@ returns g c =
     let number : ℕ = c.loop-number.number in
     let some_seat : 1 ≤ length self.allotments = omega arith in
     let all : length self.allotments ≤ number = omega arith in
-    c.in_ok-insert.ensures.items ∙ every_seat self number c.loop-number.seats.items _ some_seat all inv.2 (first_tells self first.table_id number first.me inv.1 all inv.0)
+    c.in_ok-insert.ensures.items
+    ∙ every_seat self number c.loop-number.seats.items _ some_seat all inv.2 (first_tells self first.table_id number first.me inv.1 all inv.0)

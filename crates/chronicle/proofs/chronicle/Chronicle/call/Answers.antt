@@ -5,11 +5,13 @@ use Rattle.chronicle.proofs.chronicle.Chronicle.call.Goals as goal
 
 pub draw-ticket-requires-clause-may_call : goal.draw-ticket-requires-clause-may_call
 draw-ticket-requires-clause-may_call g c =
-    may_call g.O.Object.base g.O.Object.state g.O.Object.room g.O.Object.sound g.O.Object.after g.O.Object.reply _ _ _ c.args.seat.now c.seat.invariant c.seat.view_is c.requires.left
+    may_call g.O.Object.base g.O.Object.state g.O.Object.room g.O.Object.sound g.O.Object.after g.O.Object.reply _ _ _ c.args.seat.now c.seat.invariant
+    c.seat.view_is c.requires.left
 
 pub wait-requires-clause-waits : goal.wait-requires-clause-waits
 wait-requires-clause-waits g c =
-    is_waiting g.O.Object.base g.O.Object.state g.O.Object.room g.O.Object.sound g.O.Object.after g.O.Object.reply _ _ _ _ c.seat.invariant c.draw-ticket.ensures.draws
+    is_waiting g.O.Object.base g.O.Object.state g.O.Object.room g.O.Object.sound g.O.Object.after g.O.Object.reply _ _ _ _ c.seat.invariant
+    c.draw-ticket.ensures.draws
 
 pub act-reply-requires-clause-may_step : goal.act-reply-requires-clause-may_step
 act-reply-requires-clause-may_step g c =
@@ -32,7 +34,8 @@ pub returns : goal.returns
 returns g c =
     let table = c.pass.ensures.own.0 ∙ c.act-reply.ensures.own.0 ∙ c.wait.ensures.own.0 ∙ c.draw-ticket.ensures.own.0 in
     let made = call_made g.O.Object.base g.O.Object.state g.O.Object.room g.O.Object.sound g.O.Object.after g.O.Object.reply _ _ _ _ _ _ _ _ _ _ _ _
-    c.seat.invariant c.seat.view_is c.requires.chronicle c.requires.left c.requires.sound c.draw-ticket.ensures.draws c.wait.ensures.turn c.act-reply.ensures.steps c.pass.ensures.passes in
+    c.seat.invariant c.seat.view_is c.requires.chronicle c.requires.left c.requires.sound c.draw-ticket.ensures.draws c.wait.ensures.turn
+    c.act-reply.ensures.steps c.pass.ensures.passes in
     record {
       seen = made.seen;
       legal = made.legal;

@@ -6,12 +6,14 @@ pub split_seat-place-requires : goal.split_seat-place-requires
 split_seat-place-requires g c = (
   search rules,
   search rules,
-  deals_at g.O.Object.base g.O.Object.state g.O.Object.room g.O.Object.sound g.O.Object.after g.O.Object.reply c.args.first.now.id c.args.self.now c.args.number c.args.first.now.me c.requires.dealing c.requires.next.0,
+  deals_at g.O.Object.base g.O.Object.state g.O.Object.room g.O.Object.sound g.O.Object.after g.O.Object.reply c.args.first.now.id c.args.self.now c.args.number
+      c.args.first.now.me c.requires.dealing c.requires.next.0,
 )
 
 pub invariant_of-result : goal.invariant_of-result
 invariant_of-result g c =
-    dealt_at_rest c.args.self.now c.args.number c.args.first.now.me c.split_seat-place.result.me c.requires.dealing c.requires.next.1 c.split_seat-place.ensures.4
+    dealt_at_rest c.args.self.now c.args.number c.args.first.now.me c.split_seat-place.result.me c.requires.dealing c.requires.next.1
+    c.split_seat-place.ensures.4
 
 pub returns-clause-dealing : goal.returns-clause-dealing
 returns-clause-dealing g c =
@@ -20,4 +22,5 @@ returns-clause-dealing g c =
 pub returns-clause-seat : goal.returns-clause-seat
 returns-clause-seat g c =
     let split = c.split_seat-place.ensures in
-    dealt_tells c.args.self.now c.split_seat-place.result.table_id c.args.number c.args.first.now.me c.split_seat-place.result.me c.requires.dealing (split.3 ∙ c.requires.own) split.4
+    dealt_tells c.args.self.now c.split_seat-place.result.table_id c.args.number c.args.first.now.me c.split_seat-place.result.me c.requires.dealing
+    (split.3 ∙ c.requires.own) split.4

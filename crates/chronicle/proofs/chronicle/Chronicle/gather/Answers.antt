@@ -11,7 +11,8 @@ join-requires-clause-chronicle g c =
     let front = c.pop-in-seats.new.self.items in
     let items = inv.1 ∙ ap (λ l. l ++ inv.0) c.in-Some-pop.ensures.items in
     all_last (λ s. s.chronicle ≡ Some c.args.self.now) front c.in-Some-pop.seat
-    (all_front (λ s. s.chronicle ≡ Some c.args.self.now) (front ++ c.in-Some-pop.seat ∷ []) inv.0 (subst (All (λ s. s.chronicle ≡ Some c.args.self.now)) items c.requires.chronicle))
+    (all_front (λ s. s.chronicle ≡ Some c.args.self.now) (front ++ c.in-Some-pop.seat ∷ []) inv.0
+    (subst (All (λ s. s.chronicle ≡ Some c.args.self.now)) items c.requires.chronicle))
 
 pub seats-preserved : goal.seats-preserved
 seats-preserved g c =
@@ -32,6 +33,7 @@ seats-init g c =
     let last = c.in-Some.last in
     let items = c.in-Some.ensures.items in
     let ours = all_last (λ s. s.chronicle ≡ Some c.args.self.now) c.pop.new.self.items last (subst (All (λ s. s.chronicle ≡ Some c.args.self.now)) items c.requires.chronicle) in (
-      table_of g.O.Object.base g.O.Object.state g.O.Object.room g.O.Object.sound g.O.Object.after g.O.Object.reply place.table_id c.args.self.now last.number place.me last given.at_rest given.tells ours,
+      table_of g.O.Object.base g.O.Object.state g.O.Object.room g.O.Object.sound g.O.Object.after g.O.Object.reply place.table_id c.args.self.now last.number
+          place.me last given.at_rest given.tells ours,
       (last ∷ [], items, joined_alone place.table_id c.args.self.now last.number place.me last given.at_rest given.tells ours),
     )

@@ -9,7 +9,8 @@ pub new-requires : goal.new-requires
 new-requires g c =
     let kept : Kept g.row.O.Denot g.row.O-Request.Denot g.row.O-Reply.Denot = record { object = c.args.object; journal = c.reserve.new.self } in
     let reserved : c.args.calls ≤ vec_capacity c.reserve.new.self = search rules in
-    opens_at g.O.Object.base g.O.Object.state g.O.Object.room g.O.Object.sound g.O.Object.after g.O.Object.reply c.push_reserved.new.self.items kept (g.O.Object.base c.args.key.now.object.value) (g.O.Object.state c.args.key.now.object.value) c.args.key.now.allotments.value.items
+    opens_at g.O.Object.base g.O.Object.state g.O.Object.room g.O.Object.sound g.O.Object.after g.O.Object.reply c.push_reserved.new.self.items kept
+    (g.O.Object.base c.args.key.now.object.value) (g.O.Object.state c.args.key.now.object.value) c.args.key.now.allotments.value.items
     (search rules) (ap g.O.Object.base c.requires.object) (ap g.O.Object.state c.requires.object) c.requires.seats (search rules)
     (subst (λ (n : ℕ). n ≤ g.O.Object.room c.args.object) c.requires.calls c.requires.room)
     (subst (λ (n : ℕ). n ≤ vec_capacity c.reserve.new.self) c.requires.calls reserved)

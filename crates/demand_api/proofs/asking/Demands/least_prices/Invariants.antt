@@ -8,7 +8,8 @@ use Rattle.demand_api.proofs.asking.Demands.least_prices.Given as goal
 
 abbrev pub invariant-loop-low : goal.invariant-loop-low
 invariant-loop-low g l = (g.Self.Demands.crowd l.self ≡ g.Self.Demands.crowd l.initial.self)
-    × IsHalving (g.Self.Demands.crowd l.fn.self) l.prices l.trial.items l.section.0 l.limit l.low l.high (g.Self.Demands.asked l.initial.self) (g.Self.Demands.asked l.self)
+    × IsHalving (g.Self.Demands.crowd l.fn.self) l.prices l.trial.items l.section.0 l.limit l.low l.high (g.Self.Demands.asked l.initial.self)
+    (g.Self.Demands.asked l.self)
 
 abbrev pub decreases-loop-low : goal.decreases-loop-low
 decreases-loop-low g l = l.high - l.low

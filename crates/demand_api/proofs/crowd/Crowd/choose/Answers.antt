@@ -5,15 +5,21 @@ use Rattle.demand_api.proofs.crowd.Crowd.choose.Goals as goal
 
 pub loop-student-preserved : goal.loop-student-preserved
 loop-student-preserved c = (
-  chosen_at c.args.self.now.menus.items c.args.students.now c.loop-student.student-index _ c.loop-student.menus.items c.push.new.self.items c.in_ok-menu.menu c.from-place.result c.loop-student-test.true
+  chosen_at c.args.self.now.menus.items c.args.students.now c.loop-student.student-index _ c.loop-student.menus.items c.push.new.self.items c.in_ok-menu.menu
+      c.from-place.result c.loop-student-test.true
       (length c.args.self.now.menus.items) refl c.requires.range c.loop-student.invariant.0 c.in_ok-push.ensures.items c.from-place.ensures
       (subst (λ menu. menu ≡ slice_index_or c.args.self.now.menus.items c.from-place.result menu) (sym c.in_ok-menu.ensures) c.index.ensures),
-  chosen_at c.args.self.now.budgets.items c.args.students.now c.loop-student.student-index _ c.loop-student.budgets.items c.push-in-loop-student.new.self.items _ c.from-place.result c.loop-student-test.true
-      (length c.args.self.now.menus.items) (sym c.requires.crowd.same) c.requires.range c.loop-student.invariant.1 c.in_ok-push-2.ensures.items c.from-place.ensures c.index-budget.ensures,
+  chosen_at c.args.self.now.budgets.items c.args.students.now c.loop-student.student-index _ c.loop-student.budgets.items c.push-in-loop-student.new.self.items
+      _ c.from-place.result c.loop-student-test.true
+      (length c.args.self.now.menus.items) (sym c.requires.crowd.same) c.requires.range c.loop-student.invariant.1 c.in_ok-push-2.ensures.items
+      c.from-place.ensures c.index-budget.ensures,
 )
 
 pub returns-clause-crowd : goal.returns-clause-crowd
 returns-clause-crowd c =
-    chosen_crowd c.args.self.now.menus.items c.args.self.now.budgets.items c.args.self.now.sections c.args.students.now c.loop-student.menus.items c.loop-student.budgets.items c.requires.crowd c.requires.few
-    (chosen_done c.args.self.now.menus.items c.args.students.now c.loop-student.student-index c.loop-student.menus.items c.loop-student-test.false c.loop-student.invariant.0)
-    (chosen_done c.args.self.now.budgets.items c.args.students.now c.loop-student.student-index c.loop-student.budgets.items c.loop-student-test.false c.loop-student.invariant.1)
+    chosen_crowd c.args.self.now.menus.items c.args.self.now.budgets.items c.args.self.now.sections c.args.students.now c.loop-student.menus.items
+    c.loop-student.budgets.items c.requires.crowd c.requires.few
+    (chosen_done c.args.self.now.menus.items c.args.students.now c.loop-student.student-index c.loop-student.menus.items c.loop-student-test.false
+    c.loop-student.invariant.0)
+    (chosen_done c.args.self.now.budgets.items c.args.students.now c.loop-student.student-index c.loop-student.budgets.items c.loop-student-test.false
+    c.loop-student.invariant.1)

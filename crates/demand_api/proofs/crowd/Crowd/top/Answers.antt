@@ -10,4 +10,6 @@ overflow_add-result c =
     omega (arith, is, high)
 
 pub returns : goal.returns
-returns c = top_found c.args.self.now.menus.items c.args.self.now.budgets.items c.args.self.now.sections c.greatest_budget.result c.requires.same (rw c.deref.ensures.value at c.greatest_budget.ensures)
+returns c =
+    top_found c.args.self.now.menus.items c.args.self.now.budgets.items c.args.self.now.sections c.greatest_budget.result c.requires.same
+    (rw c.deref.ensures.value at c.greatest_budget.ensures)

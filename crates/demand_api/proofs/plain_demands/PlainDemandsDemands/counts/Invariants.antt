@@ -5,4 +5,6 @@ use Rattle.demand_api.specs.Made.{crowd_of}
 use Rattle.demand_api.proofs.plain_demands.PlainDemandsDemands.counts.Given as goal
 
 abbrev pub invariant-loop-prices : goal.invariant-loop-prices
-invariant-loop-prices g l = map (λ counts. counts.items) l.found.items ≡ map (λ prices. counts (crowd_of l.crowd.menus.items l.crowd.budgets.items l.crowd.sections) (price_in prices.items)) (take l.prices-index l.batch)
+invariant-loop-prices g l =
+    map (λ counts. counts.items) l.found.items
+    ≡ map (λ prices. counts (crowd_of l.crowd.menus.items l.crowd.budgets.items l.crowd.sections) (price_in prices.items)) (take l.prices-index l.batch)

@@ -21,5 +21,7 @@ returns c menu prices budget allowed is_menu is node champion_is takable behind 
     let second = c.places-2.ensures.value menu (price_in prices) is in
     let same = c.is_ahead.ensures ∙ ap (λ l. is_ahead k l c.places-2.result.now) first ∙ ap (is_ahead k ps) second in
     let low : (p : ℕ) → has cs p ≡ true → p < k = λ p in_it. (let at = has-places menu.places chosen p in_it in rw (← at.2) (node.decided at.0 at.1)) in
-    let ahead = ahead_to k ps cs (taken_places offer champion is_menu takable).ascending (taken_places offer chosen is_menu node.takable).ascending low (sym same ∙ behind) in
+    let ahead =
+    ahead_to k ps cs (taken_places offer champion is_menu takable).ascending (taken_places offer chosen is_menu node.takable).ascending low
+    (sym same ∙ behind) in
     differs_first offer is_menu k chosen champion node takable bundle may completes ahead

@@ -16,8 +16,13 @@ returns-then-not-has-clause-takable c = (
   λ is. absurd (false≢true is),
   λ takable.
       let menu = c.args.menu.now in
-      let at = open_at_where_takable (offer_of menu c.args.prices.now c.args.budget.0 c.args.allowed.now) c.len.ensures.menu c.args.self.now c.requires.branch c.requires.node c.args.place c.requires.undecided c.requires.on_menu takable in
-      sym (allowed_read menu c.args.prices.now c.args.budget.0 c.args.allowed.now c.args.place c.rated-rated.result.now c.rated-rated.ensures.value ∙ sym c.has.ensures ∙ c.if-not-has.true) ∙ at.allowed,
+      let at =
+      open_at_where_takable (offer_of menu c.args.prices.now c.args.budget.0 c.args.allowed.now) c.len.ensures.menu c.args.self.now c.requires.branch
+      c.requires.node c.args.place c.requires.undecided c.requires.on_menu takable in
+      sym
+      (allowed_read menu c.args.prices.now c.args.budget.0 c.args.allowed.now c.args.place c.rated-rated.result.now c.rated-rated.ensures.value
+      ∙ sym c.has.ensures ∙ c.if-not-has.true)
+      ∙ at.allowed,
 )
 
 pub returns-then-price_of_place-budget_left-clause-takable : goal.returns-then-price_of_place-budget_left-clause-takable
@@ -25,7 +30,9 @@ returns-then-price_of_place-budget_left-clause-takable c = (
   λ is. absurd (false≢true is),
   λ takable.
       let offer = offer_of c.args.menu.now c.args.prices.now c.args.budget.0 c.args.allowed.now in
-      let at = open_at_where_takable offer c.len.ensures.menu c.args.self.now c.requires.branch c.requires.node c.args.place c.requires.undecided c.requires.on_menu takable in
+      let at =
+      open_at_where_takable offer c.len.ensures.menu c.args.self.now c.requires.branch c.requires.node c.args.place c.requires.undecided c.requires.on_menu
+      takable in
       let price : price_at offer c.args.place ≤ c.args.budget.0 - c.args.self.now.paid = at.price in
       let read : c.price_of_place.result ≡ price_at offer c.args.place = c.price_of_place.ensures.value in absurd (omega arith),
 )
@@ -36,9 +43,13 @@ returns-then-from-credits_left-clause-takable c = (
   λ takable.
       let menu = c.args.menu.now in
       let k = c.args.place in
-      let at = open_at_where_takable (offer_of menu c.args.prices.now c.args.budget.0 c.args.allowed.now) c.len.ensures.menu c.args.self.now c.requires.branch c.requires.node c.args.place c.requires.undecided c.requires.on_menu takable in
+      let at =
+      open_at_where_takable (offer_of menu c.args.prices.now c.args.budget.0 c.args.allowed.now) c.len.ensures.menu c.args.self.now c.requires.branch
+      c.requires.node c.args.place c.requires.undecided c.requires.on_menu takable in
       let credits : credits_at menu.places k ≤ menu.credits - c.args.self.now.credits = at.credits in
-      let read : credits_at menu.places k ≡ c.rated-rated.result.now.credits = credits_at-is menu.places k c.rated-rated.result.now c.rated-rated.ensures.value in absurd (omega arith),
+      let read : credits_at menu.places k ≡ c.rated-rated.result.now.credits =
+      credits_at-is menu.places k c.rated-rated.result.now c.rated-rated.ensures.value in
+      absurd (omega arith),
 )
 
 pub returns-then-courses_left-eq0-clause-takable : goal.returns-then-courses_left-eq0-clause-takable
@@ -46,13 +57,16 @@ returns-then-courses_left-eq0-clause-takable c = (
   λ is. absurd (false≢true is),
   λ takable.
       let menu = c.args.menu.now in
-      let at = open_at_where_takable (offer_of menu c.args.prices.now c.args.budget.0 c.args.allowed.now) c.len.ensures.menu c.args.self.now c.requires.branch c.requires.node c.args.place c.requires.undecided c.requires.on_menu takable in
+      let at =
+      open_at_where_takable (offer_of menu c.args.prices.now c.args.budget.0 c.args.allowed.now) c.len.ensures.menu c.args.self.now c.requires.branch
+      c.requires.node c.args.place c.requires.undecided c.requires.on_menu takable in
       let courses : 1 ≤ menu.courses - length (chosen_of c.args.self.now) = at.courses in absurd (omega arith),
 )
 
 pub is_apart-requires-clause-on_menu : goal.is_apart-requires-clause-on_menu
 is_apart-requires-clause-on_menu c =
-    rw (c.places.ensures.value c.args.menu.now (price_in c.args.prices.now) c.requires.branch) (places_of_rated c.args.menu.now (chosen_of c.args.self.now) c.requires.branch.rated)
+    rw (c.places.ensures.value c.args.menu.now (price_in c.args.prices.now) c.requires.branch)
+    (places_of_rated c.args.menu.now (chosen_of c.args.self.now) c.requires.branch.rated)
 
 pub returns-clause-takable : goal.returns-clause-takable
 returns-clause-takable c =
@@ -61,16 +75,21 @@ returns-clause-takable c =
     let offer = offer_of menu c.args.prices.now c.args.budget.0 c.args.allowed.now in
     let places = c.places.ensures.value menu (price_in c.args.prices.now) c.requires.branch in
     let same = c.is_apart.ensures ∙ ap (λ l. is_apart offer l k) places in
-    let credits : credits_at menu.places k ≡ c.rated-rated.result.now.credits = credits_at-is menu.places k c.rated-rated.result.now c.rated-rated.ensures.value in
+    let credits : credits_at menu.places k ≡ c.rated-rated.result.now.credits =
+    credits_at-is menu.places k c.rated-rated.result.now c.rated-rated.ensures.value in
     let price : c.price_of_place.result ≡ price_at offer k = c.price_of_place.ensures.value in (
       λ is. takable_where_open_at offer c.len.ensures.menu c.args.self.now c.requires.branch c.requires.node c.args.place c.requires.undecided c.requires.on_menu record {
-        allowed = allowed_read menu c.args.prices.now c.args.budget.0 c.args.allowed.now k c.rated-rated.result.now c.rated-rated.ensures.value ∙ sym c.has.ensures ∙ c.if-not-has.false;
+        allowed =
+            allowed_read menu c.args.prices.now c.args.budget.0 c.args.allowed.now k c.rated-rated.result.now c.rated-rated.ensures.value ∙ sym c.has.ensures
+            ∙ c.if-not-has.false;
         price = omega arith;
         credits = omega arith;
         courses = omega arith;
         apart = sym same ∙ is;
       },
-      λ takable. same ∙ (open_at_where_takable offer c.len.ensures.menu c.args.self.now c.requires.branch c.requires.node c.args.place c.requires.undecided c.requires.on_menu takable).apart,
+      λ takable. same
+          ∙ (open_at_where_takable offer c.len.ensures.menu c.args.self.now c.requires.branch c.requires.node c.args.place c.requires.undecided
+          c.requires.on_menu takable).apart,
     )
 
 pub returns-clause-room : goal.returns-clause-room

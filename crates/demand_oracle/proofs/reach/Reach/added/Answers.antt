@@ -23,14 +23,20 @@ returns-clause-value c prices allowed reach is node bundle may completes =
     let chosen = chosen_of branch in
     let cs = places_of menu chosen in
     let multipliers = self.credits in
-    let budget : c.budget_left-budget_left.result ≡ budget_left offer cs = c.budget_left-budget_left.ensures ∙ budget_kept offer c.requires.menu branch is node in
-    let credits : c.credits_left-credits_left.result ≡ credits_left offer cs = c.credits_left-credits_left.ensures.value ∙ credits_kept offer c.requires.menu branch is node in
+    let budget : c.budget_left-budget_left.result ≡ budget_left offer cs =
+    c.budget_left-budget_left.ensures ∙ budget_kept offer c.requires.menu branch is node in
+    let credits : c.credits_left-credits_left.result ≡ credits_left offer cs =
+    c.credits_left-credits_left.ensures.value ∙ credits_kept offer c.requires.menu branch is node in
     let count : ℕ = c.fitting-count.result in
-    let fits = fits_count offer k chosen bundle self.lightest (menu.courses - length chosen) (menu.credits - branch.credits) count c.requires.menu node may completes reach.lightest refl (credits_kept offer c.requires.menu branch is node) c.fitting-count.ensures.enough in
+    let fits =
+    fits_count offer k chosen bundle self.lightest (menu.courses - length chosen) (menu.credits - branch.credits) count c.requires.menu node may completes
+    reach.lightest refl (credits_kept offer c.requires.menu branch is node) c.fitting-count.ensures.enough in
     let units : ℕ = c.in_units-units.result in
     let units_are : units ≡ budget_left offer cs / 2 ^ self.shift = c.in_units-units.ensures ∙ ap (λ n. n / 2 ^ self.shift) budget in
     let most : ℕ = within_at self.most k count units in
-    let covered = subst (λ n. CoversWithin offer multipliers self.shift k count n most) units_are (reach.covers k count units (omega arith) c.requires.place c.fitting-count.ensures.within (omega arith)) in
+    let covered =
+    subst (λ n. CoversWithin offer multipliers self.shift k count n most) units_are
+    (reach.covers k count units (omega arith) c.requires.place c.fitting-count.ensures.within (omega arith)) in
     let sound = reach_within_is_sound offer multipliers self.shift k chosen bundle count most c.requires.menu node may completes fits covered in
     let u : ℤ = utility (wishes_of menu) bundle in
     let h : ℤ = hoped_of offer k cs in

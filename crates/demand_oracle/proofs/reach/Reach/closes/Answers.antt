@@ -23,13 +23,18 @@ bounds-self-from c = let few : length c.args.menu.now.places ≤ 60 = c.len.ensu
 pub hopes_of-hoped-requires-clause-on_menu : goal.hopes_of-hoped-requires-clause-on_menu
 hopes_of-hoped-requires-clause-on_menu c i d low =
     let few : length c.args.menu.now.places ≤ 60 = c.len.ensures.menu.places.few in
-    let all = rw (← c.places.ensures.value c.args.menu.now c.requires.branch.0 c.requires.branch.1) at (places_of_rated c.args.menu.now (chosen_of c.args.branch.now) c.requires.branch.1.rated) in
+    let all =
+    rw (← c.places.ensures.value c.args.menu.now c.requires.branch.0 c.requires.branch.1) at
+    (places_of_rated c.args.menu.now (chosen_of c.args.branch.now) c.requires.branch.1.rated) in
     let on : get_or c.places.result.now i d < length c.args.menu.now.places = all i d low in omega arith
 
 -- what is compared, whatever the prices and the allowed sections are
-weighed : (c : After-lacking-lacking) (prices : List Tokens) (allowed : set.FinSet nat_cmp) → IsReach (offer_of c.args.menu.now prices c.args.budget.0 allowed) c.args.self.now → IsBranch c.args.menu.now (price_in prices) c.args.branch.now
-    → IsNode (offer_of c.args.menu.now prices c.args.budget.0 allowed) c.args.branch.now.node.place (chosen_of c.args.branch.now) → IsBranch c.args.menu.now (price_in prices) c.args.champion.now
-    → IsWeighed (offer_of c.args.menu.now prices c.args.budget.0 allowed) c.args.branch.now.node.place (chosen_of c.args.branch.now) (chosen_of c.args.champion.now) c.added-added.result c.hopes_of-hoped.result c.utility-2.result c.utility.result c.lacking-lacking.result
+weighed : (c : After-lacking-lacking) (prices : List Tokens) (allowed : set.FinSet nat_cmp)
+    → IsReach (offer_of c.args.menu.now prices c.args.budget.0 allowed) c.args.self.now → IsBranch c.args.menu.now (price_in prices) c.args.branch.now
+    → IsNode (offer_of c.args.menu.now prices c.args.budget.0 allowed) c.args.branch.now.node.place (chosen_of c.args.branch.now)
+    → IsBranch c.args.menu.now (price_in prices) c.args.champion.now
+    → IsWeighed (offer_of c.args.menu.now prices c.args.budget.0 allowed) c.args.branch.now.node.place (chosen_of c.args.branch.now)
+    (chosen_of c.args.champion.now) c.added-added.result c.hopes_of-hoped.result c.utility-2.result c.utility.result c.lacking-lacking.result
 weighed c prices allowed reach is node champion_is =
     let menu = c.args.menu.now in
     let offer = offer_of menu prices c.args.budget.0 allowed in
@@ -40,7 +45,9 @@ weighed c prices allowed reach is node champion_is =
     let places : c.places.result.now ≡ cs = c.places.ensures.value menu (price_in prices) is in
     record {
       is_added = c.added-added.ensures.value prices allowed reach is node;
-      hopes_are = c.hopes_of-hoped.ensures.value ∙ ap (total (number_at c.args.self.now.hopes c.from.result)) places ∙ hopes_read offer c.args.self.now.hopes k c.from.result cs reach.hopes c.from.ensures c.requires.place low;
+      hopes_are =
+          c.hopes_of-hoped.ensures.value ∙ ap (total (number_at c.args.self.now.hopes c.from.result)) places
+          ∙ hopes_read offer c.args.self.now.hopes k c.from.result cs reach.hopes c.from.ensures c.requires.place low;
       u_is = c.utility-2.ensures menu (price_in prices) is ∙ sym (utility_by_place menu chosen);
       worth_is = c.utility.ensures menu (price_in prices) champion_is;
       lacks = omega (arith, ints, c.lacking-lacking.ensures.value);

@@ -15,9 +15,11 @@ pub read_all-requires-clause-same : goal.read_all-requires-clause-same
 read_all-requires-clause-same g c =
     let crowd = arc_value c.args.self.now.crowd in
     let many : length c.deref_mut.result.now ≡ length crowd.menus.items = search rules in
-    many ∙ sym (students_length crowd.menus.items crowd.budgets.items c.args.self.now.made.same) ∙ sym (ap (λ (w : CrowdData). length w.students) c.in_ok-answers.ensures.crowd)
+    many ∙ sym (students_length crowd.menus.items crowd.budgets.items c.args.self.now.made.same)
+    ∙ sym (ap (λ (w : CrowdData). length w.students) c.in_ok-answers.ensures.crowd)
 
 pub returns-clause-taken : goal.returns-clause-taken
 returns-clause-taken g c =
-    remembered_once (data_of (arc_value c.args.self.now.crowd)) c.in_ok-answers.answers.terms.crowd c.args.prices.now c.in_ok-version.version c.in_ok-answers.answers.terms.versions c.in_ok-bundles.bundles.len c.read_all.new.bundles c.in_ok-bundles.bundles.items
+    remembered_once (data_of (arc_value c.args.self.now.crowd)) c.in_ok-answers.answers.terms.crowd c.args.prices.now c.in_ok-version.version
+    c.in_ok-answers.answers.terms.versions c.in_ok-bundles.bundles.len c.read_all.new.bundles c.in_ok-bundles.bundles.items
     (search rules) c.in_ok-answers.ensures.crowd c.in_ok-answers.ensures.versions (search rules) c.read_all.ensures.taken

@@ -9,5 +9,6 @@ use Rattle.demand_workers.proofs.pooled_demands.PooledDemandsAnyGateDemands.coun
 -- the versions so far are counted
 abbrev pub invariant-loop-version : goal.invariant-loop-version
 invariant-loop-version g l = record {
-  done : map (λ found. found.items) l.found.items ≡ map (λ (prices : Vec Tokens Global). counts (data_of (arc_value l.fn.self.crowd)) (price_in prices.items)) (take l.version l.batch);
+  done : map (λ found. found.items) l.found.items
+      ≡ map (λ (prices : Vec Tokens Global). counts (data_of (arc_value l.fn.self.crowd)) (price_in prices.items)) (take l.version l.batch);
 }

@@ -6,7 +6,10 @@ use Rattle.demand_workers.proofs.pooled_demands.PooledDemandsAnyGateDemands.stud
 pub returns-clause-value : goal.returns-clause-value
 returns-clause-value g c =
     let is : c.len.result ≡ (arc_value c.args.self.now.crowd).menus.len = rw c.deref-crowd.ensures at c.len.ensures in
-    is ∙ (arc_value c.args.self.now.crowd).menus.ok.0 ∙ sym (students_length (arc_value c.args.self.now.crowd).menus.items (arc_value c.args.self.now.crowd).budgets.items c.args.self.now.made.same)
+    is ∙ (arc_value c.args.self.now.crowd).menus.ok.0
+    ∙ sym (students_length (arc_value c.args.self.now.crowd).menus.items (arc_value c.args.self.now.crowd).budgets.items c.args.self.now.made.same)
 
 pub returns-clause-crowd : goal.returns-clause-crowd
-returns-clause-crowd g c = crowd_made (arc_value c.args.self.now.crowd).menus.items (arc_value c.args.self.now.crowd).budgets.items (arc_value c.args.self.now.crowd).sections c.args.self.now.made
+returns-clause-crowd g c =
+    crowd_made (arc_value c.args.self.now.crowd).menus.items (arc_value c.args.self.now.crowd).budgets.items (arc_value c.args.self.now.crowd).sections
+    c.args.self.now.made

@@ -14,7 +14,9 @@ use Rattle.dropadd_desk.proofs.Steps.{queued_keeps}
 use Rattle.dropadd_desk.proofs.desk.HallDesk.add.Goals as goal
 
 pub returns-in-Some-clause-added : goal.returns-in-Some-clause-added
-returns-in-Some-clause-added c = refused_is (market_of c.args.self.now) (state_of c.args.self.now) c.args.student.0 c.args.section.0 c.in-Some.answer (sym c.refusal.ensures.refusal ∙ c.in-Some.is)
+returns-in-Some-clause-added c =
+    refused_is (market_of c.args.self.now) (state_of c.args.self.now) c.args.student.0 c.args.section.0 c.in-Some.answer
+    (sym c.refusal.ensures.refusal ∙ c.in-Some.is)
 
 pub has-requires : goal.has-requires
 has-requires c =
@@ -23,48 +25,65 @@ has-requires c =
     omega (arith, low, few)
 
 pub give-requires-clause-new : goal.give-requires-clause-new
-give-requires-clause-new c = (refusal_none (market_of c.args.self.now) (state_of c.args.self.now) c.args.student.0 c.args.section.0 (sym c.refusal.ensures.refusal ∙ c.in_default.is)).0
+give-requires-clause-new c =
+    (refusal_none (market_of c.args.self.now) (state_of c.args.self.now) c.args.student.0 c.args.section.0 (sym c.refusal.ensures.refusal ∙ c.in_default.is)).0
 
 pub give-requires-clause-apart : goal.give-requires-clause-apart
-give-requires-clause-apart c = (refusal_none (market_of c.args.self.now) (state_of c.args.self.now) c.args.student.0 c.args.section.0 (sym c.refusal.ensures.refusal ∙ c.in_default.is)).1
+give-requires-clause-apart c =
+    (refusal_none (market_of c.args.self.now) (state_of c.args.self.now) c.args.student.0 c.args.section.0 (sym c.refusal.ensures.refusal ∙ c.in_default.is)).1
 
 pub returns-then-has-clause-added : goal.returns-then-has-clause-added
 returns-then-has-clause-added c =
     ap (λ st. (reply.Added, st)) c.give.ensures.given
     ∙ added_is (market_of c.args.self.now) (state_of c.args.self.now) c.args.student.0 c.args.section.0 (sym c.refusal.ensures.refusal ∙ c.in_default.is)
-    (sym (free_on (market_of c.args.self.now) c.args.self.now.floor c.args.self.now.lists.lists c.args.section.0 c.args.self.now.counted c.requires.section) ∙ sym c.has.ensures ∙ c.if-has.true)
+    (sym (free_on (market_of c.args.self.now) c.args.self.now.floor c.args.self.now.lists.lists c.args.section.0 c.args.self.now.counted c.requires.section)
+    ∙ sym c.has.ensures ∙ c.if-has.true)
 
 pub overflow_cast-ahead : goal.overflow_cast-ahead
 overflow_cast-ahead c =
     let list = ap length (c.items.ensures ∙ ap (λ n. get_or c.args.self.now.lists.lists n []) c.from-list.ensures) in
-    let few = queue_few (student_count (market_of c.args.self.now)) (waiting_for (state_of c.args.self.now) c.args.section.0) (c.args.self.now.hall.queues c.args.section.0) in
+    let few =
+    queue_few (student_count (market_of c.args.self.now)) (waiting_for (state_of c.args.self.now) c.args.section.0)
+    (c.args.self.now.hall.queues c.args.section.0) in
     let most : student_count (market_of c.args.self.now) ≤ 2000 = c.args.self.now.is_market.roll.few in
     omega (arith, list, few, most)
 
 pub push-requires-clause-room : goal.push-requires-clause-room
 push-requires-clause-room c =
     let list = ap (λ n. length (get_or c.args.self.now.lists.lists n [])) c.from-list.ensures in
-    let waits = (refusal_none (market_of c.args.self.now) (state_of c.args.self.now) c.args.student.0 c.args.section.0 (sym c.refusal.ensures.refusal ∙ c.in_default.is)).1 in
+    let waits =
+    (refusal_none (market_of c.args.self.now) (state_of c.args.self.now) c.args.student.0 c.args.section.0
+    (sym c.refusal.ensures.refusal ∙ c.in_default.is)).1 in
     let more = queue_few (student_count (market_of c.args.self.now)) (waiting_for (state_of c.args.self.now) c.args.section.0 ++ c.args.student.0 ∷ [])
-    (queue_more (student_count (market_of c.args.self.now)) c.args.student.0 (waiting_for (state_of c.args.self.now) c.args.section.0) (c.args.self.now.hall.queues c.args.section.0) c.requires.student waits) in
+    (queue_more (student_count (market_of c.args.self.now)) c.args.student.0 (waiting_for (state_of c.args.self.now) c.args.section.0)
+    (c.args.self.now.hall.queues c.args.section.0) c.requires.student waits) in
     let both = length-append (waiting_for (state_of c.args.self.now) c.args.section.0) (c.args.student.0 ∷ []) in
     omega (arith, list, more, both, c.args.self.now.wide)
 
 pub invariant_of-self : goal.invariant_of-self
 invariant_of-self c =
-    let none = refusal_none (market_of c.args.self.now) (state_of c.args.self.now) c.args.student.0 c.args.section.0 (sym c.refusal.ensures.refusal ∙ c.in_default.is) in
-    let changed = waiting_changed (held_on c.args.self.now.floor) c.args.self.now.lists c.push.new.self c.from-list.result c.args.section.0 _ _ c.push.ensures c.from-list.ensures (ap (λ n. get_or c.args.self.now.lists.lists n [] ++ c.args.student.0 ∷ []) c.from-list.ensures) in
+    let none =
+    refusal_none (market_of c.args.self.now) (state_of c.args.self.now) c.args.student.0 c.args.section.0 (sym c.refusal.ensures.refusal ∙ c.in_default.is) in
+    let changed =
+    waiting_changed (held_on c.args.self.now.floor) c.args.self.now.lists c.push.new.self c.from-list.result c.args.section.0 _ _ c.push.ensures
+    c.from-list.ensures (ap (λ n. get_or c.args.self.now.lists.lists n [] ++ c.args.student.0 ∷ []) c.from-list.ensures) in
     record {
       is_market = c.args.self.now.is_market;
       counted = c.args.self.now.counted;
-      hall = subst (IsHall c.args.self.now.rules) (sym changed) (queued_keeps (market_of c.args.self.now) (state_of c.args.self.now) c.args.self.now.hall c.args.student.0 c.args.section.0 c.requires.student c.requires.section none.0 none.1);
+      hall =
+          subst (IsHall c.args.self.now.rules) (sym changed)
+          (queued_keeps (market_of c.args.self.now) (state_of c.args.self.now) c.args.self.now.hall c.args.student.0 c.args.section.0 c.requires.student
+          c.requires.section none.0 none.1);
       wide = ap (λ l. l.width) c.push.ensures ∙ c.args.self.now.wide;
     }
 
 pub returns-clause-added : goal.returns-clause-added
 returns-clause-added c =
     let list = ap length (c.items.ensures ∙ ap (λ n. get_or c.args.self.now.lists.lists n []) c.from-list.ensures) in
-    let changed = waiting_changed (held_on c.args.self.now.floor) c.args.self.now.lists c.push.new.self c.from-list.result c.args.section.0 _ _ c.push.ensures c.from-list.ensures (ap (λ n. get_or c.args.self.now.lists.lists n [] ++ c.args.student.0 ∷ []) c.from-list.ensures) in
+    let changed =
+    waiting_changed (held_on c.args.self.now.floor) c.args.self.now.lists c.push.new.self c.from-list.result c.args.section.0 _ _ c.push.ensures
+    c.from-list.ensures (ap (λ n. get_or c.args.self.now.lists.lists n [] ++ c.args.student.0 ∷ []) c.from-list.ensures) in
     same_outcome _ _ (λ n. reply.Queued n) _ _ list changed
     ∙ queued_is (market_of c.args.self.now) (state_of c.args.self.now) c.args.student.0 c.args.section.0 (sym c.refusal.ensures.refusal ∙ c.in_default.is)
-    (sym (free_on (market_of c.args.self.now) c.args.self.now.floor c.args.self.now.lists.lists c.args.section.0 c.args.self.now.counted c.requires.section) ∙ sym c.has.ensures ∙ c.if-has.false)
+    (sym (free_on (market_of c.args.self.now) c.args.self.now.floor c.args.self.now.lists.lists c.args.section.0 c.args.self.now.counted c.requires.section)
+    ∙ sym c.has.ensures ∙ c.if-has.false)

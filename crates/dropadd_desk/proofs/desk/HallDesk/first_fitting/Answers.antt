@@ -9,10 +9,12 @@ fits-requires-clause-student c = c.waiting-waiting.ensures.students c.loop-place
 
 pub returns-then-fits : goal.returns-then-fits
 returns-then-fits c =
-    position_found (fit_for (market_of c.args.self.now) (state_of c.args.self.now) c.args.section.0) c.waiting-waiting.result.now c.loop-place.place c.loop-place-test.true c.loop-place.invariant (sym c.fits.ensures.fits ∙ c.if-fits.true)
+    position_found (fit_for (market_of c.args.self.now) (state_of c.args.self.now) c.args.section.0) c.waiting-waiting.result.now c.loop-place.place
+    c.loop-place-test.true c.loop-place.invariant (sym c.fits.ensures.fits ∙ c.if-fits.true)
     ∙ ap (position (fit_for (market_of c.args.self.now) (state_of c.args.self.now) c.args.section.0)) c.waiting-waiting.ensures.waiting
 
 pub returns : goal.returns
 returns c =
-    position_none (fit_for (market_of c.args.self.now) (state_of c.args.self.now) c.args.section.0) c.waiting-waiting.result.now c.loop-place.place c.loop-place-test.false c.loop-place.invariant
+    position_none (fit_for (market_of c.args.self.now) (state_of c.args.self.now) c.args.section.0) c.waiting-waiting.result.now c.loop-place.place
+    c.loop-place-test.false c.loop-place.invariant
     ∙ ap (position (fit_for (market_of c.args.self.now) (state_of c.args.self.now) c.args.section.0)) c.waiting-waiting.ensures.waiting

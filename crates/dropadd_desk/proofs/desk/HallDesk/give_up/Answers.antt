@@ -15,30 +15,48 @@ use Rattle.dropadd_desk.proofs.desk.HallDesk.give_up.Goals as goal
 
 pub returns-then-not-has-clause-dropped : goal.returns-then-not-has-clause-dropped
 returns-then-not-has-clause-dropped c =
-    let held = sections_at c.args.self.now.floor.held.items c.args.student.0 c.from-place.result c.index.result.now c.from-place.ensures (subst (λ n. c.args.student.0 < n) (sym c.args.self.now.hall.each_student) c.requires.student) c.index.ensures in
-    not_holding_is (market_of c.args.self.now) (state_of c.args.self.now) c.args.student.0 c.args.section.0 (ap (λ l. has l c.args.section.0) (sym held) ∙ sym c.has.ensures ∙ c.if-not-has.true)
+    let held =
+    sections_at c.args.self.now.floor.held.items c.args.student.0 c.from-place.result c.index.result.now c.from-place.ensures
+    (subst (λ n. c.args.student.0 < n) (sym c.args.self.now.hall.each_student) c.requires.student) c.index.ensures in
+    not_holding_is (market_of c.args.self.now) (state_of c.args.self.now) c.args.student.0 c.args.section.0
+    (ap (λ l. has l c.args.section.0) (sym held) ∙ sym c.has.ensures ∙ c.if-not-has.true)
 
 pub give-requires-clause-within : goal.give-requires-clause-within
 give-requires-clause-within c = λ t there.
-    let held = sections_at c.args.self.now.floor.held.items c.args.student.0 c.from-place.result c.index.result.now c.from-place.ensures (subst (λ n. c.args.student.0 < n) (sym c.args.self.now.hall.each_student) c.requires.student) c.index.ensures in
+    let held =
+    sections_at c.args.self.now.floor.held.items c.args.student.0 c.from-place.result c.index.result.now c.from-place.ensures
+    (subst (λ n. c.args.student.0 < n) (sym c.args.self.now.hall.each_student) c.requires.student) c.index.ensures in
     let bundle = c.without_section-bundle.ensures ∙ ap (without_section c.args.section.0) held in
     let count = ap length c.seats.ensures.seats ∙ length-map c.args.self.now.rules.catalog.sections (λ (section : Section). section.seats) in
-    subst (λ n. t < n) (sym count) (without_within (market_of c.args.self.now) (state_of c.args.self.now) c.args.self.now.hall c.args.student.0 c.args.section.0 t (ap (λ l. has l t) (sym bundle) ∙ there))
+    subst (λ n. t < n) (sym count)
+    (without_within (market_of c.args.self.now) (state_of c.args.self.now) c.args.self.now.hall c.args.student.0 c.args.section.0 t
+    (ap (λ l. has l t) (sym bundle) ∙ there))
 
 pub invariant_of-self-2 : goal.invariant_of-self-2
 invariant_of-self-2 c =
-    let held = sections_at c.args.self.now.floor.held.items c.args.student.0 c.from-place.result c.index.result.now c.from-place.ensures (subst (λ n. c.args.student.0 < n) (sym c.args.self.now.hall.each_student) c.requires.student) c.index.ensures in
-    let changed = held_changed (held_on c.args.self.now.floor) (held_on c.give.new.self) c.args.self.now.lists.lists c.from-place.result c.args.student.0 _ _ c.give.ensures.held c.from-place.ensures (c.without_section-bundle.ensures ∙ ap (without_section c.args.section.0) held) in
+    let held =
+    sections_at c.args.self.now.floor.held.items c.args.student.0 c.from-place.result c.index.result.now c.from-place.ensures
+    (subst (λ n. c.args.student.0 < n) (sym c.args.self.now.hall.each_student) c.requires.student) c.index.ensures in
+    let changed =
+    held_changed (held_on c.args.self.now.floor) (held_on c.give.new.self) c.args.self.now.lists.lists c.from-place.result c.args.student.0 _ _
+    c.give.ensures.held c.from-place.ensures (c.without_section-bundle.ensures ∙ ap (without_section c.args.section.0) held) in
     record {
       is_market = c.args.self.now.is_market;
       counted = subst (λ l. IsFloor l c.give.new.self) c.seats.ensures.seats c.give.ensures.floor;
-      hall = subst (IsHall c.args.self.now.rules) (sym changed) (without_keeps (market_of c.args.self.now) (state_of c.args.self.now) c.args.self.now.hall c.args.student.0 c.args.section.0 c.requires.student);
+      hall =
+          subst (IsHall c.args.self.now.rules) (sym changed)
+          (without_keeps (market_of c.args.self.now) (state_of c.args.self.now) c.args.self.now.hall c.args.student.0 c.args.section.0 c.requires.student);
       wide = c.args.self.now.wide;
     }
 
 pub returns-clause-dropped : goal.returns-clause-dropped
 returns-clause-dropped c =
-    let held = sections_at c.args.self.now.floor.held.items c.args.student.0 c.from-place.result c.index.result.now c.from-place.ensures (subst (λ n. c.args.student.0 < n) (sym c.args.self.now.hall.each_student) c.requires.student) c.index.ensures in
-    let changed = held_changed (held_on c.args.self.now.floor) (held_on c.give.new.self) c.args.self.now.lists.lists c.from-place.result c.args.student.0 _ _ c.give.ensures.held c.from-place.ensures (c.without_section-bundle.ensures ∙ ap (without_section c.args.section.0) held) in
+    let held =
+    sections_at c.args.self.now.floor.held.items c.args.student.0 c.from-place.result c.index.result.now c.from-place.ensures
+    (subst (λ n. c.args.student.0 < n) (sym c.args.self.now.hall.each_student) c.requires.student) c.index.ensures in
+    let changed =
+    held_changed (held_on c.args.self.now.floor) (held_on c.give.new.self) c.args.self.now.lists.lists c.from-place.result c.args.student.0 _ _
+    c.give.ensures.held c.from-place.ensures (c.without_section-bundle.ensures ∙ ap (without_section c.args.section.0) held) in
     c.pass_on.ensures.passed ∙ ap (λ st. pass_on (market_of c.args.self.now) st c.args.section.0) changed
-    ∙ dropped_is (market_of c.args.self.now) (state_of c.args.self.now) c.args.student.0 c.args.section.0 (ap (λ l. has l c.args.section.0) (sym held) ∙ sym c.has.ensures ∙ c.if-not-has.false)
+    ∙ dropped_is (market_of c.args.self.now) (state_of c.args.self.now) c.args.student.0 c.args.section.0
+    (ap (λ l. has l c.args.section.0) (sym held) ∙ sym c.has.ensures ∙ c.if-not-has.false)

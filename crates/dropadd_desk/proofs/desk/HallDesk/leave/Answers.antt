@@ -16,19 +16,24 @@ pub returns-in_default-clause-left : goal.returns-in_default-clause-left
 returns-in_default-clause-left c =
     let list = c.items.ensures ∙ ap (λ n. get_or c.args.self.now.lists.lists n []) c.from-list.ensures in
     not_waiting_is (market_of c.args.self.now) (state_of c.args.self.now) c.args.student.0 c.args.section.0
-    (stands_not c.args.student.0 (waiting_for (state_of c.args.self.now) c.args.section.0) (subst (λ l. position (λ other. other == c.args.student.0) l ≡ None) list (sym c.place_of.ensures ∙ c.in_default.is)))
+    (stands_not c.args.student.0 (waiting_for (state_of c.args.self.now) c.args.section.0)
+    (subst (λ l. position (λ other. other == c.args.student.0) l ≡ None) list (sym c.place_of.ensures ∙ c.in_default.is)))
 
 pub invariant_of-self : goal.invariant_of-self
 invariant_of-self c =
     let list = c.items.ensures ∙ ap (λ n. get_or c.args.self.now.lists.lists n []) c.from-list.ensures in
     let at = subst (λ l. position (λ other. other == c.args.student.0) l ≡ Some c.in-Some.place) list (sym c.place_of.ensures ∙ c.in-Some.is) in
-    let changed = waiting_changed (held_on c.args.self.now.floor) c.args.self.now.lists c.take_out.new.self c.from-list.result c.args.section.0 _ _ c.take_out.ensures c.from-list.ensures
+    let changed =
+    waiting_changed (held_on c.args.self.now.floor) c.args.self.now.lists c.take_out.new.self c.from-list.result c.args.section.0 _ _ c.take_out.ensures
+    c.from-list.ensures
     (ap (λ n. remove_range (get_or c.args.self.now.lists.lists n []) c.in-Some.place (c.in-Some.place + 1)) c.from-list.ensures
     ∙ cut_out (student_count (market_of c.args.self.now)) c.args.student.0 c.in-Some.place (waiting_for (state_of c.args.self.now) c.args.section.0) (c.args.self.now.hall.queues c.args.section.0) at) in
     record {
       is_market = c.args.self.now.is_market;
       counted = c.args.self.now.counted;
-      hall = subst (IsHall c.args.self.now.rules) (sym changed) (left_keeps (market_of c.args.self.now) (state_of c.args.self.now) c.args.self.now.hall c.args.student.0 c.args.section.0 c.requires.section);
+      hall =
+          subst (IsHall c.args.self.now.rules) (sym changed)
+          (left_keeps (market_of c.args.self.now) (state_of c.args.self.now) c.args.self.now.hall c.args.student.0 c.args.section.0 c.requires.section);
       wide = ap (λ l. l.width) c.take_out.ensures ∙ c.args.self.now.wide;
     }
 
@@ -36,7 +41,11 @@ pub returns-clause-left : goal.returns-clause-left
 returns-clause-left c =
     let list = c.items.ensures ∙ ap (λ n. get_or c.args.self.now.lists.lists n []) c.from-list.ensures in
     let at = subst (λ l. position (λ other. other == c.args.student.0) l ≡ Some c.in-Some.place) list (sym c.place_of.ensures ∙ c.in-Some.is) in
-    let changed = waiting_changed (held_on c.args.self.now.floor) c.args.self.now.lists c.take_out.new.self c.from-list.result c.args.section.0 _ _ c.take_out.ensures c.from-list.ensures
+    let changed =
+    waiting_changed (held_on c.args.self.now.floor) c.args.self.now.lists c.take_out.new.self c.from-list.result c.args.section.0 _ _ c.take_out.ensures
+    c.from-list.ensures
     (ap (λ n. remove_range (get_or c.args.self.now.lists.lists n []) c.in-Some.place (c.in-Some.place + 1)) c.from-list.ensures
     ∙ cut_out (student_count (market_of c.args.self.now)) c.args.student.0 c.in-Some.place (waiting_for (state_of c.args.self.now) c.args.section.0) (c.args.self.now.hall.queues c.args.section.0) at) in
-    ap (λ st. (reply.Left, st)) changed ∙ left_is (market_of c.args.self.now) (state_of c.args.self.now) c.args.student.0 c.args.section.0 (stands c.args.student.0 c.in-Some.place (waiting_for (state_of c.args.self.now) c.args.section.0) at)
+    ap (λ st. (reply.Left, st)) changed
+    ∙ left_is (market_of c.args.self.now) (state_of c.args.self.now) c.args.student.0 c.args.section.0
+    (stands c.args.student.0 c.in-Some.place (waiting_for (state_of c.args.self.now) c.args.section.0) at)

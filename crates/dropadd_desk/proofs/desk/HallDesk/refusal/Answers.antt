@@ -7,38 +7,52 @@ use Rattle.dropadd_desk.proofs.DeskLemmas.{any_has, refused_holding, refused_wai
 use Rattle.dropadd_desk.proofs.desk.HallDesk.refusal.Goals as goal
 
 pub returns-then-has-clause-refusal : goal.returns-then-has-clause-refusal
-returns-then-has-clause-refusal c = refused_holding _ _ _ _ _ (ap (λ l. has l c.args.section.0) (sym c.bundle-held.ensures.value) ∙ sym c.has.ensures ∙ c.if-has.true)
+returns-then-has-clause-refusal c =
+    refused_holding _ _ _ _ _ (ap (λ l. has l c.args.section.0) (sym c.bundle-held.ensures.value) ∙ sym c.has.ensures ∙ c.if-has.true)
 
 pub returns-then-contains-clause-refusal : goal.returns-then-contains-clause-refusal
 returns-then-contains-clause-refusal c =
     refused_waiting _ _ _ _ _ (ap (λ l. has l c.args.section.0) (sym c.bundle-held.ensures.value) ∙ sym c.has.ensures ∙ c.if-has.false)
-    (ap (λ l. has l c.args.student.0) (sym c.waiting.ensures.waiting) ∙ sym (any_has _ c.args.student.0 (λ y. refl) c.waiting.result.now) ∙ sym c.contains.ensures.value ∙ c.if-contains.true)
+    (ap (λ l. has l c.args.student.0) (sym c.waiting.ensures.waiting) ∙ sym (any_has _ c.args.student.0 (λ y. refl) c.waiting.result.now)
+    ∙ sym c.contains.ensures.value ∙ c.if-contains.true)
 
 pub returns-in-Some-clause-refusal : goal.returns-in-Some-clause-refusal
 returns-in-Some-clause-refusal c =
     refused_clash _ _ _ _ _ c.in-Some.with (ap (λ l. has l c.args.section.0) (sym c.bundle-held.ensures.value) ∙ sym c.has.ensures ∙ c.if-has.false)
-    (ap (λ l. has l c.args.student.0) (sym c.waiting.ensures.waiting) ∙ sym (any_has _ c.args.student.0 (λ y. refl) c.waiting.result.now) ∙ sym c.contains.ensures.value ∙ c.if-contains.false)
+    (ap (λ l. has l c.args.student.0) (sym c.waiting.ensures.waiting) ∙ sym (any_has _ c.args.student.0 (λ y. refl) c.waiting.result.now)
+    ∙ sym c.contains.ensures.value ∙ c.if-contains.false)
     (ap (lowest_clash (market_of c.args.self.now) c.args.section.0) (sym c.bundle-held.ensures.value) ∙ sym c.in-Some.ensures)
 
 pub returns-then-passes_credits-clause-refusal : goal.returns-then-passes_credits-clause-refusal
 returns-then-passes_credits-clause-refusal c =
     refused_credits _ _ _ _ _ (ap (λ l. has l c.args.section.0) (sym c.bundle-held.ensures.value) ∙ sym c.has.ensures ∙ c.if-has.false)
-    (ap (λ l. has l c.args.student.0) (sym c.waiting.ensures.waiting) ∙ sym (any_has _ c.args.student.0 (λ y. refl) c.waiting.result.now) ∙ sym c.contains.ensures.value ∙ c.if-contains.false)
-    (ap (lowest_clash (market_of c.args.self.now) c.args.section.0) (sym c.bundle-held.ensures.value) ∙ sym c.lowest_clash.ensures ∙ ap (option_map (λ s. s.0)) c.in_default.is)
-    (ap (passes_credits (market_of c.args.self.now) c.args.student.0 c.args.section.0) (sym c.bundle-held.ensures.value) ∙ sym c.passes_credits.ensures ∙ c.if-passes_credits.true)
+    (ap (λ l. has l c.args.student.0) (sym c.waiting.ensures.waiting) ∙ sym (any_has _ c.args.student.0 (λ y. refl) c.waiting.result.now)
+    ∙ sym c.contains.ensures.value ∙ c.if-contains.false)
+    (ap (lowest_clash (market_of c.args.self.now) c.args.section.0) (sym c.bundle-held.ensures.value) ∙ sym c.lowest_clash.ensures
+    ∙ ap (option_map (λ s. s.0)) c.in_default.is)
+    (ap (passes_credits (market_of c.args.self.now) c.args.student.0 c.args.section.0) (sym c.bundle-held.ensures.value) ∙ sym c.passes_credits.ensures
+    ∙ c.if-passes_credits.true)
 
 pub returns-then-passes_courses-clause-refusal : goal.returns-then-passes_courses-clause-refusal
 returns-then-passes_courses-clause-refusal c =
     refused_courses _ _ _ _ _ (ap (λ l. has l c.args.section.0) (sym c.bundle-held.ensures.value) ∙ sym c.has.ensures ∙ c.if-has.false)
-    (ap (λ l. has l c.args.student.0) (sym c.waiting.ensures.waiting) ∙ sym (any_has _ c.args.student.0 (λ y. refl) c.waiting.result.now) ∙ sym c.contains.ensures.value ∙ c.if-contains.false)
-    (ap (lowest_clash (market_of c.args.self.now) c.args.section.0) (sym c.bundle-held.ensures.value) ∙ sym c.lowest_clash.ensures ∙ ap (option_map (λ s. s.0)) c.in_default.is)
-    (ap (passes_credits (market_of c.args.self.now) c.args.student.0 c.args.section.0) (sym c.bundle-held.ensures.value) ∙ sym c.passes_credits.ensures ∙ c.if-passes_credits.false)
-    (ap (passes_courses (market_of c.args.self.now) c.args.student.0) (sym c.bundle-held.ensures.value) ∙ sym c.passes_courses.ensures.passes ∙ c.if-passes_courses.true)
+    (ap (λ l. has l c.args.student.0) (sym c.waiting.ensures.waiting) ∙ sym (any_has _ c.args.student.0 (λ y. refl) c.waiting.result.now)
+    ∙ sym c.contains.ensures.value ∙ c.if-contains.false)
+    (ap (lowest_clash (market_of c.args.self.now) c.args.section.0) (sym c.bundle-held.ensures.value) ∙ sym c.lowest_clash.ensures
+    ∙ ap (option_map (λ s. s.0)) c.in_default.is)
+    (ap (passes_credits (market_of c.args.self.now) c.args.student.0 c.args.section.0) (sym c.bundle-held.ensures.value) ∙ sym c.passes_credits.ensures
+    ∙ c.if-passes_credits.false)
+    (ap (passes_courses (market_of c.args.self.now) c.args.student.0) (sym c.bundle-held.ensures.value) ∙ sym c.passes_courses.ensures.passes
+    ∙ c.if-passes_courses.true)
 
 pub returns-clause-refusal : goal.returns-clause-refusal
 returns-clause-refusal c =
     refused_none _ _ _ _ _ (ap (λ l. has l c.args.section.0) (sym c.bundle-held.ensures.value) ∙ sym c.has.ensures ∙ c.if-has.false)
-    (ap (λ l. has l c.args.student.0) (sym c.waiting.ensures.waiting) ∙ sym (any_has _ c.args.student.0 (λ y. refl) c.waiting.result.now) ∙ sym c.contains.ensures.value ∙ c.if-contains.false)
-    (ap (lowest_clash (market_of c.args.self.now) c.args.section.0) (sym c.bundle-held.ensures.value) ∙ sym c.lowest_clash.ensures ∙ ap (option_map (λ s. s.0)) c.in_default.is)
-    (ap (passes_credits (market_of c.args.self.now) c.args.student.0 c.args.section.0) (sym c.bundle-held.ensures.value) ∙ sym c.passes_credits.ensures ∙ c.if-passes_credits.false)
-    (ap (passes_courses (market_of c.args.self.now) c.args.student.0) (sym c.bundle-held.ensures.value) ∙ sym c.passes_courses.ensures.passes ∙ c.if-passes_courses.false)
+    (ap (λ l. has l c.args.student.0) (sym c.waiting.ensures.waiting) ∙ sym (any_has _ c.args.student.0 (λ y. refl) c.waiting.result.now)
+    ∙ sym c.contains.ensures.value ∙ c.if-contains.false)
+    (ap (lowest_clash (market_of c.args.self.now) c.args.section.0) (sym c.bundle-held.ensures.value) ∙ sym c.lowest_clash.ensures
+    ∙ ap (option_map (λ s. s.0)) c.in_default.is)
+    (ap (passes_credits (market_of c.args.self.now) c.args.student.0 c.args.section.0) (sym c.bundle-held.ensures.value) ∙ sym c.passes_credits.ensures
+    ∙ c.if-passes_credits.false)
+    (ap (passes_courses (market_of c.args.self.now) c.args.student.0) (sym c.bundle-held.ensures.value) ∙ sym c.passes_courses.ensures.passes
+    ∙ c.if-passes_courses.false)

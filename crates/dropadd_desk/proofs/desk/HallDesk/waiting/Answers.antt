@@ -6,4 +6,6 @@ use Rattle.dropadd_desk.proofs.DeskLemmas.{all_within}
 use Rattle.dropadd_desk.proofs.desk.HallDesk.waiting.Goals as goal
 
 pub returns-clause-students : goal.returns-clause-students
-returns-clause-students c = subst (λ l. All (λ i. i < student_count (market_of c.args.self.now)) l) (sym c.items.ensures) (all_within (student_count (market_of c.args.self.now)) _ (c.args.self.now.hall.queues c.from.result).within)
+returns-clause-students c =
+    subst (λ l. All (λ i. i < student_count (market_of c.args.self.now)) l) (sym c.items.ensures)
+    (all_within (student_count (market_of c.args.self.now)) _ (c.args.self.now.hall.queues c.from.result).within)

@@ -5,8 +5,13 @@ use Rattle.dropadd_desk.proofs.rules.MarketRules.student.Goals as goal
 
 pub returns-in_err-place-clause-ordinal : goal.returns-in_err-place-clause-ordinal
 returns-in_err-place-clause-ordinal c =
-    rw c.from_residual.ensures (sym c.in_err-place.was ∙ c.get_index_of.ensures.index ∙ place_of_name c.self.inside.students.keys (names_of c.args.self.now.roll.students) c.args.name.now (c.self.invariant.student_names ∙ ap (λ m. names_of m.roll.students) c.self.view_is))
+    rw c.from_residual.ensures
+    (sym c.in_err-place.was ∙ c.get_index_of.ensures.index
+    ∙ place_of_name c.self.inside.students.keys (names_of c.args.self.now.roll.students) c.args.name.now
+    (c.self.invariant.student_names ∙ ap (λ m. names_of m.roll.students) c.self.view_is))
 
 pub returns-clause-ordinal : goal.returns-clause-ordinal
 returns-clause-ordinal c =
-    sym c.in_ok-place.was ∙ c.get_index_of.ensures.index ∙ place_of_name c.self.inside.students.keys (names_of c.args.self.now.roll.students) c.args.name.now (c.self.invariant.student_names ∙ ap (λ m. names_of m.roll.students) c.self.view_is)
+    sym c.in_ok-place.was ∙ c.get_index_of.ensures.index
+    ∙ place_of_name c.self.inside.students.keys (names_of c.args.self.now.roll.students) c.args.name.now
+    (c.self.invariant.student_names ∙ ap (λ m. names_of m.roll.students) c.self.view_is)

@@ -19,7 +19,9 @@ invariant_of-result c = record {
       let same : n ≡ m = students c ∙ students_length (arc_value c.args.crowd).menus.items (arc_value c.args.crowd).budgets.items c.requires.crowd.same in
       let few : m ≤ 2000 = c.requires.crowd.few in
       let goal : n ≤ 2000 = omega arith in goal;
-  drawn = subst (λ l. length l ≤ c.len-students.result) (sym c.in_ok-places.ensures.items) (let n : ℕ = c.len-students.result in let goal : 0 ≤ n = omega arith in goal);
+  drawn =
+      subst (λ l. length l ≤ c.len-students.result) (sym c.in_ok-places.ensures.items)
+      (let n : ℕ = c.len-students.result in let goal : 0 ≤ n = omega arith in goal);
   reserved = c.in_ok-places.ensures.capacity;
 }
 

@@ -9,6 +9,7 @@ pub students-preserved : goal.students-preserved
 students-preserved c = record {
   count = length-set c.students.rows c.students.place c.row.result ∙ c.students.invariant.count;
   each = each_written (λ i posted. row_of posted ≡ row c.args.self.now.allocation i) c.students.rows c.students.place c.row.result
-      (let n : ℕ = length c.students.rows in let m : ℕ = length c.args.rows.now in let same : n ≡ m = c.students.invariant.count in let k : ℕ = c.students.place in let low : k < m = c.students-test.true in let goal : k < n = omega arith in goal)
+      (let n : ℕ = length c.students.rows in let m : ℕ = length c.args.rows.now in let same : n
+      ≡ m = c.students.invariant.count in let k : ℕ = c.students.place in let low : k < m = c.students-test.true in let goal : k < n = omega arith in goal)
       c.students.invariant.each c.row.ensures;
 }

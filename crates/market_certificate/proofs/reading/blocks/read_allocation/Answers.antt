@@ -13,22 +13,37 @@ use Rattle.market_certificate.proofs.Steps.{AreRead}
 use Rattle.market_certificate.proofs.reading.blocks.read_allocation.Goals as goal
 
 pub names-init : goal.names-init
-names-init c = subst (λ (values : List (List ℕ)). AreRead (final_line (seen c.args.tables.now).sections) (IsBundleOf (seen c.args.tables.now).sections) [] values c.args.lines.number c.args.lines.rest.now c.args.lines.number c.args.lines.rest.now) (sym (ap (map sections_of) c.in_ok-bundles.ensures.items)) (none_read (final_line (seen c.args.tables.now).sections) (IsBundleOf (seen c.args.tables.now).sections) [] c.args.lines.number c.args.lines.rest.now)
+names-init c =
+    subst
+    (λ (values : List (List ℕ)). AreRead (final_line (seen c.args.tables.now).sections) (IsBundleOf (seen c.args.tables.now).sections) [] values
+    c.args.lines.number c.args.lines.rest.now c.args.lines.number c.args.lines.rest.now)
+    (sym (ap (map sections_of) c.in_ok-bundles.ensures.items))
+    (none_read (final_line (seen c.args.tables.now).sections) (IsBundleOf (seen c.args.tables.now).sections) [] c.args.lines.number c.args.lines.rest.now)
 
 pub returns-in_err-bundle-clause-defect : goal.returns-in_err-bundle-clause-defect
 returns-in_err-bundle-clause-defect c =
     let p = err_from_is_err_and c.from_residual-in_err-bundle.result c.from_residual-in_err-bundle.ensures.1 in
-    let at = name_stands c.deref-name-items.result.now c.args.tables.now.students.items c.names.name-index _ c.name-item.result c.deref-name-items.ensures.value (omega arith) c.name-item.is in
+    let at =
+    name_stands c.deref-name-items.result.now c.args.tables.now.students.items c.names.name-index _ c.name-item.result c.deref-name-items.ensures.value
+    (omega arith) c.name-item.is in
     rw (p.1, p.2) (λ more. read_defect (seen c.args.tables.now) FinalForm (final_line (seen c.args.tables.now).sections) (IsBundleOf (seen c.args.tables.now).sections) (λ name value is. (value, is, refl)) (map name_bytes c.args.tables.now.students.items) (map sections_of c.names.bundles.items) c.names.name-index (name_bytes c.name-item.result) c.args.lines.number c.args.lines.rest.now c.names.left.number c.names.left.rest.now
     c.in_err-bundle.field-0.0 c.names.invariant at.0 at.1 c.in_err-bundle.ensures.defect more)
 
 pub names-preserved : goal.names-preserved
 names-preserved c =
-    let at = name_stands c.deref-name-items.result.now c.args.tables.now.students.items c.names.name-index _ c.name-item.result c.deref-name-items.ensures.value (omega arith) c.name-item.is in
-    read_more (final_line (seen c.args.tables.now).sections) (IsBundleOf (seen c.args.tables.now).sections) (map name_bytes c.args.tables.now.students.items) (map sections_of c.names.bundles.items) (map sections_of c.push.new.self.items) c.names.name-index (c.names.name-index + 1) (name_bytes c.name-item.result) (sections_of c.in_ok-bundle.bundle) c.args.lines.number c.args.lines.rest.now c.names.left.number c.names.left.rest.now
-    c.in_ok-bundle.behind.number c.in_ok-bundle.behind.rest.now c.names.invariant at.0 at.1 c.in_ok-bundle.ensures.range c.in_ok-bundle.ensures.line (mapped_push sections_of c.names.bundles.items c.push.new.self.items c.in_ok-bundle.bundle c.in_ok-push.ensures.items) refl
+    let at =
+    name_stands c.deref-name-items.result.now c.args.tables.now.students.items c.names.name-index _ c.name-item.result c.deref-name-items.ensures.value
+    (omega arith) c.name-item.is in
+    read_more (final_line (seen c.args.tables.now).sections) (IsBundleOf (seen c.args.tables.now).sections) (map name_bytes c.args.tables.now.students.items)
+    (map sections_of c.names.bundles.items) (map sections_of c.push.new.self.items) c.names.name-index (c.names.name-index + 1)
+    (name_bytes c.name-item.result) (sections_of c.in_ok-bundle.bundle) c.args.lines.number c.args.lines.rest.now c.names.left.number c.names.left.rest.now
+    c.in_ok-bundle.behind.number c.in_ok-bundle.behind.rest.now c.names.invariant at.0 at.1 c.in_ok-bundle.ensures.range c.in_ok-bundle.ensures.line
+    (mapped_push sections_of c.names.bundles.items c.push.new.self.items c.in_ok-bundle.bundle c.in_ok-push.ensures.items) refl
 
 pub returns : goal.returns
 returns c =
-    let read = all_read (final_line (seen c.args.tables.now).sections) (IsBundleOf (seen c.args.tables.now).sections) (map name_bytes c.args.tables.now.students.items) (map sections_of c.names.bundles.items) c.names.name-index c.args.lines.number c.args.lines.rest.now c.names.left.number c.names.left.rest.now (omega (arith, length-map c.args.tables.now.students.items name_bytes, ap length c.deref-name-items.ensures.value)) c.names.invariant in
+    let read =
+    all_read (final_line (seen c.args.tables.now).sections) (IsBundleOf (seen c.args.tables.now).sections) (map name_bytes c.args.tables.now.students.items)
+    (map sections_of c.names.bundles.items) c.names.name-index c.args.lines.number c.args.lines.rest.now c.names.left.number c.names.left.rest.now
+    (omega (arith, length-map c.args.tables.now.students.items name_bytes, ap length c.deref-name-items.ensures.value)) c.names.invariant in
     record { range = read.range; lines = read.takes; defect = search rules }

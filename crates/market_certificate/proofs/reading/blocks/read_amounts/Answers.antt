@@ -10,7 +10,12 @@ use Rattle.market_certificate.proofs.Steps.{AreRead}
 use Rattle.market_certificate.proofs.reading.blocks.read_amounts.Goals as goal
 
 pub names-init : goal.names-init
-names-init c = subst (λ (values : List (ℕ)). AreRead (amount_line c.args.kind) (λ tokens. tokens ≤ most_of c.args.kind) [] values c.args.lines.number c.args.lines.rest.now c.args.lines.number c.args.lines.rest.now) (sym (ap (map (λ tokens. tokens.0)) c.in_ok-amounts.ensures.items)) (none_read (amount_line c.args.kind) (λ tokens. tokens ≤ most_of c.args.kind) [] c.args.lines.number c.args.lines.rest.now)
+names-init c =
+    subst
+    (λ (values : List (ℕ)). AreRead (amount_line c.args.kind) (λ tokens. tokens ≤ most_of c.args.kind) [] values c.args.lines.number c.args.lines.rest.now
+    c.args.lines.number c.args.lines.rest.now)
+    (sym (ap (map (λ tokens. tokens.0)) c.in_ok-amounts.ensures.items))
+    (none_read (amount_line c.args.kind) (λ tokens. tokens ≤ most_of c.args.kind) [] c.args.lines.number c.args.lines.rest.now)
 
 pub returns-in_err-tokens-clause-defect : goal.returns-in_err-tokens-clause-defect
 returns-in_err-tokens-clause-defect c =
@@ -22,10 +27,16 @@ returns-in_err-tokens-clause-defect c =
 pub names-preserved : goal.names-preserved
 names-preserved c =
     let at = name_stands c.args.names.now c.args.names.now c.names.name-index _ c.name-item.result refl (omega arith) c.name-item.is in
-    read_more (amount_line c.args.kind) (λ tokens. tokens ≤ most_of c.args.kind) (map name_bytes c.args.names.now) (map (λ tokens. tokens.0) c.names.amounts.items) (map (λ tokens. tokens.0) c.push.new.self.items) c.names.name-index (c.names.name-index + 1) (name_bytes c.name-item.result) c.in_ok-tokens.tokens.0 c.args.lines.number c.args.lines.rest.now c.names.left.number c.names.left.rest.now
-    c.in_ok-tokens.behind.number c.in_ok-tokens.behind.rest.now c.names.invariant at.0 at.1 c.in_ok-tokens.ensures.range c.in_ok-tokens.ensures.line (mapped_push (λ tokens. tokens.0) c.names.amounts.items c.push.new.self.items c.in_ok-tokens.tokens c.in_ok-push.ensures.items) refl
+    read_more (amount_line c.args.kind) (λ tokens. tokens ≤ most_of c.args.kind) (map name_bytes c.args.names.now)
+    (map (λ tokens. tokens.0) c.names.amounts.items) (map (λ tokens. tokens.0) c.push.new.self.items) c.names.name-index (c.names.name-index + 1)
+    (name_bytes c.name-item.result) c.in_ok-tokens.tokens.0 c.args.lines.number c.args.lines.rest.now c.names.left.number c.names.left.rest.now
+    c.in_ok-tokens.behind.number c.in_ok-tokens.behind.rest.now c.names.invariant at.0 at.1 c.in_ok-tokens.ensures.range c.in_ok-tokens.ensures.line
+    (mapped_push (λ tokens. tokens.0) c.names.amounts.items c.push.new.self.items c.in_ok-tokens.tokens c.in_ok-push.ensures.items) refl
 
 pub returns : goal.returns
 returns c =
-    let read = all_read (amount_line c.args.kind) (λ tokens. tokens ≤ most_of c.args.kind) (map name_bytes c.args.names.now) (map (λ tokens. tokens.0) c.names.amounts.items) c.names.name-index c.args.lines.number c.args.lines.rest.now c.names.left.number c.names.left.rest.now (omega (arith, length-map c.args.names.now name_bytes)) c.names.invariant in
+    let read =
+    all_read (amount_line c.args.kind) (λ tokens. tokens ≤ most_of c.args.kind) (map name_bytes c.args.names.now)
+    (map (λ tokens. tokens.0) c.names.amounts.items) c.names.name-index c.args.lines.number c.args.lines.rest.now c.names.left.number
+    c.names.left.rest.now (omega (arith, length-map c.args.names.now name_bytes)) c.names.invariant in
     record { range = read.range; lines = read.takes; defect = search rules }

@@ -11,7 +11,9 @@ use Rattle.market_certificate.proofs.Steps.{AreRead}
 use Rattle.market_certificate.proofs.reading.blocks.read_seats.Goals as goal
 
 pub names-init : goal.names-init
-names-init c = subst (λ (values : List (ℕ × ℕ)). AreRead used_line IsUsed [] values c.args.lines.number c.args.lines.rest.now c.args.lines.number c.args.lines.rest.now) (sym c.in_ok-seats.ensures.items) (none_read used_line IsUsed [] c.args.lines.number c.args.lines.rest.now)
+names-init c =
+    subst (λ (values : List (ℕ × ℕ)). AreRead used_line IsUsed [] values c.args.lines.number c.args.lines.rest.now c.args.lines.number c.args.lines.rest.now)
+    (sym c.in_ok-seats.ensures.items) (none_read used_line IsUsed [] c.args.lines.number c.args.lines.rest.now)
 
 pub returns-in_err-used-clause-defect : goal.returns-in_err-used-clause-defect
 returns-in_err-used-clause-defect c =
@@ -23,10 +25,14 @@ returns-in_err-used-clause-defect c =
 pub names-preserved : goal.names-preserved
 names-preserved c =
     let at = name_stands c.args.names.now c.args.names.now c.names.name-index _ c.name-item.result refl (omega arith) c.name-item.is in
-    read_more used_line IsUsed (map name_bytes c.args.names.now) c.names.seats.items c.push.new.self.items c.names.name-index (c.names.name-index + 1) (name_bytes c.name-item.result) c.in_ok-used.used c.args.lines.number c.args.lines.rest.now c.names.left.number c.names.left.rest.now
-    c.in_ok-used.behind.number c.in_ok-used.behind.rest.now c.names.invariant at.0 at.1 c.in_ok-used.ensures.range c.in_ok-used.ensures.line c.in_ok-push.ensures.items refl
+    read_more used_line IsUsed (map name_bytes c.args.names.now) c.names.seats.items c.push.new.self.items c.names.name-index (c.names.name-index + 1)
+    (name_bytes c.name-item.result) c.in_ok-used.used c.args.lines.number c.args.lines.rest.now c.names.left.number c.names.left.rest.now
+    c.in_ok-used.behind.number c.in_ok-used.behind.rest.now c.names.invariant at.0 at.1 c.in_ok-used.ensures.range c.in_ok-used.ensures.line
+    c.in_ok-push.ensures.items refl
 
 pub returns : goal.returns
 returns c =
-    let read = all_read used_line IsUsed (map name_bytes c.args.names.now) c.names.seats.items c.names.name-index c.args.lines.number c.args.lines.rest.now c.names.left.number c.names.left.rest.now (omega (arith, length-map c.args.names.now name_bytes)) c.names.invariant in
+    let read =
+    all_read used_line IsUsed (map name_bytes c.args.names.now) c.names.seats.items c.names.name-index c.args.lines.number c.args.lines.rest.now
+    c.names.left.number c.names.left.rest.now (omega (arith, length-map c.args.names.now name_bytes)) c.names.invariant in
     record { range = read.range; lines = read.takes; defect = search rules }

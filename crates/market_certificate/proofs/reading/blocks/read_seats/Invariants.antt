@@ -6,4 +6,5 @@ use Rattle.market_certificate.proofs.Steps.{AreRead}
 use Rattle.market_certificate.proofs.reading.blocks.read_seats.Given as goal
 
 abbrev pub invariant-names : goal.invariant-names
-invariant-names l = AreRead used_line IsUsed (take l.name-index (map name_bytes l.names)) l.seats.items l.fn.lines.number l.fn.lines.rest.now l.left.number l.left.rest.now
+invariant-names l =
+    AreRead used_line IsUsed (take l.name-index (map name_bytes l.names)) l.seats.items l.fn.lines.number l.fn.lines.rest.now l.left.number l.left.rest.now

@@ -11,5 +11,6 @@ returns-in_err-line-clause-defect c =
 
 pub returns-in-None-clause-defect : goal.returns-in-None-clause-defect
 returns-in-None-clause-defect c =
-    λ tables. defect_form (HasForm tables (AmountForm c.args.kind (name_bytes c.args.name.now))) c.in_ok-line.line.now c.args.lines.number c.args.lines.rest.now c.in_ok-line.left.number c.in_ok-line.left.rest.now c.out_of_form.result c.out_of_form.ensures c.in_ok-line.ensures.takes
+    λ tables. defect_form (HasForm tables (AmountForm c.args.kind (name_bytes c.args.name.now))) c.in_ok-line.line.now c.args.lines.number c.args.lines.rest.now
+    c.in_ok-line.left.number c.in_ok-line.left.rest.now c.out_of_form.result c.out_of_form.ensures c.in_ok-line.ensures.takes
     c.in_ok-line.ensures.whole (c.in-None.ensures.none tables)

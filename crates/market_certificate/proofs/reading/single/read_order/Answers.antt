@@ -12,5 +12,6 @@ returns-in_err-line-clause-defect c =
 pub returns-in-None-clause-defect : goal.returns-in-None-clause-defect
 returns-in-None-clause-defect c =
     let none = when_none c.in_ok-order.field-0 c.in-None.is c.in_ok-order.ensures.none in
-    λ tables. defect_form (HasForm tables OrderForm) c.in_ok-line.line.now c.args.lines.number c.args.lines.rest.now c.in_ok-line.left.number c.in_ok-line.left.rest.now c.out_of_form.result c.out_of_form.ensures c.in_ok-line.ensures.takes
+    λ tables. defect_form (HasForm tables OrderForm) c.in_ok-line.line.now c.args.lines.number c.args.lines.rest.now c.in_ok-line.left.number
+    c.in_ok-line.left.rest.now c.out_of_form.result c.out_of_form.ensures c.in_ok-line.ensures.takes
     c.in_ok-line.ensures.whole (none tables)

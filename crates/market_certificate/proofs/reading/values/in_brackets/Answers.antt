@@ -6,4 +6,5 @@ use Rattle.market_certificate.proofs.reading.values.in_brackets.Goals as goal
 
 pub returns-clause-some : goal.returns-clause-some
 returns-clause-some c =
-    in_two c.args.bytes.now c.in_ok-rest.rest.now c.strip_suffix.result c.in_ok-rest.ensures.some (strip_suffix_is Decides-eqb c.in_ok-rest.rest.now (93 ∷ []) c.strip_suffix.result c.strip_suffix.ensures.cases)
+    in_two c.args.bytes.now c.in_ok-rest.rest.now c.strip_suffix.result c.in_ok-rest.ensures.some
+    (strip_suffix_is Decides-eqb c.in_ok-rest.rest.now (93 ∷ []) c.strip_suffix.result c.strip_suffix.ensures.cases)

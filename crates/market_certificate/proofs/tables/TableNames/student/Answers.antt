@@ -9,4 +9,5 @@ use Rattle.market_certificate.proofs.tables.TableNames.student.Goals as goal
 pub returns-clause-none : goal.returns-clause-none
 returns-clause-none c =
     found_none (λ s. s.0) c.find.result c.args.bytes.now (map name_bytes c.args.self.now.students.items)
-    (c.find.ensures.place ∙ ap (λ (b : List ℕ). position (bytes_eq b) (names_of c.args.self.now.roll.now.students)) c.in_ok-name.ensures.name ∙ ap (λ (names : List (List ℕ)). position (bytes_eq c.args.bytes.now) names) (sym c.args.self.now.of_roll))
+    (c.find.ensures.place ∙ ap (λ (b : List ℕ). position (bytes_eq b) (names_of c.args.self.now.roll.now.students)) c.in_ok-name.ensures.name
+    ∙ ap (λ (names : List (List ℕ)). position (bytes_eq c.args.bytes.now) names) (sym c.args.self.now.of_roll))

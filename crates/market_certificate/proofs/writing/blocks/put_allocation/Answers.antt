@@ -9,12 +9,20 @@ use Rattle.market_certificate.proofs.writing.blocks.put_allocation.Goals as goal
 
 pub put_final-requires : goal.put_final-requires
 put_final-requires c =
-    let at = pair_of_turn c.args.names.now c.args.bundles.now c.names.yielded c.into_iter-name-iterator.result c.names.name-iterator c.next.new.self c.next.result c.names.yielded_by (c.in-Some.name, c.in-Some.bundle) c.in-Some.is c.next.ensures.steps (search rules) (search rules) in
-    let is = value_each (IsBundleOf (map name_bytes c.args.sections.now)) sections_of c.args.bundles.now (length c.names.yielded) c.in-Some.bundle.now c.requires.each at.1 at.3 in
+    let at =
+    pair_of_turn c.args.names.now c.args.bundles.now c.names.yielded c.into_iter-name-iterator.result c.names.name-iterator c.next.new.self c.next.result
+    c.names.yielded_by (c.in-Some.name, c.in-Some.bundle) c.in-Some.is c.next.ensures.steps (search rules) (search rules) in
+    let is =
+    value_each (IsBundleOf (map name_bytes c.args.sections.now)) sections_of c.args.bundles.now (length c.names.yielded) c.in-Some.bundle.now c.requires.each
+    at.1 at.3 in
     below_names c.args.sections.now (sections_of c.in-Some.bundle.now) is
 
 pub names-preserved : goal.names-preserved
 names-preserved c =
-    let at = pair_of_turn c.args.names.now c.args.bundles.now c.names.yielded c.into_iter-name-iterator.result c.names.name-iterator c.next.new.self c.next.result c.names.yielded_by (c.in-Some.name, c.in-Some.bundle) c.in-Some.is c.next.ensures.steps (search rules) (search rules) in
-    names_more (final_line (map name_bytes c.args.sections.now)) c.args.names.now (map sections_of c.args.bundles.now) (length c.names.yielded) _ c.in-Some.name.now (sections_of c.in-Some.bundle.now) c.args.text.now.items c.names.text.items c.put_final.new.text.items
-    (one_longer c.names.yielded (c.in-Some.name, c.in-Some.bundle)) at.0 (omega (arith, at.1, length-map c.args.bundles.now sections_of)) at.2 (value_at sections_of c.args.bundles.now (length c.names.yielded) c.in-Some.bundle.now at.1 at.3) c.names.invariant c.in_ok-put_final.ensures
+    let at =
+    pair_of_turn c.args.names.now c.args.bundles.now c.names.yielded c.into_iter-name-iterator.result c.names.name-iterator c.next.new.self c.next.result
+    c.names.yielded_by (c.in-Some.name, c.in-Some.bundle) c.in-Some.is c.next.ensures.steps (search rules) (search rules) in
+    names_more (final_line (map name_bytes c.args.sections.now)) c.args.names.now (map sections_of c.args.bundles.now) (length c.names.yielded) _
+    c.in-Some.name.now (sections_of c.in-Some.bundle.now) c.args.text.now.items c.names.text.items c.put_final.new.text.items
+    (one_longer c.names.yielded (c.in-Some.name, c.in-Some.bundle)) at.0 (omega (arith, at.1, length-map c.args.bundles.now sections_of)) at.2
+    (value_at sections_of c.args.bundles.now (length c.names.yielded) c.in-Some.bundle.now at.1 at.3) c.names.invariant c.in_ok-put_final.ensures

@@ -6,4 +6,9 @@ use Rattle.market_certificate.specs.Texts.{each_line, final_line}
 use Rattle.market_certificate.proofs.writing.blocks.put_allocation.Given as goal
 
 abbrev pub invariant-names : goal.invariant-names
-invariant-names l = l.text.items ≡ l.initial.text.items ++ joined (each_line (final_line (map name_bytes l.sections)) (take (length l.yielded) (map name_bytes l.names)) (take (length l.yielded) (map sections_of l.bundles)))
+invariant-names l =
+    l.text.items
+    ≡ l.initial.text.items
+    ++ joined
+    (each_line (final_line (map name_bytes l.sections)) (take (length l.yielded) (map name_bytes l.names))
+    (take (length l.yielded) (map sections_of l.bundles)))

@@ -5,4 +5,9 @@ use Rattle.market_certificate.specs.Texts.{amount_line, each_line}
 use Rattle.market_certificate.proofs.writing.blocks.put_amounts.Given as goal
 
 abbrev pub invariant-names : goal.invariant-names
-invariant-names l = l.text.items ≡ l.initial.text.items ++ joined (each_line (amount_line l.kind) (take (length l.yielded) (map name_bytes l.names)) (take (length l.yielded) (map (λ tokens. tokens.0) l.amounts)))
+invariant-names l =
+    l.text.items
+    ≡ l.initial.text.items
+    ++ joined
+    (each_line (amount_line l.kind) (take (length l.yielded) (map name_bytes l.names))
+    (take (length l.yielded) (map (λ tokens. tokens.0) l.amounts)))

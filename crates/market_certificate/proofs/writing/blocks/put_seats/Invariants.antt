@@ -5,4 +5,5 @@ use Rattle.market_certificate.specs.Texts.{each_line, used_line}
 use Rattle.market_certificate.proofs.writing.blocks.put_seats.Given as goal
 
 abbrev pub invariant-names : goal.invariant-names
-invariant-names l = l.text.items ≡ l.initial.text.items ++ joined (each_line used_line (take (length l.yielded) (map name_bytes l.names)) (take (length l.yielded) (l.seats)))
+invariant-names l =
+    l.text.items ≡ l.initial.text.items ++ joined (each_line used_line (take (length l.yielded) (map name_bytes l.names)) (take (length l.yielded) (l.seats)))

@@ -16,11 +16,21 @@ put_rest-count-requires c =
 pub invariant_of-self : goal.invariant_of-self
 invariant_of-self c =
     let here = c.args.self.now.placed c.in-File.place (ap place_of_begun c.in-File.is) in
-    let text : text_at c.args.self.now.files.items c.in-File.place.file ≡ c.deref.result.now = text_at_is c.args.self.now.files.items c.in-File.place.file c.index.result.now here.0 c.index.ensures ∙ sym c.deref.ensures.value in
-    record { placed = λ place is. moved c.args.self.now.files.items c.in-File.place c.put_rest-count.result place here (rw text c.put_rest-count.ensures.within) is }
+    let text : text_at c.args.self.now.files.items c.in-File.place.file ≡ c.deref.result.now =
+    text_at_is c.args.self.now.files.items c.in-File.place.file c.index.result.now here.0 c.index.ensures ∙ sym c.deref.ensures.value in
+    record {
+      placed = λ place is. moved c.args.self.now.files.items c.in-File.place c.put_rest-count.result place here (rw text c.put_rest-count.ensures.within)
+          is;
+    }
 
 pub returns-clause-bytes : goal.returns-clause-bytes
 returns-clause-bytes c =
     let here = c.args.self.now.placed c.in-File.place (ap place_of_begun c.in-File.is) in
-    let text : text_at c.args.self.now.files.items c.in-File.place.file ≡ c.deref.result.now = text_at_is c.args.self.now.files.items c.in-File.place.file c.index.result.now here.0 c.index.ensures ∙ sym c.deref.ensures.value in
-    rw c.in-File.is (rw text (c.put_rest-count.ensures.bytes, λ none room. drop_all (c.in-File.place.at + c.put_rest-count.result) c.deref.result.now (omega (arith, c.put_rest-count.ensures.end none room))))
+    let text : text_at c.args.self.now.files.items c.in-File.place.file ≡ c.deref.result.now =
+    text_at_is c.args.self.now.files.items c.in-File.place.file c.index.result.now here.0 c.index.ensures ∙ sym c.deref.ensures.value in
+    rw c.in-File.is
+    (rw text (
+      c.put_rest-count.ensures.bytes,
+      λ none room. drop_all (c.in-File.place.at + c.put_rest-count.result) c.deref.result.now
+          (omega (arith, c.put_rest-count.ensures.end none room)),
+    ))

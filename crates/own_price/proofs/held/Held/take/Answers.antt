@@ -8,33 +8,55 @@ use Rattle.own_price.proofs.held.Held.take.Goals as goal
 
 pub bundles-requires-clause-few : goal.bundles-requires-clause-few
 bundles-requires-clause-few g c =
-    let long : length c.in_ok-students.students.items ≡ c.students.result = all_count c.in_ok-students.students.items c.students.result c.in_ok-students.ensures in
+    let long : length c.in_ok-students.students.items ≡ c.students.result =
+    all_count c.in_ok-students.students.items c.students.result c.in_ok-students.ensures in
     let few = c.students.ensures.crowd.few in
     let count = c.students.ensures.value in
     rw c.deref.ensures.value (omega (arith, long, few, count))
 
 pub bundles-requires-clause-range : goal.bundles-requires-clause-range
-bundles-requires-clause-range g c = rw c.deref.ensures.value (all_range c.in_ok-students.students.items c.students.result (length (g.D.Demands.crowd c.args.demands.now).students) c.in_ok-students.ensures (sym c.students.ensures.value))
+bundles-requires-clause-range g c =
+    rw c.deref.ensures.value
+    (all_range c.in_ok-students.students.items c.students.result (length (g.D.Demands.crowd c.args.demands.now).students) c.in_ok-students.ensures
+    (sym c.students.ensures.value))
 
 pub tally-requires-clause-few : goal.tally-requires-clause-few
 tally-requires-clause-few g c =
-    let told = subst (λ ss. map sections_of c.in_ok-bundles.bundles.items ≡ map (λ student. demand_of (g.D.Demands.crowd c.args.demands.now) (price_in c.args.prices.now) student.0) ss) c.deref.ensures.value c.in_ok-bundles.ensures.value in
-    let same : length c.in_ok-bundles.bundles.items ≡ length c.in_ok-students.students.items = others_length (g.D.Demands.crowd c.args.demands.now) (price_in c.args.prices.now) c.in_ok-students.students.items c.in_ok-bundles.bundles.items told in
-    let long : length c.in_ok-students.students.items ≡ c.students.result = all_count c.in_ok-students.students.items c.students.result c.in_ok-students.ensures in
+    let told =
+    subst
+    (λ ss. map sections_of c.in_ok-bundles.bundles.items
+    ≡ map (λ student. demand_of (g.D.Demands.crowd c.args.demands.now) (price_in c.args.prices.now) student.0) ss)
+    c.deref.ensures.value c.in_ok-bundles.ensures.value in
+    let same : length c.in_ok-bundles.bundles.items ≡ length c.in_ok-students.students.items =
+    others_length (g.D.Demands.crowd c.args.demands.now) (price_in c.args.prices.now) c.in_ok-students.students.items c.in_ok-bundles.bundles.items told in
+    let long : length c.in_ok-students.students.items ≡ c.students.result =
+    all_count c.in_ok-students.students.items c.students.result c.in_ok-students.ensures in
     let few = c.students.ensures.crowd.few in
     let count = c.students.ensures.value in
     rw c.deref-2.ensures.value (omega (arith, same, long, few, count))
 
 pub tally-requires-clause-within : goal.tally-requires-clause-within
 tally-requires-clause-within g c =
-    let told = subst (λ ss. map sections_of c.in_ok-bundles.bundles.items ≡ map (λ student. demand_of (g.D.Demands.crowd c.args.demands.now) (price_in c.args.prices.now) student.0) ss) c.deref.ensures.value c.in_ok-bundles.ensures.value in
-    rw c.deref-2.ensures.value (others_within (g.D.Demands.crowd c.args.demands.now) (price_in c.args.prices.now) c.in_ok-students.students.items c.in_ok-bundles.bundles.items _ told c.requires.same)
+    let told =
+    subst
+    (λ ss. map sections_of c.in_ok-bundles.bundles.items
+    ≡ map (λ student. demand_of (g.D.Demands.crowd c.args.demands.now) (price_in c.args.prices.now) student.0) ss)
+    c.deref.ensures.value c.in_ok-bundles.ensures.value in
+    rw c.deref-2.ensures.value
+    (others_within (g.D.Demands.crowd c.args.demands.now) (price_in c.args.prices.now) c.in_ok-students.students.items c.in_ok-bundles.bundles.items _ told
+    c.requires.same)
 
 pub returns-clause-bundles : goal.returns-clause-bundles
 returns-clause-bundles g c =
-    let told = subst (λ ss. map sections_of c.in_ok-bundles.bundles.items ≡ map (λ student. demand_of (g.D.Demands.crowd c.args.demands.now) (price_in c.args.prices.now) student.0) ss) c.deref.ensures.value c.in_ok-bundles.ensures.value in
+    let told =
+    subst
+    (λ ss. map sections_of c.in_ok-bundles.bundles.items
+    ≡ map (λ student. demand_of (g.D.Demands.crowd c.args.demands.now) (price_in c.args.prices.now) student.0) ss)
+    c.deref.ensures.value c.in_ok-bundles.ensures.value in
     let copied : c.in_ok-prices.prices.items ≡ c.args.prices.now = search rules in
     subst (λ ps. Holds (g.D.Demands.crowd c.args.demands.now) (record { prices = ps; bundles = map sections_of c.in_ok-bundles.bundles.items })) (sym copied) (record {
       prices = c.requires;
-      bundles = all_asked (g.D.Demands.crowd c.args.demands.now) (price_in c.args.prices.now) c.in_ok-students.students.items c.in_ok-bundles.bundles.items c.students.result c.students.ensures.value c.in_ok-students.ensures told;
+      bundles =
+          all_asked (g.D.Demands.crowd c.args.demands.now) (price_in c.args.prices.now) c.in_ok-students.students.items c.in_ok-bundles.bundles.items
+          c.students.result c.students.ensures.value c.in_ok-students.ensures told;
     })

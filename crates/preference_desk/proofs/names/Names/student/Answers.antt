@@ -3,7 +3,8 @@ use Rattle.preference_desk.proofs.NameLemmas.{has_by_keys, found_ordinal}
 use Rattle.preference_desk.proofs.names.Names.student.Goals as goal
 
 pub returns-in_err-place-clause-none : goal.returns-in_err-place-clause-none
-returns-in_err-place-clause-none c = rw c.from_residual.ensures (has_by_keys c.args.self.now.students.keys c.args.name.now false (sym c.in_err-place.ensures.found))
+returns-in_err-place-clause-none c =
+    rw c.from_residual.ensures (has_by_keys c.args.self.now.students.keys c.args.name.now false (sym c.in_err-place.ensures.found))
 
 pub returns-clause-has : goal.returns-clause-has
 returns-clause-has c = has_by_keys c.args.self.now.students.keys c.args.name.now true (sym c.in_ok-place.ensures.found)

@@ -7,4 +7,5 @@ use Rattle.preference_desk.proofs.pairs.Pairs.as_slice.Goals as goal
 
 pub returns-clause-entries : goal.returns-clause-entries
 returns-clause-entries c =
-    ap (map pair_entry) c.deref.ensures.value ∙ sym (entries-from_sorted pair_cmp (map pair_entry c.args.self.now.items.items) (subst T (sym c.args.self.now.kept.sorted) tt))
+    ap (map pair_entry) c.deref.ensures.value
+    ∙ sym (entries-from_sorted pair_cmp (map pair_entry c.args.self.now.items.items) (subst T (sym c.args.self.now.kept.sorted) tt))

@@ -6,4 +6,5 @@ use Rattle.preference_desk.proofs.ratings.Ratings.as_slice.Goals as goal
 
 pub returns-clause-entries : goal.returns-clause-entries
 returns-clause-entries c =
-    ap (map rating_entry) c.deref.ensures.value ∙ sym (entries-from_sorted nat_cmp (map rating_entry c.args.self.now.items.items) (subst T (sym c.args.self.now.kept.sorted) tt))
+    ap (map rating_entry) c.deref.ensures.value
+    ∙ sym (entries-from_sorted nat_cmp (map rating_entry c.args.self.now.items.items) (subst T (sym c.args.self.now.kept.sorted) tt))

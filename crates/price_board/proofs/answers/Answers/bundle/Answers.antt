@@ -21,8 +21,13 @@ returns-clause-posted c = subst (λ (a : AnswersData). c.bundle.result ≡ bundl
 
 pub returns-clause-some : goal.returns-clause-some
 returns-clause-some c =
-    subst (λ (a : AnswersData). c.args.version < version_count a.terms → c.args.student.0 < student_count a.terms → ask_of a.terms.asks c.args.version ≡ Counts → IsSome c.bundle.result) c.self.view_is
-    (λ low within counts. subst (λ (o : Option Bundle). IsSome o) (sym (posted c)) (counts_filled c.self.inside.state.terms c.self.inside.state.rows c.bundle.ensures.rows c.self.invariant c.args.version c.args.student.0 low within counts))
+    subst
+    (λ (a : AnswersData). c.args.version < version_count a.terms → c.args.student.0 < student_count a.terms → ask_of a.terms.asks c.args.version ≡ Counts
+    → IsSome c.bundle.result)
+    c.self.view_is
+    (λ low within counts. subst (λ (o : Option Bundle). IsSome o) (sym (posted c))
+    (counts_filled c.self.inside.state.terms c.self.inside.state.rows c.bundle.ensures.rows c.self.invariant c.args.version c.args.student.0 low within
+    counts))
 
 pub returns-clause-right : goal.returns-clause-right
 returns-clause-right c =

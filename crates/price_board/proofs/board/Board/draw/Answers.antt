@@ -13,22 +13,43 @@ call-requires-clause-left g c = may_draw c.args.self.now c.args.seat.now c.requi
 
 pub unreachable-requires : goal.unreachable-requires
 unreachable-requires g c =
-    let called : HasCalled c.self.inside.chronicle DrawCall c.call.result c.args.seat.now c.call.new.seat = record { seen = c.call.ensures.seen; legal = c.call.ensures.legal; own = c.call.ensures.own; all_own = c.call.ensures.all_own; left = c.call.ensures.left; same = c.call.ensures.same } in
-    no_post c.args.self.now c.args.seat.now c.call.new.seat c.requires.seat c.call.result c.in-Post.field-0 (subst (λ (o : Origin Terms Progress). HasCalled o DrawCall c.call.result c.args.seat.now c.call.new.seat) c.self.view_is called) c.in-Post.is
+    let called : HasCalled c.self.inside.chronicle DrawCall c.call.result c.args.seat.now c.call.new.seat =
+    record {
+      seen = c.call.ensures.seen;
+      legal = c.call.ensures.legal;
+      own = c.call.ensures.own;
+      all_own = c.call.ensures.all_own;
+      left = c.call.ensures.left;
+      same = c.call.ensures.same;
+    } in
+    no_post c.args.self.now c.args.seat.now c.call.new.seat c.requires.seat c.call.result c.in-Post.field-0
+    (subst (λ (o : Origin Terms Progress). HasCalled o DrawCall c.call.result c.args.seat.now c.call.new.seat) c.self.view_is called) c.in-Post.is
 
 called : (g : given.Over) (c : goal.In-Draw g) → HasCalled c.args.self.now DrawCall (Drew c.in-Draw.draw) c.args.seat.now c.call.new.seat
 called g c =
-    let made : HasCalled c.self.inside.chronicle DrawCall c.call.result c.args.seat.now c.call.new.seat = record { seen = c.call.ensures.seen; legal = c.call.ensures.legal; own = c.call.ensures.own; all_own = c.call.ensures.all_own; left = c.call.ensures.left; same = c.call.ensures.same } in
-    subst (λ r. HasCalled c.args.self.now DrawCall r c.args.seat.now c.call.new.seat) c.in-Draw.is (subst (λ (o : Origin Terms Progress). HasCalled o DrawCall c.call.result c.args.seat.now c.call.new.seat) c.self.view_is made)
+    let made : HasCalled c.self.inside.chronicle DrawCall c.call.result c.args.seat.now c.call.new.seat =
+    record {
+      seen = c.call.ensures.seen;
+      legal = c.call.ensures.legal;
+      own = c.call.ensures.own;
+      all_own = c.call.ensures.all_own;
+      left = c.call.ensures.left;
+      same = c.call.ensures.same;
+    } in
+    subst (λ r. HasCalled c.args.self.now DrawCall r c.args.seat.now c.call.new.seat) c.in-Draw.is
+    (subst (λ (o : Origin Terms Progress). HasCalled o DrawCall c.call.result c.args.seat.now c.call.new.seat) c.self.view_is made)
 
 pub returns-clause-seat : goal.returns-clause-seat
-returns-clause-seat g c = (has_drawn c.args.self.now c.args.seat.now c.call.new.seat c.requires.seat c.in-Draw.draw (called g c) c.requires.holds_nothing c.requires.not_done).seat
+returns-clause-seat g c =
+    (has_drawn c.args.self.now c.args.seat.now c.call.new.seat c.requires.seat c.in-Draw.draw (called g c) c.requires.holds_nothing c.requires.not_done).seat
 
 pub returns-clause-answer : goal.returns-clause-answer
 returns-clause-answer g c = drew_answer c.args.self.now c.args.seat.now c.call.new.seat c.requires.seat c.in-Draw.draw (called g c)
 
 pub returns-clause-holds : goal.returns-clause-holds
-returns-clause-holds g c = (has_drawn c.args.self.now c.args.seat.now c.call.new.seat c.requires.seat c.in-Draw.draw (called g c) c.requires.holds_nothing c.requires.not_done).holds
+returns-clause-holds g c =
+    (has_drawn c.args.self.now c.args.seat.now c.call.new.seat c.requires.seat c.in-Draw.draw (called g c) c.requires.holds_nothing c.requires.not_done).holds
 
 pub returns-clause-turn : goal.returns-clause-turn
-returns-clause-turn g c = (has_drawn c.args.self.now c.args.seat.now c.call.new.seat c.requires.seat c.in-Draw.draw (called g c) c.requires.holds_nothing c.requires.not_done).turn
+returns-clause-turn g c =
+    (has_drawn c.args.self.now c.args.seat.now c.call.new.seat c.requires.seat c.in-Draw.draw (called g c) c.requires.holds_nothing c.requires.not_done).turn

@@ -12,17 +12,41 @@ use Rattle.price_board.proofs.state.BoardState.bundle.Goals as goal
 
 pub returns-then-version-len-clause-posted : goal.returns-then-version-len-clause-posted
 returns-then-version-len-clause-posted c =
-    let past : length c.self.inside.places ≤ c.args.version = omega (arith, count_tallies (terms_in c.self.inside) c.self.inside.places c.self.inside.tallies.items c.self.inside.next.version c.self.inside.next.student c.self.invariant.tasks, c.self.inside.tallies.ok.0, c.if-version-len.true, c.self.invariant.tasks.rows.versions) in
-    subst (λ (b : BoardData). None ≡ bundle_in (place_of b.rows c.args.version c.args.student)) c.self.view_is (no_version c.self.inside.places c.args.version c.args.student past)
+    let past : length c.self.inside.places ≤ c.args.version =
+    omega (
+      arith,
+      count_tallies (terms_in c.self.inside) c.self.inside.places c.self.inside.tallies.items c.self.inside.next.version c.self.inside.next.student
+          c.self.invariant.tasks,
+      c.self.inside.tallies.ok.0,
+      c.if-version-len.true,
+      c.self.invariant.tasks.rows.versions,
+    ) in
+    subst (λ (b : BoardData). None ≡ bundle_in (place_of b.rows c.args.version c.args.student)) c.self.view_is
+    (no_version c.self.inside.places c.args.version c.args.student past)
 
 pub returns-then-version-len-clause-rows : goal.returns-then-version-len-clause-rows
 returns-then-version-len-clause-rows c = subst (λ (b : BoardData). AreRows b.terms b.rows) c.self.view_is c.self.invariant.tasks.rows
 
 pub returns-then-student-self-clause-posted : goal.returns-then-student-self-clause-posted
 returns-then-student-self-clause-posted c =
-    let low : c.args.version < version_count (terms_in c.self.inside) = omega (arith, count_tallies (terms_in c.self.inside) c.self.inside.places c.self.inside.tallies.items c.self.inside.next.version c.self.inside.next.student c.self.invariant.tasks, c.self.inside.tallies.ok.0, c.if-version-len.false) in
-    let past : length (row_of c.self.inside.places c.args.version) ≤ c.args.student = omega (arith, wide_at (terms_in c.self.inside) c.self.inside.places c.self.inside.tallies.items c.self.inside.next.version c.self.inside.next.student c.self.invariant.tasks c.args.version low, c.self.invariant.students, c.if-student-self.true) in
-    subst (λ (b : BoardData). None ≡ bundle_in (place_of b.rows c.args.version c.args.student)) c.self.view_is (no_student c.self.inside.places c.args.version c.args.student past)
+    let low : c.args.version < version_count (terms_in c.self.inside) =
+    omega (
+      arith,
+      count_tallies (terms_in c.self.inside) c.self.inside.places c.self.inside.tallies.items c.self.inside.next.version c.self.inside.next.student
+          c.self.invariant.tasks,
+      c.self.inside.tallies.ok.0,
+      c.if-version-len.false,
+    ) in
+    let past : length (row_of c.self.inside.places c.args.version) ≤ c.args.student =
+    omega (
+      arith,
+      wide_at (terms_in c.self.inside) c.self.inside.places c.self.inside.tallies.items c.self.inside.next.version c.self.inside.next.student
+          c.self.invariant.tasks c.args.version low,
+      c.self.invariant.students,
+      c.if-student-self.true,
+    ) in
+    subst (λ (b : BoardData). None ≡ bundle_in (place_of b.rows c.args.version c.args.student)) c.self.view_is
+    (no_student c.self.inside.places c.args.version c.args.student past)
 
 pub returns-then-student-self-clause-rows : goal.returns-then-student-self-clause-rows
 returns-then-student-self-clause-rows c = subst (λ (b : BoardData). AreRows b.terms b.rows) c.self.view_is c.self.invariant.tasks.rows
@@ -33,15 +57,37 @@ returns-clause-posted c = subst (λ (b : BoardData). c.bundle.result ≡ bundle_
 pub returns-clause-right : goal.returns-clause-right
 returns-clause-right c =
     subst (λ (b : BoardData). IfSome c.bundle.result (λ bundle. sections_of bundle ≡ demand_of b.terms c.args.version c.args.student)) c.self.view_is
-    (if_right c.bundle.result (demand_of (terms_in c.self.inside) c.args.version c.args.student) (λ b is. c.self.invariant.tasks.right c.args.version c.args.student b (sym c.bundle.ensures ∙ is)))
+    (if_right c.bundle.result (demand_of (terms_in c.self.inside) c.args.version c.args.student)
+    (λ b is. c.self.invariant.tasks.right c.args.version c.args.student b (sym c.bundle.ensures ∙ is)))
 
 pub returns-clause-rows : goal.returns-clause-rows
 returns-clause-rows c = subst (λ (b : BoardData). AreRows b.terms b.rows) c.self.view_is c.self.invariant.tasks.rows
 
 pub bundle-requires-clause-version : goal.bundle-requires-clause-version
-bundle-requires-clause-version c = omega (arith, count_tallies (terms_in c.self.inside) c.self.inside.places c.self.inside.tallies.items c.self.inside.next.version c.self.inside.next.student c.self.invariant.tasks, c.self.inside.tallies.ok.0, c.if-version-len.false, c.self.invariant.tasks.rows.versions)
+bundle-requires-clause-version c =
+    omega (
+      arith,
+      count_tallies (terms_in c.self.inside) c.self.inside.places c.self.inside.tallies.items c.self.inside.next.version c.self.inside.next.student
+          c.self.invariant.tasks,
+      c.self.inside.tallies.ok.0,
+      c.if-version-len.false,
+      c.self.invariant.tasks.rows.versions,
+    )
 
 pub bundle-requires-clause-student : goal.bundle-requires-clause-student
 bundle-requires-clause-student c =
-    let low : c.args.version < version_count (terms_in c.self.inside) = omega (arith, count_tallies (terms_in c.self.inside) c.self.inside.places c.self.inside.tallies.items c.self.inside.next.version c.self.inside.next.student c.self.invariant.tasks, c.self.inside.tallies.ok.0, c.if-version-len.false) in
-    omega (arith, wide_at (terms_in c.self.inside) c.self.inside.places c.self.inside.tallies.items c.self.inside.next.version c.self.inside.next.student c.self.invariant.tasks c.args.version low, c.self.invariant.students, c.if-student-self.false)
+    let low : c.args.version < version_count (terms_in c.self.inside) =
+    omega (
+      arith,
+      count_tallies (terms_in c.self.inside) c.self.inside.places c.self.inside.tallies.items c.self.inside.next.version c.self.inside.next.student
+          c.self.invariant.tasks,
+      c.self.inside.tallies.ok.0,
+      c.if-version-len.false,
+    ) in
+    omega (
+      arith,
+      wide_at (terms_in c.self.inside) c.self.inside.places c.self.inside.tallies.items c.self.inside.next.version c.self.inside.next.student
+          c.self.invariant.tasks c.args.version low,
+      c.self.invariant.students,
+      c.if-student-self.false,
+    )

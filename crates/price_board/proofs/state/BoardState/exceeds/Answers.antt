@@ -15,8 +15,17 @@ use Rattle.price_board.proofs.state.BoardState.exceeds.Goals as goal
 
 pub returns-then-version-len-clause-value : goal.returns-then-version-len-clause-value
 returns-then-version-len-clause-value c =
-    let past : length c.self.inside.round.asks.items ≤ c.args.version = omega (arith, count_tallies (terms_in c.self.inside) c.self.inside.places c.self.inside.tallies.items c.self.inside.next.version c.self.inside.next.student c.self.invariant.tasks, c.self.inside.tallies.ok.0, c.if-version-len.true, c.self.invariant.asked) in
-    subst (λ (b : BoardData). None ≡ exceeds_in (ask_of b.terms.asks c.args.version) (row_of b.rows c.args.version)) c.self.view_is (sym (ap (λ a. exceeds_in a (row_of c.self.inside.places c.args.version)) (past_end c.self.inside.round.asks.items c.args.version Counts past)))
+    let past : length c.self.inside.round.asks.items ≤ c.args.version =
+    omega (
+      arith,
+      count_tallies (terms_in c.self.inside) c.self.inside.places c.self.inside.tallies.items c.self.inside.next.version c.self.inside.next.student
+          c.self.invariant.tasks,
+      c.self.inside.tallies.ok.0,
+      c.if-version-len.true,
+      c.self.invariant.asked,
+    ) in
+    subst (λ (b : BoardData). None ≡ exceeds_in (ask_of b.terms.asks c.args.version) (row_of b.rows c.args.version)) c.self.view_is
+    (sym (ap (λ a. exceeds_in a (row_of c.self.inside.places c.args.version)) (past_end c.self.inside.round.asks.items c.args.version Counts past)))
 
 pub returns-then-version-len-clause-right : goal.returns-then-version-len-clause-right
 returns-then-version-len-clause-right c = subst (λ (b : BoardData). AreRight b.terms b.rows) c.self.view_is c.self.invariant.tasks.right
@@ -29,10 +38,21 @@ returns-then-version-len-clause-asks c = subst (λ (b : BoardData). length b.ter
 
 pub returns-clause-value : goal.returns-clause-value
 returns-clause-value c =
-    let low : c.args.version < version_count (terms_in c.self.inside) = omega (arith, count_tallies (terms_in c.self.inside) c.self.inside.places c.self.inside.tallies.items c.self.inside.next.version c.self.inside.next.student c.self.invariant.tasks, c.self.inside.tallies.ok.0, c.if-version-len.false) in
+    let low : c.args.version < version_count (terms_in c.self.inside) =
+    omega (
+      arith,
+      count_tallies (terms_in c.self.inside) c.self.inside.places c.self.inside.tallies.items c.self.inside.next.version c.self.inside.next.student
+          c.self.invariant.tasks,
+      c.self.inside.tallies.ok.0,
+      c.if-version-len.false,
+    ) in
     let asked = get_or_read c.self.inside.round.asks.items _ _ (omega (arith, c.self.invariant.asked)) c.index.ensures Counts in
-    let tally = tally_at (terms_in c.self.inside) c.self.inside.places c.self.inside.tallies.items c.self.inside.next.version c.self.inside.next.student c.self.invariant.tasks c.args.version c.index-2.result.now low c.index-2.ensures in
-    let is = c.exceeds_by.ensures ∙ ap (λ a. exceeds_by a c.index-2.result.now) asked ∙ ap (exceeds_by (ask_of c.self.inside.round.asks.items c.args.version)) tally ∙ exceeds_by-is (ask_of c.self.inside.round.asks.items c.args.version) (row_of c.self.inside.places c.args.version) in
+    let tally =
+    tally_at (terms_in c.self.inside) c.self.inside.places c.self.inside.tallies.items c.self.inside.next.version c.self.inside.next.student
+    c.self.invariant.tasks c.args.version c.index-2.result.now low c.index-2.ensures in
+    let is =
+    c.exceeds_by.ensures ∙ ap (λ a. exceeds_by a c.index-2.result.now) asked ∙ ap (exceeds_by (ask_of c.self.inside.round.asks.items c.args.version)) tally
+    ∙ exceeds_by-is (ask_of c.self.inside.round.asks.items c.args.version) (row_of c.self.inside.places c.args.version) in
     subst (λ (b : BoardData). c.exceeds_by.result ≡ exceeds_in (ask_of b.terms.asks c.args.version) (row_of b.rows c.args.version)) c.self.view_is is
 
 pub returns-clause-right : goal.returns-clause-right
@@ -45,4 +65,13 @@ pub returns-clause-asks : goal.returns-clause-asks
 returns-clause-asks c = subst (λ (b : BoardData). length b.terms.asks ≡ version_count b.terms) c.self.view_is c.self.invariant.asked
 
 pub index-requires : goal.index-requires
-index-requires c = omega (arith, count_tallies (terms_in c.self.inside) c.self.inside.places c.self.inside.tallies.items c.self.inside.next.version c.self.inside.next.student c.self.invariant.tasks, c.self.inside.tallies.ok.0, c.self.inside.round.asks.ok.0, c.if-version-len.false, c.self.invariant.asked)
+index-requires c =
+    omega (
+      arith,
+      count_tallies (terms_in c.self.inside) c.self.inside.places c.self.inside.tallies.items c.self.inside.next.version c.self.inside.next.student
+          c.self.invariant.tasks,
+      c.self.inside.tallies.ok.0,
+      c.self.inside.round.asks.ok.0,
+      c.if-version-len.false,
+      c.self.invariant.asked,
+    )

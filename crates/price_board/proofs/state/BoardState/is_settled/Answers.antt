@@ -11,17 +11,33 @@ use Rattle.price_board.proofs.state.BoardState.is_settled.Goals as goal
 
 pub index-requires-2 : goal.index-requires-2
 index-requires-2 c =
-    let low : c.args.version < version_count (terms_in c.self.inside) = subst (λ (b : BoardData). c.args.version < version_count b.terms) (sym c.self.view_is) c.requires in
-    omega (arith, count_tallies (terms_in c.self.inside) c.self.inside.places c.self.inside.tallies.items c.self.inside.next.version c.self.inside.next.student c.self.invariant.tasks, c.self.inside.tallies.ok.0)
+    let low : c.args.version < version_count (terms_in c.self.inside) =
+    subst (λ (b : BoardData). c.args.version < version_count b.terms) (sym c.self.view_is) c.requires in
+    omega (
+      arith,
+      count_tallies (terms_in c.self.inside) c.self.inside.places c.self.inside.tallies.items c.self.inside.next.version c.self.inside.next.student
+          c.self.invariant.tasks,
+      c.self.inside.tallies.ok.0,
+    )
 
 pub settles-requires : goal.settles-requires
 settles-requires c =
-    let low : c.args.version < version_count (terms_in c.self.inside) = subst (λ (b : BoardData). c.args.version < version_count b.terms) (sym c.self.view_is) c.requires in
-    small_at (terms_in c.self.inside) c.self.inside.places c.self.inside.tallies.items c.self.inside.next.version c.self.inside.next.student c.self.invariant.tasks c.args.version c.index-2.result.now c.self.invariant.few_students low (tally_at (terms_in c.self.inside) c.self.inside.places c.self.inside.tallies.items c.self.inside.next.version c.self.inside.next.student c.self.invariant.tasks c.args.version c.index-2.result.now low c.index-2.ensures)
+    let low : c.args.version < version_count (terms_in c.self.inside) =
+    subst (λ (b : BoardData). c.args.version < version_count b.terms) (sym c.self.view_is) c.requires in
+    small_at (terms_in c.self.inside) c.self.inside.places c.self.inside.tallies.items c.self.inside.next.version c.self.inside.next.student
+    c.self.invariant.tasks c.args.version c.index-2.result.now c.self.invariant.few_students low
+    (tally_at (terms_in c.self.inside) c.self.inside.places c.self.inside.tallies.items c.self.inside.next.version c.self.inside.next.student
+    c.self.invariant.tasks c.args.version c.index-2.result.now low c.index-2.ensures)
 
 pub returns : goal.returns
 returns c =
-    let low : c.args.version < version_count (terms_in c.self.inside) = subst (λ (b : BoardData). c.args.version < version_count b.terms) (sym c.self.view_is) c.requires in
+    let low : c.args.version < version_count (terms_in c.self.inside) =
+    subst (λ (b : BoardData). c.args.version < version_count b.terms) (sym c.self.view_is) c.requires in
     let asked = get_or_read c.self.inside.round.asks.items _ _ (omega (arith, c.self.invariant.asked)) c.index.ensures Counts in
-    let is = settled_at (terms_in c.self.inside) c.self.inside.places c.self.inside.tallies.items c.self.inside.next.version c.self.inside.next.student c.self.invariant.tasks c.args.version c.index.result.now c.index-2.result.now c.settles.result asked (tally_at (terms_in c.self.inside) c.self.inside.places c.self.inside.tallies.items c.self.inside.next.version c.self.inside.next.student c.self.invariant.tasks c.args.version c.index-2.result.now low c.index-2.ensures) c.settles.ensures in
+    let is =
+    settled_at (terms_in c.self.inside) c.self.inside.places c.self.inside.tallies.items c.self.inside.next.version c.self.inside.next.student
+    c.self.invariant.tasks c.args.version c.index.result.now c.index-2.result.now c.settles.result asked
+    (tally_at (terms_in c.self.inside) c.self.inside.places c.self.inside.tallies.items c.self.inside.next.version c.self.inside.next.student
+    c.self.invariant.tasks c.args.version c.index-2.result.now low c.index-2.ensures)
+    c.settles.ensures in
     subst (λ (b : BoardData). c.settles.result ≡ is_settled (ask_of b.terms.asks c.args.version) (row_of b.rows c.args.version)) c.self.view_is is

@@ -30,7 +30,10 @@ students c =
 versions : (c : goal.After-from) → c.len-versions.result ≡ version_count (terms_of (arc_value c.args.crowd) c.args.round)
 versions c = c.len-versions.ensures ∙ c.args.round.versions.ok.0 ∙ sym (length-map c.args.round.versions.items _)
 
-rows : (c : goal.After-from) → c.in_ok-places.places ≡ replicate (version_count (terms_of (arc_value c.args.crowd) c.args.round)) (replicate (student_count (terms_of (arc_value c.args.crowd) c.args.round)) Open)
+rows : (c : goal.After-from)
+    → c.in_ok-places.places
+    ≡ replicate (version_count (terms_of (arc_value c.args.crowd) c.args.round))
+    (replicate (student_count (terms_of (arc_value c.args.crowd) c.args.round)) Open)
 rows c =
     c.in_ok-places.ensures ∙ ap (λ n. replicate n (replicate c.len-students.result Open)) (versions c)
     ∙ ap (λ m. replicate (version_count (terms_of (arc_value c.args.crowd) c.args.round)) (replicate m Open)) (students c)
@@ -38,7 +41,9 @@ rows c =
 pub invariant_of-result : goal.invariant_of-result
 invariant_of-result c = record {
   few_versions = c.requires.round.few;
-  few_students = subst (λ n. n ≤ 2000) (sym (students-length (arc_value c.args.crowd).menus.items (arc_value c.args.crowd).budgets.items c.requires.crowd.same)) c.requires.crowd.few;
+  few_students =
+      subst (λ n. n ≤ 2000) (sym (students-length (arc_value c.args.crowd).menus.items (arc_value c.args.crowd).budgets.items c.requires.crowd.same))
+      c.requires.crowd.few;
   asked = c.requires.round.asks;
   students = students c;
   tasks = keeps_open (terms_of (arc_value c.args.crowd) c.args.round) c.in_ok-places.places c.in_ok-tallies.tallies.items (rows c)

@@ -35,7 +35,9 @@ with_next-requires-in-Open-clause-open c =
 
 pub put-requires-in-Open-2 : goal.put-requires-in-Open-2
 put-requires-in-Open-2 c =
-    low_suc _ (room_for_two c.put-in-Open.new.self.waiting (waiting_of c.args.self.now) c.put-in-Open.new.self.count _ _ c.put-in-Open.ensures.whole c.put-in-Open.ensures.waiting c.requires.sign.5.0 c.with_next-in-Open.ensures.room)
+    low_suc _
+    (room_for_two c.put-in-Open.new.self.waiting (waiting_of c.args.self.now) c.put-in-Open.new.self.count _ _ c.put-in-Open.ensures.whole
+    c.put-in-Open.ensures.waiting c.requires.sign.5.0 c.with_next-in-Open.ensures.room)
 
 pub returns-in-Forced-clause-may_wait : goal.returns-in-Forced-clause-may_wait
 returns-in-Forced-clause-may_wait c = λ prices budget allowed required champion waits is.
@@ -46,7 +48,11 @@ returns-in-Forced-clause-may_wait c = λ prices budget allowed required champion
     let few : length (waiting_of c.args.self.now) ≤ length (sections_of c.args.node.now.chosen) = waits.0 in
     record {
       few = few_more c.args.self.now.count c.put.new.self.count c.requires.few c.put.ensures.count;
-      nodes = subst (MayWait offer) (sym c.put.ensures.waiting) (wait_with offer c.args.node.now (waiting_of c.args.self.now) waits sign.0.left c.with_next.ensures.menu c.with_next.result (waiting_of c.args.self.now) c.with_next.ensures.place c.with_next.ensures.chosen (open_where_forced offer required champion k cs sign) (omega arith) waits.3);
+      nodes =
+          subst (MayWait offer) (sym c.put.ensures.waiting)
+          (wait_with offer c.args.node.now (waiting_of c.args.self.now) waits sign.0.left c.with_next.ensures.menu c.with_next.result
+          (waiting_of c.args.self.now) c.with_next.ensures.place c.with_next.ensures.chosen (open_where_forced offer required champion k cs sign)
+          (omega arith) waits.3);
     }
 
 pub returns-in-Forced-clause-below : goal.returns-in-Forced-clause-below
@@ -56,7 +62,10 @@ returns-in-Forced-clause-below c =
     let k = c.args.node.now.place in
     let cs = places_of c.args.menu.now (sections_of c.args.node.now.chosen) in
     let sign = subst (IsSign offer o.3 o.4 k cs) c.in-Forced.is o.6 in
-    rw (c.in-Forced.is, c.put.ensures.waiting) (ap (λ s. s ∷ spots_of c.args.menu.now (waiting_of c.args.self.now)) (spot_with offer c.args.node.now (waiting_of c.args.self.now) o.5 sign.0.left c.with_next.ensures.menu c.with_next.result c.with_next.ensures.place c.with_next.ensures.chosen))
+    rw (c.in-Forced.is, c.put.ensures.waiting)
+    (ap (λ s. s ∷ spots_of c.args.menu.now (waiting_of c.args.self.now))
+    (spot_with offer c.args.node.now (waiting_of c.args.self.now) o.5 sign.0.left c.with_next.ensures.menu c.with_next.result c.with_next.ensures.place
+    c.with_next.ensures.chosen))
 
 pub returns-in-Open-clause-may_wait : goal.returns-in-Open-clause-may_wait
 returns-in-Open-clause-may_wait c = λ prices budget allowed required champion waits is.
@@ -68,9 +77,15 @@ returns-in-Open-clause-may_wait c = λ prices budget allowed required champion w
     let others = c.without_next.result ∷ under in
     let few : length (waiting_of c.args.self.now) ≤ length (sections_of c.args.node.now.chosen) = waits.0 in
     let after = wait_without offer c.args.node.now under waits sign.0.left c.without_next.result c.without_next.ensures.place c.without_next.ensures.chosen in
-    let both = wait_with offer c.args.node.now under waits sign.0.left c.with_next-in-Open.ensures.menu c.with_next-in-Open.result others c.with_next-in-Open.ensures.place c.with_next-in-Open.ensures.chosen sign.2 (one_more _ _ few) after in
+    let both =
+    wait_with offer c.args.node.now under waits sign.0.left c.with_next-in-Open.ensures.menu c.with_next-in-Open.result others
+    c.with_next-in-Open.ensures.place c.with_next-in-Open.ensures.chosen sign.2 (one_more _ _ few) after in
     record {
-      few = few_more c.put-in-Open.new.self.count c.put-in-Open-2.new.self.count (room_for_two c.put-in-Open.new.self.waiting under c.put-in-Open.new.self.count _ _ c.put-in-Open.ensures.whole c.put-in-Open.ensures.waiting few c.with_next-in-Open.ensures.room) c.put-in-Open-2.ensures.count;
+      few =
+          few_more c.put-in-Open.new.self.count c.put-in-Open-2.new.self.count
+          (room_for_two c.put-in-Open.new.self.waiting under c.put-in-Open.new.self.count _ _ c.put-in-Open.ensures.whole c.put-in-Open.ensures.waiting few
+          c.with_next-in-Open.ensures.room)
+          c.put-in-Open-2.ensures.count;
       nodes = subst (MayWait offer) (sym (c.put-in-Open-2.ensures.waiting ∙ ap (λ ns. c.with_next-in-Open.result ∷ ns) c.put-in-Open.ensures.waiting)) both;
     }
 
@@ -82,7 +97,9 @@ returns-in-Open-clause-below c =
     let cs = places_of c.args.menu.now (sections_of c.args.node.now.chosen) in
     let under = waiting_of c.args.self.now in
     let sign = subst (IsSign offer o.3 o.4 k cs) c.in-Open.is o.6 in
-    let first = spot_with offer c.args.node.now under o.5 sign.0.left c.with_next-in-Open.ensures.menu c.with_next-in-Open.result c.with_next-in-Open.ensures.place c.with_next-in-Open.ensures.chosen in
+    let first =
+    spot_with offer c.args.node.now under o.5 sign.0.left c.with_next-in-Open.ensures.menu c.with_next-in-Open.result c.with_next-in-Open.ensures.place
+    c.with_next-in-Open.ensures.chosen in
     let second = spot_without offer c.args.node.now under o.5 sign.0.left c.without_next.result c.without_next.ensures.place c.without_next.ensures.chosen in
     rw (c.in-Open.is, c.put-in-Open-2.ensures.waiting, c.put-in-Open.ensures.waiting) (λ i. first i ∷ second i ∷ spots_of c.args.menu.now under)
 
@@ -90,22 +107,31 @@ pub returns-in-Forced-clause-stems : goal.returns-in-Forced-clause-stems
 returns-in-Forced-clause-stems c = λ prices budget allowed champion have standing.
     let offer = offer_of c.args.menu.now prices budget allowed in
     let below = subst (λ s. AreStanding offer champion c.args.node.now s c.args.self.now.stems c.args.self.now.count) c.in-Forced.is standing in
-    stems_more offer champion c.args.self.now c.put.new.self c.with_next.result have c.put.ensures.stems c.put.ensures.count c.put.ensures.others c.put.ensures.here
-    (stem_same offer champion c.args.self.now.stems c.args.self.now.stems c.args.self.now.count _ c.with_next.result.place _ (sections_of c.with_next.result.chosen) refl (sym c.with_next.ensures.place) (sym c.with_next.ensures.chosen) below)
+    stems_more offer champion c.args.self.now c.put.new.self c.with_next.result have c.put.ensures.stems c.put.ensures.count c.put.ensures.others
+    c.put.ensures.here
+    (stem_same offer champion c.args.self.now.stems c.args.self.now.stems c.args.self.now.count _ c.with_next.result.place _
+    (sections_of c.with_next.result.chosen) refl (sym c.with_next.ensures.place) (sym c.with_next.ensures.chosen) below)
 
 pub returns-in-Passed-clause-stems : goal.returns-in-Passed-clause-stems
 returns-in-Passed-clause-stems c = λ prices budget allowed champion have standing.
     let offer = offer_of c.args.menu.now prices budget allowed in
     let below = subst (λ s. AreStanding offer champion c.args.node.now s c.args.self.now.stems c.args.self.now.count) c.in-Passed.is standing in
-    stems_more offer champion c.args.self.now c.put-in-Passed.new.self c.without_next-in-Passed.result have c.put-in-Passed.ensures.stems c.put-in-Passed.ensures.count c.put-in-Passed.ensures.others c.put-in-Passed.ensures.here
-    (stem_same offer champion c.args.self.now.stems c.args.self.now.stems c.args.self.now.count _ c.without_next-in-Passed.result.place _ (sections_of c.without_next-in-Passed.result.chosen) refl (sym c.without_next-in-Passed.ensures.place) (sym c.without_next-in-Passed.ensures.chosen) below)
+    stems_more offer champion c.args.self.now c.put-in-Passed.new.self c.without_next-in-Passed.result have c.put-in-Passed.ensures.stems
+    c.put-in-Passed.ensures.count c.put-in-Passed.ensures.others c.put-in-Passed.ensures.here
+    (stem_same offer champion c.args.self.now.stems c.args.self.now.stems c.args.self.now.count _ c.without_next-in-Passed.result.place _
+    (sections_of c.without_next-in-Passed.result.chosen) refl (sym c.without_next-in-Passed.ensures.place) (sym c.without_next-in-Passed.ensures.chosen)
+    below)
 
 pub returns-in-Open-clause-stems : goal.returns-in-Open-clause-stems
 returns-in-Open-clause-stems c = λ prices budget allowed champion have standing.
     let offer = offer_of c.args.menu.now prices budget allowed in
     let below = subst (λ s. AreStanding offer champion c.args.node.now s c.args.self.now.stems c.args.self.now.count) c.in-Open.is standing in
-    let first = stems_more offer champion c.args.self.now c.put-in-Open.new.self c.without_next.result have c.put-in-Open.ensures.stems c.put-in-Open.ensures.count c.put-in-Open.ensures.others c.put-in-Open.ensures.here
-    (stem_same offer champion c.args.self.now.stems c.args.self.now.stems c.args.self.now.count _ c.without_next.result.place _ (sections_of c.without_next.result.chosen) refl (sym c.without_next.ensures.place) (sym c.without_next.ensures.chosen) below.0) in
-    stems_more offer champion c.put-in-Open.new.self c.put-in-Open-2.new.self c.with_next-in-Open.result first c.put-in-Open-2.ensures.stems c.put-in-Open-2.ensures.count c.put-in-Open-2.ensures.others c.put-in-Open-2.ensures.here
+    let first =
+    stems_more offer champion c.args.self.now c.put-in-Open.new.self c.without_next.result have c.put-in-Open.ensures.stems c.put-in-Open.ensures.count
+    c.put-in-Open.ensures.others c.put-in-Open.ensures.here
+    (stem_same offer champion c.args.self.now.stems c.args.self.now.stems c.args.self.now.count _ c.without_next.result.place _
+    (sections_of c.without_next.result.chosen) refl (sym c.without_next.ensures.place) (sym c.without_next.ensures.chosen) below.0) in
+    stems_more offer champion c.put-in-Open.new.self c.put-in-Open-2.new.self c.with_next-in-Open.result first c.put-in-Open-2.ensures.stems
+    c.put-in-Open-2.ensures.count c.put-in-Open-2.ensures.others c.put-in-Open-2.ensures.here
     (subst (λ at. IsStemAt offer champion c.put-in-Open.new.self.stems at c.with_next-in-Open.result.place (sections_of c.with_next-in-Open.result.chosen)) (sym c.put-in-Open.ensures.count)
     (stem_same offer champion c.args.self.now.stems c.put-in-Open.new.self.stems (c.args.self.now.count + 1) _ c.with_next-in-Open.result.place _ (sections_of c.with_next-in-Open.result.chosen) (sym c.put-in-Open.ensures.stems) (sym c.with_next-in-Open.ensures.place) (sym c.with_next-in-Open.ensures.chosen) below.1))

@@ -10,8 +10,15 @@ pub take_at-requires-clause-at : goal.take_at-requires-clause-at
 take_at-requires-clause-at c =
     let offer = offer_of c.args.menu.now c.args.prices.now c.args.budget.0 c.args.allowed.now in
     let champion = sections_of c.args.champion.now in
-    let sign = subst (IsSign offer c.requires.sign.0 (places_of c.args.menu.now (sections_of c.args.champion.now)) c.args.node.now.place (places_of c.args.menu.now (sections_of c.args.node.now.chosen))) c.in-Forced.is c.requires.sign.1 in
-    let few : length (sections_of c.args.node.now.chosen) < 8 = few_where_open offer c.args.node.now.place (sections_of c.args.node.now.chosen) c.len.ensures.menu c.requires.node sign.0.left (open_where_forced offer c.requires.sign.0 (places_of c.args.menu.now (sections_of c.args.champion.now)) c.args.node.now.place (places_of c.args.menu.now (sections_of c.args.node.now.chosen)) sign) in
+    let sign =
+    subst
+    (IsSign offer c.requires.sign.0 (places_of c.args.menu.now (sections_of c.args.champion.now)) c.args.node.now.place
+    (places_of c.args.menu.now (sections_of c.args.node.now.chosen)))
+    c.in-Forced.is c.requires.sign.1 in
+    let few : length (sections_of c.args.node.now.chosen) < 8 =
+    few_where_open offer c.args.node.now.place (sections_of c.args.node.now.chosen) c.len.ensures.menu c.requires.node sign.0.left
+    (open_where_forced offer c.requires.sign.0 (places_of c.args.menu.now (sections_of c.args.champion.now)) c.args.node.now.place
+    (places_of c.args.menu.now (sections_of c.args.node.now.chosen)) sign) in
     let whole : length c.args.self.now.stems ≡ 9 = c.requires.stems.whole in
     let count = c.requires.count in
     omega arith
@@ -20,8 +27,15 @@ pub put_back-requires : goal.put_back-requires
 put_back-requires c =
     let offer = offer_of c.args.menu.now c.args.prices.now c.args.budget.0 c.args.allowed.now in
     let champion = sections_of c.args.champion.now in
-    let sign = subst (IsSign offer c.requires.sign.0 (places_of c.args.menu.now (sections_of c.args.champion.now)) c.args.node.now.place (places_of c.args.menu.now (sections_of c.args.node.now.chosen))) c.in-Forced.is c.requires.sign.1 in
-    let few : length (sections_of c.args.node.now.chosen) < 8 = few_where_open offer c.args.node.now.place (sections_of c.args.node.now.chosen) c.len.ensures.menu c.requires.node sign.0.left (open_where_forced offer c.requires.sign.0 (places_of c.args.menu.now (sections_of c.args.champion.now)) c.args.node.now.place (places_of c.args.menu.now (sections_of c.args.node.now.chosen)) sign) in
+    let sign =
+    subst
+    (IsSign offer c.requires.sign.0 (places_of c.args.menu.now (sections_of c.args.champion.now)) c.args.node.now.place
+    (places_of c.args.menu.now (sections_of c.args.node.now.chosen)))
+    c.in-Forced.is c.requires.sign.1 in
+    let few : length (sections_of c.args.node.now.chosen) < 8 =
+    few_where_open offer c.args.node.now.place (sections_of c.args.node.now.chosen) c.len.ensures.menu c.requires.node sign.0.left
+    (open_where_forced offer c.requires.sign.0 (places_of c.args.menu.now (sections_of c.args.champion.now)) c.args.node.now.place
+    (places_of c.args.menu.now (sections_of c.args.node.now.chosen)) sign) in
     let whole : length c.args.self.now.stems ≡ 9 = c.requires.stems.whole in
     let count = c.requires.count in
     let size : length c.take_at.new.stems ≡ length c.args.self.now.stems = c.take_at.ensures.size in
@@ -31,8 +45,13 @@ pub take_at-requires-in-Open-clause-at : goal.take_at-requires-in-Open-clause-at
 take_at-requires-in-Open-clause-at c =
     let offer = offer_of c.args.menu.now c.args.prices.now c.args.budget.0 c.args.allowed.now in
     let champion = sections_of c.args.champion.now in
-    let sign = subst (IsSign offer c.requires.sign.0 (places_of c.args.menu.now (sections_of c.args.champion.now)) c.args.node.now.place (places_of c.args.menu.now (sections_of c.args.node.now.chosen))) c.in-Open.is c.requires.sign.1 in
-    let few : length (sections_of c.args.node.now.chosen) < 8 = few_where_open offer c.args.node.now.place (sections_of c.args.node.now.chosen) c.len.ensures.menu c.requires.node sign.0.left sign.2 in
+    let sign =
+    subst
+    (IsSign offer c.requires.sign.0 (places_of c.args.menu.now (sections_of c.args.champion.now)) c.args.node.now.place
+    (places_of c.args.menu.now (sections_of c.args.node.now.chosen)))
+    c.in-Open.is c.requires.sign.1 in
+    let few : length (sections_of c.args.node.now.chosen) < 8 =
+    few_where_open offer c.args.node.now.place (sections_of c.args.node.now.chosen) c.len.ensures.menu c.requires.node sign.0.left sign.2 in
     let whole : length c.args.self.now.stems ≡ 9 = c.requires.stems.whole in
     let count = c.requires.count in
     omega arith
@@ -68,4 +87,5 @@ pub returns-in-Passed-clause-stems : goal.returns-in-Passed-clause-stems
 returns-in-Passed-clause-stems c =
     let offer = offer_of c.args.menu.now c.args.prices.now c.args.budget.0 c.args.allowed.now in
     let champion = sections_of c.args.champion.now in
-    stems_behind offer champion c.args.self.now c.pass_at-in-Passed.new.stems c.requires.stems c.pass_at-in-Passed.ensures.size (λ i d low. c.pass_at-in-Passed.ensures.others i d (λ same. absurd (omega arith)))
+    stems_behind offer champion c.args.self.now c.pass_at-in-Passed.new.stems c.requires.stems c.pass_at-in-Passed.ensures.size
+    (λ i d low. c.pass_at-in-Passed.ensures.others i d (λ same. absurd (omega arith)))

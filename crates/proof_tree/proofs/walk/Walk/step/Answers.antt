@@ -31,7 +31,8 @@ stand_below-requires-clause-count c =
     let waits = subst (MayWait offer) c.in-Some.ensures.some c.requires.waiting.nodes in
     let few : c.take.new.self.count ≤ 8 = c.in-Some.ensures.few in
     let whole : length c.take.new.self.waiting ≡ 9 = search rules in
-    let size : length (waiting_of c.take.new.self) ≡ min c.take.new.self.count (length c.take.new.self.waiting) = length-reverse (take c.take.new.self.count c.take.new.self.waiting) ∙ length-take c.take.new.self.count c.take.new.self.waiting in
+    let size : length (waiting_of c.take.new.self) ≡ min c.take.new.self.count (length c.take.new.self.waiting) =
+    length-reverse (take c.take.new.self.count c.take.new.self.waiting) ∙ length-take c.take.new.self.count c.take.new.self.waiting in
     let wait : length (waiting_of c.take.new.self) ≤ length (sections_of c.in-Some.node.chosen) = waits.0 in
     let count : c.sign_of.new.self.count ≡ c.take.new.self.count = c.sign_of.ensures.count in
     omega arith
@@ -40,7 +41,9 @@ pub put_below-requires-clause-sign : goal.put_below-requires-clause-sign
 put_below-requires-clause-sign c =
     let offer = offer_of c.args.menu.now c.args.prices.now c.args.budget.0 c.args.allowed.now in
     let champion = sections_of c.args.champion.now in
-    let same : waiting_of c.stand_below.new.self ≡ waiting_of c.take.new.self = waiting_same c.stand_below.new.self c.take.new.self (c.stand_below.ensures.count ∙ c.sign_of.ensures.count) (c.stand_below.ensures.same ∙ c.sign_of.ensures.same) in
+    let same : waiting_of c.stand_below.new.self ≡ waiting_of c.take.new.self =
+    waiting_same c.stand_below.new.self c.take.new.self (c.stand_below.ensures.count ∙ c.sign_of.ensures.count)
+    (c.stand_below.ensures.same ∙ c.sign_of.ensures.same) in
     let waits = subst (MayWait offer) (c.in-Some.ensures.some ∙ ap (λ ns. c.in-Some.node ∷ ns) (sym same)) c.requires.waiting.nodes in (
       c.args.prices.now,
       c.args.budget.0,
@@ -55,17 +58,31 @@ pub returns-clause-waiting : goal.returns-clause-waiting
 returns-clause-waiting c =
     let offer = offer_of c.args.menu.now c.args.prices.now c.args.budget.0 c.args.allowed.now in
     let champion = sections_of c.args.champion.now in
-    let same : waiting_of c.stand_below.new.self ≡ waiting_of c.take.new.self = waiting_same c.stand_below.new.self c.take.new.self (c.stand_below.ensures.count ∙ c.sign_of.ensures.count) (c.stand_below.ensures.same ∙ c.sign_of.ensures.same) in
+    let same : waiting_of c.stand_below.new.self ≡ waiting_of c.take.new.self =
+    waiting_same c.stand_below.new.self c.take.new.self (c.stand_below.ensures.count ∙ c.sign_of.ensures.count)
+    (c.stand_below.ensures.same ∙ c.sign_of.ensures.same) in
     let waits = subst (MayWait offer) (c.in-Some.ensures.some ∙ ap (λ ns. c.in-Some.node ∷ ns) (sym same)) c.requires.waiting.nodes in
-    c.put_below.ensures.may_wait c.args.prices.now c.args.budget.0 c.args.allowed.now c.args.required (places_of c.args.menu.now (sections_of c.args.champion.now)) waits c.in-Some-sign_of.ensures.some
+    c.put_below.ensures.may_wait c.args.prices.now c.args.budget.0 c.args.allowed.now c.args.required
+    (places_of c.args.menu.now (sections_of c.args.champion.now)) waits c.in-Some-sign_of.ensures.some
 
 pub returns-clause-stems : goal.returns-clause-stems
-returns-clause-stems c = c.put_below.ensures.stems c.args.prices.now c.args.budget.0 c.args.allowed.now (sections_of c.args.champion.now) c.stand_below.ensures.stems c.stand_below.ensures.below
+returns-clause-stems c =
+    c.put_below.ensures.stems c.args.prices.now c.args.budget.0 c.args.allowed.now (sections_of c.args.champion.now) c.stand_below.ensures.stems
+    c.stand_below.ensures.below
 
 pub returns-clause-step : goal.returns-clause-step
 returns-clause-step c =
-    let same : waiting_of c.stand_below.new.self ≡ waiting_of c.take.new.self = waiting_same c.stand_below.new.self c.take.new.self (c.stand_below.ensures.count ∙ c.sign_of.ensures.count) (c.stand_below.ensures.same ∙ c.sign_of.ensures.same) in
-    (_, (_, ap (spots_of c.args.menu.now) (c.in-Some.ensures.some ∙ ap (λ ns. c.in-Some.node ∷ ns) (sym same)), c.in-Some-sign_of.ensures.some, c.put_below.ensures.below))
+    let same : waiting_of c.stand_below.new.self ≡ waiting_of c.take.new.self =
+    waiting_same c.stand_below.new.self c.take.new.self (c.stand_below.ensures.count ∙ c.sign_of.ensures.count)
+    (c.stand_below.ensures.same ∙ c.sign_of.ensures.same) in (
+      _,
+      (
+        _,
+        ap (spots_of c.args.menu.now) (c.in-Some.ensures.some ∙ ap (λ ns. c.in-Some.node ∷ ns) (sym same)),
+        c.in-Some-sign_of.ensures.some,
+        c.put_below.ensures.below,
+      ),
+    )
 
 pub returns-in_default-sign_of-clause-step : goal.returns-in_default-sign_of-clause-step
 returns-in_default-sign_of-clause-step c = (_, (_, ap (spots_of c.args.menu.now) c.in-Some.ensures.some, c.in_default-sign_of.ensures.none))
@@ -76,4 +93,7 @@ returns-clause-short c = λ sign is.
     let champion = sections_of c.args.champion.now in
     let same : c.in-Some-sign_of.sign ≡ sign = cc is in
     let waits = subst (MayWait offer) c.in-Some.ensures.some c.requires.waiting.nodes in
-    subst IsShort same (short_sign offer c.args.required (places_of c.args.menu.now (sections_of c.args.champion.now)) c.in-Some.node.place (places_of c.args.menu.now (sections_of c.in-Some.node.chosen)) c.in-Some-sign_of.sign c.sign_of.ensures.menu waits.1 c.in-Some-sign_of.ensures.some)
+    subst IsShort same
+    (short_sign offer c.args.required (places_of c.args.menu.now (sections_of c.args.champion.now)) c.in-Some.node.place
+    (places_of c.args.menu.now (sections_of c.in-Some.node.chosen)) c.in-Some-sign_of.sign c.sign_of.ensures.menu waits.1
+    c.in-Some-sign_of.ensures.some)

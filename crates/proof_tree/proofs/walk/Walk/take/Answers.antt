@@ -6,4 +6,5 @@ pub returns-clause-some : goal.returns-clause-some
 returns-clause-some c =
     let whole : length c.args.self.now.waiting ≡ 9 = search rules in
     let few : c.args.self.now.count ≤ 9 = c.requires in
-    rw (← c.index-self-self.is) (next_waits c.args.self.now.waiting c.args.self.now.count c.index-self-self.result (omega arith) (omega arith) c.index-self-self.is)
+    rw (← c.index-self-self.is)
+    (next_waits c.args.self.now.waiting c.args.self.now.count c.index-self-self.result (omega arith) (omega arith) c.index-self-self.is)
