@@ -43,7 +43,7 @@ struct Frames {
 }
 
 impl Model for Workspace {
-    ghost use Rattle.std.specs.Prelude.{⊤, tt, ◌≡◌, []};
+    ghost use Rattle.std.specs.Prelude.{⊤, ◌≡◌, []};
 
     // What an earlier demand left tells nothing of a later one.
     ghost Value = { ⊤ };

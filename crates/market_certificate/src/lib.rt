@@ -4,7 +4,7 @@
 #![tactic(auto)]
 
 mod amounts;
-mod bundles;
+mod bundle_fields;
 mod fields;
 pub mod laws;
 mod publication;
@@ -13,7 +13,7 @@ mod refusals;
 mod tables;
 mod writing;
 
-pub use bundles::put_bundle_field;
+pub use bundle_fields::put_bundle_field;
 pub use fields::put_signed_field;
 pub use publication::{Proved, ProvedTurn, Publication};
 pub use reading::read_publication;

@@ -2,7 +2,7 @@ use Rattle.std.proofs.Common.{◌≡◌, ◌++◌, map, take}
 use Rattle.std.specs.List.{join_with_byte}
 use Rattle.bundle_rules.specs.Bundles.{sections_of}
 use Rattle.market_certificate.specs.Tables.{name_at, section_names}
-use Rattle.market_certificate.proofs.bundles.put_bundle_field.Given as goal
+use Rattle.market_certificate.proofs.bundle_fields.put_bundle_field.Given as goal
 
 abbrev pub invariant-sections : goal.invariant-sections
 invariant-sections l =

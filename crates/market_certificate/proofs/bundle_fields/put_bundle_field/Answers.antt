@@ -4,7 +4,7 @@ use Rattle.std.proofs.lemmas.List.{get_or_default}
 use Rattle.bundle_rules.specs.Bundles.{sections_of}
 use Rattle.market_certificate.proofs.Joins.{section_below}
 use Rattle.market_certificate.proofs.SectionNames.{section_more}
-use Rattle.market_certificate.proofs.bundles.put_bundle_field.Goals as goal
+use Rattle.market_certificate.proofs.bundle_fields.put_bundle_field.Goals as goal
 
 pub name-requires : goal.name-requires
 name-requires c =
