@@ -61,24 +61,72 @@ def call(words: list[str | Path], folder: Path) -> int:
 
 
 def proved_module(crate: Path, room: Path) -> Path:
-    """The module of the proved program of the crate, which `rt run` proves first where that has not been done.
+    """The module of the proved program of the crate.
 
-    The program is then built once more with the view, from the proofs that are kept; it must come out the same, byte for
-    byte. The module is kept beside the program's sum for the next call."""
+    `rt ci` leaves the program and the libraries that it stands on; where it did not run, `rt run` proves and builds the
+    program. The program is then built once more with the view, from the proofs that are kept; it must come out the same,
+    byte for byte. The module is kept beside the program's sum for the next call."""
     program, kept, of_program = crate / "out" / crate.name, room / "proved.bc", room / "proved.sha256"
-    call(["rt", "run"], crate)  # (without words the program answers 1: whether it was built is seen at its stamp)
     stamp = crate / "out" / f"{crate.name}.stamp"
-    if not stamp.is_file():
-        sys.exit(f"page: `rt run` in {crate} did not prove and build the program")
+    by_gate = program.is_file() and all(it.is_dir() for it in libraries_of(crate)[1].values())
+    if not by_gate:
+        call(["rt", "run"], crate)  # (without words the program answers 1: whether it was built is seen at its stamp)
+        if not stamp.is_file():
+            sys.exit(f"page: `rt run` in {crate} did not prove and build the program")
     before = sum_of(program)
     if kept.is_file() and of_program.is_file() and of_program.read_text().split()[0] == before:
         return kept
     of_program.unlink(missing_ok=True)
-    built_with_view("run", crate, room, kept, stamp)
-    if not stamp.is_file() or sum_of(program) != before:
+    if by_gate:
+        again = built_from_libraries(crate, room, kept)
+    else:
+        built_with_view("run", crate, room, kept, stamp)
+        again = program if stamp.is_file() else room
+    if again == room or sum_of(again) != before:
         sys.exit(f"page: the program was built anew and is not the one that stood in {program}")
     of_program.write_text(f"{before}  {crate.name}\n")
     return kept
+
+
+def libraries_of(crate: Path) -> tuple[list[str], dict[str, Path]]:
+    """The libraries that crates.txt names for the crate, and where those of the repository stand that it uses, at any depth."""
+    named = {}
+    for line in (crate.parent.parent / "crates.txt").read_text().splitlines():
+        before, colon, after = line.partition(":")
+        if colon and not line.startswith("#"):
+            named[before.split()[0]] = after.split()
+    below, waiting = {}, list(named[crate.name])
+    while waiting:
+        name = waiting.pop()
+        if name in named and name not in below:
+            below[name] = crate.parent / name / "out/rlib" / f"{name}.rlib"
+            waiting += named[name]
+    return named[crate.name], below
+
+
+def built_from_libraries(crate: Path, room: Path, kept: Path) -> Path:
+    """Builds the program from the libraries that `rt ci` left, with the view of the kit, as `rt ci` builds it."""
+    kit, view = kit_folder(), room / "kit"
+    shutil.rmtree(view, ignore_errors=True)
+    kept.unlink(missing_ok=True)
+    view_of(kit, view, kept)
+    direct, below = libraries_of(crate)
+    words = ["--crate-name", crate.name, "src/main.rt", "--extern", f"std={kit}/rlibs/std.rlib"]
+    words += ["-L", f"dependency={kit}/rlibs"]
+    for name in direct:
+        words += ["--extern", f"{name}={below.get(name, kit / 'rlibs' / f'{name}.rlib')}"]
+    for rlib in below.values():
+        words += ["-L", f"dependency={rlib.parent}"]
+    words += ["--antt-project", f"{kit}/rattle/logic/antt-project.json", "--logic-built", f"{kit}/logic_built"]
+    words += ["--links", f"{crate.name}=", "--toolchain", f"{view}/toolchain", "--backend", "llvm"]
+    program, made = room / crate.name, room / f"{crate.name}.o"
+    status = call([kit / "bin/rattle", "build", *words, "-o", made], crate)
+    link = ["--target", "x86_64-unknown-linux-gnu", "--toolchain", kit / "toolchain", "-o", program, made]
+    status = status or call([kit / "bin/rattle-link", *link, kit / "c/libos_c.a", kit / "c/liblibc_c.a"], crate)
+    shutil.rmtree(view)
+    if status or not kept.is_file():
+        sys.exit(f"page: {crate.name} could not be built from the libraries that `rt ci` left")
+    return program
 
 
 def unproved_module(crate: Path, room: Path) -> Path:
