@@ -1,7 +1,8 @@
 """Makes the WebAssembly module out of the LLVM module of the program.
 
-No line of the program is changed. Of its LLVM text only the target's triple and data layout, attributes of functions that
-speak of x86-64, and the name `main` are; `shim.c` is all that is linked to it."""
+Of the program's LLVM text these change: the target's triple and data layout; attributes of functions that speak of x86-64;
+the names `main` and that of the question what the processor has; and two instructions of x86-64, of which the one pauses, and is left out, and the other shuffles sixteen
+bytes, and is written by WebAssembly's own. `shim.c` is all that is linked to it."""
 
 import re
 import subprocess
@@ -17,6 +18,20 @@ LINK = "-mwasm64 --no-entry --gc-sections --stack-first -z stack-size=8388608 --
 OF_X86 = re.compile(r' sanitize_address|"frame-pointer"="all" ?|"probe-stack"="[^"]*" ?|"stack-probe-size"="[^"]*" ?')
 PROCESSOR = re.compile(r'"target-cpu"="[^"]*"')
 NO_ATTRIBUTE = re.compile(r"\{ +\}")
+PAUSE = re.compile(r"\b(?:call|declare) void @llvm\.x86\.sse2\.pause\(\)")
+SHUFFLE = "@llvm.x86.ssse3.pshuf.b.128("
+NAMES = {"@main(": "@program_main(", "@__x86_get_cpuid_feature_leaf(": "@processor_features(", SHUFFLE: "@byte_shuffle("}
+# Byte n of the answer is the byte at place n's lowest four bits, or 0 where the highest bit of place n is set. WebAssembly's
+# own gives 0 for each place of 16 and more, so the three bits between are cleared.
+SHUFFLE_HERE = """
+declare <16 x i8> @llvm.wasm.swizzle(<16 x i8>, <16 x i8>)
+
+define internal <16 x i8> @byte_shuffle(<16 x i8> %bytes, <16 x i8> %places) alwaysinline nounwind "target-cpu"="lime1" "target-features"="+simd128" {
+  %within = and <16 x i8> %places, <MASK>
+  %shuffled = call <16 x i8> @llvm.wasm.swizzle(<16 x i8> %bytes, <16 x i8> %within)
+  ret <16 x i8> %shuffled
+}
+""".replace("MASK", ", ".join(["i8 -113"] * 16))
 
 
 def run(words: list[str], **how) -> subprocess.CompletedProcess:
@@ -42,7 +57,11 @@ def retargeted(line: str, layout: str) -> str:
     if line.startswith("attributes "):
         line = PROCESSOR.sub('"target-cpu"="lime1" "target-features"="+simd128"', OF_X86.sub("", line))
         return NO_ATTRIBUTE.sub("{ nounwind }", line)
-    return line.replace("@main(", "@program_main(")
+    if PAUSE.search(line) or line.startswith("declare ") and SHUFFLE in line:
+        return ""
+    for one, other in NAMES.items():
+        line = line.replace(one, other)
+    return line
 
 
 def retarget(clang: Path, module: Path, text: Path) -> None:
@@ -69,6 +88,7 @@ def retarget(clang: Path, module: Path, text: Path) -> None:
             if "x86" in line:
                 sys.exit(f"page: {printed}:{number} asks for x86: {line[:120]}")
             to.write(line + "\n")
+        to.write(SHUFFLE_HERE)
     printed.unlink()
 
 

@@ -272,3 +272,10 @@ void abort(void) {
 }
 
 EXPORT(run) int run(void) { return status = program_main(); }
+
+// The program for x86-64 asks first whether the processor has what it was compiled for; a WebAssembly module has no such
+// question, and is told that all is there. (What it would write if something lacked is never written.)
+static const unsigned all_features[16] = {~0u, ~0u, ~0u, ~0u, ~0u, ~0u, ~0u, ~0u, ~0u, ~0u, ~0u, ~0u, ~0u, ~0u, ~0u, ~0u};
+
+const void *processor_features(unsigned leaf) { return all_features; }
+long __write(int handle, const byte *from, size length) { return write(handle, from, length); }
