@@ -109,8 +109,11 @@ def module_for(arguments: argparse.Namespace, room: Path) -> Path:
 def main() -> None:
     parser = argparse.ArgumentParser(prog="scripts/page", description=__doc__)
     parser.add_argument("--unproved", action="store_true", help="build from what `rt try` compiles, without proofs")
+    parser.add_argument("--as-it-stands", action="store_true", help="proved where `rt ci` left the program, else --unproved")
     parser.add_argument("--bitcode", type=Path, help="with --unproved: take this module of LLVM")
     arguments = parser.parse_args()
+    if arguments.as_it_stands and not kit.is_left_by_gate(TOP / "crates/market_program"):
+        arguments.unproved = True
     if arguments.bitcode and not arguments.unproved:
         parser.error("--bitcode is for --unproved: a given file is tied to no proof")
     out, room = HERE / "out", HERE / "out/module"

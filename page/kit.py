@@ -68,7 +68,7 @@ def proved_module(crate: Path, room: Path) -> Path:
     byte for byte. The module is kept beside the program's sum for the next call."""
     program, kept, of_program = crate / "out" / crate.name, room / "proved.bc", room / "proved.sha256"
     stamp = crate / "out" / f"{crate.name}.stamp"
-    by_gate = program.is_file() and all(it.is_dir() for it in libraries_of(crate)[1].values())
+    by_gate = is_left_by_gate(crate)
     if not by_gate:
         call(["rt", "run"], crate)  # (without words the program answers 1: whether it was built is seen at its stamp)
         if not stamp.is_file():
@@ -86,6 +86,11 @@ def proved_module(crate: Path, room: Path) -> Path:
         sys.exit(f"page: the program was built anew and is not the one that stood in {program}")
     of_program.write_text(f"{before}  {crate.name}\n")
     return kept
+
+
+def is_left_by_gate(crate: Path) -> bool:
+    """Whether the program and all libraries that it stands on are there, as `rt ci` leaves them."""
+    return (crate / "out" / crate.name).is_file() and all(it.is_dir() for it in libraries_of(crate)[1].values())
 
 
 def libraries_of(crate: Path) -> tuple[list[str], dict[str, Path]]:
