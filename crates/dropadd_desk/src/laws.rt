@@ -1,9 +1,9 @@
 //! What holds of a shared desk: each call here does nothing, and its contract is a law.
 ghost use Rattle.dropadd_desk.specs.Laws.{AllowedLaw, ConservationLaw, FirstFitLaw, RefusalLaw, RepliesInRangeLaw};
 
-/// After any requests from an opening where nobody waits, no section is over its seats, and each
-/// student's sections keep timetable and caps, it is so of each section. It has no more holders
-/// than seats, no free seat where somebody waits for it, and nobody waits for it who holds it.
+/// A desk opens so that nobody waits, no section is over its seats, and each student's sections
+/// keep timetable and caps. After any requests, each section then has no more holders than seats,
+/// no free seat where somebody waits for it, and nobody waits for it who holds it.
 /// Student by student: each holds it exactly where the replies say so, from what the student held
 /// at the opening on. The student holds it from the reply that adds this student, or passes a seat
 /// on to this student, until the reply that this student gave it up. So the holders are as many as

@@ -11,16 +11,16 @@
 #![tactic(auto)]
 
 mod hall;
-mod halls;
 pub mod laws;
 mod lines;
 mod opening;
-mod reopening;
+mod published;
+mod published_desk;
 mod requests;
 mod text;
 
 pub use hall::{ClosedHall, open_hall};
-pub use halls::published_hall;
 pub use opening::{OpeningFault, opening_fault};
+pub use published::published_hall;
 pub use requests::{read_request, read_requests};
 pub use text::put_hall;

@@ -6,13 +6,13 @@
 
 mod allocation;
 mod auditing;
-mod audits;
 mod calls;
 mod counting;
 mod counts;
 pub mod laws;
 mod lines;
 mod place;
+mod published;
 mod register;
 mod row;
 mod shared;
@@ -24,10 +24,10 @@ mod worker;
 
 pub use allocation::is_allocation;
 pub use auditing::audit;
-pub use audits::published_audit;
 pub use calls::{AuditCall, AuditReply};
 pub use counting::count_envy;
 pub use place::Place;
+pub use published::published_audit;
 pub use register::Register;
 pub use row::{EnvyRow, Seen};
 pub use shared::{Progress, Terms};

@@ -130,9 +130,9 @@ fn two_sessions_post_at_once(rt: HostRuntime) -> Result<(), Fail> {
 }
 
 const REQUESTS: [File<'static>; 3] = [
-    ("R1", b"drop u A\nadd u D\nadd u E\nadd u Q\n"),
-    ("R2", b"add v B\nno request\nadd w C\n"),
-    ("R3", b"# nothing\n"),
+    ("first", b"drop u A\nadd u D\nadd u E\nadd u Q\n"),
+    ("second", b"add v B\nno request\nadd w C\n"),
+    ("third", b"# nothing\n"),
 ];
 
 const FIRST_REPLIES: [&str; 4] = [
@@ -155,7 +155,7 @@ const HELD: &str =
 // made one. A third session has no request.
 #[test]
 fn two_sessions_of_a_hall_request_at_once(rt: HostRuntime) -> Result<(), Fail> {
-    let line = "hall five.cat five.stu five.text R1 R2 R3";
+    let line = "hall five.cat five.stu five.text first second third";
     try_sessions(
         &rt,
         rt.alloc(),

@@ -3,8 +3,8 @@ use super::*;
 
 const HALLS: &str = "\
 == dropped seat goes to the first waiting
-hall equal.cat equal.stu equal.text R1
--- R1
+hall equal.cat equal.stu equal.text first
+-- first
 add v X
 drop u X
 add u X
@@ -18,8 +18,8 @@ final u [X]
 final v []
 used X 1 1
 == every reply
-hall five.cat five.stu five.text R1
--- R1
+hall five.cat five.stu five.text first
+-- first
 drop
 add z Q
 add u Q
@@ -86,11 +86,11 @@ final u [X]
 final v []
 used X 1 1
 == ratings and budgets play no part
-hall term.cat term.stu TEXT R1
+hall term.cat term.stu TEXT first
 -- TEXT term.text
 3 budget ann 1
 23 final cat [B]
--- R1
+-- first
 add bob B
 add bob D
 => 0
@@ -105,8 +105,8 @@ used B 2 2
 used C 1 2
 used D 1 1
 == requests with byte order mark and comments
-hall equal.cat equal.stu equal.text R1
--- R1
+hall equal.cat equal.stu equal.text first
+-- first
 \u{feff}# drop and add\r
 drop u X\r
 \r
@@ -119,10 +119,10 @@ final u []
 final v [X]
 used X 1 1
 == seats are those of the catalogue
-hall equal.cat equal.stu TEXT R1
+hall equal.cat equal.stu TEXT first
 -- TEXT equal.text
 16 used X 0 7
--- R1
+-- first
 add v X
 => 0
 entry 1 add v X: queued 0
@@ -131,8 +131,8 @@ final v []
 wait X v
 used X 1 1
 == two lapse before the next
-hall wait.cat wait.stu wait.text R1
--- R1
+hall wait.cat wait.stu wait.text first
+-- first
 add v A
 add w A
 add x A
@@ -163,8 +163,8 @@ used A 1 1
 used B 2 9
 used C 0 9
 == waiting list is printed
-hall five.cat five.stu five.text R1
--- R1
+hall five.cat five.stu five.text first
+-- first
 add v A
 add w A
 => 0
@@ -180,7 +180,7 @@ used C 0 9
 used D 0 9
 used E 0 9
 == waiting student lapses
-hall CAT equal.stu TEXT R1
+hall CAT equal.stu TEXT first
 -- CAT
 section,course,seats,credits,meetings
 X,XX,1,1,
@@ -192,7 +192,7 @@ Y,YY,2,1,
 7 price Y 0
 16 used X 1 1
 16 used Y 0 2
--- R1
+-- first
 add v X
 add v Y
 drop u X
@@ -209,7 +209,7 @@ final v [Y]
 used X 1 1
 used Y 1 2
 == the last seat goes to the first to ask
-hall CAT equal.stu TEXT R1 R2
+hall CAT equal.stu TEXT first second
 -- CAT
 section,course,seats,credits,meetings
 X,XX,1,1,
@@ -221,10 +221,10 @@ Y,YY,2,1,
 7 price Y 0
 16 used X 1 1
 16 used Y 0 2
--- R1
+-- first
 drop u X
 add u X
--- R2
+-- second
 add v X
 => 0
 entry 1 drop u X: dropped 0

@@ -3,7 +3,7 @@ use Rattle.std.specs.Arc.{arc_value}
 use Rattle.certificate_checker.proofs.Composing.{ok_then}
 use Rattle.fairness_audit.specs.Views.{row_of}
 use Rattle.fairness_audit.proofs.Joining.{among_tables, is_audited}
-use Rattle.fairness_audit.proofs.audits.audit_accepted.Goals as goal
+use Rattle.fairness_audit.proofs.published.audit_accepted.Goals as goal
 
 pub put_rows-requires-clause-settled : goal.put_rows-requires-clause-settled
 put_rows-requires-clause-settled g c =

@@ -3,7 +3,7 @@ use Rattle.dropadd_desk.specs.declared.shared.HallState.{HallState}
 use Rattle.dropadd_desk.specs.Market.{Market}
 use Rattle.dropadd_hall.specs.Streams.{request_lists}
 use Rattle.dropadd_hall.specs.Told.{IsToldOf}
-use Rattle.dropadd_hall.proofs.halls.published_hall.Goals as goal
+use Rattle.dropadd_hall.proofs.published.published_hall.Goals as goal
 
 pub told_from-requires-clause-room : goal.told_from-requires-clause-room
 told_from-requires-clause-room g c = omega (arith, c.requires.requests, c.in_ok-desk.ensures.opened.2.room)

@@ -9,7 +9,7 @@ ghost use Rattle.market_certificate.specs.Tables.{tables_of};
 ghost use Rattle.dropadd_hall.specs.Openings.{CanOpen, IsOpeningFinding};
 ghost use Rattle.dropadd_hall.specs.Told.{IsToldHall, IsToldOf};
 
-use crate::reopening::open_desk;
+use crate::published_desk::open_desk;
 use crate::{open_hall, put_hall};
 use certificate_checker::CheckEnd;
 use course_catalog::Catalog;

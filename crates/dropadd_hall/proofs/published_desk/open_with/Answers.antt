@@ -4,7 +4,7 @@ use Rattle.dropadd_desk.specs.Halls.{opening}
 use Rattle.dropadd_desk.specs.HallView.{market_of, state_of}
 use Rattle.dropadd_desk.specs.Market.{Market}
 use Rattle.dropadd_hall.proofs.Findings.{faultless_at, told_at}
-use Rattle.dropadd_hall.proofs.reopening.open_with.Goals as goal
+use Rattle.dropadd_hall.proofs.published_desk.open_with.Goals as goal
 
 pub returns-in-None-clause-opened : goal.returns-in-None-clause-opened
 returns-in-None-clause-opened c =

@@ -15,7 +15,7 @@ use Rattle.dropadd_hall.specs.Desks.{IsOpenDesk}
 use Rattle.dropadd_hall.specs.Openings.{CanOpen, IsOpeningFinding, TellsFault}
 use Rattle.dropadd_hall.proofs.Finals.{each_final, finals_below}
 use Rattle.dropadd_hall.proofs.Findings.{defect_first, defect_refused, fault_first, fault_named, fault_refused}
-use Rattle.dropadd_hall.proofs.reopening.open_desk.Goals as goal
+use Rattle.dropadd_hall.proofs.published_desk.open_desk.Goals as goal
 
 pub open_with-requires-clause-each : goal.open_with-requires-clause-each
 open_with-requires-clause-each c =

@@ -8,7 +8,7 @@ use Rattle.dropadd_desk.specs.Market.{Market}
 use Rattle.dropadd_desk.specs.Replies.{NamesInRange}
 use Rattle.dropadd_desk.specs.Shared.{is_sound, reply_to, state_after}
 use Rattle.dropadd_hall.specs.Texts.{hall_text}
-use Rattle.dropadd_hall.proofs.halls.told_from.Goals as goal
+use Rattle.dropadd_hall.proofs.published.told_from.Goals as goal
 
 pub put_hall-requires-clause-named : goal.put_hall-requires-clause-named
 put_hall-requires-clause-named g c =

@@ -4,7 +4,7 @@ use Rattle.published_parts.specs.Markets.{market_of}
 use Rattle.certificate_checker.specs.Views.{crowd_seen}
 use Rattle.fairness_audit.proofs.Allocating.{accepted_by, checked}
 use Rattle.fairness_audit.proofs.Fairness.{no_lower_count}
-use Rattle.fairness_audit.proofs.audits.published_audit.Goals as goal
+use Rattle.fairness_audit.proofs.published.published_audit.Goals as goal
 
 pub audit_accepted-requires-clause-checked : goal.audit_accepted-requires-clause-checked
 audit_accepted-requires-clause-checked g c κs within =
