@@ -1,6 +1,7 @@
 -- Sections, as a catalogue lists them.
 use Rattle.std.specs.Prelude.{ℕ, ◌≡◌, ◌≢◌, ◌≤◌, ◌⊎◌, IsTrue, Bool, ◌&&◌, ◌||◌, ◌==◌, not, List, [], All, length, slice_index_or}
 use Rattle.std.specs.Str.{bytes_eq}
+use Rattle.market_units.specs.declared.limits.TheConstants.{MAX_MEETINGS, MAX_SEATS, MAX_SECTION_CREDITS}
 use Rattle.market_units.specs.Names.{IsName}
 use Rattle.timetable_rules.specs.declared.meeting.Meeting.{Meeting}
 use Rattle.timetable_rules.specs.Meeting.{IsMeeting}
@@ -22,9 +23,9 @@ pub record Section : Type 0 where
 pub record IsSection (section : Section) : Type 0 where
   pub name_is : IsName section.name
   pub course_is : IsName section.course
-  pub few_seats : section.seats ≤ 9999
-  pub few_credits : section.credits ≤ 100
-  pub few_meetings : length section.meetings ≤ 10
+  pub few_seats : section.seats ≤ MAX_SEATS
+  pub few_credits : section.credits ≤ MAX_SECTION_CREDITS
+  pub few_meetings : length section.meetings ≤ MAX_MEETINGS
   pub each_meeting : All IsMeeting section.meetings
   pub some_part : IsTrue (section.parts.first || section.parts.second)
 

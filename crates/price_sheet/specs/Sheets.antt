@@ -1,6 +1,7 @@
 -- What the bytes of a price sheet say.
 use Rattle.std.specs.Prelude.{ℕ, List, [], ◌∷◌, None, is_some, if◌then◌else◌, map, position, Result, Ok, codes}
 use Rattle.std.specs.Str.{bytes_eq}
+use Rattle.market_units.specs.declared.limits.TheConstants.{MAX_PRICE}
 use Rattle.course_catalog.specs.Sections.{Section}
 use Rattle.table_records.specs.declared.fault.Fault.{Fault}
 use Rattle.table_records.specs.declared.fault.Fault.TheVariants as fault
@@ -29,7 +30,7 @@ refusal_of (fault.Repeated row earlier) = refusal.Repeated row earlier
 -- the price of this row, in the one version of a sheet: column 2 is a number up to 1,000,001
 abbrev pub priced_of : ℕ → ℕ → List (List ℕ) → Result Priced PriceRefusal
 priced_of version row fields = do
-  price ← number_or (refusal.Number row 2) 1000001 (field_in 2 fields)
+  price ← number_or (refusal.Number row 2) MAX_PRICE (field_in 2 fields)
   Ok (record { section = first_field fields; price = price })
 
 -- the rules of a price sheet, where the catalogue has these names: any number of rows, each of a

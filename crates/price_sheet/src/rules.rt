@@ -1,5 +1,6 @@
 // The columns of a price sheet.
 ghost use Rattle.std.specs.Prelude.{◌≡◌, ◌≤◌};
+ghost use Rattle.market_units.specs.declared.limits.TheConstants.{MAX_PRICE};
 ghost use Rattle.price_sheet.specs.Sheets.{names_of, price_rules};
 
 use crate::PriceRefusal;
@@ -24,7 +25,7 @@ impl Table for PriceRules<'_> {
 
     ghost name_of = { λ row. row.section };
 
-    ghost is_row = { λ _ row. row.price ≤ 1000001 };
+    ghost is_row = { λ _ row. row.price ≤ MAX_PRICE };
 
     fn headers(&self) -> &[&[&[u8]]] {
         &[&[b"section", b"price"]]
