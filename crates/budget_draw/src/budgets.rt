@@ -3,16 +3,18 @@ ghost use Rattle.std.specs.Prelude.{◌≡◌, ◌+◌, ◌*◌, ◌<◌, ◌≤
 ghost use Rattle.budget_draw.specs.Budgets.{amounts, budgets_of, raised_by};
 
 use crate::ranks::rank_among;
-use market_units::{NoMemory, StudentNo, Tokens};
+use market_units::{
+    MAX_BASE, MAX_BUDGET, MAX_RAISE, MAX_SPREAD, MAX_STUDENTS, NoMemory, StudentNo, Tokens,
+};
 use seed_words::words;
 use std::alloc::Global;
 use student_roll::Roll;
 
 // The budget of a base, what is carried over, and a rank.
 fn budget_at(base: u32, carry: u32, spread: u8, rank: usize) -> Tokens
-    requires tokens { base + carry ≤ 900000 }
-    requires spread { spread ≤ 49 }
-    requires rank { rank < 2000 }
+    requires tokens { base + carry ≤ MAX_BASE }
+    requires spread { spread ≤ MAX_SPREAD }
+    requires rank { rank < MAX_STUDENTS }
     ensures budget { result.0 ≡ base + carry + spread * rank }
     ensures range { result.0 ≤ 997951 }
 {
@@ -22,7 +24,7 @@ fn budget_at(base: u32, carry: u32, spread: u8, rank: usize) -> Tokens
 /// The budget of each student in file order: the base, the tokens that are carried over, and the
 /// spread times the rank that the seed draws.
 pub fn draw(alloc: Global, roll: &Roll, seed: u64, spread: u8) -> Result<Vec<Tokens>, NoMemory>
-    requires { spread ≤ 49 }
+    requires { spread ≤ MAX_SPREAD }
     ensures budgets { IfOk result
         (λ drawn. amounts drawn.items ≡ budgets_of roll.now.students seed spread) }
     ensures range { IfOk result (λ drawn. All (λ budget. budget.0 ≤ 997951) drawn.items) }
@@ -41,8 +43,8 @@ pub fn draw(alloc: Global, roll: &Roll, seed: u64, spread: u8) -> Result<Vec<Tok
 
 /// The budget raised by `raise` percent, rounded down.
 pub fn raised(budget: Tokens, raise: u8) -> Tokens
-    requires budget { budget.0 ≤ 1000000 }
-    requires raise { raise ≤ 50 }
+    requires budget { budget.0 ≤ MAX_BUDGET }
+    requires raise { raise ≤ MAX_RAISE }
     ensures { result.0 ≡ raised_by raise budget.0 }
 {
     Tokens(budget.0 + budget.0 * u32::from(raise) / 100)

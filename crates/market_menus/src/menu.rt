@@ -10,7 +10,7 @@ use crate::pairs::pairs_of;
 use crate::places::places_of;
 use bundle_rules::Menu;
 use course_catalog::Catalog;
-use market_units::{NoMemory, StudentNo};
+use market_units::{MAX_RATINGS, NoMemory, StudentNo};
 use preference_desk::Preferences;
 use std::alloc::Global;
 use student_roll::Roll;
@@ -67,6 +67,6 @@ fn menu_of(
         roll.credits(student),
         roll.courses(student),
     )?;
-    prove!(menu.len() <= 60);
+    prove!(menu.len() <= MAX_RATINGS as u8);
     Ok(menu)
 }
