@@ -1,5 +1,6 @@
 -- Nodes that have chosen the same sections: what is kept of them.
 use Rattle.std.specs.Prelude.{ℕ, ◌<◌, ◌≤◌, ◌*◌, ℤ, pos, neg_ℤ, ◌*ℤ◌, ◌≤ℤ◌, ◌≡◌, true, List, length, take, drop, All}
+use Rattle.market_units.specs.declared.limits.TheConstants.{MAX_COURSES, MAX_RATINGS}
 use Rattle.bundle_rules.specs.Ahead.{is_ahead}
 use Rattle.bundle_rules.specs.Wishes.{utility}
 use Rattle.bundle_rules.specs.Menus.{by_place, wishes_of}
@@ -24,8 +25,8 @@ pub record HasChosen (offer : Offer) (champion chosen : List ℕ) (champions : P
     (places : List ℕ) (count : ℕ) (so_far : ℤ) (rests : Rests) : Type 0 where
   pub champion_is : listed champions ≡ places_of offer.menu champion
   pub most_is : most ≡ utility (wishes_of offer.menu) champion
-  pub whole : length places ≡ 8
-  pub few : count ≤ 8
+  pub whole : length places ≡ MAX_COURSES
+  pub few : count ≤ MAX_COURSES
   pub chosen_is : take count places ≡ places_of offer.menu chosen
   pub utility_is : so_far ≡ utility (by_place offer.menu) (places_of offer.menu chosen)
   pub low : neg_ℤ (pos (2000 * count)) ≤ℤ so_far
@@ -37,8 +38,8 @@ pub record HasChosen (offer : Offer) (champion chosen : List ℕ) (champions : P
 -- the room keeps these open places from here on, with what the bounds are made of
 pub record Keeps (offer : Offer) (open_ones : List Prospect) (rests : Rests) (room : List Prospect)
     (start plain : ℕ) (tangents : Tangents) : Type 0 where
-  pub whole : length room ≡ 60
-  pub within : start ≤ 60
+  pub whole : length room ≡ MAX_RATINGS
+  pub within : start ≤ MAX_RATINGS
   pub kept_is : drop start room ≡ open_ones
   pub modest : All IsModest (drop start room)
   pub on_menu : All (λ p. p.place < length offer.menu.places) (drop start room)

@@ -14,6 +14,7 @@ use crate::known::Known;
 use crate::opens::Rests;
 use crate::prospects::{Prospect, Resource, at_price, at_two_prices, takes};
 use crate::tangents::{Tangent, Tangents};
+use market_units::MAX_RATINGS;
 
 // The leaf of a resource by a place.
 fn leaf_of(resource: Resource, place: u8) -> Leaf
@@ -56,7 +57,7 @@ fn is_below(
     requires low { neg_ℤ (pos 3000000000000) ≤ℤ base }
     requires high { base ≤ℤ pos 3000000000000 }
     requires modest { All IsModest all.now }
-    requires few { length all.now ≤ 60 }
+    requires few { length all.now ≤ MAX_RATINGS }
     requires one_modest { IsModest prospect.now }
     requires known { IsKnown base limit rest resource all.now known.old }
     requires last { IfSome last.old (IsTangent rest resource all.now) }
@@ -138,7 +139,7 @@ fn first_of_resource(
     requires low { neg_ℤ (pos 3000000000000) ≤ℤ base }
     requires high { base ≤ℤ pos 3000000000000 }
     requires modest { All IsModest all.now }
-    requires few { length all.now ≤ 60 }
+    requires few { length all.now ≤ MAX_RATINGS }
     requires last { IfSome last.old (IsTangent rest resource all.now) }
     ensures first { IfSome result
         (IsFirstBelow limit (resource_bounds base rest resource all.now all.now)) }
@@ -174,7 +175,7 @@ pub(crate) fn first_below(base: i64, limit: i64, rests: Rests, all: &[Prospect])
     requires low { neg_ℤ (pos 3000000000000) ≤ℤ base }
     requires high { base ≤ℤ pos 3000000000000 }
     requires modest { All IsModest all.now }
-    requires few { length all.now ≤ 60 }
+    requires few { length all.now ≤ MAX_RATINGS }
     ensures first { IfSome result
         (IsFirstBelow limit (all_bounds base rests.budget rests.credits rests.courses all.now)) }
     ensures none { IfNone result
@@ -197,7 +198,7 @@ pub(crate) fn first_with(
     requires low { neg_ℤ (pos 3000000000000) ≤ℤ base }
     requires high { base ≤ℤ pos 3000000000000 }
     requires modest { All IsModest all.now }
-    requires few { length all.now ≤ 60 }
+    requires few { length all.now ≤ MAX_RATINGS }
     requires plain { plain ≡ by_course (λ p. 1000 * p.worth) all.now }
     requires plain_high { plain ≤ 1200000000 }
     requires tangents { AreTangents rests.budget rests.credits rests.courses all.now tangents.old }
@@ -235,7 +236,7 @@ fn first_after_money(
     requires low { neg_ℤ (pos 3000000000000) ≤ℤ base }
     requires high { base ≤ℤ pos 3000000000000 }
     requires modest { All IsModest all.now }
-    requires few { length all.now ≤ 60 }
+    requires few { length all.now ≤ MAX_RATINGS }
     requires tangents { AreTangents rests.budget rests.credits rests.courses all.now tangents.old }
     ensures first { IfSome result
         (IsFirstBelow limit
@@ -270,7 +271,7 @@ fn first_after_money(
 // Of each course the greatest worth, a thousandfold, added up.
 fn plain_sum(all: &[Prospect]) -> u64
     requires modest { All IsModest all.now }
-    requires few { length all.now ≤ 60 }
+    requires few { length all.now ≤ MAX_RATINGS }
     ensures value { result ≡ by_course (λ p. 1000 * p.worth) all.now }
     ensures high { result ≤ 1200000000 }
 {
@@ -300,7 +301,7 @@ fn resource_bound(
     requires low { neg_ℤ (pos 3000000000000) ≤ℤ base }
     requires high { base ≤ℤ pos 3000000000000 }
     requires modest { All IsModest all.now }
-    requires few { length all.now ≤ 60 }
+    requires few { length all.now ≤ MAX_RATINGS }
     requires some_modest { All IsModest some.now }
     ensures { (bound : ℤ) → HasBound (resource_bounds base rest resource all.now some.now) (leaf_of resource place) bound
         → HasBound (resource_bounds base rest resource all.now some.now) (leaf_of resource place) result }
@@ -323,7 +324,7 @@ pub(crate) fn bound_of(base: i64, rests: Rests, all: &[Prospect], leaf: Leaf) ->
     requires low { neg_ℤ (pos 3000000000000) ≤ℤ base }
     requires high { base ≤ℤ pos 3000000000000 }
     requires modest { All IsModest all.now }
-    requires few { length all.now ≤ 60 }
+    requires few { length all.now ≤ MAX_RATINGS }
     ensures { (bound : ℤ) → HasBound (all_bounds base rests.budget rests.credits rests.courses all.now) leaf bound
         → HasBound (all_bounds base rests.budget rests.credits rests.courses all.now) leaf result }
 {

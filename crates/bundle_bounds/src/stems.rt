@@ -20,12 +20,12 @@ use crate::prospects::{NO_PROSPECTS, Prospect, Resource, at_price};
 use crate::sifting::{rests_after, sift};
 use crate::tangents::Tangents;
 use bundle_rules::{Bundle, Menu, Places, is_ahead, utility};
-use market_units::{SectionSet, Tokens};
+use market_units::{MAX_COURSES, MAX_RATINGS, SectionSet, Tokens};
 
 // The places of a menu, and the sections of a bundle.
-const ROOM: usize = 60;
+const ROOM: usize = MAX_RATINGS;
 
-const MOST: usize = 8;
+const MOST: usize = MAX_COURSES as usize;
 
 /// Nodes that have chosen the same sections, one after another: each has one more place decided
 /// than the one before it. What they share is kept: the open places with their worth, what the
@@ -130,7 +130,7 @@ impl Stem {
         ensures stem { IsStem (offer_of menu.now prices.now budget.0 allowed.now)
             (sections_of champion.now) node.now.place (sections_of node.now.chosen) self.new }
     {
-        prove!(menu.len() <= 60);
+        prove!(menu.len() <= MAX_RATINGS as u8);
         if self.is_quiet {
             return None;
         }

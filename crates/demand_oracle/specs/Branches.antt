@@ -1,5 +1,6 @@
 -- What a branch knows of its node.
 use Rattle.std.specs.Prelude.{ℕ, ◌*◌, ◌≤◌, ◌<◌, ◌≡◌, ℤ, pos, neg_ℤ, ◌≤ℤ◌, true, List, [], ◌∷◌, ◌++◌, length, take}
+use Rattle.market_units.specs.declared.limits.TheConstants.{MAX_PRICE, MAX_SECTION_CREDITS}
 use Rattle.market_units.specs.Totals.{total}
 use Rattle.bundle_rules.specs.Sets.{has}
 use Rattle.bundle_rules.specs.Bundles.{sections_of}
@@ -19,8 +20,8 @@ with_next_of menu branch = chosen_of branch ++ section_at menu.places branch.nod
 -- sums of so many sections are small: a price is at most 1,000,001, credits are at most 100, and a
 -- rating with eight adjustments is at most 1,700
 pub record AreSmallSums (count paid credits : ℕ) (utility : ℤ) : Type 0 where
-  pub paid_high : paid ≤ 1000001 * count
-  pub credits_high : credits ≤ 100 * count
+  pub paid_high : paid ≤ MAX_PRICE * count
+  pub credits_high : credits ≤ MAX_SECTION_CREDITS * count
   pub utility_low : neg_ℤ (pos (1700 * count)) ≤ℤ utility
   pub utility_high : utility ≤ℤ pos (1700 * count)
 

@@ -12,9 +12,9 @@ ghost use Rattle.bundle_bounds.specs.Closings.{ComesFirst};
 
 use bundle_bounds::{Node, adjustments_with, is_apart, price_of_place};
 use bundle_rules::{Bundle, Menu, is_ahead};
-use market_units::{SectionSet, Tokens};
+use market_units::{MAX_COURSES, MAX_RATINGS, SectionSet, Tokens};
 
-const ROOM: usize = 8;
+const ROOM: usize = MAX_COURSES as usize;
 
 /// A node of the search with what its sections are known by: their places, and the sums of their
 /// prices, of their credits and of their utility.
@@ -95,7 +95,7 @@ impl Branch {
         ensures takable { IsTrue result
             ↔ IsTakable (offer_of menu.now prices.now budget.0 allowed.now)
             (chosen_of self.now ++ section_at menu.now.places place ∷ []) }
-        ensures room { IsTrue result → length (chosen_of self.now) < 8 }
+        ensures room { IsTrue result → length (chosen_of self.now) < MAX_COURSES }
     {
         prove!(place < menu.len());
         let rated = menu.rated(place);
@@ -120,7 +120,7 @@ impl Branch {
         requires prices { HasPrices menu.now prices.now }
         requires branch { IsBranch menu.now (price_in prices.now) self }
         requires next { self.node.place < length menu.now.places }
-        requires room { length (chosen_of self) < 8 }
+        requires room { length (chosen_of self) < MAX_COURSES }
         ensures branch { IsBranch menu.now (price_in prices.now) result }
         ensures place { result.node.place ≡ self.node.place + 1 }
         ensures chosen { chosen_of result ≡ with_next_of menu.now self }
@@ -145,7 +145,7 @@ impl Branch {
     /// The branch without the section of the next place.
     #[must_use]
     pub fn without_next(self) -> Branch
-        requires { self.node.place < 60 }
+        requires { self.node.place < MAX_RATINGS }
         ensures branch { (menu : MenuData) (price : ℕ → ℕ) → IsBranch menu price self
             → IsBranch menu price result }
         ensures place { result.node.place ≡ self.node.place + 1 }
@@ -164,7 +164,7 @@ impl Branch {
     pub(crate) fn places(&self) -> &[u8]
         ensures value { (menu : MenuData) (price : ℕ → ℕ) → IsBranch menu price self.now
             → result.now ≡ places_of menu (chosen_of self.now) }
-        ensures few { length result.now ≤ 8 }
+        ensures few { length result.now ≤ MAX_COURSES }
     {
         &self.places[..self.node.chosen.sections().len()]
     }
@@ -188,7 +188,7 @@ impl Branch {
     pub(crate) fn courses_left(&self, menu: &Menu) -> u32
         requires { IsMenu menu.now }
         ensures value { result ≡ menu.now.courses - length (chosen_of self.now) }
-        ensures high { result ≤ 8 }
+        ensures high { result ≤ MAX_COURSES }
     {
         u32::from(menu.courses()).saturating_sub(self.node.chosen.sections().len() as u32)
     }

@@ -2,13 +2,13 @@
 ghost use Rattle.std.specs.Prelude.{◌≡◌, ◌<◌, [], ◌∷◌, length, IfOk, MatchOption};
 
 use crate::branch::Branch;
-use market_units::NoMemory;
+use market_units::{MAX_RATINGS, NoMemory};
 use std::alloc::Global;
 use std::marker::Model;
 
 // A branch has decided at least as many places as branches wait under it, and a menu has at most 60
 // places: under one that has decided all of them at most one waits for each place.
-const ROOM: usize = 60;
+const ROOM: usize = MAX_RATINGS;
 
 /// Branches that wait to be searched, at most 60. The last that was put is the first that is taken.
 /// Only `reserve` takes memory.
@@ -47,7 +47,7 @@ impl Pending {
     /// Lets a branch wait, which is the next that is taken.
     #[inline(always)]
     pub fn put(&mut self, branch: Branch)
-        requires { length self.old < 60 }
+        requires { length self.old < MAX_RATINGS }
         ensures { self.new ≡ branch ∷ self.old }
     {
         self.cells[self.count] = branch;

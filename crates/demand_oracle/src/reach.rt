@@ -2,6 +2,7 @@
 ghost use Rattle.std.specs.Prelude.{◌≡◌, ◌↔◌, ◌<◌, ◌≤◌, ◌+◌, ◌*◌, ◌-◌, ◌^◌, ◌-ℤ◌, ◌*ℤ◌, ◌≤ℤ◌, ◌<ℤ◌, pos, neg_ℤ, ℕ, Bool, List, IsTrue, length};
 ghost use Rattle.std.specs.Ordering.{nat_cmp};
 ghost use Rattle.std.specs.FinSet as set;
+ghost use Rattle.market_units.specs.declared.limits.TheConstants.{MAX_SECTION_CREDITS};
 ghost use Rattle.market_units.specs.declared.units.Tokens.{Tokens};
 ghost use Rattle.bundle_rules.specs.Demand.{price_in, HasPrices};
 ghost use Rattle.bundle_rules.specs.Menus.{IsMenu};
@@ -35,7 +36,7 @@ pub struct Reach {
     credits: Multipliers,
     shift: u32,
     most: Table,
-    ghost light: { lightest ≤ 100 },
+    ghost light: { lightest ≤ MAX_SECTION_CREDITS },
     ghost short: { shift < 32 },
 }
 

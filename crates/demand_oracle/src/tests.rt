@@ -7,7 +7,7 @@ use super::*;
 use crate::branch::Branch;
 use crate::pending::Pending;
 use bundle_rules::{Bundle, Menu, Rated, best_plain, feasible, has_prices, prefers};
-use market_units::{SectionNo, SectionSet, Tokens};
+use market_units::{MAX_SECTIONS, SectionNo, SectionSet, Tokens};
 use std::alloc::Global;
 use std::process::Abort;
 use std::test::Fail;
@@ -282,7 +282,7 @@ fn best_beside(
     section: SectionNo,
 ) -> Bundle
     requires prices { HasPrices menu.now prices.now }
-    requires section { section.0 < 400 }
+    requires section { section.0 < MAX_SECTIONS }
 {
     let fewer = allowed.without(section);
     let first = demand(workspace, menu, prices, budget, &fewer);

@@ -9,7 +9,7 @@ use bundle_rules::{Menu, Rated};
 use demand_api::{Crowd, Demands};
 use demand_workers::{Bench, PooledDemands};
 use market_edge::{Gate, OpenGate, Stop};
-use market_units::{NoMemory, SectionNo, StudentNo, Tokens};
+use market_units::{MAX_WORKERS, NoMemory, SectionNo, StudentNo, Tokens};
 use std::alloc::Global;
 use std::process::Abort;
 use std::sync::atomic::{AtomicU64, Ordering};
@@ -119,7 +119,7 @@ fn counts_by<R: Abort + Threads + Wait + Sync>(
     workers: u16,
     gate: &(dyn Gate + Sync),
 ) -> Result<[u32; 4], Fail>
-    requires { (1 ≤ workers) × (workers ≤ 16) }
+    requires { (1 ≤ workers) × (workers ≤ MAX_WORKERS) }
 {
     let crowd = four_students(rt, alloc)?;
     let batch = [
@@ -204,7 +204,7 @@ fn bundles_by<R: Abort + Threads + Wait + Sync>(
     alloc: Global,
     workers: u16,
 ) -> Result<[bool; 4], Fail>
-    requires { (1 ≤ workers) × (workers ≤ 16) }
+    requires { (1 ≤ workers) × (workers ≤ MAX_WORKERS) }
 {
     let crowd = four_students(rt, alloc)?;
     let prices = [Tokens(102)];

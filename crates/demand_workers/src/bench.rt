@@ -1,5 +1,6 @@
 // What workers work with.
 ghost use Rattle.std.specs.Prelude.{◌≡◌, ◌≤◌, IfOk, length};
+ghost use Rattle.market_units.specs.declared.limits.TheConstants.{MAX_WORKERS};
 
 use demand_oracle::Workspace;
 use market_units::{MAX_WORKERS, NoMemory};
@@ -17,7 +18,7 @@ pub struct Bench {
     workspaces: Vec<Mutex<Workspace>>,
     ghost each: { length workspaces.items ≡ workers },
     ghost some: { 1 ≤ workers },
-    ghost few: { workers ≤ 16 },
+    ghost few: { workers ≤ MAX_WORKERS },
 }
 
 impl Bench {
@@ -42,7 +43,7 @@ impl Bench {
     // The workspaces.
     pub(crate) fn workspaces(&self) -> &[Mutex<Workspace>]
         ensures some { 1 ≤ length result.now }
-        ensures few { length result.now ≤ 16 }
+        ensures few { length result.now ≤ MAX_WORKERS }
     {
         &self.workspaces
     }

@@ -195,7 +195,7 @@ pub(crate) fn holder_of(
         ≡ demand_of (data_of crowd.now) (price_in prices.now) student.0 }
     requires holds { has (sections_of bundle.now) section.0 ≡ true }
     ensures student { result.1 ≡ student.0 }
-    ensures room { result.0 ≤ 1000001 }
+    ensures room { result.0 ≤ MAX_PRICE }
     ensures later { price_in prices.now section.0 < leaves result }
     ensures capped { leaves result ≤ top (data_of crowd.now) }
     ensures still { takes (data_of crowd.now) (price_in prices.now) section.0 (leaves result - 1)

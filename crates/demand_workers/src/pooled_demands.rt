@@ -24,7 +24,7 @@ use crate::unsettled::{Survey, ask_few};
 use bundle_rules::Bundle;
 use demand_api::{Crowd, Demands};
 use market_edge::{AnyGate, Gate};
-use market_units::{NoMemory, SectionNo, StudentNo, Tokens};
+use market_units::{MAX_STUDENTS, NoMemory, SectionNo, StudentNo, Tokens};
 use price_board::Ask;
 use std::alloc::Global;
 use std::sync::{Arc, Wait};
@@ -187,7 +187,7 @@ impl<'g> PooledDemands<AnyGate<'g>> {
         requires prices { ArePricesFor (data_of (arc_value self.old.crowd)) prices.now }
         requires students { All
             (λ student. student.0 < length (arc_value self.old.crowd).menus.items) students.now }
-        requires few { length students.now ≤ 2000 }
+        requires few { length students.now ≤ MAX_STUDENTS }
         ensures crowd { self.new.crowd ≡ self.old.crowd }
         ensures asked { self.new.asked ≡ self.old.asked }
     {

@@ -1,5 +1,6 @@
 -- A round of a crowd, and how its board begins.
 use Rattle.std.specs.Prelude.{ℕ, ◌≡◌, ◌<◌, ◌≤◌, ⊤, List, length, map, replicate, All}
+use Rattle.market_units.specs.declared.limits.TheConstants.{MAX_PRICE, MAX_VERSIONS}
 use Rattle.market_units.specs.declared.units.Tokens.{Tokens}
 use Rattle.demand_api.specs.declared.crowd.Crowd.{Crowd}
 use Rattle.demand_api.specs.Made.{crowd_of, MakeCrowd}
@@ -27,7 +28,7 @@ IsMade crowd = MakeCrowd crowd.menus.items crowd.budgets.items crowd.sections
 -- a price for each section, each at most 1,000,001
 pub record ArePrices (sections : ℕ) (prices : List Tokens) : Type 0 where
   pub each : length prices ≡ sections
-  pub high : All (λ price. price.0 ≤ 1000001) prices
+  pub high : All (λ price. price.0 ≤ MAX_PRICE) prices
 
 -- what is asked is of a section of the market
 abbrev pub IsAskOf : ℕ → Ask → Type 0
@@ -37,7 +38,7 @@ IsAskOf sections (Exceeds section limit) = section.0 < sections
 -- 1 to 16 versions of prices, and what is asked of each
 pub record IsRound (terms : Terms) : Type 0 where
   pub some : 1 ≤ version_count terms
-  pub few : version_count terms ≤ 16
+  pub few : version_count terms ≤ MAX_VERSIONS
   pub prices : All (ArePrices terms.crowd.sections) terms.versions
   pub asks : length terms.asks ≡ version_count terms
   pub sections : All (IsAskOf terms.crowd.sections) terms.asks

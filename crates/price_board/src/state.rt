@@ -21,7 +21,7 @@ use crate::tally::{Tally, exceeds_by, settles, with_bundle};
 use bundle_rules::Bundle;
 use chronicle::Journal;
 use demand_api::Crowd;
-use market_units::{NoMemory, StudentNo};
+use market_units::{MAX_WORKERS, NoMemory, StudentNo};
 use std::alloc::Global;
 use std::marker::Model;
 use std::sync::Arc;
@@ -74,7 +74,7 @@ impl BoardState {
     ) -> Result<BoardState, NoMemory>
         requires crowd { IsMade (arc_value crowd) }
         requires round { IsRound (terms_of (arc_value crowd) round) }
-        requires workers { (1 ≤ workers) × (workers ≤ 16) }
+        requires workers { (1 ≤ workers) × (workers ≤ MAX_WORKERS) }
         ensures terms { IfOk result (λ board. board.terms ≡ terms_of (arc_value crowd) round) }
         ensures opening { IfOk result
             (λ board. board.rows ≡ (opening_of (terms_of (arc_value crowd) round)).rows) }

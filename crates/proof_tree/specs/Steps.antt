@@ -1,5 +1,6 @@
 -- One step of the walk of a tree.
 use Rattle.std.specs.Prelude.{ℕ, zero, suc, ◌+◌, ◌-◌, ◌≤◌, ◌≡◌, ⊤, Option, List, [], ◌∷◌, ◌++◌, length, map, reverse, take}
+use Rattle.market_units.specs.declared.limits.TheConstants.{MAX_COURSES}
 use Rattle.bundle_rules.specs.Bundles.{sections_of}
 use Rattle.bundle_rules.specs.Menus.{MenuData}
 use Rattle.bundle_bounds.specs.declared.nodes.Node.{Node}
@@ -33,7 +34,7 @@ MayWait offer (node ∷ under) =
 
 -- what waits in a walk
 pub record AreWaiting (offer : Offer) (walk : Walk) : Type 0 where
-  pub few : walk.count ≤ 9
+  pub few : walk.count ≤ MAX_COURSES + 1
   pub nodes : MayWait offer (waiting_of walk)
 
 -- the step from these nodes to those: the first of them with its canonical sign and the nodes below

@@ -18,7 +18,7 @@ use crate::signs::Sign;
 use crate::symbols::read_symbol;
 use crate::walk::{Step, Walk};
 use bundle_rules::{Bundle, Menu};
-use market_units::{SectionNo, SectionSet, Tokens};
+use market_units::{MAX_RATINGS, SectionNo, SectionSet, Tokens};
 
 // The offset of the rest of a text, told as 4,294,967,295 where it is greater.
 fn offset_of(text: &[u8], rest: &[u8]) -> u32
@@ -185,7 +185,7 @@ pub fn check_tree(
         (IsDefect (offer_of menu.now prices.now budget.0 allowed.now) (sections_of champion.now)
         text.now) }
 {
-    prove!(menu.len() <= 60);
+    prove!(menu.len() <= MAX_RATINGS as u8);
     follow(menu, prices, budget, allowed, None, champion, text)
 }
 
@@ -216,7 +216,7 @@ pub fn check_forced(
         (FirstFailsAt (offer_of menu.now prices.now budget.0 allowed.now)
         (Some (place_in menu.now.places section.0)) (sections_of champion.now) text.now) }
 {
-    prove!(menu.len() <= 60);
+    prove!(menu.len() <= MAX_RATINGS as u8);
     let place = menu.place(section);
     match follow(menu, prices, budget, allowed, Some(place), champion, text) {
         Ok(()) => Ok(()),
