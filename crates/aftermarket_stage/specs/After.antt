@@ -1,6 +1,7 @@
 -- What an aftermarket is asked of, and the turns that were made, as plain data.
 use Rattle.std.specs.Prelude.{ℕ, ◌≤◌, ◌≡◌, List, All, length, map}
 use Rattle.std.specs.FinSet as set
+use Rattle.market_units.specs.declared.limits.TheConstants.{MAX_PRICE}
 use Rattle.market_units.specs.declared.units.Tokens.{Tokens}
 use Rattle.bundle_rules.specs.Bundles.{sections_of}
 use Rattle.demand_api.specs.declared.crowd.Crowd.{Crowd}
@@ -21,7 +22,7 @@ terms_of crowd seats prices raise =
 -- one price for each section, each at most 1,000,001
 pub record AreSectionPrices (sections : ℕ) (prices : List Tokens) : Type 0 where
   pub same : length prices ≡ sections
-  pub high : All (λ price. price.0 ≤ 1000001) prices
+  pub high : All (λ price. price.0 ≤ MAX_PRICE) prices
 
 -- a turn as plain data
 abbrev pub turn_of : Turn → TurnData

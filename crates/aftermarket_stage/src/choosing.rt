@@ -12,7 +12,7 @@ use budget_draw::raised;
 use bundle_rules::{Bundle, Rated};
 use demand_api::Crowd;
 use demand_oracle::{Workspace, demand};
-use market_units::{NoMemory, SectionNo, SectionSet, Tokens};
+use market_units::{MAX_RAISE, MAX_SECTIONS, NoMemory, SectionNo, SectionSet, Tokens};
 use std::alloc::Global;
 
 // Room for demands, and for each student the sections of which the bundle that it holds is known to
@@ -54,7 +54,7 @@ impl Chooser {
         requires crowd { MakeCrowd crowd.now.menus.items crowd.now.budgets.items
             crowd.now.sections }
         requires prices { AreSectionPrices crowd.now.sections prices.now }
-        requires raise { raise ≤ 50 }
+        requires raise { raise ≤ MAX_RAISE }
         requires place { place < length crowd.now.menus.items }
         requires students { length held.now ≡ length crowd.now.menus.items }
         requires size { length self.old.known.items ≡ length crowd.now.menus.items }
@@ -86,7 +86,7 @@ impl Chooser {
     // among which are all of these that are on its menu.
     fn is_settled(&self, places: &[Rated], allowed: &SectionSet, place: usize) -> bool
         requires place { place < length self.now.known.items }
-        requires low { All (λ rated. rated.section.0 < 400) places.now }
+        requires low { All (λ rated. rated.section.0 < MAX_SECTIONS) places.now }
         ensures { IsTrue result → IsSettled self.now.known.items place places.now allowed.now }
     {
         match self.known[place] {
@@ -98,7 +98,7 @@ impl Chooser {
 
 // Whether each of these sections that is allowed is among the known ones.
 fn none_new(places: &[Rated], known: &SectionSet, allowed: &SectionSet) -> bool
-    requires { All (λ rated. rated.section.0 < 400) places.now }
+    requires { All (λ rated. rated.section.0 < MAX_SECTIONS) places.now }
     ensures { IsTrue result
         → All
         (λ rated. IsTrue
@@ -112,7 +112,7 @@ fn none_new(places: &[Rated], known: &SectionSet, allowed: &SectionSet) -> bool
 }
 
 fn is_old(section: SectionNo, known: &SectionSet, allowed: &SectionSet) -> bool
-    requires { section.0 < 400 }
+    requires { section.0 < MAX_SECTIONS }
     ensures { result
         ≡ (set.contains known.now section.0 || not (set.contains allowed.now section.0)) }
 {
