@@ -26,7 +26,7 @@ use course_catalog::Catalog;
 use held_seats::Floor;
 use market_certificate::{Publication, TextRefusal, read_publication};
 use market_settings::Settings;
-use market_units::NoMemory;
+use market_units::{MAX_RAISE, MAX_SPREAD, NoMemory};
 use std::alloc::Global;
 use student_roll::Roll;
 use utility_language::Command;
@@ -46,8 +46,8 @@ pub fn check(
     text: &[u8],
 ) -> Result<(), CheckEnd>
     requires text { length text.now < 2 ^ 32 - 1 }
-    requires spread { settings.now.spread ≤ 49 }
-    requires raise { settings.now.raise ≤ 50 }
+    requires spread { settings.now.spread ≤ MAX_SPREAD }
+    requires raise { settings.now.raise ≤ MAX_RAISE }
     ensures accepted { OnOk result
         (IsAccepted (market_of catalog.now roll.now settings.now)
         (map (λ stream. stream.items) streams.now) text.now) }
@@ -76,8 +76,8 @@ pub fn check_owned(
     text: Vec<u8>,
 ) -> Result<(), CheckEnd>
     requires text { length text.items < 2 ^ 32 - 1 }
-    requires spread { settings.now.spread ≤ 49 }
-    requires raise { settings.now.raise ≤ 50 }
+    requires spread { settings.now.spread ≤ MAX_SPREAD }
+    requires raise { settings.now.raise ≤ MAX_RAISE }
     ensures accepted { OnOk result
         (IsAccepted (market_of catalog.now roll.now settings.now)
         (map (λ stream. stream.items) streams.now) text.items) }
@@ -106,8 +106,8 @@ pub fn accept(
     text: Vec<u8>,
 ) -> Result<Accepted, CheckEnd>
     requires text { length text.items < 2 ^ 32 - 1 }
-    requires spread { settings.now.spread ≤ 49 }
-    requires raise { settings.now.raise ≤ 50 }
+    requires spread { settings.now.spread ≤ MAX_SPREAD }
+    requires raise { settings.now.raise ≤ MAX_RAISE }
     ensures text { IfOk result
         (λ accepted. IsTextOf (market_of catalog.now roll.now settings.now)
         (publication_of accepted.publication) text.items) }
@@ -175,8 +175,8 @@ fn accept_publication(
         (publication_of publication) }
     requires entries { length publication.order.items < 2 ^ 32 - 1 }
     requires turns { length publication.turns.items < 2 ^ 32 - 1 }
-    requires spread { settings.now.spread ≤ 49 }
-    requires raise { settings.now.raise ≤ 50 }
+    requires spread { settings.now.spread ≤ MAX_SPREAD }
+    requires raise { settings.now.raise ≤ MAX_RAISE }
     ensures same { IfOk result
         (λ accepted. publication_of accepted.publication ≡ publication_of publication) }
     ensures holds { IfOk result

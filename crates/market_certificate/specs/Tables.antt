@@ -2,6 +2,7 @@
 use Rattle.std.specs.Prelude.{ℕ, ◌<◌, ◌≤◌, ◌^◌, List, [], All, length, map, max, slice_index_or}
 use Rattle.std.specs.List.{IsDistinct}
 use Rattle.std.specs.Str.{bytes_eq}
+use Rattle.market_units.specs.declared.limits.TheConstants.{MAX_SECTIONS, MAX_STUDENTS}
 use Rattle.market_units.specs.Names.{IsName}
 use Rattle.course_catalog.specs.Catalog.{CatalogData}
 use Rattle.course_catalog.specs.Sections.{Section}
@@ -35,9 +36,9 @@ pub record AreNames (names : List (List ℕ)) : Type 0 where
 pub record AreTables (tables : Tables) : Type 0 where
   pub version : tables.version < 2 ^ 64
   pub students : AreNames tables.students
-  pub few_students : length tables.students ≤ 2000
+  pub few_students : length tables.students ≤ MAX_STUDENTS
   pub sections : AreNames tables.sections
-  pub few_sections : length tables.sections ≤ 400
+  pub few_sections : length tables.sections ≤ MAX_SECTIONS
 
 -- the name of an ordinal
 abbrev pub name_at : List (List ℕ) → ℕ → List ℕ

@@ -18,7 +18,7 @@ use crate::rooms::{Room, reserve_rooms, workers_for};
 use bundle_rules::{Bundle, Menu};
 use demand_api::Crowd;
 use market_certificate::Proved;
-use market_units::{NoMemory, SectionSet, Tokens};
+use market_units::{MAX_COURSES, MAX_RATINGS, NoMemory, SectionSet, Tokens};
 use std::alloc::Global;
 use std::thread;
 use std::thread::Threads;
@@ -44,8 +44,8 @@ pub(crate) fn prove_bundle(
         (sections_of proved.bundle) proved.tree.items) }
     ensures form { IfOk result (λ proved. HasForm (sections_of proved.bundle) proved.tree.items) }
 {
-    prove!(menu.len() <= 60);
-    prove!(bundle.sections().len() <= 8);
+    prove!(menu.len() <= MAX_RATINGS as u8);
+    prove!(bundle.sections().len() <= usize::from(MAX_COURSES));
     let tree = room.tree(alloc, menu, prices, budget, allowed, bundle)?;
     Ok(Proved {
         bundle: *bundle,
