@@ -16,7 +16,7 @@ use crate::rules::MarketRules;
 use bundle_rules::Bundle;
 use course_catalog::Catalog;
 use held_seats::Floor;
-use market_units::{Name, NoMemory, SectionNo, StudentNo};
+use market_units::{MAX_COURSES, Name, NoMemory, SectionNo, StudentNo};
 use std::alloc::Global;
 use student_roll::Roll;
 
@@ -188,7 +188,8 @@ impl HallDesk {
         requires section { section.0 < section_count (market_of self.now) }
         ensures refusal { result
             ≡ refusal (market_of self.now) (state_of self.now) student.0 section.0 }
-        ensures room { result ≡ None → length (held_by (state_of self.now) student.0) < 8 }
+        ensures room { result ≡ None
+            → length (held_by (state_of self.now) student.0) < MAX_COURSES }
     {
         let held = self.bundle(student);
         if held.has(section) {
@@ -216,7 +217,7 @@ impl HallDesk {
         requires section { section.0 < section_count (market_of self.old) }
         requires new { has (held_by (state_of self.old) student.0) section.0 ≡ false }
         requires apart { has (waiting_for (state_of self.old) section.0) student.0 ≡ false }
-        requires few { length (held_by (state_of self.old) student.0) < 8 }
+        requires few { length (held_by (state_of self.old) student.0) < MAX_COURSES }
         ensures market { market_of self.new ≡ market_of self.old }
         ensures given { state_of self.new ≡ given (state_of self.old) (Some student.0) section.0 }
         ensures room { room_of self.new ≡ room_of self.old }
@@ -295,7 +296,8 @@ impl HallDesk {
         ensures fits { result
             ≡ fits (market_of self.now) student.0 section.0
             (held_by (state_of self.now) student.0) }
-        ensures room { result ≡ true → length (held_by (state_of self.now) student.0) < 8 }
+        ensures room { result ≡ true
+            → length (held_by (state_of self.now) student.0) < MAX_COURSES }
     {
         self.rules.fits(student, section, &self.bundle(student))
     }

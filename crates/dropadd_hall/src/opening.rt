@@ -13,7 +13,7 @@ ghost use Rattle.dropadd_hall.specs.Faults.{IsFaultless, IsFirstFault};
 use bundle_rules::Bundle;
 use course_catalog::Catalog;
 use dropadd_desk::HallDesk;
-use market_units::{SectionNo, StudentNo};
+use market_units::{MAX_COURSES, SectionNo, StudentNo};
 use student_roll::Roll;
 
 /// Why students may not hold what they hold.
@@ -83,7 +83,7 @@ fn may_hold(catalog: &Catalog, roll: &Roll, student: StudentNo, held: &Bundle) -
 
 // The credits of these sections together.
 fn sum_credits(catalog: &Catalog, sections: &[SectionNo]) -> u32
-    requires few { length sections.now ≤ 8 }
+    requires few { length sections.now ≤ MAX_COURSES }
     requires within { All (λ section. section.0 < length catalog.now.sections) sections.now }
     ensures { result
         ≡ total (λ s. (section_at catalog.now.sections s).credits) (ordinals sections.now) }

@@ -17,7 +17,7 @@ use course_catalog::Catalog;
 use demand_api::Crowd;
 use market_certificate::Publication;
 use market_settings::Settings;
-use market_units::{NoMemory, SectionNo, StudentNo};
+use market_units::{MAX_RAISE, MAX_SPREAD, NoMemory, SectionNo, StudentNo};
 use std::alloc::Global;
 use student_roll::Roll;
 use utility_language::Command;
@@ -38,8 +38,8 @@ pub fn published_reason(
     section: SectionNo,
 ) -> Result<Vec<u8>, CheckEnd>
     requires text { length text.items < 2 ^ 32 - 1 }
-    requires spread { settings.now.spread ≤ 49 }
-    requires raise { settings.now.raise ≤ 50 }
+    requires spread { settings.now.spread ≤ MAX_SPREAD }
+    requires raise { settings.now.raise ≤ MAX_RAISE }
     requires student { student.0 < length roll.now.students }
     requires section { section.0 < length catalog.now.sections }
     ensures told { IfOk result

@@ -26,7 +26,7 @@ use demand_api::Crowd;
 use market_certificate::Publication;
 use market_edge::Gate;
 use market_settings::Settings;
-use market_units::{MAX_WORKERS, NoMemory};
+use market_units::{MAX_RAISE, MAX_SPREAD, MAX_WORKERS, NoMemory};
 use std::alloc::Global;
 use std::sync::{Arc, Wait};
 use std::thread::Threads;
@@ -53,8 +53,8 @@ pub fn published_audit<R: Threads + Wait + Sync, G: Gate + Sync>(
 ) -> Result<Vec<u8>, CheckEnd>
     requires workers { (1 ≤ workers) × (workers ≤ MAX_WORKERS) }
     requires text { length text.items < 2 ^ 32 - 1 }
-    requires spread { settings.now.spread ≤ 49 }
-    requires raise { settings.now.raise ≤ 50 }
+    requires spread { settings.now.spread ≤ MAX_SPREAD }
+    requires raise { settings.now.raise ≤ MAX_RAISE }
     ensures audited { IfOk result
         (λ audited. IsAuditOf (market_of catalog.now roll.now settings.now)
         (map (λ stream. stream.items) streams.now) text.items audited.items) }

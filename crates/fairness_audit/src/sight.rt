@@ -15,7 +15,7 @@ ghost use Rattle.fairness_audit.specs.Weights.{AreWeights};
 use crate::row::Seen;
 use crate::weights::{Weights, may_be_more};
 use bundle_rules::{Bundle, Menu, feasible, prefers, utility};
-use market_units::{SectionNo, StudentNo};
+use market_units::{MAX_COURSES, SectionNo, StudentNo};
 
 // What a student with this menu, whose own bundle is worth so much to it, sees in the bundle of
 // another, if that is worth more. Most bundles need no search, by their weights.
@@ -92,7 +92,7 @@ fn best_out_of(menu: &Menu, bundle: &Bundle) -> Bundle
 // all are tried, but for those with a part that the student may not take.
 fn best_from(menu: &Menu, later: &[SectionNo], chosen: Bundle) -> Bundle
     requires chosen { IsFeasible (wishes_of menu.now) (sections_of chosen) }
-    requires few { length (sections_of chosen) + length later.now ≤ 8 }
+    requires few { length (sections_of chosen) + length later.now ≤ MAX_COURSES }
     requires later { IsAscending (sections_of chosen ++ ordinals later.now) }
     ensures { IsBestOfThese (wishes_of menu.now) (sections_of chosen) (ordinals later.now)
         (sections_of result) }
@@ -118,7 +118,7 @@ fn best_from(menu: &Menu, later: &[SectionNo], chosen: Bundle) -> Bundle
 
 // The bundle with one more section, where the student may take that.
 fn extended(menu: &Menu, chosen: Bundle, section: SectionNo) -> Option<Bundle>
-    requires room { length (sections_of chosen) < 8 }
+    requires room { length (sections_of chosen) < MAX_COURSES }
     requires above { IsAscending (sections_of chosen ++ section.0 ∷ []) }
     ensures value { IfSome result
         (λ wider. sections_of wider ≡ sections_of chosen ++ section.0 ∷ []) }
