@@ -4,7 +4,7 @@ use Rattle.market_units.specs.declared.limits.TheConstants.{MAX_PRICE}
 use Rattle.market_units.specs.declared.units.Tokens.{Tokens}
 use Rattle.bundle_rules.specs.declared.menu.Rated.{Rated}
 use Rattle.market_units.specs.Totals.{total}
-use Rattle.bundle_rules.specs.Sets.{has}
+use Rattle.market_units.specs.Members.{has}
 use Rattle.bundle_rules.specs.Wishes.{Wishes, IsFeasible}
 use Rattle.bundle_rules.specs.Menus.{MenuData}
 use Rattle.bundle_rules.specs.Preferences.{IsPreferred}

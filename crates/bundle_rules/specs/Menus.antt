@@ -4,7 +4,7 @@ use Rattle.std.specs.Int.{bit_at}
 use Rattle.market_units.specs.declared.limits.TheConstants.{MAX_ADJUSTMENT, MAX_COURSES, MAX_CREDITS, MAX_PAIRS, MAX_RATING, MAX_RATINGS, MAX_SECTION_CREDITS, MAX_SECTIONS}
 use Rattle.bundle_rules.specs.declared.menu.Rated.{Rated}
 use Rattle.bundle_rules.specs.Sets.{IsAscending}
-use Rattle.bundle_rules.specs.Wishes.{Wishes}
+use Rattle.bundle_rules.specs.Wishes.{Wishes, utility}
 
 -- the rated sections, the adjustments of pairs of places, a word of clashes for each place, and the
 -- two caps
@@ -73,6 +73,10 @@ wishes_of menu = record {
   credit_cap = menu.credits;
   course_cap = menu.courses;
 }
+
+-- what a bundle is worth to the student of the menu: its utility
+abbrev pub worth : MenuData → List ℕ → ℤ
+worth menu bundle = utility (wishes_of menu) bundle
 
 -- what each place holds: a section below 400, a rating from 1 to 100, credits of at most 100
 pub record IsRated (rated : Rated) : Type 0 where

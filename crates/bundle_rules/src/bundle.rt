@@ -1,6 +1,7 @@
 // Bundles of sections.
 ghost use Rattle.std.specs.Prelude.{◌≡◌, ◌↔◌, ◌<◌, ◌≤◌, ◌-◌, ◌++◌, ◌∷◌, [], IsTrue, IsSome, IfSome, length, take, drop, replicate};
-ghost use Rattle.bundle_rules.specs.Sets.{has, IsAscending, IsAscending-prop};
+ghost use Rattle.market_units.specs.Members.{has};
+ghost use Rattle.bundle_rules.specs.Sets.{IsAscending, IsAscending-prop};
 ghost use Rattle.bundle_rules.specs.Ordinals.{ordinals, IsBundle};
 ghost use Rattle.std.specs.Prelude.{nat_eq};
 ghost use Rattle.std.specs.Cmp.{on_equiv, partial_equiv_from_equiv};

@@ -1,5 +1,5 @@
 -- Sections, as a catalogue lists them.
-use Rattle.std.specs.Prelude.{ℕ, ◌≡◌, ◌≢◌, ◌≤◌, ◌⊎◌, IsTrue, Bool, ◌&&◌, ◌||◌, ◌==◌, not, List, [], All, length, slice_index_or}
+use Rattle.std.specs.Prelude.{ℕ, ◌≡◌, ◌≢◌, ◌≤◌, ◌⊎◌, IsTrue, Bool, ◌&&◌, ◌||◌, ◌==◌, not, List, [], All, length, map, slice_index_or}
 use Rattle.std.specs.Str.{bytes_eq}
 use Rattle.market_units.specs.declared.limits.TheConstants.{MAX_MEETINGS, MAX_SEATS, MAX_SECTION_CREDITS}
 use Rattle.market_units.specs.Names.{IsName}
@@ -38,6 +38,10 @@ no_section =
 -- the section of an ordinal
 abbrev pub section_at : List Section → ℕ → Section
 section_at sections s = slice_index_or sections s no_section
+
+-- the names of sections, in order
+abbrev pub section_names : List Section → List (List ℕ)
+section_names sections = map (λ section. section.name) sections
 
 -- Two different sections clash: they have the same course, or share a part of the term and a
 -- meeting of the one overlaps a meeting of the other.

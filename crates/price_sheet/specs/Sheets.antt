@@ -2,7 +2,7 @@
 use Rattle.std.specs.Prelude.{ℕ, List, [], ◌∷◌, None, is_some, if◌then◌else◌, map, position, Result, Ok, codes}
 use Rattle.std.specs.Str.{bytes_eq}
 use Rattle.market_units.specs.declared.limits.TheConstants.{MAX_PRICE}
-use Rattle.course_catalog.specs.Sections.{Section}
+use Rattle.course_catalog.specs.Sections.{Section, section_names}
 use Rattle.table_records.specs.declared.fault.Fault.{Fault}
 use Rattle.table_records.specs.declared.fault.Fault.TheVariants as fault
 use Rattle.table_records.specs.Columns.{◌>>=◌, number_or}
@@ -15,10 +15,6 @@ use Rattle.price_sheet.specs.declared.refusal.PriceRefusal.TheVariants as refusa
 pub record Priced : Type 0 where
   pub section : List ℕ
   pub price : ℕ
-
--- the names of sections, in order
-abbrev pub names_of : List Section → List (List ℕ)
-names_of sections = map (λ section. section.name) sections
 
 -- the refusal of a fault in no later column than the section's
 abbrev pub refusal_of : Fault → PriceRefusal
@@ -53,5 +49,5 @@ price_in (row ∷ more) name = if bytes_eq name row.section then row.price else 
 -- first refusal
 abbrev pub prices_of : List Section → List ℕ → Result (List ℕ) PriceRefusal
 prices_of sections bytes = do
-  read ← reading (price_rules (names_of sections)) (records_of bytes)
-  Ok (map (price_in read.rows) (names_of sections))
+  read ← reading (price_rules (section_names sections)) (records_of bytes)
+  Ok (map (price_in read.rows) (section_names sections))

@@ -2,7 +2,8 @@
 ghost use Rattle.std.specs.Prelude.{◌≡◌, ◌≢◌, ◌<◌, ◌≤◌, ◌-◌, ◌^◌, All, length, map, Ok, Err, IfOk, IfErr};
 ghost use Rattle.market_units.specs.Name.{name_bytes};
 ghost use Rattle.table_records.specs.Reading.{bytes_of};
-ghost use Rattle.price_sheet.specs.Sheets.{names_of, price_in, prices_of};
+ghost use Rattle.course_catalog.specs.Sections.{section_names};
+ghost use Rattle.price_sheet.specs.Sheets.{price_in, prices_of};
 
 use crate::PriceRefusal;
 use crate::entry::Entry;
@@ -31,7 +32,7 @@ fn in_order(alloc: Global, catalog: &Catalog, sheet: &Rows<Entry>) -> Result<Vec
     requires each { All (λ row. row.price ≤ MAX_PRICE) sheet.now.rows.items }
     ensures prices { IfOk result
         (λ prices. map (λ price. price.0) prices.items
-        ≡ map (price_in sheet.now.rows.items) (names_of catalog.now.sections)) }
+        ≡ map (price_in sheet.now.rows.items) (section_names catalog.now.sections)) }
     ensures range { IfOk result (λ prices. All (λ price. price.0 ≤ MAX_PRICE) prices.items) }
 {
     let mut prices = Vec::with_capacity(alloc, usize::from(catalog.len()))?;

@@ -1,7 +1,8 @@
 // The columns of a price sheet.
 ghost use Rattle.std.specs.Prelude.{◌≡◌, ◌≤◌};
 ghost use Rattle.market_units.specs.declared.limits.TheConstants.{MAX_PRICE};
-ghost use Rattle.price_sheet.specs.Sheets.{names_of, price_rules};
+ghost use Rattle.course_catalog.specs.Sections.{section_names};
+ghost use Rattle.price_sheet.specs.Sheets.{price_rules};
 
 use crate::PriceRefusal;
 use crate::entry::Entry;
@@ -21,7 +22,7 @@ impl Table for PriceRules<'_> {
 
     type Refusal = PriceRefusal;
 
-    ghost rules = { λ table. price_rules (names_of table.catalog.now.sections) };
+    ghost rules = { λ table. price_rules (section_names table.catalog.now.sections) };
 
     ghost name_of = { λ row. row.section };
 
