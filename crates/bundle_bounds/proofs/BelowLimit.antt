@@ -3,7 +3,8 @@ use Rattle.std.proofs.Common.{◌≡◌, ℕ, ◌-◌, ◌<◌, true, List, [], 
 use Rattle.std.specs.Prelude.{ℤ, pos, ◌+ℤ◌, ◌*ℤ◌, ◌<ℤ◌, IfSome, IfNone}
 use Rattle.std.proofs.lemmas.Int.{ints}
 use Rattle.std.proofs.lemmas.Bool.{cases_Bool}
-use Rattle.bundle_rules.specs.Sets.{has, IsAscending}
+use Rattle.market_units.specs.Members.{has}
+use Rattle.bundle_rules.specs.Sets.{IsAscending}
 use Rattle.bundle_rules.specs.Wishes.{utility}
 use Rattle.bundle_rules.specs.Menus.{by_place}
 use Rattle.bundle_bounds.specs.declared.nodes.Leaf.{Leaf}

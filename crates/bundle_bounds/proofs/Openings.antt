@@ -6,7 +6,8 @@ use Rattle.std.proofs.lemmas.Bool.Decides.{nat_tests}
 use Rattle.std.proofs.lemmas.List.{map-append, length-map}
 use Rattle.market_units.specs.Totals.{total}
 use Rattle.market_units.proofs.Sums.{total-append}
-use Rattle.bundle_rules.specs.Sets.{has, IsAscending}
+use Rattle.market_units.specs.Members.{has}
+use Rattle.bundle_rules.specs.Sets.{IsAscending}
 use Rattle.bundle_rules.specs.Menus.{IsMenu, wishes_of, by_place, clash_in, credits_at, section_at, place_in}
 use Rattle.bundle_rules.specs.Existence.Members.{has-here, has-there, has-cases, AllAbove-more}
 use Rattle.bundle_rules.specs.Existence.Places.{section_at-place_in, on_menu_rated}

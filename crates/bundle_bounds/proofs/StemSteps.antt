@@ -6,7 +6,8 @@ use Rattle.std.proofs.lemmas.Bool.{false≢true, true≢false}
 use Rattle.std.proofs.lemmas.Bool.Decides.{nat_tests}
 use Rattle.std.proofs.lemmas.List.{drop-drop, length-drop}
 use Rattle.bundle_rules.specs.Ahead.{is_ahead}
-use Rattle.bundle_rules.specs.Sets.{has, IsAscending}
+use Rattle.market_units.specs.Members.{has}
+use Rattle.bundle_rules.specs.Sets.{IsAscending}
 use Rattle.bundle_rules.specs.Wishes.{IsFeasible, utility}
 use Rattle.bundle_rules.specs.Menus.{by_place, wishes_of, IsMenu}
 use Rattle.bundle_rules.specs.PlaceLists.{listed}

@@ -6,6 +6,7 @@ pub mod Laws
 pub mod Modest
 pub mod Limits
 pub mod Ahead
+pub mod Below
 pub mod Closings
 pub mod ClosingLaws
 pub mod Lines

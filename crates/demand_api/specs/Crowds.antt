@@ -3,7 +3,7 @@
 use Rattle.std.specs.Prelude.{ℕ, suc, ◌<◌, ◌≤◌, if◌then◌else◌, max, List, [], ◌∷◌, All, length, map, nat_lt, slice_index_or}
 use Rattle.market_units.specs.declared.limits.TheConstants.{MAX_BUDGET, MAX_SECTIONS, MAX_STUDENTS}
 use Rattle.market_units.specs.Totals.{total}
-use Rattle.bundle_rules.specs.Sets.{has}
+use Rattle.market_units.specs.Members.{has}
 use Rattle.bundle_rules.specs.Menus.{MenuData}
 use Rattle.bundle_rules.specs.Best.{best}
 use Rattle.bundle_rules.specs.Places.{places_from}

@@ -3,7 +3,7 @@ use Rattle.std.proofs.Common.{◌≡◌, ◌≤◌, ◌<◌, ℕ, Bool, true, Li
 use Rattle.std.specs.Prelude.{ℤ, pos, ◌+ℤ◌, ◌-ℤ◌, ◌*ℤ◌, ◌<ℤ◌, ◌≤ℤ◌, ◌^◌}
 use Rattle.std.proofs.lemmas.Int.{ints}
 use Rattle.market_units.specs.Totals.{total}
-use Rattle.bundle_rules.specs.Sets.{has}
+use Rattle.market_units.specs.Members.{has}
 use Rattle.bundle_rules.specs.Existence.Members.{has-here, has-there}
 use Rattle.bundle_rules.specs.Wishes.{utility}
 use Rattle.bundle_rules.specs.Menus.{wishes_of, by_place}

@@ -3,7 +3,8 @@ use Rattle.std.proofs.Common.{◌≡◌, ◌<◌, ◌≤◌, ◌+◌, ◌++◌, 
 use Rattle.std.proofs.lemmas.Bool.{cases_Bool}
 use Rattle.std.proofs.lemmas.List.{append-nil}
 use Rattle.bundle_rules.specs.declared.menu.Rated.{Rated}
-use Rattle.bundle_rules.specs.Sets.{has, IsAscending}
+use Rattle.market_units.specs.Members.{has}
+use Rattle.bundle_rules.specs.Sets.{IsAscending}
 use Rattle.bundle_rules.specs.Menus.{IsMenu, wishes_of, section_at}
 use Rattle.bundle_rules.specs.Places.{menu_sections}
 use Rattle.bundle_rules.specs.Given.{IsBestOf}

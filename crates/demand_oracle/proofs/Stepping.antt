@@ -15,7 +15,8 @@ use Rattle.demand_oracle.specs.declared.branch.Branch.{Branch}
 use Rattle.demand_oracle.specs.Branches.{chosen_of, with_next_of, IsBranch}
 use Rattle.bundle_bounds.specs.Closings.{MayClose}
 use Rattle.demand_oracle.specs.Search.{IsSearched}
-use Rattle.demand_oracle.specs.Waiting.{AreSearched, MayWait, before_waiting, nodes_below, HasStepped}
+use Rattle.bundle_bounds.specs.Below.{nodes_below}
+use Rattle.demand_oracle.specs.Waiting.{AreSearched, MayWait, before_waiting, HasStepped}
 use Rattle.demand_oracle.proofs.Wanting.{none_wanted}
 use Rattle.demand_oracle.proofs.Branches.{full_to_end, ended_here, closed_here, shut_here, open_here}
 

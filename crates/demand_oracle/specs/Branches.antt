@@ -2,7 +2,7 @@
 use Rattle.std.specs.Prelude.{ℕ, ◌*◌, ◌≤◌, ◌<◌, ◌≡◌, ℤ, pos, neg_ℤ, ◌≤ℤ◌, true, List, [], ◌∷◌, ◌++◌, length, take}
 use Rattle.market_units.specs.declared.limits.TheConstants.{MAX_PRICE, MAX_SECTION_CREDITS}
 use Rattle.market_units.specs.Totals.{total}
-use Rattle.bundle_rules.specs.Sets.{has}
+use Rattle.market_units.specs.Members.{has}
 use Rattle.bundle_rules.specs.Bundles.{sections_of}
 use Rattle.bundle_rules.specs.Wishes.{AllRated, utility}
 use Rattle.bundle_rules.specs.Menus.{MenuData, wishes_of, place_in, section_at}

@@ -1,7 +1,7 @@
 -- The search for the best of the wanted bundles: depth first over the places of the menu, with the
 -- best wanted bundle so far as its champion.
 use Rattle.std.specs.Prelude.{ℕ, ◌+◌, ◌≡◌, ◌⊎◌, Bool, true, Option, None, Some, List, [], ◌∷◌, ◌++◌}
-use Rattle.bundle_rules.specs.Sets.{has}
+use Rattle.market_units.specs.Members.{has}
 use Rattle.bundle_rules.specs.Wishes.{Wishes}
 use Rattle.bundle_rules.specs.Menus.{MenuData, wishes_of, section_at}
 use Rattle.bundle_rules.specs.Preferences.{IsPreferred}

@@ -1,6 +1,7 @@
 -- The search of branches that wait, one after another.
-use Rattle.std.specs.Prelude.{ℕ, zero, suc, ◌+◌, ◌-◌, ◌<◌, ◌≤◌, ◌≡◌, ⊤, Bool, List, [], ◌∷◌, length, drop, Option, None, Some}
+use Rattle.std.specs.Prelude.{ℕ, ◌+◌, ◌-◌, ◌<◌, ◌≤◌, ◌≡◌, ⊤, Bool, List, [], ◌∷◌, length, drop, Option, None, Some}
 use Rattle.bundle_rules.specs.Places.{menu_sections}
+use Rattle.bundle_bounds.specs.Below.{nodes_below}
 use Rattle.bundle_bounds.specs.Offers.{Offer}
 use Rattle.bundle_bounds.specs.Laws.{IsTakable, IsNode}
 use Rattle.demand_oracle.specs.declared.branch.Branch.{Branch}
@@ -30,12 +31,6 @@ MayWait offer (branch ∷ under) =
 abbrev pub before_waiting : Option Branch → List Branch → List Branch
 before_waiting None waiting = waiting
 before_waiting (Some branch) waiting = branch ∷ waiting
-
--- how many nodes a node with so many undecided places has below it, with itself, where none is
--- closed
-abbrev pub nodes_below : ℕ → ℕ
-nodes_below zero = 1
-nodes_below (suc undecided) = suc (nodes_below undecided + nodes_below undecided)
 
 -- how many nodes are left to search at most
 abbrev pub nodes_left : Offer → List Branch → ℕ

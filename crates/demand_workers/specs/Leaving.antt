@@ -2,7 +2,7 @@
 use Rattle.std.specs.Prelude.{ℕ, ◌<◌, ◌≤◌, ◌≡◌, ◌-◌, ◌==◌, Bool, true, List, All, length, if◌then◌else◌}
 use Rattle.std.specs.List.{sum_by}
 use Rattle.market_units.specs.declared.limits.TheConstants.{MAX_PRICE}
-use Rattle.bundle_rules.specs.Sets.{has}
+use Rattle.market_units.specs.Members.{has}
 use Rattle.demand_api.specs.Crowds.{CrowdData, top, demand_of}
 use Rattle.demand_api.specs.Prices.{with_price}
 

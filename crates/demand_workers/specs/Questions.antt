@@ -9,7 +9,7 @@ use Rattle.demand_api.specs.Asking.{ArePricesFor}
 use Rattle.demand_api.specs.Crowds.{CrowdData, top, demand_of}
 use Rattle.demand_workers.specs.declared.questions.Question.{Question}
 use Rattle.demand_workers.specs.Leaving.{leaves}
-use Rattle.demand_workers.specs.Rounds.{data_of}
+use Rattle.demand_api.specs.Views.{data_of}
 
 -- the student is one of the crowd, and the prices can be asked of it
 pub record IsQuestion (crowd : Crowd) (question : Question) : Type 0 where

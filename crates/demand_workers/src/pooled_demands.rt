@@ -8,7 +8,8 @@ ghost use Rattle.demand_api.specs.Prices.{AreLeastPrices};
 ghost use Rattle.price_board.specs.Openings.{IsMade};
 ghost use Rattle.demand_workers.specs.Batches.{IsFound, IsSurvey};
 ghost use Rattle.demand_workers.specs.Remembered.{AreRemembered, AreTaken};
-ghost use Rattle.demand_workers.specs.Rounds.{data_of, AreVersionsFor};
+ghost use Rattle.demand_api.specs.Views.{data_of};
+ghost use Rattle.demand_workers.specs.Rounds.{AreVersionsFor};
 
 use crate::Bench;
 use crate::ahead::{answers_at, ask_ahead};

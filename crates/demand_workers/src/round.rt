@@ -5,7 +5,8 @@ ghost use Rattle.std.specs.Vec.{vec_len};
 ghost use Rattle.price_board.specs.Openings.{IsAskOf, IsMade};
 ghost use Rattle.price_board.specs.Seats.{IsFree, IsFinished};
 ghost use Rattle.demand_workers.specs.Remembered.{AreRemembered};
-ghost use Rattle.demand_workers.specs.Rounds.{data_of, prices_of, AreVersionsFor, IsBoardOf};
+ghost use Rattle.demand_api.specs.Views.{data_of};
+ghost use Rattle.demand_workers.specs.Rounds.{prices_of, AreVersionsFor, IsBoardOf};
 
 use crate::remembered::Remembered;
 use crate::worker::work;

@@ -3,7 +3,8 @@ ghost use Rattle.std.specs.Prelude.{◌≡◌, ◌<◌};
 ghost use Rattle.price_board.specs.Openings.{IsMade};
 ghost use Rattle.price_board.specs.Seats.{IsFree, IsFinished};
 ghost use Rattle.demand_workers.specs.Remembered.{AreRemembered};
-ghost use Rattle.demand_workers.specs.Rounds.{data_of, AreVersionsFor, IsBoardOf};
+ghost use Rattle.demand_api.specs.Views.{data_of};
+ghost use Rattle.demand_workers.specs.Rounds.{AreVersionsFor, IsBoardOf};
 
 use crate::remembered::Remembered;
 use crate::taking::taken;

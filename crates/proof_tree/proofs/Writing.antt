@@ -9,7 +9,8 @@ use Rattle.proof_tree.specs.declared.walk.Step.TheVariants.{Signed, Unsigned}
 use Rattle.proof_tree.specs.Trees.{Tree, IsSign, IsTree}
 use Rattle.proof_tree.specs.Texts.{symbol, spelled, IsTreeText}
 use Rattle.proof_tree.specs.Walks.{below}
-use Rattle.proof_tree.specs.Steps.{IsStep, nodes_below, nodes_left}
+use Rattle.bundle_bounds.specs.Below.{nodes_below}
+use Rattle.proof_tree.specs.Steps.{IsStep, nodes_left}
 use Rattle.proof_tree.specs.Laws.{HasTree}
 use Rattle.proof_tree.proofs.Uniqueness.{same_tree}
 use Rattle.proof_tree.proofs.Spelling.{AreSpelled, split_node, no_tree, text_spelled}

@@ -2,7 +2,7 @@
 ghost use Rattle.std.specs.Prelude.{◌≡◌, ◌≢◌, ◌<◌, ◌↔◌, [], ℕ, List, Some, None, true, IsTrue, IsOk, IfOk, IfErr, IfSome, OnOk, length};
 ghost use Rattle.proof_tree.specs.declared.defects.TreeDefect.TheVariants.{Rest};
 ghost use Rattle.std.specs.FinSet as set;
-ghost use Rattle.bundle_rules.specs.Sets.{has};
+ghost use Rattle.market_units.specs.Members.{has};
 ghost use Rattle.bundle_rules.specs.Bundles.{sections_of};
 ghost use Rattle.bundle_rules.specs.Demand.{HasPrices, IsBest, price_in};
 ghost use Rattle.bundle_rules.specs.Given.{IsBestWith};

@@ -1,5 +1,5 @@
 use Rattle.std.proofs.Common.{◌≡◌, ◌<◌, ◌∙◌, ℕ, true, ap, sym}
-use Rattle.bundle_rules.specs.Sets.{has}
+use Rattle.market_units.specs.Members.{has}
 use Rattle.bundle_rules.specs.Ahead.{is_ahead}
 use Rattle.bundle_rules.specs.Demand.{price_in}
 use Rattle.bundle_rules.proofs.FirstDifference.{ahead_to}
