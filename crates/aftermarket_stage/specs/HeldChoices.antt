@@ -12,7 +12,7 @@ use Rattle.demand_api.specs.Crowds.{Student, CrowdData}
 use Rattle.demand_api.specs.Made.{MakeCrowd}
 use Rattle.demand_api.specs.declared.crowd.Crowd.{Crowd}
 use Rattle.aftermarket_stage.specs.Turns.{Terms}
-use Rattle.aftermarket_stage.specs.After.{AreSectionPrices}
+use Rattle.demand_api.specs.Asking.{AreSectionPrices}
 
 -- a student and what it holds: a bundle that it may take and afford with the raise
 pub record HoldsChoice (terms : Terms) (held : List (List ℕ)) (who : Student)

@@ -1,10 +1,11 @@
 // The best bundles of students, sought only where something new may be chosen.
 ghost use Rattle.std.specs.Prelude.{◌≡◌, ◌<◌, ◌≤◌, ◌||◌, ℕ, [], List, Option, None, Some, IfOk, IsTrue, All, true, not, length, map, slice_get, slice_index_or, slice_set};
 ghost use Rattle.std.specs.FinSet as set;
-ghost use Rattle.bundle_rules.specs.Sets.{has};
+ghost use Rattle.market_units.specs.Members.{has};
 ghost use Rattle.bundle_rules.specs.Bundles.{sections_of};
 ghost use Rattle.demand_api.specs.Made.{MakeCrowd, crowd_of};
-ghost use Rattle.aftermarket_stage.specs.After.{AreSectionPrices, terms_of};
+ghost use Rattle.demand_api.specs.Asking.{AreSectionPrices};
+ghost use Rattle.aftermarket_stage.specs.After.{terms_of};
 ghost use Rattle.aftermarket_stage.specs.HeldChoices.{AreKnown, IsSettled};
 ghost use Rattle.aftermarket_stage.specs.Runs.{IsBestAt};
 

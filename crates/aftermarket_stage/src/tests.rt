@@ -5,7 +5,7 @@ ghost use Rattle.bundle_rules.specs.Demand.{price_in};
 ghost use Rattle.demand_api.specs.Crowds.{demands, holders};
 ghost use Rattle.demand_api.specs.Made.{MakeCrowd, crowd_of};
 ghost use Rattle.held_seats.specs.Choices.{AreHeldWithin};
-ghost use Rattle.aftermarket_stage.specs.After.{AreSectionPrices};
+ghost use Rattle.demand_api.specs.Asking.{AreSectionPrices};
 
 use super::*;
 use bundle_rules::{Bundle, Menu, Rated, best_plain};

@@ -1,7 +1,7 @@
 // What is held in the aftermarket.
 ghost use Rattle.std.specs.Prelude.{◌≡◌, ◌≢◌, ◌<◌, ◌≤◌, ℕ, List, true, false, IfOk, length, map, slice_get, slice_set, Some};
 ghost use Rattle.std.specs.FinSet as set;
-ghost use Rattle.bundle_rules.specs.Sets.{has};
+ghost use Rattle.market_units.specs.Members.{has};
 ghost use Rattle.bundle_rules.specs.Bundles.{sections_of};
 ghost use Rattle.held_seats.specs.Choices.{may_choose};
 ghost use Rattle.held_seats.specs.Floors.{AreBelow, IsFloor, held_on};

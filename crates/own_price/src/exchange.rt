@@ -1,6 +1,6 @@
 // Bundles with a count for each section, and bundles that are exchanged for others.
 ghost use Rattle.std.specs.Prelude.{◌≡◌, ◌<◌, ◌≤◌, ℕ, IfOk, All, length, map, true, slice_set};
-ghost use Rattle.bundle_rules.specs.Sets.{has};
+ghost use Rattle.market_units.specs.Members.{has};
 ghost use Rattle.bundle_rules.specs.Bundles.{sections_of};
 ghost use Rattle.own_price.specs.Kept.{AreWithin, IsTally};
 ghost use Rattle.own_price.specs.Exchanges.{exchanged};
