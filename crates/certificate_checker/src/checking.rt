@@ -12,7 +12,8 @@ ghost use Rattle.demand_api.specs.Made.{MakeCrowd};
 ghost use Rattle.certificate_checker.specs.Certificates.{HoldsBy, HoldsOf, IsAccepted, IsTextOf};
 ghost use Rattle.certificate_checker.specs.Findings.{IsFirstFinding, IsFirstIn, IsFirstOf, OnFound, end_of};
 ghost use Rattle.certificate_checker.specs.Parts.{CanCheck};
-ghost use Rattle.certificate_checker.specs.Views.{crowd_seen, terms_of};
+ghost use Rattle.demand_api.specs.Views.{data_of};
+ghost use Rattle.certificate_checker.specs.Views.{terms_of};
 ghost use Rattle.certificate_checker.specs.Words.{IsNamedIn};
 
 use crate::allocation::check_allocation;
@@ -114,7 +115,7 @@ pub fn accept(
     ensures holds { IfOk result
         (λ accepted. HoldsBy (market_of catalog.now roll.now settings.now)
         (map (λ stream. stream.items) streams.now) (publication_of accepted.publication)
-        (crowd_seen accepted.crowd)) }
+        (data_of accepted.crowd)) }
     ensures whole { IfOk result
         (λ accepted. MakeCrowd accepted.crowd.menus.items accepted.crowd.budgets.items
         accepted.crowd.sections) }
@@ -182,7 +183,7 @@ fn accept_publication(
     ensures holds { IfOk result
         (λ accepted. HoldsBy (market_of catalog.now roll.now settings.now)
         (map (λ stream. stream.items) streams.now) (publication_of publication)
-        (crowd_seen accepted.crowd)) }
+        (data_of accepted.crowd)) }
     ensures whole { IfOk result
         (λ accepted. MakeCrowd accepted.crowd.menus.items accepted.crowd.budgets.items
         accepted.crowd.sections) }
