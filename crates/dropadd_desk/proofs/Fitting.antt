@@ -10,14 +10,15 @@ use Rattle.market_units.specs.declared.names.Name.{Name}
 use Rattle.course_catalog.specs.Sections.{sections_clash}
 use Rattle.course_catalog.proofs.ClashFacts.{clashes_mutual}
 use Rattle.chronicle.specs.History.{state_after as state_after_steps}
-use Rattle.bundle_rules.specs.Sets.{has}
+use Rattle.market_units.specs.Members.{has}
 use Rattle.dropadd_desk.specs.declared.command.HallCommand.{HallCommand}
 use Rattle.dropadd_desk.specs.declared.command.HallCommand.TheVariants.{Add, Drop, Leave, Unreadable}
 use Rattle.dropadd_desk.specs.declared.reply.HallReply.{HallReply}
 use Rattle.dropadd_desk.specs.declared.reply.HallReply.TheVariants as reply
 use Rattle.dropadd_desk.specs.declared.shared.HallState.{HallState}
 use Rattle.dropadd_desk.specs.Market.{Market, enrolled, offered, section_count, student_count}
-use Rattle.dropadd_desk.specs.Sets.{with_section, without_section}
+use Rattle.bundle_rules.specs.Sets.{without_section}
+use Rattle.dropadd_desk.specs.Sets.{with_section}
 use Rattle.dropadd_desk.specs.Fits.{credits_of, fits, lowest_clash, passes_courses, passes_credits}
 use Rattle.dropadd_desk.specs.Halls.{IsHall}
 use Rattle.dropadd_desk.specs.Laws.{AllowedLaw}

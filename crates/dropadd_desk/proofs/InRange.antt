@@ -5,7 +5,7 @@ use Rattle.std.specs.List.{before_first, find}
 use Rattle.std.proofs.lemmas.Bool.{cases_Bool}
 use Rattle.std.proofs.lemmas.List.Elements.{All-cons, All-nil}
 use Rattle.course_catalog.specs.Sections.{sections_clash}
-use Rattle.bundle_rules.specs.Sets.{has}
+use Rattle.market_units.specs.Members.{has}
 use Rattle.bundle_rules.specs.Existence.Members.{has-here, has-there}
 use Rattle.dropadd_desk.specs.declared.command.HallCommand.{HallCommand}
 use Rattle.dropadd_desk.specs.declared.command.HallCommand.TheVariants.{Add, Drop, Leave, Unreadable}
@@ -18,7 +18,7 @@ use Rattle.dropadd_desk.specs.Laws.{RepliesInRangeLaw}
 use Rattle.dropadd_desk.specs.Lines.{HallStep}
 use Rattle.dropadd_desk.specs.Market.{Market, section_count, student_count}
 use Rattle.dropadd_desk.specs.Replies.{NamesInRange}
-use Rattle.dropadd_desk.specs.Sets.{without_section}
+use Rattle.bundle_rules.specs.Sets.{without_section}
 use Rattle.dropadd_desk.specs.Shared.{state_after}
 use Rattle.dropadd_desk.specs.Step.{add, answered, drop as drop_section, first_of, has_free_seat, held_by, leave, pass_on, refusal, step as step_of, waiting_for, where_so, with_held}
 use Rattle.dropadd_desk.proofs.Conserved.{hall_after, names_or_quiet}

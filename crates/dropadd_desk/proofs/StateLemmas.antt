@@ -6,7 +6,8 @@ use Rattle.std.proofs.lemmas.Bool.{false≢true, ltb-false}
 use Rattle.std.proofs.lemmas.List.{length-map, length-replicate}
 use Rattle.course_catalog.specs.Sections.{Section}
 use Rattle.student_roll.specs.Students.{no_student}
-use Rattle.bundle_rules.specs.Sets.{has, IsAscending}
+use Rattle.market_units.specs.Members.{has}
+use Rattle.bundle_rules.specs.Sets.{IsAscending}
 use Rattle.held_seats.specs.declared.floor.Floor.{Floor}
 use Rattle.held_seats.specs.Floors.{AreBelow, IsFloor, held_on}
 use Rattle.dropadd_desk.specs.declared.shared.HallState.{HallState}

@@ -9,13 +9,14 @@ use Rattle.std.proofs.lemmas.Option.{slice_get_within}
 use Rattle.std.specs.List.{drop-map}
 use Rattle.market_units.specs.declared.units.StudentNo.{StudentNo}
 use Rattle.course_catalog.specs.Sections.{Section, no_section}
-use Rattle.bundle_rules.specs.Sets.{has}
+use Rattle.market_units.specs.Members.{has}
 use Rattle.demand_api.specs.Crowds.{holders}
 use Rattle.dropadd_desk.specs.declared.reply.HallReply.{HallReply}
 use Rattle.dropadd_desk.specs.declared.reply.HallReply.TheVariants as reply
 use Rattle.dropadd_desk.specs.declared.shared.HallState.{HallState}
 use Rattle.dropadd_desk.specs.Market.{Market, offered, section_count, student_count, seats_in}
-use Rattle.dropadd_desk.specs.Sets.{with_section, without_section}
+use Rattle.bundle_rules.specs.Sets.{without_section}
+use Rattle.dropadd_desk.specs.Sets.{with_section}
 use Rattle.dropadd_desk.specs.Fits.{fits, lowest_clash, passes_credits, passes_courses}
 use Rattle.dropadd_desk.specs.Halls.{IsHall}
 use Rattle.dropadd_desk.specs.Holdings.{held_after_reply}

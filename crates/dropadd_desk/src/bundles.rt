@@ -2,9 +2,10 @@
 ghost use Rattle.std.specs.Prelude.{◌≡◌, ◌<◌, ◌≤◌, ◌+◌, ◌++◌, true, false, length, nat_le};
 ghost use Rattle.bundle_rules.specs.Bundles.{sections_of};
 ghost use Rattle.bundle_rules.specs.Ordinals.{ordinals, IsBundle};
-ghost use Rattle.bundle_rules.specs.Sets.{has};
+ghost use Rattle.market_units.specs.Members.{has};
 ghost use Rattle.std.specs.List.{position};
-ghost use Rattle.dropadd_desk.specs.Sets.{place_in, with_section, without_section};
+ghost use Rattle.bundle_rules.specs.Sets.{without_section};
+ghost use Rattle.dropadd_desk.specs.Sets.{place_in, with_section};
 
 use bundle_rules::Bundle;
 use market_units::{MAX_COURSES, SectionNo};

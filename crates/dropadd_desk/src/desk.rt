@@ -2,7 +2,8 @@
 ghost use Rattle.std.specs.Prelude.{ℕ, ◌≡◌, ◌<◌, ◌≤◌, ◌+◌, true, false, length, map, slice_index_or};
 ghost use Rattle.std.proofs.Props.{props};
 ghost use Rattle.bundle_rules.specs.Bundles.{sections_of};
-ghost use Rattle.bundle_rules.specs.Sets.{has, IsAscending-prop};
+ghost use Rattle.market_units.specs.Members.{has};
+ghost use Rattle.bundle_rules.specs.Sets.{IsAscending-prop};
 ghost use Rattle.held_seats.specs.Floors.{AreBelow, IsFloor, held_on};
 ghost use Rattle.dropadd_desk.specs.Halls.{IsHall};
 ghost use Rattle.dropadd_desk.specs.Kept.{IsMarket};

@@ -4,7 +4,7 @@ ghost use Rattle.std.specs.List.{list_any};
 ghost use Rattle.market_units.specs.Totals.{total};
 ghost use Rattle.bundle_rules.specs.Bundles.{sections_of};
 ghost use Rattle.bundle_rules.specs.Ordinals.{ordinals};
-ghost use Rattle.bundle_rules.specs.Sets.{has};
+ghost use Rattle.market_units.specs.Members.{has};
 ghost use Rattle.course_catalog.specs.Sections.{section_at, sections_clash};
 ghost use Rattle.dropadd_desk.specs.HallView.{market_of, state_of};
 ghost use Rattle.dropadd_desk.specs.Openings.{IsAllowed};

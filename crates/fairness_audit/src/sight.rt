@@ -4,9 +4,9 @@ ghost use Rattle.market_units.specs.declared.units.SectionNo.{SectionNo};
 ghost use Rattle.bundle_rules.specs.Bundles.{sections_of};
 ghost use Rattle.bundle_rules.specs.Menus.{wishes_of};
 ghost use Rattle.bundle_rules.specs.Ordinals.{ordinals, IsBundle};
-ghost use Rattle.bundle_rules.specs.Sets.{IsAscending};
+ghost use Rattle.bundle_rules.specs.Sets.{IsAscending, without_section};
 ghost use Rattle.bundle_rules.specs.Wishes.{IsFeasible};
-ghost use Rattle.fairness_audit.specs.Envy.{but_for, ended_by, is_more, seen};
+ghost use Rattle.fairness_audit.specs.Envy.{ended_by, is_more, seen};
 ghost use Rattle.fairness_audit.specs.Rows.{envied};
 ghost use Rattle.fairness_audit.specs.Searching.{IsBestOfThese};
 ghost use Rattle.fairness_audit.specs.Views.{seen_of};
@@ -67,7 +67,7 @@ fn is_more(menu: &Menu, own: i32, bundle: &Bundle) -> bool
 
 // The bundle without one section.
 fn but_for(bundle: &Bundle, section: SectionNo) -> Bundle
-    ensures { sections_of result ≡ but_for section.0 (sections_of bundle.now) }
+    ensures { sections_of result ≡ without_section section.0 (sections_of bundle.now) }
 {
     let mut rest = Bundle::empty();
     for other in bundle.sections() {

@@ -5,7 +5,8 @@ ghost use Rattle.bundle_rules.specs.Bundles.{sections_of};
 ghost use Rattle.bundle_rules.specs.Menus.{IsMenu, adjustment_in, wishes_of};
 ghost use Rattle.bundle_rules.specs.Ordinals.{ordinals};
 ghost use Rattle.fairness_audit.specs.Envy.{is_more};
-ghost use Rattle.fairness_audit.specs.Weights.{AreWeights, gain, gains, weight_at};
+ghost use Rattle.bundle_bounds.specs.Opens.{above_zero};
+ghost use Rattle.fairness_audit.specs.Weights.{AreWeights, gains, weight_at};
 
 use bundle_rules::{Bundle, Menu};
 use market_units::{MAX_ADJUSTMENT, MAX_COURSES, MAX_SECTIONS, SectionNo};
@@ -49,7 +50,7 @@ fn gains(menu: &Menu, place: u8, other: u8) -> u32
 
 // The adjustment where it is not negative.
 fn gain(adjustment: i16) -> u32
-    ensures { result ≡ gain adjustment }
+    ensures { result ≡ above_zero adjustment }
 {
     if adjustment > 0 { adjustment as u32 } else { 0 }
 }

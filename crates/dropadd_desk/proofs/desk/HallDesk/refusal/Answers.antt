@@ -1,6 +1,6 @@
 use Rattle.std.proofs.Common.{◌∙◌, ap, sym, refl}
 use Rattle.std.specs.Prelude.{option_map}
-use Rattle.bundle_rules.specs.Sets.{has}
+use Rattle.market_units.specs.Members.{has}
 use Rattle.dropadd_desk.specs.Fits.{lowest_clash, passes_credits, passes_courses}
 use Rattle.dropadd_desk.specs.HallView.{market_of}
 use Rattle.dropadd_desk.proofs.DeskLemmas.{any_has, refused_holding, refused_waiting, refused_clash, refused_credits, refused_courses, refused_none}
