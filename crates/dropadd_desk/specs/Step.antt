@@ -12,7 +12,7 @@ use Rattle.dropadd_desk.specs.declared.shared.HallState.{HallState}
 use Rattle.dropadd_desk.specs.Market.{Market, section_named, student_named, seats_in}
 use Rattle.bundle_rules.specs.Sets.{without_section}
 use Rattle.dropadd_desk.specs.Sets.{with_section}
-use Rattle.dropadd_desk.specs.Fits.{fits, lowest_clash, passes_credits, passes_courses}
+use Rattle.dropadd_desk.specs.Fits.{fits, lowest_clash, exceeds_credits, exceeds_courses}
 
 -- the set of sections that a student holds
 abbrev pub held_by : HallState → ℕ → List ℕ
@@ -50,8 +50,8 @@ refusal market state i s = let held = held_by state i in first_of (
     where_so (has held s) reply.Holding
     ∷ where_so (has (waiting_for state s) i) reply.Waiting
     ∷ option_map (λ (t : ℕ). reply.Clash (record { 0 = t })) (lowest_clash market s held)
-    ∷ where_so (passes_credits market i s held) reply.Credits
-    ∷ where_so (passes_courses market i held) reply.Courses
+    ∷ where_so (exceeds_credits market i s held) reply.Credits
+    ∷ where_so (exceeds_courses market i held) reply.Courses
     ∷ [])
 
 -- a reply that changes nothing where there is one, and else this

@@ -202,10 +202,10 @@ impl HallDesk {
         if let Some(with) = self.rules.lowest_clash(section, &held) {
             return Some(HallReply::Clash { with });
         }
-        if self.rules.passes_credits(student, section, &held) {
+        if self.rules.exceeds_credits(student, section, &held) {
             return Some(HallReply::Credits);
         }
-        if self.rules.passes_courses(student, &held) {
+        if self.rules.exceeds_courses(student, &held) {
             return Some(HallReply::Courses);
         }
         None

@@ -59,7 +59,7 @@ impl Model for MarketRules {
 
 impl MarketRules {
     ghost use Rattle.dropadd_desk.specs.Market.{section_count, student_count, section_named, student_named, seats_in};
-    ghost use Rattle.dropadd_desk.specs.Fits.{credits_of, fits, lowest_clash, passes_credits, passes_courses};
+    ghost use Rattle.dropadd_desk.specs.Fits.{credits_of, fits, lowest_clash, exceeds_credits, exceeds_courses};
     ghost use Rattle.dropadd_desk.specs.Kept.{IsMarket};
 
     // Of this catalogue and this roll.
@@ -122,8 +122,8 @@ impl MarketRules {
         first_in(&clashes, held.sections())
     }
 
-    // Whether the student's credits pass the cap with the section.
-    pub(crate) fn passes_credits(
+    // Whether the credits exceed the student's cap with the section.
+    pub(crate) fn exceeds_credits(
         &self,
         student: StudentNo,
         section: SectionNo,
@@ -133,16 +133,16 @@ impl MarketRules {
         requires section { section.0 < section_count self.now }
         requires within { (s : ℕ) → has (sections_of held.now) s ≡ true
             → s < section_count self.now }
-        ensures { result ≡ passes_credits self.now student.0 section.0 (sections_of held.now) }
+        ensures { result ≡ exceeds_credits self.now student.0 section.0 (sections_of held.now) }
     {
         let credits = self.sum_credits(held.sections()) + self.credits[usize::from(section.0)];
         credits > self.caps[usize::from(student.0)].credits
     }
 
     // Whether one section more is one too many for the student.
-    pub(crate) fn passes_courses(&self, student: StudentNo, held: &Bundle) -> bool
+    pub(crate) fn exceeds_courses(&self, student: StudentNo, held: &Bundle) -> bool
         requires { student.0 < student_count self.now }
-        ensures passes { result ≡ passes_courses self.now student.0 (sections_of held.now) }
+        ensures exceeds { result ≡ exceeds_courses self.now student.0 (sections_of held.now) }
         ensures room { result ≡ false → length (sections_of held.now) < MAX_COURSES }
     {
         held.sections().len() + 1 > usize::from(self.caps[usize::from(student.0)].courses)
@@ -160,10 +160,10 @@ impl MarketRules {
         if self.lowest_clash(section, held).is_some() {
             return false;
         }
-        if self.passes_credits(student, section, held) {
+        if self.exceeds_credits(student, section, held) {
             return false;
         }
-        !self.passes_courses(student, held)
+        !self.exceeds_courses(student, held)
     }
 
     // The credits of these sections together.

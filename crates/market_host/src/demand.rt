@@ -26,7 +26,7 @@ use crate::sessions::take_sessions;
 use crate::trouble::Trouble;
 use demand_api::Crowd;
 use demand_text::{Taken, demand_text};
-use demand_workers::{Bench, PooledDemands};
+use demand_workers::{Pool, PooledDemands};
 use market_crowd::make_crowd;
 use market_edge::{Gate, Passed, Shelf};
 use market_units::{MAX_COMMANDS, MAX_SESSIONS, NoMemory, Tokens};
@@ -138,7 +138,7 @@ fn taken_by<R: Threads + Wait + Sync>(
         crowd.sections taken) }
 {
     let crowd = Arc::new(alloc, crowd)?;
-    let bench = Bench::reserve(alloc, workers)?;
-    let mut demands = PooledDemands::make(bench, crowd, gate);
+    let pool = Pool::reserve(alloc, workers)?;
+    let mut demands = PooledDemands::make(pool, crowd, gate);
     Taken::at(rt, alloc, &mut demands, seats, prices)
 }

@@ -9,7 +9,7 @@ use std::sync::Mutex;
 
 /// A workspace for each of 1 to 16 workers.
 #[derive(Drop)]
-pub struct Bench {
+pub struct Pool {
     /// How many workers there are.
     pub workers: u16,
     pub(crate) alloc: Global,
@@ -21,19 +21,19 @@ pub struct Bench {
     ghost few: { workers ≤ MAX_WORKERS },
 }
 
-impl Bench {
+impl Pool {
     /// Reserves a workspace for each of 1 to 16 workers. The only error is that memory was wanted
     /// and not given.
-    pub fn reserve(alloc: Global, workers: u16) -> Result<Bench, NoMemory>
+    pub fn reserve(alloc: Global, workers: u16) -> Result<Pool, NoMemory>
         requires { (1 ≤ workers) × (workers ≤ MAX_WORKERS) }
-        ensures { IfOk result (λ bench. bench.workers ≡ workers) }
+        ensures { IfOk result (λ pool. pool.workers ≡ workers) }
     {
         let mut workspaces = Vec::with_capacity(alloc, usize::from(workers))?;
         for _ in 0..workers {
             let workspace = Workspace::reserve(alloc)?;
             workspaces.push(Mutex::new(workspace))?;
         }
-        Ok(Bench {
+        Ok(Pool {
             workers,
             alloc,
             workspaces,

@@ -6,7 +6,7 @@ use Rattle.dropadd_desk.specs.Fits.{credits_of}
 use Rattle.dropadd_desk.specs.Kept.{AreCaps, IsMarket}
 use Rattle.dropadd_desk.specs.Market.{enrolled, section_count}
 use Rattle.dropadd_desk.proofs.RuleLemmas.{all_below, cap_at, credit_at}
-use Rattle.dropadd_desk.proofs.rules.MarketRules.passes_credits.Goals as goal
+use Rattle.dropadd_desk.proofs.rules.MarketRules.exceeds_credits.Goals as goal
 
 pub sum_credits-requires-clause-within : goal.sum_credits-requires-clause-within
 sum_credits-requires-clause-within c =

@@ -7,10 +7,10 @@ use Rattle.bundle_rules.specs.Bundles.{sections_of}
 use Rattle.dropadd_desk.specs.Kept.{AreCaps, IsMarket}
 use Rattle.dropadd_desk.specs.Market.{enrolled}
 use Rattle.dropadd_desk.proofs.RuleLemmas.{cap_at}
-use Rattle.dropadd_desk.proofs.rules.MarketRules.passes_courses.Goals as goal
+use Rattle.dropadd_desk.proofs.rules.MarketRules.exceeds_courses.Goals as goal
 
-pub returns-clause-passes : goal.returns-clause-passes
-returns-clause-passes c =
+pub returns-clause-exceeds : goal.returns-clause-exceeds
+returns-clause-exceeds c =
     let cap =
     cap_at c.args.self.now c.self.inside.caps.items c.args.student.0 c.index.result.now (subst IsMarket c.self.view_is c.self.invariant.is_market)
     (subst (λ m. AreCaps m.roll.students c.self.inside.caps.items) c.self.view_is c.self.invariant.caps) c.requires
