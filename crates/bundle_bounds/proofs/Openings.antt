@@ -18,7 +18,7 @@ use Rattle.bundle_bounds.specs.Opens.{budget_left, credits_left, courses_left, i
 use Rattle.bundle_bounds.specs.Laws.{IsTakable, IsNode}
 use Rattle.bundle_bounds.proofs.Openness.{MayBeTaken, is_open-more}
 use Rattle.bundle_bounds.proofs.ByPlace.{place_in-section_at, places-has, has-places, on_menu, taken_places, prices_by_place}
-use Rattle.bundle_bounds.specs.ClosingLaws.{OpensWhereTakable}
+use Rattle.bundle_bounds.specs.PruningLaws.{OpensWhereTakable}
 
 -- a member of a list with one more at its end
 pub has-last : (xs : List ℕ) (s t : ℕ) → has (xs ++ s ∷ []) t ≡ true → (has xs t ≡ true) ⊎ (s ≡ t)

@@ -7,8 +7,8 @@ pub mod Modest
 pub mod Limits
 pub mod Ahead
 pub mod Below
-pub mod Closings
-pub mod ClosingLaws
+pub mod Prunings
+pub mod PruningLaws
 pub mod Lines
 pub mod Known
 pub mod Tangents

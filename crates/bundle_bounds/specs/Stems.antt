@@ -47,7 +47,7 @@ pub record Keeps (offer : Offer) (open_ones : List Prospect) (rests : Rests) (ro
   pub small : plain ≤ 1200000000
   pub tangents_are : AreTangents rests.budget rests.credits rests.courses (drop start room) tangents
 
--- no bound closes where these are the open places
+-- no bound prunes where these are the open places
 abbrev pub IsQuiet : ℤ → ℤ → Rests → List Prospect → Type 0
 IsQuiet limit so_far rests open_ones =
     NoneBelow limit
@@ -58,7 +58,7 @@ abbrev pub open_ones_at : Offer → ℕ → List ℕ → List Prospect
 open_ones_at offer k places = prospects offer places (open_places offer k places)
 
 -- it is at the node with these decided places and these chosen sections, for this champion; where
--- it is quiet no bound closes that
+-- it is quiet no bound prunes that
 pub record IsStem (offer : Offer) (champion : List ℕ) (k : ℕ) (chosen : List ℕ)
     (stem : Stem) : Type 0 where
   pub has_chosen : HasChosen offer champion chosen stem.champion stem.most stem.chosen stem.count

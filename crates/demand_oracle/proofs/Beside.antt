@@ -7,7 +7,7 @@ use Rattle.bundle_rules.specs.Menus.{wishes_of}
 use Rattle.bundle_rules.specs.Preferences.{IsPreferred}
 use Rattle.bundle_rules.specs.Demand.{IsBest}
 use Rattle.bundle_bounds.specs.Offers.{Offer}
-use Rattle.bundle_bounds.specs.Closings.{IsAsGood}
+use Rattle.bundle_bounds.specs.Prunings.{IsAsGood}
 use Rattle.bundle_bounds.specs.Laws.{IsTakable}
 use Rattle.demand_oracle.specs.Beside.{LeadsThoseWithout}
 use Rattle.demand_oracle.specs.Search.{LeadsWanted}

@@ -4,7 +4,7 @@ use Rattle.bundle_rules.specs.Menus.{section_at, wishes_of}
 use Rattle.bundle_rules.specs.Places.{menu_sections}
 use Rattle.bundle_bounds.specs.Offers.{Offer}
 use Rattle.bundle_bounds.specs.Laws.{IsTakable}
-use Rattle.bundle_bounds.specs.Closings.{MayClose}
+use Rattle.bundle_bounds.specs.Prunings.{MayPrune}
 use Rattle.demand_oracle.specs.Search.{IsSearched}
 use Rattle.demand_oracle.proofs.Searching.{next_section, none_undecided}
 
@@ -29,15 +29,15 @@ module _ (offer : Offer) (wanted : List ℕ → Bool) (k : ℕ) (chosen : List �
       subst (λ later. IsSearched offer wanted k chosen later champion result) (sym (none_undecided offer.menu.places k past)) ended
 
   module _ (low : k < length offer.menu.places) where
-    closed_branch : (champion : List ℕ) → MayClose offer wanted k chosen champion
+    pruned_branch : (champion : List ℕ) → MayPrune offer wanted k chosen champion
         → IsSearched offer wanted k chosen (section_at offer.menu.places k ∷ drop (k + 1) (menu_sections offer.menu)) champion champion
-    closed_branch champion may = inl (may, refl)
+    pruned_branch champion may = inl (may, refl)
 
-    -- the node is closed
-    pub closed_here : (champion : List ℕ) → MayClose offer wanted k chosen champion
+    -- the node is pruned
+    pub pruned_here : (champion : List ℕ) → MayPrune offer wanted k chosen champion
         → IsSearched offer wanted k chosen (drop k (menu_sections offer.menu)) champion champion
-    closed_here champion may =
-        subst (λ later. IsSearched offer wanted k chosen later champion champion) (sym (next_section offer.menu.places k low)) (closed_branch champion may)
+    pruned_here champion may =
+        subst (λ later. IsSearched offer wanted k chosen later champion champion) (sym (next_section offer.menu.places k low)) (pruned_branch champion may)
 
     shut_branch : (champion result : List ℕ) → (IsTakable offer (chosen ++ section_at offer.menu.places k ∷ []) → ⊥)
         → IsSearched offer wanted (k + 1) chosen (drop (k + 1) (menu_sections offer.menu)) champion result

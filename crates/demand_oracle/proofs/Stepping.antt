@@ -13,12 +13,12 @@ use Rattle.bundle_bounds.proofs.NodeFacts.{nothing_chosen}
 use Rattle.bundle_bounds.proofs.Openings.{node_with, node_without}
 use Rattle.demand_oracle.specs.declared.branch.Branch.{Branch}
 use Rattle.demand_oracle.specs.Branches.{chosen_of, with_next_of, IsBranch}
-use Rattle.bundle_bounds.specs.Closings.{MayClose}
+use Rattle.bundle_bounds.specs.Prunings.{MayPrune}
 use Rattle.demand_oracle.specs.Search.{IsSearched}
 use Rattle.bundle_bounds.specs.Below.{nodes_below}
 use Rattle.demand_oracle.specs.Waiting.{AreSearched, MayWait, before_waiting, HasStepped}
 use Rattle.demand_oracle.proofs.Wanting.{none_wanted}
-use Rattle.demand_oracle.proofs.Branches.{full_to_end, ended_here, closed_here, shut_here, open_here}
+use Rattle.demand_oracle.proofs.Branches.{full_to_end, ended_here, pruned_here, shut_here, open_here}
 
 -- where the next of the waiting branches is taken, none is lost
 pub taken_next : (before after : List Branch) (next : Option Branch) → MatchOption next ((before ≡ []) × (after ≡ [])) (λ branch. before ≡ branch ∷ after)
@@ -68,9 +68,9 @@ module _ (offer : Offer) (wanted : List ℕ → Bool) (branch : Branch) (under :
       (full_to_end offer wanted branch.node.place (chosen_of branch) (drop branch.node.place (menu_sections offer.menu)) champion next full ended)
 
   module _ (low : branch.node.place < length offer.menu.places) where
-    -- the node is closed
-    pub node_closed : MayClose offer wanted branch.node.place (chosen_of branch) champion → HasStepped offer wanted (branch ∷ under) champion under champion
-    node_closed close = node_done champion (closed_here offer wanted branch.node.place (chosen_of branch) low champion close)
+    -- the node is pruned
+    pub node_pruned : MayPrune offer wanted branch.node.place (chosen_of branch) champion → HasStepped offer wanted (branch ∷ under) champion under champion
+    node_pruned prune = node_done champion (pruned_here offer wanted branch.node.place (chosen_of branch) low champion prune)
 
     -- the node without its next section is not looked at, since nothing that completes it is wanted
     pub node_forced : (with_it : Branch) → with_it.node.place ≡ branch.node.place + 1 → chosen_of with_it ≡ with_next_of offer.menu branch

@@ -8,7 +8,7 @@ ghost use Rattle.bundle_rules.specs.Menus.{MenuData, IsMenu, section_at, wishes_
 ghost use Rattle.bundle_rules.specs.Wishes.{utility};
 ghost use Rattle.bundle_bounds.specs.Offers.{offer_of, places_of};
 ghost use Rattle.bundle_bounds.specs.Laws.{IsTakable, IsNode};
-ghost use Rattle.bundle_bounds.specs.Closings.{ComesFirst};
+ghost use Rattle.bundle_bounds.specs.Prunings.{ComesFirst};
 
 use bundle_bounds::{Node, adjustments_with, is_apart, price_of_place};
 use bundle_rules::{Bundle, Menu, is_ahead};

@@ -1,4 +1,4 @@
-// The best bundle, by a depth-first search that closes nodes by what can still be reached from
+// The best bundle, by a depth-first search that prunes nodes by what can still be reached from
 // them.
 ghost use Rattle.std.specs.Prelude.{◌≡◌, ◌<◌, ◌≤◌, ◌⊎◌, ◌↔◌, [], ◌∷◌, ℕ, List, true, Some, IfSome, IfNone, IsTrue, length};
 ghost use Rattle.std.specs.FinSet as set;
@@ -8,7 +8,7 @@ ghost use Rattle.bundle_rules.specs.Demand.{price_in, HasPrices, IsBest};
 ghost use Rattle.bundle_rules.specs.Given.{IsBestWith, SomeHas};
 ghost use Rattle.bundle_rules.specs.Menus.{wishes_of, section_at, IsMenu};
 ghost use Rattle.bundle_rules.specs.Wishes.{IsFeasible};
-ghost use Rattle.bundle_bounds.specs.Closings.{MayClose};
+ghost use Rattle.bundle_bounds.specs.Prunings.{MayPrune};
 ghost use Rattle.bundle_bounds.specs.Laws.{IsNode, IsTakable};
 ghost use Rattle.bundle_bounds.specs.Offers.{offer_of};
 ghost use Rattle.demand_oracle.specs.Branches.{chosen_of, IsBranch};
@@ -357,7 +357,7 @@ fn from_first(
 }
 
 // Looks at a branch, and tells the branch to look at after it, or `None` where none is left. The
-// chosen sections are compared with the champion, or the branch is closed, or it is tried with its
+// chosen sections are compared with the champion, or the branch is pruned, or it is tried with its
 // next section, where that may be taken, while it waits without it. Without the given section
 // nothing is looked at.
 #[inline(always)]
@@ -395,7 +395,7 @@ fn step(
         return frames.pending.take();
     }
     let reach = &frames.reach;
-    if reach.closes(menu, budget, &branch, champion) {
+    if reach.prunes(menu, budget, &branch, champion) {
         return frames.pending.take();
     }
     let without = branch.without_next();
@@ -441,7 +441,7 @@ fn is_lost(
     requires node { IsNode (offer_of menu.now prices.now budget.0 allowed.now) branch.now.node.place
         (chosen_of branch.now) }
     ensures { (champion : List ℕ) → IsMenu menu.now → IsTrue result
-        → MayClose (offer_of menu.now prices.now budget.0 allowed.now) (wanted_by menu.now given)
+        → MayPrune (offer_of menu.now prices.now budget.0 allowed.now) (wanted_by menu.now given)
         branch.now.node.place (chosen_of branch.now) champion }
 {
     match given {

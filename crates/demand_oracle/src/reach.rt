@@ -9,7 +9,7 @@ ghost use Rattle.bundle_rules.specs.Menus.{IsMenu};
 ghost use Rattle.bundle_bounds.specs.Offers.{offer_of};
 ghost use Rattle.bundle_bounds.specs.Laws.{IsTakable, IsNode};
 ghost use Rattle.demand_oracle.specs.Branches.{chosen_of, IsBranch};
-ghost use Rattle.bundle_bounds.specs.Closings.{MayClose};
+ghost use Rattle.bundle_bounds.specs.Prunings.{MayPrune};
 ghost use Rattle.demand_oracle.specs.Covers.{IsAdded};
 
 use crate::branch::Branch;
@@ -43,7 +43,7 @@ pub struct Reach {
 impl Reach {
     ghost use Rattle.demand_oracle.specs.Reaches.{IsReach};
 
-    /// A table that was measured for no demand yet: `closes` promises nothing before `measure`.
+    /// A table that was measured for no demand yet: `prunes` promises nothing before `measure`.
     pub fn empty() -> Reach {
         let nothing = Multipliers {
             money: 0,
@@ -96,13 +96,13 @@ impl Reach {
     /// they differ is the champion's. So nothing that is wanted can, whatever bundles are wanted.
     /// The table is one that was measured for the same menu and budget.
     #[inline(always)]
-    pub fn closes(&self, menu: &Menu, budget: Tokens, branch: &Branch, champion: &Branch) -> bool
+    pub fn prunes(&self, menu: &Menu, budget: Tokens, branch: &Branch, champion: &Branch) -> bool
         requires branch { (price : ℕ → ℕ) × IsBranch menu.now price branch.now }
         requires place { branch.now.node.place ≤ length menu.now.places }
         ensures { (wanted : List ℕ → Bool) (prices : List Tokens) (allowed : set.FinSet nat_cmp) → IsReach (offer_of menu.now prices budget.0 allowed) self.now
             → IsBranch menu.now (price_in prices) branch.now → IsNode (offer_of menu.now prices budget.0 allowed) branch.now.node.place (chosen_of branch.now)
             → IsBranch menu.now (price_in prices) champion.now → IsTakable (offer_of menu.now prices budget.0 allowed) (chosen_of champion.now)
-            → IsTrue result → MayClose (offer_of menu.now prices budget.0 allowed) wanted branch.now.node.place (chosen_of branch.now) (chosen_of champion.now) }
+            → IsTrue result → MayPrune (offer_of menu.now prices budget.0 allowed) wanted branch.now.node.place (chosen_of branch.now) (chosen_of champion.now) }
     {
         prove!(branch.node.place <= menu.len());
         let added = self.added(menu, budget, branch);
@@ -116,7 +116,7 @@ impl Reach {
 
     /// A branch that begins well: its sections are chosen one after another, each the one that adds
     /// most for what it takes, of those that fit. A search that begins with it as its champion
-    /// closes most nodes at once. The table is one that was measured for the same menu, prices,
+    /// prunes most nodes at once. The table is one that was measured for the same menu, prices,
     /// budget and allowed sections; with another the branch may be worth little.
     pub fn first_champion(
         &self,

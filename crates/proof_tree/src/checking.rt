@@ -33,7 +33,7 @@ fn is_leaf(sign: Sign) -> bool
     ensures { IsTrue result ↔ IsLeaf sign }
 {
     match sign {
-        Sign::Closed(_) => true,
+        Sign::Pruned(_) => true,
         Sign::Champion | Sign::Shut | Sign::Forced | Sign::Open | Sign::Passed => false,
     }
 }
@@ -44,7 +44,7 @@ fn is_canonical(sign: Sign) -> bool
 {
     match sign {
         Sign::Shut | Sign::Forced => false,
-        Sign::Champion | Sign::Closed(_) | Sign::Open | Sign::Passed => true,
+        Sign::Champion | Sign::Pruned(_) | Sign::Open | Sign::Passed => true,
     }
 }
 

@@ -206,7 +206,7 @@ impl Walk {
         let at = self.count;
         let stems = &mut self.stems;
         match sign {
-            Sign::Champion | Sign::Shut | Sign::Closed(_) => {}
+            Sign::Champion | Sign::Shut | Sign::Pruned(_) => {}
             Sign::Forced => {
                 take_at(stems, at, menu, prices, budget, allowed, champion, node);
                 put_back(stems, at);
@@ -272,7 +272,7 @@ impl Walk {
         match sign {
             Sign::Champion => {}
             Sign::Shut => {}
-            Sign::Closed(_) => {}
+            Sign::Pruned(_) => {}
             Sign::Forced => self.put(with_next(menu, node)),
             Sign::Open => {
                 self.put(without_next(menu, node));

@@ -6,7 +6,7 @@ use Rattle.demand_oracle.specs.Branches.{chosen_of}
 use Rattle.demand_oracle.specs.Search.{wanted_by}
 use Rattle.demand_oracle.specs.Waiting.{HasStepped}
 use Rattle.demand_oracle.proofs.Wanting.{lacks_passed}
-use Rattle.demand_oracle.proofs.Stepping.{taken_next, next_left, node_whole, node_closed, node_passed, node_forced, node_branched}
+use Rattle.demand_oracle.proofs.Stepping.{taken_next, next_left, node_whole, node_pruned, node_passed, node_forced, node_branched}
 use Rattle.demand_oracle.proofs.oracle.step.Goals as goal
 
 pub returns-then-is_whole-clause-stepped : goal.returns-then-is_whole-clause-stepped
@@ -26,19 +26,19 @@ returns-then-is_lost-clause-stepped c =
     subst
     (λ waiting. HasStepped offer wanted (c.args.branch ∷ c.args.frames.now.pending) (chosen_of c.args.champion.now) waiting (chosen_of c.args.champion.now))
     (taken_next c.args.frames.now.pending c.take-then-is_lost.new.self c.take-then-is_lost.result c.take-then-is_lost.ensures)
-    (node_closed offer wanted c.args.branch c.args.frames.now.pending (chosen_of c.args.champion.now) c.is_whole.ensures.menu c.requires.branch low
+    (node_pruned offer wanted c.args.branch c.args.frames.now.pending (chosen_of c.args.champion.now) c.is_whole.ensures.menu c.requires.branch low
     (c.is_lost.ensures (chosen_of c.args.champion.now) c.is_whole.ensures.menu c.if-is_lost.true))
 
-pub returns-then-closes-clause-stepped : goal.returns-then-closes-clause-stepped
-returns-then-closes-clause-stepped c =
+pub returns-then-prunes-clause-stepped : goal.returns-then-prunes-clause-stepped
+returns-then-prunes-clause-stepped c =
     let offer = offer_of c.args.menu.now c.args.prices.now c.args.budget.0 c.args.allowed.now in
     let wanted = wanted_by c.args.menu.now c.args.given in
     let low = next_left _ (length c.args.menu.now.places) c.args.branch.node.place _ c.is_whole.ensures.whole c.if-is_whole.false in
     subst
     (λ waiting. HasStepped offer wanted (c.args.branch ∷ c.args.frames.now.pending) (chosen_of c.args.champion.now) waiting (chosen_of c.args.champion.now))
-    (taken_next c.args.frames.now.pending c.take-then-closes.new.self c.take-then-closes.result c.take-then-closes.ensures)
-    (node_closed offer wanted c.args.branch c.args.frames.now.pending (chosen_of c.args.champion.now) c.is_whole.ensures.menu c.requires.branch low
-    (c.closes.ensures wanted c.args.prices.now c.args.allowed.now c.requires.reach c.requires.branch.3 c.requires.branch.2 c.requires.champion.sums c.requires.champion.takable c.if-closes.true))
+    (taken_next c.args.frames.now.pending c.take-then-prunes.new.self c.take-then-prunes.result c.take-then-prunes.ensures)
+    (node_pruned offer wanted c.args.branch c.args.frames.now.pending (chosen_of c.args.champion.now) c.is_whole.ensures.menu c.requires.branch low
+    (c.prunes.ensures wanted c.args.prices.now c.args.allowed.now c.requires.reach c.requires.branch.3 c.requires.branch.2 c.requires.champion.sums c.requires.champion.takable c.if-prunes.true))
 
 pub returns-then-not-may_take-clause-stepped : goal.returns-then-not-may_take-clause-stepped
 returns-then-not-may_take-clause-stepped c =

@@ -5,7 +5,7 @@ use Rattle.bundle_rules.specs.Demand.{price_in}
 use Rattle.bundle_rules.proofs.FirstDifference.{ahead_to}
 use Rattle.bundle_bounds.specs.Offers.{offer_of, places_of}
 use Rattle.bundle_bounds.proofs.ByPlace.{has-places, taken_places}
-use Rattle.bundle_bounds.proofs.ClosesSoundly.{differs_first}
+use Rattle.bundle_bounds.proofs.PrunesSoundly.{differs_first}
 use Rattle.demand_oracle.specs.Branches.{chosen_of}
 use Rattle.demand_oracle.proofs.branch.Branch.is_behind.Goals as goal
 
