@@ -1,6 +1,6 @@
 pub mod Additions
 pub mod Beside
-pub mod Branches
+pub mod SummedNodes
 pub mod Pruning
 pub mod Covering
 pub mod Goodness

@@ -5,7 +5,6 @@
 // table that says everywhere that enough can be reached would keep every clause.
 #![tactic(auto)]
 
-mod branch;
 mod draft;
 pub mod laws;
 mod multipliers;
@@ -13,6 +12,7 @@ mod oracle;
 mod pending;
 mod places;
 mod reach;
+mod summed_node;
 mod tables;
 
 pub use oracle::{Workspace, demand, demand_beside, demand_from, demand_with};

@@ -1,7 +1,7 @@
 // Tables of small menus, and which nodes they prune, worked by hand.
 ghost use Rattle.std.specs.Prelude.{◌≤◌, length};
 ghost use Rattle.bundle_rules.specs.Demand.{price_in, HasPrices};
-ghost use Rattle.demand_oracle.specs.Branches.{IsBranch};
+ghost use Rattle.demand_oracle.specs.SummedNodes.{IsSummed};
 
 use super::*;
 use bundle_rules::{Rated, has_prices};
@@ -52,12 +52,12 @@ fn menu_of<R: Abort>(rt: &R, alloc: Global, case: &Case) -> Menu {
 }
 
 // A champion of the first two sections, of those that are taken.
-fn champion_of(menu: &Menu, prices: &[Tokens], first: bool, second: bool) -> Branch
+fn champion_of(menu: &Menu, prices: &[Tokens], first: bool, second: bool) -> SummedNode
     requires prices { HasPrices menu.now prices.now }
     requires places { 2 ≤ length menu.now.places }
-    ensures { IsBranch menu.now (price_in prices.now) result }
+    ensures { IsSummed menu.now (price_in prices.now) result }
 {
-    let root = Branch::root();
+    let root = SummedNode::root();
     match (first, second) {
         (true, true) => root.with_next(menu, prices).with_next(menu, prices),
         (true, false) => root.with_next(menu, prices),
@@ -81,7 +81,7 @@ fn prunings<R: Abort>(
     let budget = Tokens(budget);
     let mut reach = Reach::empty();
     reach.measure(menu, prices, budget, &SectionSet::full(400));
-    let root = Branch::root();
+    let root = SummedNode::root();
     let with_it = root.with_next(menu, prices);
     let without = root.without_next();
     [

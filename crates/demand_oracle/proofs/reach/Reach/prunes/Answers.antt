@@ -11,7 +11,7 @@ use Rattle.bundle_rules.proofs.Feasibility.{places_of_rated, utility_by_place}
 use Rattle.bundle_bounds.specs.Laws.{IsNode}
 use Rattle.bundle_bounds.specs.Offers.{offer_of, places_of}
 use Rattle.bundle_bounds.proofs.ByPlace.{has-places}
-use Rattle.demand_oracle.specs.Branches.{chosen_of, IsBranch}
+use Rattle.demand_oracle.specs.SummedNodes.{chosen_of, IsSummed}
 use Rattle.demand_oracle.specs.Reaches.{IsReach, number_at}
 use Rattle.demand_oracle.proofs.Pruning.{IsWeighed, hopes_read, less_prunes, no_more_prunes}
 use Rattle.demand_oracle.proofs.reach.Reach.prunes.Goals as goal
@@ -24,23 +24,23 @@ pub hopes_of-hoped-requires-clause-on_menu : goal.hopes_of-hoped-requires-clause
 hopes_of-hoped-requires-clause-on_menu c i d low =
     let few : length c.args.menu.now.places ≤ 60 = c.len.ensures.menu.places.few in
     let all =
-    rw (← c.places.ensures.value c.args.menu.now c.requires.branch.0 c.requires.branch.1) at
-    (places_of_rated c.args.menu.now (chosen_of c.args.branch.now) c.requires.branch.1.rated) in
+    rw (← c.places.ensures.value c.args.menu.now c.requires.summed.0 c.requires.summed.1) at
+    (places_of_rated c.args.menu.now (chosen_of c.args.summed.now) c.requires.summed.1.rated) in
     let on : get_or c.places.result.now i d < length c.args.menu.now.places = all i d low in omega arith
 
 -- what is compared, whatever the prices and the allowed sections are
 weighed : (c : After-lacking-lacking) (prices : List Tokens) (allowed : set.FinSet nat_cmp)
-    → IsReach (offer_of c.args.menu.now prices c.args.budget.0 allowed) c.args.self.now → IsBranch c.args.menu.now (price_in prices) c.args.branch.now
-    → IsNode (offer_of c.args.menu.now prices c.args.budget.0 allowed) c.args.branch.now.node.place (chosen_of c.args.branch.now)
-    → IsBranch c.args.menu.now (price_in prices) c.args.champion.now
-    → IsWeighed (offer_of c.args.menu.now prices c.args.budget.0 allowed) c.args.branch.now.node.place (chosen_of c.args.branch.now)
+    → IsReach (offer_of c.args.menu.now prices c.args.budget.0 allowed) c.args.self.now → IsSummed c.args.menu.now (price_in prices) c.args.summed.now
+    → IsNode (offer_of c.args.menu.now prices c.args.budget.0 allowed) c.args.summed.now.node.place (chosen_of c.args.summed.now)
+    → IsSummed c.args.menu.now (price_in prices) c.args.champion.now
+    → IsWeighed (offer_of c.args.menu.now prices c.args.budget.0 allowed) c.args.summed.now.node.place (chosen_of c.args.summed.now)
     (chosen_of c.args.champion.now) c.added-added.result c.hopes_of-hoped.result c.utility-2.result c.utility.result c.lacking-lacking.result
 weighed c prices allowed reach is node champion_is =
     let menu = c.args.menu.now in
     let offer = offer_of menu prices c.args.budget.0 allowed in
-    let chosen = chosen_of c.args.branch.now in
+    let chosen = chosen_of c.args.summed.now in
     let cs = places_of menu chosen in
-    let k : ℕ = c.args.branch.now.node.place in
+    let k : ℕ = c.args.summed.now.node.place in
     let low : (p : ℕ) → has cs p ≡ true → p < k = λ p in_it. (let at = has-places menu.places chosen p in_it in rw (← at.2) (node.decided at.0 at.1)) in
     let places : c.places.result.now ≡ cs = c.places.ensures.value menu (price_in prices) is in
     record {

@@ -19,7 +19,7 @@ const ROOM: usize = MAX_COURSES as usize;
 /// A node of the search with what its sections are known by: their places, and the sums of their
 /// prices, of their credits and of their utility.
 #[derive(Clone, Copy, Debug)]
-pub struct Branch {
+pub struct SummedNode {
     pub node: Node,
     places: [u8; ROOM],
     paid: u32,
@@ -27,35 +27,35 @@ pub struct Branch {
     utility: i32,
 }
 
-impl Branch {
-    ghost use Rattle.demand_oracle.specs.Branches.{chosen_of, with_next_of, IsBranch};
+impl SummedNode {
+    ghost use Rattle.demand_oracle.specs.SummedNodes.{chosen_of, with_next_of, IsSummed};
 
-    /// The branch of which nothing is decided.
-    pub fn root() -> Branch
+    /// The node of which nothing is decided.
+    pub fn root() -> SummedNode
         ensures place { result.node.place ≡ 0 }
         ensures chosen { chosen_of result ≡ [] }
-        ensures branch { (menu : MenuData) (price : ℕ → ℕ) → IsBranch menu price result }
+        ensures summed { (menu : MenuData) (price : ℕ → ℕ) → IsSummed menu price result }
     {
-        Branch::begun_at(0)
+        SummedNode::begun_at(0)
     }
 
-    /// The branch that has the section of this place alone, and has decided no later one.
-    pub fn alone(menu: &Menu, prices: &[Tokens], place: u8) -> Branch
+    /// The node that has the section of this place alone, and has decided no later one.
+    pub fn alone(menu: &Menu, prices: &[Tokens], place: u8) -> SummedNode
         requires prices { HasPrices menu.now prices.now }
         requires on_menu { place < length menu.now.places }
-        ensures branch { IsBranch menu.now (price_in prices.now) result }
+        ensures summed { IsSummed menu.now (price_in prices.now) result }
         ensures chosen { chosen_of result ≡ section_at menu.now.places place ∷ [] }
     {
-        Branch::begun_at(place).with_next(menu, prices)
+        SummedNode::begun_at(place).with_next(menu, prices)
     }
 
-    // The branch that has decided the places below this one, and has chosen nothing.
-    fn begun_at(place: u8) -> Branch
+    // The node that has decided the places below this one, and has chosen nothing.
+    fn begun_at(place: u8) -> SummedNode
         ensures place { result.node.place ≡ place }
         ensures chosen { chosen_of result ≡ [] }
-        ensures branch { (menu : MenuData) (price : ℕ → ℕ) → IsBranch menu price result }
+        ensures summed { (menu : MenuData) (price : ℕ → ℕ) → IsSummed menu price result }
     {
-        Branch {
+        SummedNode {
             node: Node {
                 place,
                 chosen: Bundle::empty(),
@@ -69,7 +69,7 @@ impl Branch {
 
     /// The utility of the chosen sections.
     pub fn utility(&self) -> i32
-        ensures { (menu : MenuData) (price : ℕ → ℕ) → IsBranch menu price self.now
+        ensures { (menu : MenuData) (price : ℕ → ℕ) → IsSummed menu price self.now
             → result ≡ utility (wishes_of menu) (chosen_of self.now) }
     {
         self.utility
@@ -87,7 +87,7 @@ impl Branch {
         place: u8,
     ) -> bool
         requires prices { HasPrices menu.now prices.now }
-        requires branch { IsBranch menu.now (price_in prices.now) self.now }
+        requires summed { IsSummed menu.now (price_in prices.now) self.now }
         requires node { IsNode (offer_of menu.now prices.now budget.0 allowed.now)
             self.now.node.place (chosen_of self.now) }
         requires undecided { self.now.node.place ≤ place }
@@ -114,14 +114,14 @@ impl Branch {
         is_apart(menu, self.places(), place)
     }
 
-    /// The branch with the section of the next place.
+    /// The node with the section of the next place.
     #[must_use]
-    pub fn with_next(self, menu: &Menu, prices: &[Tokens]) -> Branch
+    pub fn with_next(self, menu: &Menu, prices: &[Tokens]) -> SummedNode
         requires prices { HasPrices menu.now prices.now }
-        requires branch { IsBranch menu.now (price_in prices.now) self }
+        requires summed { IsSummed menu.now (price_in prices.now) self }
         requires next { self.node.place < length menu.now.places }
         requires room { length (chosen_of self) < MAX_COURSES }
-        ensures branch { IsBranch menu.now (price_in prices.now) result }
+        ensures summed { IsSummed menu.now (price_in prices.now) result }
         ensures place { result.node.place ≡ self.node.place + 1 }
         ensures chosen { chosen_of result ≡ with_next_of menu.now self }
     {
@@ -130,7 +130,7 @@ impl Branch {
         let adjustments = adjustments_with(menu, self.places(), self.node.place);
         let mut places = self.places;
         places[self.node.chosen.sections().len()] = self.node.place;
-        Branch {
+        SummedNode {
             node: Node {
                 place: self.node.place + 1,
                 chosen: self.node.chosen.with(rated.section),
@@ -142,16 +142,16 @@ impl Branch {
         }
     }
 
-    /// The branch without the section of the next place.
+    /// The node without the section of the next place.
     #[must_use]
-    pub fn without_next(self) -> Branch
+    pub fn without_next(self) -> SummedNode
         requires { self.node.place < MAX_RATINGS }
-        ensures branch { (menu : MenuData) (price : ℕ → ℕ) → IsBranch menu price self
-            → IsBranch menu price result }
+        ensures summed { (menu : MenuData) (price : ℕ → ℕ) → IsSummed menu price self
+            → IsSummed menu price result }
         ensures place { result.node.place ≡ self.node.place + 1 }
         ensures chosen { chosen_of result ≡ chosen_of self }
     {
-        Branch {
+        SummedNode {
             node: Node {
                 place: self.node.place + 1,
                 chosen: self.node.chosen,
@@ -162,7 +162,7 @@ impl Branch {
 
     // The places of the chosen sections.
     pub(crate) fn places(&self) -> &[u8]
-        ensures value { (menu : MenuData) (price : ℕ → ℕ) → IsBranch menu price self.now
+        ensures value { (menu : MenuData) (price : ℕ → ℕ) → IsSummed menu price self.now
             → result.now ≡ places_of menu (chosen_of self.now) }
         ensures few { length result.now ≤ MAX_COURSES }
     {
@@ -195,10 +195,10 @@ impl Branch {
 
     // Whether the champion has the first section on which it differs from all that completes the
     // node.
-    pub(crate) fn is_behind(&self, champion: &Branch) -> bool
+    pub(crate) fn is_behind(&self, champion: &SummedNode) -> bool
         ensures { (menu : MenuData) (prices : List Tokens) (budget : ℕ) (allowed : set.FinSet nat_cmp) → IsMenu menu
-            → IsBranch menu (price_in prices) self.now → IsNode (offer_of menu prices budget allowed) self.now.node.place (chosen_of self.now)
-            → IsBranch menu (price_in prices) champion.now → IsTakable (offer_of menu prices budget allowed) (chosen_of champion.now) → IsTrue result
+            → IsSummed menu (price_in prices) self.now → IsNode (offer_of menu prices budget allowed) self.now.node.place (chosen_of self.now)
+            → IsSummed menu (price_in prices) champion.now → IsTakable (offer_of menu prices budget allowed) (chosen_of champion.now) → IsTrue result
             → ComesFirst (offer_of menu prices budget allowed) self.now.node.place (chosen_of self.now) (chosen_of champion.now) }
     {
         is_ahead(self.node.place, champion.places(), self.places())

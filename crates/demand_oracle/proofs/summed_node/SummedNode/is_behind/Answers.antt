@@ -6,8 +6,8 @@ use Rattle.bundle_rules.proofs.FirstDifference.{ahead_to}
 use Rattle.bundle_bounds.specs.Offers.{offer_of, places_of}
 use Rattle.bundle_bounds.proofs.ByPlace.{has-places, taken_places}
 use Rattle.bundle_bounds.proofs.PrunesSoundly.{differs_first}
-use Rattle.demand_oracle.specs.Branches.{chosen_of}
-use Rattle.demand_oracle.proofs.branch.Branch.is_behind.Goals as goal
+use Rattle.demand_oracle.specs.SummedNodes.{chosen_of}
+use Rattle.demand_oracle.proofs.summed_node.SummedNode.is_behind.Goals as goal
 
 pub returns : goal.returns
 returns c menu prices budget allowed is_menu is node champion_is takable behind bundle may completes =
