@@ -1,5 +1,5 @@
 // Budgets, drawn and raised.
-ghost use Rattle.std.specs.Prelude.{◌≡◌, ◌+◌, ◌*◌, ◌<◌, ◌≤◌, All, IfOk};
+ghost use Rattle.std.specs.Prelude.{◌≡◌, ◌+◌, ◌-◌, ◌*◌, ◌<◌, ◌≤◌, All, IfOk};
 ghost use Rattle.budget_draw.specs.Budgets.{amounts, budgets_of, raised_by};
 
 use crate::ranks::rank_among;
@@ -16,7 +16,7 @@ fn budget_at(base: u32, carry: u32, spread: u8, rank: usize) -> Tokens
     requires spread { spread ≤ MAX_SPREAD }
     requires rank { rank < MAX_STUDENTS }
     ensures budget { result.0 ≡ base + carry + spread * rank }
-    ensures range { result.0 ≤ 997951 }
+    ensures range { result.0 ≤ MAX_BASE + MAX_SPREAD * (MAX_STUDENTS - 1) }
 {
     Tokens(base + carry + u32::from(spread) * rank as u32)
 }
@@ -27,7 +27,9 @@ pub fn draw(alloc: Global, roll: &Roll, seed: u64, spread: u8) -> Result<Vec<Tok
     requires { spread ≤ MAX_SPREAD }
     ensures budgets { IfOk result
         (λ drawn. amounts drawn.items ≡ budgets_of roll.now.students seed spread) }
-    ensures range { IfOk result (λ drawn. All (λ budget. budget.0 ≤ 997951) drawn.items) }
+    ensures range { IfOk result
+        (λ drawn. All (λ budget. budget.0 ≤ MAX_BASE + MAX_SPREAD * (MAX_STUDENTS - 1))
+        drawn.items) }
 {
     let students = roll.len();
     let words = words(alloc, seed, 0, usize::from(students))?;
