@@ -13,13 +13,13 @@ use crate::inputs::read_input;
 use crate::trouble::Trouble;
 use course_catalog::{Catalog, CatalogRefusal, read_catalog};
 use market_edge::Shelf;
-use market_units::MAX_INPUT_BYTES;
+use market_units::{MAX_INPUT_BYTES, MAX_SECTIONS};
 use std::alloc::Global;
 
 // The header is row 1, and a table has at most 400 sections behind it.
 const HEADER_ROW: u32 = 1;
 
-const SURPLUS_ROW: u32 = 402;
+const SURPLUS_ROW: u32 = MAX_SECTIONS as u32 + 2;
 
 /// The catalogue that the input of this name and number is, or why there is none.
 pub fn take_catalog<H: Shelf>(

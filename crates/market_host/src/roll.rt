@@ -11,14 +11,14 @@ use crate::Cause;
 use crate::inputs::read_input;
 use crate::trouble::Trouble;
 use market_edge::Shelf;
-use market_units::MAX_INPUT_BYTES;
+use market_units::{MAX_INPUT_BYTES, MAX_STUDENTS};
 use std::alloc::Global;
 use student_roll::{Roll, RollRefusal, read_roll};
 
 // The header is row 1, and a table has at most 2,000 students behind it.
 const HEADER_ROW: u32 = 1;
 
-const SURPLUS_ROW: u32 = 2002;
+const SURPLUS_ROW: u32 = MAX_STUDENTS as u32 + 2;
 
 /// The roll that the input of this name and number is, or why there is none.
 pub fn take_roll<H: Shelf>(
