@@ -4,11 +4,11 @@ use Rattle.std.specs.FinMap as map
 use Rattle.std.proofs.lemmas.Bool.{cases_Bool, false≢true}
 use Rattle.std.proofs.lemmas.Bool.Decides.{nat_tests}
 use Rattle.std.proofs.lemmas.List.{replicate_more}
-use Rattle.row_region.specs.Rows.{Rows, IsLive, with_row, spare_of, rewritten}
+use Rattle.row_region.specs.Rows.{Rows, IsLive, with_row, spare_of, rewritten, cells_of}
 use Rattle.row_region.proofs.Filling.{rewritten_same}
 use Rattle.row_region.proofs.Rows.{row_here, row_there, live_here, live_there, spare_apart}
 use Rattle.market_units.specs.Members.{has}
-use Rattle.price_board.specs.Cells.{cells_of, rows_in, AreLive}
+use Rattle.price_board.specs.Cells.{rows_in, AreLive}
 
 tests_apart : (a b : ℕ) → a ≢ b → (a == b) ≡ false
 tests_apart a b apart = elim (cases_Bool (a == b)) [

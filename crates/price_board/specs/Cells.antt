@@ -1,15 +1,10 @@
 -- How a grid keeps its rows: in one live row of a region for each.
-use Rattle.std.specs.Prelude.{ℕ, ◌≡◌, false, ⊤, List, [], ◌∷◌, Option, None, Some}
+use Rattle.std.specs.Prelude.{ℕ, ◌≡◌, false, ⊤, List, [], ◌∷◌}
 use Rattle.std.specs.Ordering.{nat_cmp}
 use Rattle.std.specs.FinMap as map
 use Rattle.market_units.specs.Members.{has}
-use Rattle.row_region.specs.Rows.{Rows, IsLive}
+use Rattle.row_region.specs.Rows.{Rows, IsLive, cells_of}
 use Rattle.price_board.specs.declared.grid.Grid.TheInside.{Inside}
-
--- what a row holds, and nothing where it is spare
-abbrev pub cells_of : {T : Type 0} → Option (List T) → List T
-cells_of None = []
-cells_of (Some row) = row
 
 -- what the rows of these numbers hold
 abbrev pub rows_in : {T : Type 0} → map.FinMap nat_cmp (List T) → List ℕ → List (List T)
