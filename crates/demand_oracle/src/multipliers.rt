@@ -28,6 +28,9 @@ const HIGHEST_MULTIPLIER: u64 = 1 << 28;
 // How often two lines are made to meet.
 const MEETINGS: usize = 3;
 
+// At most this many places are picked.
+const COURSES: usize = MAX_COURSES as usize;
+
 // What may be scarce.
 #[derive(Clone, Copy)]
 enum Scarce {
@@ -140,7 +143,7 @@ fn with_multiplier(multipliers: Multipliers, scarce: Scarce, multiplier: u64) ->
 fn line_at(items: &[Item], count: usize, scarce: Scarce, multipliers: Multipliers) -> Line
     requires { count ≤ MAX_COURSES }
 {
-    let mut picks = [NO_PICK; MAX_COURSES as usize];
+    let mut picks = [NO_PICK; COURSES];
     for item in items {
         put(&mut picks[..count], pick_of(item, scarce, multipliers));
     }

@@ -35,6 +35,8 @@ use std::alloc::Global;
 use student_roll::Roll;
 use utility_language::Command;
 
+const SECTIONS: usize = MAX_SECTIONS as usize;
+
 /// The text of `quote`, or why there is none.
 pub fn quote<H: Shelf>(
     alloc: Global,
@@ -96,7 +98,7 @@ fn best_of(alloc: Global, menu: &Menu) -> Result<Bundle, NoMemory>
 {
     let mut workspace = Workspace::reserve(alloc)?;
     let _few_places = menu.len();
-    let prices = [Tokens(0); MAX_SECTIONS as usize];
+    let prices = [Tokens(0); SECTIONS];
     let allowed = SectionSet::full(MAX_SECTIONS);
     Ok(demand(&mut workspace, menu, &prices, Tokens(0), &allowed))
 }
