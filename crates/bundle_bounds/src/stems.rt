@@ -27,6 +27,9 @@ const ROOM: usize = MAX_RATINGS;
 
 const MOST: usize = MAX_COURSES as usize;
 
+// At most this many places are on a menu.
+const PLACES: u8 = MAX_RATINGS as u8;
+
 /// Nodes that have chosen the same sections, one after another: each has one more place decided
 /// than the one before it. What they share is kept: the open places with their worth, what the
 /// chosen ones leave, and what was found of bounds.
@@ -130,7 +133,7 @@ impl Stem {
         ensures stem { IsStem (offer_of menu.now prices.now budget.0 allowed.now)
             (sections_of champion.now) node.now.place (sections_of node.now.chosen) self.new }
     {
-        prove!(menu.len() <= MAX_RATINGS as u8);
+        prove!(menu.len() <= PLACES);
         if self.is_quiet {
             return None;
         }

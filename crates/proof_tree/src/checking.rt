@@ -16,9 +16,9 @@ ghost use Rattle.proof_tree.specs.Mismatches.{IsOther, IsMismatch, IsUnsigned, o
 use crate::defects::TreeDefect;
 use crate::signs::Sign;
 use crate::symbols::read_symbol;
-use crate::walk::{Step, Walk};
+use crate::walk::{PLACES, Step, Walk};
 use bundle_rules::{Bundle, Menu};
-use market_units::{MAX_RATINGS, SectionNo, SectionSet, Tokens};
+use market_units::{SectionNo, SectionSet, Tokens};
 
 // The offset of the rest of a text, told as 4,294,967,295 where it is greater.
 fn offset_of(text: &[u8], rest: &[u8]) -> u32
@@ -185,7 +185,7 @@ pub fn check_tree(
         (IsDefect (offer_of menu.now prices.now budget.0 allowed.now) (sections_of champion.now)
         text.now) }
 {
-    prove!(menu.len() <= MAX_RATINGS as u8);
+    prove!(menu.len() <= PLACES);
     follow(menu, prices, budget, allowed, None, champion, text)
 }
 
@@ -216,7 +216,7 @@ pub fn check_forced(
         (FirstFailsAt (offer_of menu.now prices.now budget.0 allowed.now)
         (Some (place_in menu.now.places section.0)) (sections_of champion.now) text.now) }
 {
-    prove!(menu.len() <= MAX_RATINGS as u8);
+    prove!(menu.len() <= PLACES);
     let place = menu.place(section);
     match follow(menu, prices, budget, allowed, Some(place), champion, text) {
         Ok(()) => Ok(()),

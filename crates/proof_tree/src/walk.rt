@@ -27,6 +27,9 @@ use market_units::{MAX_COURSES, MAX_RATINGS, SectionSet, Tokens};
 // Under a node at most as many nodes wait as it has chosen sections, and these are at most 8.
 const ROOM: usize = MAX_COURSES as usize + 1;
 
+// At most this many places are on a menu.
+pub(crate) const PLACES: u8 = MAX_RATINGS as u8;
+
 /// What the walk comes to: a node with its canonical sign, a node that has none, or the end.
 #[derive(Clone, Copy, Debug)]
 pub(crate) enum Step {
@@ -202,7 +205,7 @@ impl Walk {
         ensures below { AreStanding (offer_of menu.now prices.now budget.0 allowed.now)
             (sections_of champion.now) node.now sign self.new.stems self.new.count }
     {
-        prove!(menu.len() <= MAX_RATINGS as u8);
+        prove!(menu.len() <= PLACES);
         let at = self.count;
         let stems = &mut self.stems;
         match sign {

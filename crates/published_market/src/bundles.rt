@@ -23,6 +23,11 @@ use std::alloc::Global;
 use std::thread;
 use std::thread::Threads;
 
+// At most this many places are on a menu, and at most this many sections in a bundle.
+const PLACES: u8 = MAX_RATINGS as u8;
+
+const COURSES: usize = MAX_COURSES as usize;
+
 // The best bundle of a menu with its tree, which is in the room where it fits.
 pub(crate) fn prove_bundle(
     alloc: Global,
@@ -44,8 +49,8 @@ pub(crate) fn prove_bundle(
         (sections_of proved.bundle) proved.tree.items) }
     ensures form { IfOk result (λ proved. HasForm (sections_of proved.bundle) proved.tree.items) }
 {
-    prove!(menu.len() <= MAX_RATINGS as u8);
-    prove!(bundle.sections().len() <= usize::from(MAX_COURSES));
+    prove!(menu.len() <= PLACES);
+    prove!(bundle.sections().len() <= COURSES);
     let tree = room.tree(alloc, menu, prices, budget, allowed, bundle)?;
     Ok(Proved {
         bundle: *bundle,
