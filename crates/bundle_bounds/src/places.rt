@@ -37,7 +37,7 @@ pub fn adjustments_with(menu: &Menu, chosen: &[u8], place: u8) -> i32
     ensures value { result
         ≡ signed_total (λ other. adjustment_in menu.now.pairs other place) chosen.now }
     ensures low { neg_ℤ (MAX_ADJUSTMENT *ℤ pos (length chosen.now)) ≤ℤ result }
-    ensures high { result ≤ℤ MAX_ADJUSTMENT *ℤ pos (length chosen.now) }
+    ensures high { result ≤ℤ (MAX_ADJUSTMENT *ℤ pos (length chosen.now)) }
 {
     match chosen {
         [] => 0,

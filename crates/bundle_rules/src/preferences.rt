@@ -107,7 +107,7 @@ fn adjustments_of(menu: &Menu, place: u8, others: &[u8]) -> i32
     requires few { length others.now ≤ MAX_COURSES }
     ensures value { result ≡ adjustments (by_place menu.now) place others.now }
     ensures low { neg_ℤ (MAX_ADJUSTMENT *ℤ pos (length others.now)) ≤ℤ result }
-    ensures high { result ≤ℤ MAX_ADJUSTMENT *ℤ pos (length others.now) }
+    ensures high { result ≤ℤ (MAX_ADJUSTMENT *ℤ pos (length others.now)) }
 {
     match others {
         [] => 0,
