@@ -45,8 +45,8 @@ loop-place-preserved-then-not-has c =
     ap sections_of (c.index.ensures ∙ c.loop-place.invariant.rest c.loop-place.place c.index.result.now (omega arith))
     ∙ c.requires.remembered.taken c.loop-place.place c.index.result.now end in
     let stays =
-    lacking_stays crowd.menus.items crowd.budgets.items crowd.sections prices _ c.args.section.0 c.loop-place.place c.args.walk.now.least
-    (sections_of c.index.result.now) c.requires.crowd.same low there c.requires.low written lacks held in
+    lacking_stays crowd prices _ c.args.section.0 c.loop-place.place c.args.walk.now.least
+    (sections_of c.index.result.now) low there c.requires.low written lacks held in
     let many : place < length c.loop-place.bundles.items = subst (λ (n : ℕ). c.loop-place.place < n) (sym c.loop-place.invariant.len) end in
     record {
       len = c.loop-place.invariant.len;
