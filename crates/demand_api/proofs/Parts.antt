@@ -109,6 +109,14 @@ student_of crowd i d m b low = joined_at crowd.menus.items crowd.budgets.items i
 pub menus_few : (crowd : Crowd) → length crowd.menus.items ≤ 2000
 menus_few crowd = parts_few crowd.menus.items crowd.budgets.items crowd.sections crowd.same crowd.whole
 
+-- and as many students
+pub students_few : (crowd : Crowd) → length (data_of crowd).students ≤ 2000
+students_few crowd = crowd.whole.few
+
+-- at most 400 sections
+pub sections_few : (crowd : Crowd) → crowd.sections ≤ 400
+sections_few crowd = crowd.whole.sections
+
 -- each budget is at most a million
 pub budgets_high : (crowd : Crowd) → All (λ (budget : Tokens). budget.0 ≤ 1000000) crowd.budgets.items
 budgets_high crowd = parts_high crowd.menus.items crowd.budgets.items crowd.sections crowd.same crowd.whole
