@@ -43,7 +43,6 @@ taken_count crowd prices bundles taken =
 -- the bundle at a place is the best of the menu and the budget at that place
 pub taken_best : (crowd : Crowd) (prices : List Tokens) (bundles : List Bundle) (i : ℕ) (menu : MenuData)
     (budget : Tokens) (bundle : Bundle) (allowed : ℕ → Bool)
-   
     → AreTaken (data_of crowd) prices bundles → i < length bundles → menu ≡ get_or crowd.menus.items i menu → budget ≡ get_or crowd.budgets.items i budget
     → bundle ≡ get_or bundles i bundle → ((s : ℕ) → allowed s ≡ nat_lt s crowd.sections)
     → IsBest (wishes_of menu) (price_in prices) budget.0 allowed (sections_of bundle)
@@ -72,7 +71,7 @@ pub proved_at : (crowd : Crowd) (price : ℕ → ℕ) (i : ℕ) (d : Student) (m
     → IsProvedBest (record { menu = menu; price = price; budget = budget.0; allowed = allowed }) bundle tree
     → IsProvedBest (offer_to (get_or (data_of crowd).students i d) price (get_or (data_of crowd).students i d).budget (all_sections crowd.sections)) bundle tree
 proved_at crowd price i d menu budget allowed bundle tree low is has_it told proved =
-    let sections_are : allowed ≡ all_sections sections = λ k s. told s k in
+    let sections_are : allowed ≡ all_sections crowd.sections = λ k s. told s k in
     subst (λ (student : Student). IsProvedBest (offer_to student price student.budget (all_sections crowd.sections)) bundle tree)
     (sym (asked_at crowd.menus.items crowd.budgets.items i d menu budget crowd.same low is has_it))
     (subst (λ among. IsProvedBest (offer_to (asked menu budget) price budget.0 among) bundle tree) sections_are proved)
