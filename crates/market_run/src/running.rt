@@ -60,11 +60,7 @@ fn share(
     let crowd = Arc::new(alloc, crowd)?;
     let asked = crowd.clone()?;
     let pool = Pool::reserve(alloc, workers)?;
-    Ok(Shared {
-        crowd,
-        asked,
-        pool,
-    })
+    Ok(Shared { crowd, asked, pool })
 }
 
 // Runs the market after the desk's journal: workers answer what is demanded.
@@ -93,11 +89,7 @@ pub(crate) fn run<R: Threads + Wait + Sync>(
     ensures no_prices { (least : ℕ) → result ≡ Err (PublishEnd.NoPrices least)
         → HasNoPrices (market_of catalog.now roll.now settings.now) (entries_of desk.now) least }
 {
-    let Shared {
-        crowd,
-        asked,
-        pool,
-    } = share(alloc, workers, catalog, roll, settings, desk)?;
+    let Shared { crowd, asked, pool } = share(alloc, workers, catalog, roll, settings, desk)?;
     let mut demands = PooledDemands::make(pool, asked, gate);
     let published = publish(
         rt,
