@@ -1,11 +1,11 @@
 -- What the parts of a crowd are.
-use Rattle.std.proofs.Common.{ℕ, zero, suc, ◌≡◌, ◌<◌, ◌≤◌, ◌+◌, ◌∙◌, List, [], ◌∷◌, length, All, arith, sym, refl}
+use Rattle.std.proofs.Common.{ℕ, zero, suc, ◌≡◌, ◌<◌, ◌≤◌, ◌+◌, List, [], ◌∷◌, length, All, arith, refl}
 use Rattle.std.specs.Prelude.{slice_index_or}
 use Rattle.std.proofs.lemmas.List.Elements.{All-cons, All-nil}
 use Rattle.market_units.specs.declared.units.Tokens.{Tokens}
 use Rattle.bundle_rules.specs.Menus.{MenuData}
 use Rattle.demand_api.specs.declared.crowd.Crowd.{Crowd}
-use Rattle.demand_api.specs.Crowds.{Student, CrowdData, IsCrowd, IsWithin, greatest_budget, top}
+use Rattle.demand_api.specs.Crowds.{Student, IsCrowd, IsWithin, greatest_budget, top}
 use Rattle.demand_api.specs.Parts.{students_of, of_parts, greatest}
 use Rattle.demand_api.specs.Views.{data_of}
 
