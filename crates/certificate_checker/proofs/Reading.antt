@@ -14,7 +14,7 @@ use Rattle.market_units.specs.Members.{has}
 use Rattle.demand_api.specs.declared.crowd.Crowd.{Crowd}
 use Rattle.demand_api.specs.Crowds.{Student}
 use Rattle.demand_api.specs.Views.{data_of}
-use Rattle.demand_api.proofs.Parts.{menus_few, sections_few, student_of, students_length}
+use Rattle.demand_api.proofs.Parts.{menus_few, few_sections, student_of, students_length}
 use Rattle.market_certificate.specs.declared.publication.Proved as declared_proved
 use Rattle.market_certificate.specs.declared.publication.Publication as declared
 use Rattle.market_certificate.specs.Publications.{IsProved}
@@ -75,7 +75,7 @@ lengths terms publication is = record {
   seats = is.seats;
   students = students_length terms.crowd;
   few = menus_few terms.crowd;
-  few_sections = sections_few terms.crowd;
+  few_sections = few_sections terms.crowd;
   budgets = sym (length_map (λ (t : Tokens). t.0) publication.budgets.items) ∙ is.is_publication.budgets.count ∙ is.students;
   prices = sym (length_map (λ (t : Tokens). t.0) publication.prices.items) ∙ is.is_publication.prices.count ∙ is.sections;
   bundles = sym (length_map proved_of publication.bundles.items) ∙ is.is_publication.bundles.count ∙ is.students;

@@ -1,7 +1,7 @@
 -- What the parts of a crowd are.
 use Rattle.std.proofs.Common.{ℕ, zero, suc, ◌≡◌, ◌<◌, ◌≤◌, ◌+◌, List, [], ◌∷◌, length, All, arith, refl}
 use Rattle.std.specs.Prelude.{slice_index_or}
-use Rattle.std.proofs.lemmas.List.Elements.{All-cons, All-nil}
+use Rattle.std.proofs.lemmas.List.Elements.{All-cons, All-head, All-nil, All-tail}
 use Rattle.market_units.specs.declared.units.Tokens.{Tokens}
 use Rattle.bundle_rules.specs.Menus.{MenuData}
 use Rattle.demand_api.specs.declared.crowd.Crowd.{Crowd}
@@ -69,8 +69,9 @@ parts_high menus budgets sections same whole = each menus budgets same whole.bud
     each [] (b ∷ bs) same all = absurd (omega arith)
     each (m ∷ ms) [] same all = absurd (omega arith)
     each (m ∷ ms) (b ∷ bs) same all =
-        All-cons (λ (budget : Tokens). budget.0 ≤ 1000000) b bs (all 0 (record { menu = m; budget = b.0 }) (omega arith))
-        (each ms bs (omega arith) (λ i d low. all (suc i) d (let h : suc i < suc (length (students_of ms bs)) = omega arith in h)))
+        All-cons (λ (budget : Tokens). budget.0 ≤ 1000000) b bs
+        (All-head (λ (student : Student). student.budget ≤ 1000000) (record { menu = m; budget = b.0 }) (students_of ms bs) all)
+        (each ms bs (omega arith) (All-tail (λ (student : Student). student.budget ≤ 1000000) (record { menu = m; budget = b.0 }) (students_of ms bs) all))
 
 pub parts_within : (menus : List MenuData) (budgets : List Tokens) (sections : ℕ) → length budgets ≡ length menus → IsCrowd (of_parts menus budgets sections)
     → All (IsWithin sections) menus
@@ -81,8 +82,9 @@ parts_within menus budgets sections same whole = each menus budgets same whole.m
     each [] bs same all = All-nil (IsWithin sections)
     each (m ∷ ms) [] same all = absurd (omega arith)
     each (m ∷ ms) (b ∷ bs) same all =
-        All-cons (IsWithin sections) m ms (all 0 (record { menu = m; budget = b.0 }) (omega arith))
-        (each ms bs (omega arith) (λ i d low. all (suc i) d (let h : suc i < suc (length (students_of ms bs)) = omega arith in h)))
+        All-cons (IsWithin sections) m ms
+        (All-head (λ (student : Student). IsWithin sections student.menu) (record { menu = m; budget = b.0 }) (students_of ms bs) all)
+        (each ms bs (omega arith) (All-tail (λ (student : Student). IsWithin sections student.menu) (record { menu = m; budget = b.0 }) (students_of ms bs) all))
 
 greatest_high : (budgets : List Tokens) → All (λ (budget : Tokens). budget.0 ≤ 1000000) budgets → greatest budgets ≤ 1000000
 greatest_high [] all = omega arith
@@ -114,8 +116,8 @@ pub students_few : (crowd : Crowd) → length (data_of crowd).students ≤ 2000
 students_few crowd = crowd.whole.few
 
 -- at most 400 sections
-pub sections_few : (crowd : Crowd) → crowd.sections ≤ 400
-sections_few crowd = crowd.whole.sections
+pub few_sections : (crowd : Crowd) → crowd.sections ≤ 400
+few_sections crowd = crowd.whole.sections
 
 -- each budget is at most a million
 pub budgets_high : (crowd : Crowd) → All (λ (budget : Tokens). budget.0 ≤ 1000000) crowd.budgets.items

@@ -170,9 +170,9 @@ listed_by_place f (x ∷ xs) first each =
 -- each section of each menu has a price
 all_menus_priced : (crowd : Crowd) (prices : List Tokens) → ArePricesFor (data_of crowd) prices → All (λ menu. HasPrices menu prices) crowd.menus.items
 all_menus_priced crowd prices are k d low k' d' low' =
-    let s : ℕ = (slice_index_or (slice_index_or crowd.menus.items k d).places k' d').section.0 in
-    let below : s < crowd.sections = menus_within crowd k d low k' d' low' in
+    let below : (slice_index_or (slice_index_or crowd.menus.items k d).places k' d').section.0 < crowd.sections = menus_within crowd k d low k' d' low' in
     let size : length prices ≡ crowd.sections = are.same in
+    let s : ℕ = (slice_index_or (slice_index_or crowd.menus.items k d).places k' d').section.0 in
     let capped : top (data_of crowd) ≤ 1000001 = top_high crowd in
     let none : Tokens = record { 0 = 0 } in
     let high : (slice_index_or prices s none).0 ≤ top (data_of crowd) = are.high s none (omega arith) in

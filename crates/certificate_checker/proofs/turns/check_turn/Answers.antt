@@ -1,6 +1,6 @@
 use Rattle.std.proofs.Common.{◌≡◌, ◌<◌, ◌≤◌, length, get_or, map, refl, sym, subst, arith}
 use Rattle.market_certificate.specs.Views.{publication_of}
-use Rattle.demand_api.proofs.Parts.{budgets_high, sections_few}
+use Rattle.demand_api.proofs.Parts.{budgets_high, few_sections}
 use Rattle.held_seats.specs.Floors.{AreBelow}
 use Rattle.held_seats.proofs.Holding.{below_more}
 use Rattle.certificate_checker.specs.Turns.{held_before}
@@ -93,12 +93,12 @@ choices-choices-requires-clause-place c =
 pub choices-choices-requires-clause-below : goal.choices-choices-requires-clause-below
 choices-choices-requires-clause-below c =
     subst (AreBelow 400) (sym c.requires.held)
-    (below_more c.args.terms.now.crowd.sections 400 (held_before (publication_of c.args.publication.now) c.args.place) (sections_few c.args.terms.now.crowd)
+    (below_more c.args.terms.now.crowd.sections 400 (held_before (publication_of c.args.publication.now) c.args.place) (few_sections c.args.terms.now.crowd)
     (before_below c.args.terms.now c.args.publication.now c.args.place c.requires.terms))
 
 pub is_offered-requires : goal.is_offered-requires
 is_offered-requires c =
-    let few = sections_few c.args.terms.now.crowd in
+    let few = few_sections c.args.terms.now.crowd in
     λ k d low. (let small = fits _ _ _ _ _ _ (at (goal.at.is_offered-requires c).After-index-turn) k d low in omega arith)
 
 pub returns-then-not-is_offered-clause-wrong : goal.returns-then-not-is_offered-clause-wrong

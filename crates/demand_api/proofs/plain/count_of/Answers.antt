@@ -3,6 +3,7 @@ use Rattle.std.specs.Prelude.{if◌then◌else◌}
 use Rattle.std.proofs.lemmas.List.{take_all}
 use Rattle.bundle_rules.specs.Bundles.{sections_of}
 use Rattle.bundle_rules.specs.Demand.{price_in}
+use Rattle.demand_api.proofs.Parts.{menus_few}
 use Rattle.demand_api.specs.Crowds.{demands, holders}
 use Rattle.demand_api.specs.Views.{data_of}
 use Rattle.demand_api.proofs.Takers.{counted, demands_length}
@@ -29,3 +30,6 @@ returns c =
     let all = demands (data_of c.args.crowd.now) (price_in c.args.prices.now) in
     let long = demands_length c.args.crowd.now (price_in c.args.prices.now) in
     c.loop-place.invariant.0 ∙ ap (holders c.args.section.0) (take_all c.loop-place.place all (rw long past))
+
+pub overflow_add-count : goal.overflow_add-count
+overflow_add-count c = let few : length c.args.crowd.now.menus.items ≤ 2000 = menus_few c.args.crowd.now in search rules

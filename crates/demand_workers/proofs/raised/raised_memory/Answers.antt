@@ -1,4 +1,4 @@
-use Rattle.std.proofs.Common.{rules, ◌≡◌, ◌<◌, ◌∙◌, ℕ, List, false, length, slice_set, ap, sym, subst, arith, inl, inr}
+use Rattle.std.proofs.Common.{rules, ◌≡◌, ◌<◌, ◌∙◌, ℕ, List, false, length, slice_set, ap, sym, subst, arith, inl, inr, ◌≤◌}
 use Rattle.std.proofs.lemmas.Bool.{cases_order}
 use Rattle.market_units.specs.declared.units.Tokens.{Tokens}
 use Rattle.bundle_rules.specs.Bundles.{sections_of}
@@ -6,6 +6,7 @@ use Rattle.bundle_rules.specs.Demand.{price_in}
 use Rattle.market_units.specs.Members.{has}
 use Rattle.demand_api.specs.Crowds.{demand_of}
 use Rattle.demand_api.proofs.Halving.{price_written}
+use Rattle.demand_api.proofs.Parts.{menus_few}
 use Rattle.demand_workers.specs.Notes.{AreNoted}
 use Rattle.demand_api.specs.Views.{data_of}
 use Rattle.demand_workers.proofs.Noting.{noted_raised, item_there, lacking_stays}
@@ -57,3 +58,6 @@ loop-place-preserved-then-not-has c =
         | inr (inr more) ↦ absurd (omega (arith, below, more))
       ];
     }
+
+pub overflow_cast-student : goal.overflow_cast-student
+overflow_cast-student c = let few : length c.args.crowd.now.menus.items ≤ 2000 = menus_few c.args.crowd.now in search rules

@@ -6,6 +6,7 @@ use Rattle.bundle_rules.specs.Demand.{price_in}
 use Rattle.demand_api.specs.Crowds.{demands, holders}
 use Rattle.demand_api.proofs.Takers.{counted, demands_length}
 use Rattle.demand_api.specs.Views.{data_of}
+use Rattle.demand_api.proofs.Parts.{menus_few}
 use Rattle.demand_workers.proofs.taking.count_takers.Goals.{then-has, else-has}
 use Rattle.demand_workers.proofs.taking.count_takers.Goals as goal
 
@@ -31,3 +32,9 @@ returns c =
     let long =
     demands_length c.args.crowd.now (price_in c.args.prices.now) in
     c.loop-place.invariant.0 ∙ ap (holders c.args.section.0) (take_all c.loop-place.place all (rw long past))
+
+pub overflow_cast-student : goal.overflow_cast-student
+overflow_cast-student c = let few : length c.args.crowd.now.menus.items ≤ 2000 = menus_few c.args.crowd.now in search rules
+
+pub overflow_add-count : goal.overflow_add-count
+overflow_add-count c = let few : length c.args.crowd.now.menus.items ≤ 2000 = menus_few c.args.crowd.now in search rules

@@ -5,7 +5,7 @@ use Rattle.aftermarket_stage.specs.HeldChoices.{AreKnown}
 use Rattle.std.specs.Prelude.{slice_get, slice_set, Some}
 use Rattle.std.specs.FinSet as set
 use Rattle.bundle_rules.specs.Bundles.{sections_of}
-use Rattle.demand_api.proofs.Parts.{menus_few, sections_few}
+use Rattle.demand_api.proofs.Parts.{menus_few, few_sections}
 use Rattle.held_seats.specs.Choices.{may_choose}
 use Rattle.aftermarket_stage.specs.After.{terms_of}
 use Rattle.held_seats.specs.Floors.{held_on}
@@ -26,7 +26,7 @@ choices-allowed-requires-clause-place c =
 
 pub choices-allowed-requires-clause-below : goal.choices-allowed-requires-clause-below
 choices-allowed-requires-clause-below c =
-    let few : length c.args.seats.now ≤ 400 = omega (arith, c.requires.terms.seats_each, sections_few c.args.crowd.now) in
+    let few : length c.args.seats.now ≤ 400 = omega (arith, c.requires.terms.seats_each, few_sections c.args.crowd.now) in
     below_more (length c.args.seats.now) 400 (held_on c.args.self.now.floor) few
     (choices_low c.args.crowd.now c.args.seats.now c.args.prices.now c.args.raise (held_on c.args.self.now.floor) c.requires.terms c.requires.choices)
 

@@ -1,6 +1,6 @@
-use Rattle.std.proofs.Common.{◌≡◌, ◌∙◌, sym}
+use Rattle.std.proofs.Common.{◌≡◌, ◌∙◌, sym, ◌≤◌, length, rules}
 use Rattle.std.specs.Arc.{arc_value}
-use Rattle.demand_api.proofs.Parts.{students_length}
+use Rattle.demand_api.proofs.Parts.{menus_few, students_length}
 use Rattle.demand_api.proofs.plain_demands.PlainDemandsDemands.students.Goals as goal
 
 pub returns-clause-value : goal.returns-clause-value
@@ -10,3 +10,6 @@ returns-clause-value c =
 
 pub returns-clause-crowd : goal.returns-clause-crowd
 returns-clause-crowd c = (arc_value c.args.self.now.crowd).whole
+
+pub overflow_cast-result : goal.overflow_cast-result
+overflow_cast-result c = let few : length (arc_value c.args.self.now.crowd).menus.items ≤ 2000 = menus_few (arc_value c.args.self.now.crowd) in search rules
