@@ -100,7 +100,10 @@ fn are_parts(menus: &[Menu], budgets: &[Tokens], sections: u16) -> bool
     if budgets.len() != menus.len() {
         return false;
     }
-    if menus.len() > usize::from(MAX_STUDENTS) || sections > MAX_SECTIONS {
+    if menus.len() > usize::from(MAX_STUDENTS) {
+        return false;
+    }
+    if sections > MAX_SECTIONS {
         return false;
     }
     if !all_at_most(budgets, MAX_BUDGET) {
