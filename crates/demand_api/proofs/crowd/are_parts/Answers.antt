@@ -32,8 +32,10 @@ returns c = (
   (λ all.
       let same : length c.args.budgets.now ≡ length c.args.menus.now = c.if-budgets-menus.false in
       let few : length c.args.menus.now ≤ 2000 = omega (arith, c.if-menus-from.false, c.from.ensures) in
-      let low : c.args.sections ≤ 400 = omega (arith, c.if-sections-gt-MAX_SECTIONS.false) in
-      (same, parts_whole c.args.menus.now c.args.budgets.now c.args.sections same few (c.all_at_most.ensures.0 c.if-not-all_at_most.false) low
-      (c.all_within.ensures.0 all))),
+      let low : c.args.sections ≤ 400 = omega (arith, c.if-sections-gt-MAX_SECTIONS.false) in (
+        same,
+        parts_whole c.args.menus.now c.args.budgets.now c.args.sections same few (c.all_at_most.ensures.0 c.if-not-all_at_most.false) low
+            (c.all_within.ensures.0 all),
+      )),
   (λ are. c.all_within.ensures.1 (parts_within c.args.menus.now c.args.budgets.now c.args.sections are.0 are.1)),
 )
