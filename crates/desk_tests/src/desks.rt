@@ -1,11 +1,10 @@
 // Desks at which ann and bob say lines in one session.
-use course_catalog::read_catalog;
+use crate::readers::{catalog_in, roll_in};
 use market_units::StudentNo;
 use preference_desk::Desk;
 use std::alloc::Global;
 use std::process::Abort;
 use std::test::Fail;
-use student_roll::read_roll;
 use utility_language::{Command, read_line};
 
 const ROLL: &[u8] = b"student,budget,credits,courses\nann,100,10,2\nbob,101,10,2\n";
@@ -70,9 +69,8 @@ fn catalogue(alloc: Global, sections: u16) -> Result<String, Fail> {
 
 // A desk for the sections of this catalogue.
 fn desk_of(rt: &impl Abort, alloc: Global, catalogue: &[u8]) -> Result<Desk, Fail> {
-    assert!(rt; catalogue.len() < 100_000);
-    let catalog = read_catalog(alloc, catalogue)?;
-    let roll = read_roll(alloc, ROLL)?;
+    let catalog = catalog_in(rt, alloc, catalogue);
+    let roll = roll_in(rt, alloc, ROLL);
     Ok(Desk::prepare(alloc, &catalog, &roll, 1_000)?)
 }
 

@@ -1,7 +1,7 @@
 // Two sessions at one desk.
 ghost use Rattle.std.specs.Prelude.{◌≤◌, length, IfOk};
 
-use course_catalog::read_catalog;
+use crate::readers::{catalog_in, roll_in};
 use gates::HoldingGate;
 use market_edge::{Gate, MeetingGate};
 use market_units::{SectionNo, StudentNo};
@@ -13,7 +13,6 @@ use std::sync::Wait;
 use std::sync::atomic::{AtomicU64, Ordering};
 use std::test::Fail;
 use std::thread::Threads;
-use student_roll::read_roll;
 use utility_language::{Command, read_line};
 
 mod gates;
@@ -51,14 +50,14 @@ fn stream_of(alloc: Global, lines: &[(&[u8], Reply)]) -> Result<Vec<Command>, Fa
 }
 
 // What two sessions with these lines leave.
-fn hold_two<R: Threads + Wait + Sync, G: Gate + Sync>(
+fn hold_two<R: Abort + Threads + Wait + Sync, G: Gate + Sync>(
     rt: &R,
     alloc: Global,
     lines: [&[(&[u8], Reply)]; 2],
     gate: &G,
 ) -> Result<ClosedDesk, Fail> {
-    let catalog = read_catalog(alloc, CATALOG)?;
-    let roll = read_roll(alloc, ROLL)?;
+    let catalog = catalog_in(rt, alloc, CATALOG);
+    let roll = roll_in(rt, alloc, ROLL);
     let streams = [stream_of(alloc, lines[0])?, stream_of(alloc, lines[1])?];
     Ok(hold(rt, alloc, &catalog, &roll, &streams, gate)?)
 }

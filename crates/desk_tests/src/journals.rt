@@ -4,13 +4,12 @@ ghost use Rattle.preference_desk.specs.DeskView.{entries_of, names_of};
 ghost use Rattle.utility_language.specs.Commands.{HasShortNumber};
 ghost use Rattle.preference_text.specs.Texts.{HasShortCommand};
 
-use course_catalog::read_catalog;
+use crate::readers::{catalog_in, roll_in};
 use preference_desk::Desk;
 use preference_text::preferences_text;
 use std::alloc::Global;
 use std::process::Abort;
 use std::test::Fail;
-use student_roll::read_roll;
 use utility_language::{Command, read_line};
 
 const CATALOG: &[u8] = b"section,course,seats,credits,meetings\nA,AA,1,1,\nB,BB,1,1,\nC,CC,1,1,\n";
@@ -120,8 +119,8 @@ fn try_text(
     said: &[(u16, &[u8])],
     text: &[u8],
 ) -> Result<(), Fail> {
-    let catalog = read_catalog(alloc, CATALOG)?;
-    let roll = read_roll(alloc, ROLL)?;
+    let catalog = catalog_in(rt, alloc, CATALOG);
+    let roll = roll_in(rt, alloc, ROLL);
     let mut desk = Desk::prepare(alloc, &catalog, &roll, 20)?;
     say_each(rt, &mut desk, said);
     let printed = preferences_text(alloc, &catalog, &roll, &desk)?;

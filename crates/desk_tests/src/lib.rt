@@ -14,3 +14,5 @@ mod histories;
 mod journals;
 #[cfg(test)]
 mod menus;
+#[cfg(test)]
+mod readers;

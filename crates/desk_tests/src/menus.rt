@@ -3,15 +3,16 @@ ghost use Rattle.std.specs.Prelude.{◌≡◌};
 ghost use Rattle.preference_desk.specs.DeskView.{names_of};
 ghost use Rattle.preference_desk.specs.MarketNames.{market_names};
 
+use crate::readers::{catalog_in, roll_in};
 use bundle_rules::{Menu, Rated};
-use course_catalog::{Catalog, read_catalog};
+use course_catalog::Catalog;
 use market_menus::menus;
 use market_units::{NoMemory, SectionNo};
 use preference_desk::Desk;
 use std::alloc::Global;
 use std::process::Abort;
 use std::test::Fail;
-use student_roll::{Roll, read_roll};
+use student_roll::Roll;
 use utility_language::{Command, read_line};
 
 // X1 and X2 are of one course; X3 and X4 are of two courses, and meet at the same time.
@@ -75,13 +76,18 @@ fn rated(section: u16, course: u16, rating: u8, credits: u16) -> Rated {
     }
 }
 
+// The menus after these lines.
+fn menus_after(rt: &impl Abort, alloc: Global, lines: &[&[u8]]) -> Result<Vec<Menu>, NoMemory> {
+    let catalog = catalog_in(rt, alloc, CATALOG);
+    let roll = roll_in(rt, alloc, ROLL);
+    let mut desk = Desk::prepare(alloc, &catalog, &roll, 20)?;
+    say_each(rt, &mut desk, lines);
+    menus_of(alloc, &catalog, &roll, &desk)
+}
+
 #[test]
 fn menus_of_two_students(rt: HostRuntime) -> Result<(), Fail> {
-    let catalog = read_catalog(rt.alloc(), CATALOG)?;
-    let roll = read_roll(rt.alloc(), ROLL)?;
-    let mut desk = Desk::prepare(rt.alloc(), &catalog, &roll, 20)?;
-    say_each(&rt, &mut desk, &LINES);
-    let menus = menus_of(rt.alloc(), &catalog, &roll, &desk)?;
+    let menus = menus_after(&rt, rt.alloc(), &LINES)?;
     assert_eq!(rt; menus.len(), 2);
     try_menu(
         &rt,

@@ -1,6 +1,5 @@
 // Catalogues, and their sections.
-use crate::tables::{Table, long_table, told, try_cases};
-use course_catalog::read_catalog;
+use crate::tables::{Table, catalog_in, long_table, told, try_cases};
 use market_units::{Name, SectionNo, read_name};
 use std::alloc::Global;
 use std::process::Abort;
@@ -106,22 +105,11 @@ fn name(rt: &impl Abort, text: &[u8]) -> Name {
 // A section is found by its name, and a course is none.
 #[test]
 fn a_section_is_found_by_its_name(rt: HostRuntime) -> Result<(), Fail> {
-    let catalog = read_catalog(
-        rt.alloc(),
-        b"section,course,seats,credits,meetings\nA,AA,2,1,\nB,BB,0,100,\n",
-    )?;
+    let text = b"section,course,seats,credits,meetings\nA,AA,2,1,\nB,BB,0,100,\n";
+    let catalog = catalog_in(&rt, rt.alloc(), text);
     assert_eq!(rt; catalog.find(&name(&rt, b"B")), Some(SectionNo(1)));
     assert_eq!(rt; catalog.find(&name(&rt, b"AA")), None);
     Ok(())
-}
-
-// How many sections there are, or none where the catalogue is refused.
-fn count_of(rt: &impl Abort, alloc: Global, text: &[u8]) -> Option<u16> {
-    assert!(rt; text.len() < 100_000);
-    match read_catalog(alloc, text) {
-        Ok(catalog) => Some(catalog.len()),
-        Err(_) => None,
-    }
 }
 
 fn is_too_long(rt: &impl Abort, alloc: Global, text: &str) -> Result<(), Fail> {
@@ -134,7 +122,8 @@ fn is_too_long(rt: &impl Abort, alloc: Global, text: &str) -> Result<(), Fail> {
 #[test]
 fn four_hundred_sections(rt: HostRuntime) -> Result<(), Fail> {
     let mut full = long_table(rt.alloc(), HEADER, 400, ",A,1,1,")?;
-    assert_eq!(rt; count_of(&rt, rt.alloc(), full.as_bytes()), Some(400));
+    let catalog = catalog_in(&rt, rt.alloc(), full.as_bytes());
+    assert_eq!(rt; catalog.len(), 400);
     let more = long_table(rt.alloc(), HEADER, 401, ",A,1,1,")?;
     is_too_long(&rt, rt.alloc(), more.as_str())?;
     full.push_str("?")?;

@@ -1,4 +1,6 @@
 use seed_words::{word, words};
+use std::alloc::Global;
+use std::process::Abort;
 use std::test::Fail;
 
 // The keystream of RFC 8439, appendix A.1, test vector 1: zero key, zero nonce, counter 0.
@@ -19,12 +21,23 @@ fn seed_0_draws_the_published_words(rt: HostRuntime) -> Result<(), Fail> {
     Ok(())
 }
 
+// The first words of this stream end with the one at the last place, and are not those of that
+// stream.
+fn assert_apart(
+    rt: &impl Abort,
+    alloc: Global,
+    (seed, stream): (u64, u64),
+    other: (u64, u64),
+) -> Result<(), Fail> {
+    let drawn = words(alloc, seed, stream, 20)?;
+    assert_eq!(rt; drawn.len(), 20);
+    assert!(rt; drawn[19] == word(seed, stream, 19));
+    assert!(rt; drawn[0] != word(other.0, other.1, 0));
+    Ok(())
+}
+
 #[test]
 fn streams_are_apart(rt: HostRuntime) -> Result<(), Fail> {
-    let drawn = words(rt.alloc(), 7, 1, 20)?;
-    assert_eq!(rt; drawn.len(), 20);
-    assert_eq!(rt; drawn[19], word(7, 1, 19));
-    assert_ne!(rt; word(7, 1, 0), word(7, 2, 0));
-    assert_ne!(rt; word(7, 1, 0), word(8, 1, 0));
-    Ok(())
+    assert_apart(&rt, rt.alloc(), (7, 1), (7, 2))?;
+    assert_apart(&rt, rt.alloc(), (7, 1), (8, 1))
 }

@@ -1,10 +1,9 @@
 // Rolls, and their students.
-use crate::tables::{Table, long_table, said_by_roll, told, try_cases};
+use crate::tables::{Table, long_table, roll_in, said_by_roll, told, try_cases};
 use market_units::{Name, StudentNo, read_name};
-use std::alloc::Global;
 use std::process::Abort;
 use std::test::Fail;
-use student_roll::{Roll, read_roll};
+use student_roll::Roll;
 
 const HEADER: &str = "student,budget,credits,courses\n";
 
@@ -73,10 +72,8 @@ fn name(rt: &impl Abort, text: &[u8]) -> Name {
 
 #[test]
 fn a_student_is_found_by_the_name(rt: HostRuntime) -> Result<(), Fail> {
-    let roll = read_roll(
-        rt.alloc(),
-        b"student,budget,credits,courses\nann,900000,800,8\nbob,0,10,2\n",
-    )?;
+    let text = b"student,budget,credits,courses\nann,900000,800,8\nbob,0,10,2\n";
+    let roll = roll_in(&rt, rt.alloc(), text);
     assert_eq!(rt; roll.find(&name(&rt, b"bob")), Some(StudentNo(1)));
     assert_eq!(rt; roll.find(&name(&rt, b"zoe")), None);
     Ok(())
@@ -90,19 +87,11 @@ fn a_roll_of_one_student(rt: HostRuntime) -> Result<(), Fail> {
     Ok(())
 }
 
-// How many students there are, or none where the roll is refused.
-fn count_of(rt: &impl Abort, alloc: Global, text: &[u8]) -> Option<u16> {
-    assert!(rt; text.len() < 100_000);
-    match read_roll(alloc, text) {
-        Ok(roll) => Some(roll.len()),
-        Err(_) => None,
-    }
-}
-
 #[test]
 fn a_roll_has_at_most_2000_students(rt: HostRuntime) -> Result<(), Fail> {
     let full = long_table(rt.alloc(), HEADER, 2_000, ",1,2,3")?;
-    assert_eq!(rt; count_of(&rt, rt.alloc(), full.as_bytes()), Some(2_000));
+    let roll = roll_in(&rt, rt.alloc(), full.as_bytes());
+    assert_eq!(rt; roll.len(), 2_000);
     let more = long_table(rt.alloc(), HEADER, 2_001, ",1,2,3")?;
     let refusal = told(&rt, rt.alloc(), Table::Roll, more.as_bytes())?;
     assert_eq!(rt; refusal.as_str(), "TooMany");

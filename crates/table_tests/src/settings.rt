@@ -1,6 +1,6 @@
 // Texts of settings, beside the worked refusals of settings. Of each is told `read`, or its refusal
 // as it prints itself.
-use market_settings::read_settings;
+use market_settings::{Settings, read_settings};
 use std::alloc::Global;
 use std::process::Abort;
 use std::test::Fail;
@@ -208,11 +208,15 @@ fn deep_nesting(rt: HostRuntime) -> Result<(), Fail> {
     Ok(())
 }
 
+fn settings_in(rt: &impl Abort, alloc: Global, text: &[u8]) -> Settings {
+    read_settings(alloc, text).expect(rt, "settings")
+}
+
 #[test]
 fn the_values_are_those_written(rt: HostRuntime) -> Result<(), Fail> {
     let text =
         b"{\"raise\":9,\"steps\":[1,10,100],\"patience\":7,\"tabu\":6,\"turns\":5,\"accept\":4,\"spread\":3,\"seed\":2}";
-    let settings = read_settings(rt.alloc(), text)?;
+    let settings = settings_in(&rt, rt.alloc(), text);
     let wide = [settings.seed, settings.accept];
     assert_eq!(rt; wide, [2, 4]);
     let numbers = [settings.turns, settings.tabu, settings.patience];

@@ -78,8 +78,20 @@ pub fn told(rt: &impl Abort, alloc: Global, table: Table, text: &[u8]) -> Result
     match table {
         Table::Catalogue => told_of_catalogue(alloc, text),
         Table::Roll => told_of_roll(alloc, text),
-        Table::Prices => told_of_prices(alloc, text),
+        Table::Prices => told_of_prices(alloc, &catalog_in(rt, alloc, THREE_SECTIONS), text),
     }
+}
+
+// The catalogue that this text is.
+pub fn catalog_in(rt: &impl Abort, alloc: Global, text: &[u8]) -> Catalog {
+    assert!(rt; text.len() < 100_000);
+    read_catalog(alloc, text).expect(rt, "a catalogue")
+}
+
+// The roll that this text is.
+pub fn roll_in(rt: &impl Abort, alloc: Global, text: &[u8]) -> Roll {
+    assert!(rt; text.len() < 100_000);
+    read_roll(alloc, text).expect(rt, "a roll")
 }
 
 fn told_of_catalogue(alloc: Global, text: &[u8]) -> Result<String, Fail>
@@ -100,11 +112,10 @@ fn told_of_roll(alloc: Global, text: &[u8]) -> Result<String, Fail>
     }
 }
 
-fn told_of_prices(alloc: Global, text: &[u8]) -> Result<String, Fail>
+fn told_of_prices(alloc: Global, catalog: &Catalog, text: &[u8]) -> Result<String, Fail>
     requires { length text.now < 2 ^ 32 - 1 }
 {
-    let catalog = read_catalog(alloc, THREE_SECTIONS)?;
-    match read_prices(alloc, &catalog, text) {
+    match read_prices(alloc, catalog, text) {
         Ok(prices) => Ok(format!(in alloc; "{:?}", prices.as_slice())?),
         Err(refusal) => Ok(format!(in alloc; "{refusal:?}")?),
     }

@@ -1,5 +1,7 @@
 // The texts of made markets, against a script that was written from their description.
-use market_maker::make;
+use market_maker::{Made, make};
+use std::alloc::Global;
+use std::process::Abort;
 use std::test::Fail;
 
 // Two students and two sections.
@@ -15,9 +17,21 @@ const FIRST: &[u8] = b"rate S1 C2 97\nrate S1 C1 61\npair S1 C2 C1 -12\n";
 
 const SECOND: &[u8] = b"rate S2 C1 85\nrate S2 C2 28\npair S2 C1 C2 -11\n";
 
+// The made market of these numbers.
+fn made(
+    rt: &impl Abort,
+    alloc: Global,
+    (seed, students, sections, accept): (u64, u16, u16, u64),
+) -> Made {
+    assert!(rt; students >= 1 && students <= 2000);
+    assert!(rt; sections >= 1 && sections <= 400);
+    assert!(rt; accept <= 1_000_000_000_000);
+    make(alloc, seed, students, sections, accept).expect(rt, "memory")
+}
+
 #[test]
 fn two_students_two_sections(rt: HostRuntime) -> Result<(), Fail> {
-    let made = make(rt.alloc(), 7, 2, 2, 0)?;
+    let made = made(&rt, rt.alloc(), (7, 2, 2, 0));
     assert_eq!(rt; made.catalog.as_slice(), CATALOG);
     assert_eq!(rt; made.roll.as_slice(), ROLL);
     assert_eq!(rt; made.settings.as_slice(), SETTINGS);
@@ -29,7 +43,7 @@ fn two_students_two_sections(rt: HostRuntime) -> Result<(), Fail> {
 // One section is rated by its one student, who has nothing to adjust.
 #[test]
 fn one_student_one_section(rt: HostRuntime) -> Result<(), Fail> {
-    let made = make(rt.alloc(), 0, 1, 1, 0)?;
+    let made = made(&rt, rt.alloc(), (0, 1, 1, 0));
     assert_eq!(rt; made.first.as_slice(), b"rate S1 C1 54\n".as_slice());
     assert_eq!(rt; made.second.as_slice(), b"".as_slice());
     Ok(())
@@ -38,7 +52,7 @@ fn one_student_one_section(rt: HostRuntime) -> Result<(), Fail> {
 // The lengths of the texts of a greater market, and its last lines.
 #[test]
 fn three_hundred_students(rt: HostRuntime) -> Result<(), Fail> {
-    let made = make(rt.alloc(), 11, 300, 60, 1_000_000_000_000)?;
+    let made = made(&rt, rt.alloc(), (11, 300, 60, 1_000_000_000_000));
     assert_eq!(rt; made.catalog.len(), 1_451);
     assert_eq!(rt; made.roll.len(), 5_023);
     assert_eq!(rt; made.settings.len(), 112);

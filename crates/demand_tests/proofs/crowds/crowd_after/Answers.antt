@@ -3,7 +3,7 @@ use Rattle.preference_desk.specs.DeskView.{names_of}
 use Rattle.preference_desk.specs.MarketNames.{market_names}
 use Rattle.preference_desk.specs.PreferencesView.{preferences_of}
 use Rattle.market_crowd.proofs.CrowdFacts.{sections_known}
-use Rattle.demand_tests.proofs.crowds.menus_and_drawn_budgets.Goals as goal
+use Rattle.demand_tests.proofs.crowds.crowd_after.Goals as goal
 
 pub make_crowd-requires-clause-sections : goal.make_crowd-requires-clause-sections
 make_crowd-requires-clause-sections g c =
