@@ -1,38 +1,28 @@
--- What a board keeps.
-use Rattle.std.specs.Prelude.{ℕ, ◌≡◌, ◌≤◌, List, length}
+-- What the tasks of a round keep.
+use Rattle.std.specs.Prelude.{◌≡◌, ◌≤◌, List, length}
 use Rattle.std.specs.Arc.{arc_value}
-use Rattle.price_board.specs.declared.place.Place.{Place}
-use Rattle.price_board.specs.declared.shared.Terms.{Terms}
-use Rattle.price_board.specs.declared.state.BoardState.TheInside.{Inside}
 use Rattle.price_board.specs.declared.tally.Tally.{Tally}
-use Rattle.price_board.specs.Boards.{BoardData}
-use Rattle.price_board.specs.Cursors.{IsCursor}
+use Rattle.price_board.specs.declared.tasks.RoundTasks.TheInside.{Inside}
+use Rattle.price_board.specs.declared.terms.Terms.{Terms}
 use Rattle.price_board.specs.Openings.{terms_of}
-use Rattle.price_board.specs.Rights.{AreRows, AreRight}
-use Rattle.price_board.specs.Tallies.{tallies_of}
 use Rattle.price_board.specs.Terms.{version_count, student_count}
 
--- the terms of a board by its fields
+-- what they are in contracts: the terms, and what each version's posted bundles add up to
+pub record TasksData : Type 0 where
+  pub terms : Terms
+  pub tallies : List Tally
+
+-- the terms of a round by its fields
 abbrev pub terms_in : Inside → Terms
-terms_in board = terms_of (arc_value board.crowd) board.round
+terms_in tasks = terms_of (arc_value tasks.crowd) tasks.round
 
--- what it is in contracts
-abbrev pub board_of : Inside → BoardData
-board_of board = record { terms = terms_in board; rows = board.places; room = board.calls }
+abbrev pub tasks_of : Inside → TasksData
+tasks_of tasks = record { terms = terms_in tasks; tallies = tasks.tallies.items }
 
--- the rows with their tallies, the task that is drawn next, and what stands in them
-pub record KeepsTasks (terms : Terms) (places : List (List Place)) (tallies : List Tally)
-    (version student : ℕ) : Type 0 where
-  pub rows : AreRows terms places
-  pub right : AreRight terms places
-  pub tallied : tallies ≡ tallies_of terms.asks 0 places
-  pub cursor : IsCursor terms.asks places version student
-
--- what a board keeps
-pub record IsKept (board : Inside) : Type 0 where
-  pub few_versions : version_count (terms_in board) ≤ 16
-  pub few_students : student_count (terms_in board) ≤ 2000
-  pub asked : length board.round.asks.items ≡ version_count (terms_in board)
-  pub students : board.students ≡ student_count (terms_in board)
-  pub tasks : KeepsTasks (terms_in board) board.places board.tallies.items board.next.version
-      board.next.student
+-- few versions and students, and what is asked of each version
+pub record IsKept (tasks : Inside) : Type 0 where
+  pub few_versions : version_count (terms_in tasks) ≤ 16
+  pub few_students : student_count (terms_in tasks) ≤ 2000
+  pub asked : length tasks.round.asks.items ≡ version_count (terms_in tasks)
+  pub students : tasks.students ≡ student_count (terms_in tasks)
+  pub each : length tasks.tallies.items ≡ version_count (terms_in tasks)

@@ -1,12 +1,12 @@
 -- A board that has come to its end.
-use Rattle.std.specs.Prelude.{ℕ, ◌≡◌, ◌<◌, ◌⊎◌, List, [], IsSome, All, Any}
+use Rattle.std.specs.Prelude.{ℕ, ◌≡◌, ◌<◌, ◌⊎◌, List, [], IsSome, All, Any, length}
 use Rattle.chronicle.specs.declared.journal.StepOf.{StepOf}
 use Rattle.chronicle.specs.History.{IsLegal, state_after, calls_by}
 use Rattle.task_board.specs.declared.calls.Call.{Call}
 use Rattle.task_board.specs.declared.calls.Reply.{Reply}
 use Rattle.task_board.specs.declared.data.AnswersData.{AnswersData}
 use Rattle.task_board.specs.Fates.{calls_on, IsWorked, IsTaken, IsTakenOrLate}
-use Rattle.task_board.specs.Kept.{AreRight, AreSettled}
+use Rattle.task_board.specs.Kept.{AreSettled}
 use Rattle.task_board.specs.Marks.{mark_at, answer_in}
 use Rattle.task_board.specs.Rules.{Rules}
 use Rattle.task_board.specs.Seats.{BoardOf, SeatOf}
@@ -17,12 +17,12 @@ module _ {B A : Type 0} (rules : Rules B A) (board : BoardOf B A) (seats : List 
   -- their calls, and each task is answered or over
   pub record IsEndOf (end : AnswersData B A) : Type 0 where
     pub terms : end.terms ≡ board.base
+    pub each : length end.marks ≡ rules.count board.base
     pub legal : IsLegal (is_sound rules) (progress_after rules) (reply_to rules) board.base
         board.opening end.history
     pub last : state_after (progress_after rules) board.base board.opening end.history
         ≡ progress end.marks
     pub settled : AreSettled rules end.terms end.marks
-    pub right : AreRight rules end.terms end.marks
     pub by_seats : All (λ (step : StepOf (Call A) Reply). Any (λ (s : SeatOf B A). s.number
         ≡ step.seat) seats) end.history
     pub own : All (λ (s : SeatOf B A). calls_by s.number end.history ≡ s.own) seats

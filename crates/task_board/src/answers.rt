@@ -1,5 +1,6 @@
 // What a closed board answers.
-ghost use Rattle.std.specs.Prelude.{◌≡◌, ◌<◌, true, IfSome};
+ghost use Rattle.std.specs.Prelude.{◌≡◌, true, IfSome, length};
+ghost use Rattle.task_board.specs.Kept.{AreRight};
 ghost use Rattle.task_board.specs.Marks.{answer_in, answers_in, mark_at};
 
 use crate::state::BoardState;
@@ -36,6 +37,8 @@ impl<T: Tasks> Answers<T> {
     pub fn tasks(&self) -> &T
         ensures terms { T.terms result.now ≡ self.now.terms }
         ensures noted { T.noted result.now (answers_in self.now.marks) }
+        ensures right { AreRight T.rules self.now.terms self.now.marks }
+        ensures each { length self.now.marks ≡ T.rules.count self.now.terms }
     {
         self.state.tasks()
     }

@@ -164,6 +164,8 @@ impl<T: Tasks> BoardState<T> {
     pub(crate) fn tasks(&self) -> &T
         ensures terms { T.terms result.now ≡ self.now.terms }
         ensures noted { T.noted result.now (answers_in self.now.marks) }
+        ensures right { AreRight T.rules self.now.terms self.now.marks }
+        ensures each { length self.now.marks ≡ T.rules.count self.now.terms }
     {
         &self.tasks
     }
