@@ -1,6 +1,6 @@
 -- A seat of a board between its calls.
-use Rattle.std.specs.Prelude.{ℕ, ◌≡◌, ◌<◌, ◌≤◌, ◌+◌, ◌-◌, Bool, true, false, List, Some, None, length, filter, take, if◌then◌else◌}
-use Rattle.market_units.specs.Totals.{total}
+use Rattle.std.specs.Prelude.{ℕ, ◌≡◌, ◌<◌, ◌≤◌, ◌+◌, ◌-◌, Bool, true, false, List, Some, None, length, filter, take}
+use Rattle.std.specs.List.{count_by}
 use Rattle.chronicle.specs.declared.journal.StepOf.{StepOf}
 use Rattle.chronicle.specs.declared.origin.Origin.{Origin}
 use Rattle.chronicle.specs.declared.standing.Standing.{Standing}
@@ -51,7 +51,7 @@ module _ {A : Type 0} where
 
   -- how many tasks nobody drew
   abbrev pub undrawn : List (Mark A) → ℕ
-  undrawn marks = total (λ (mark : Mark A). if is_open mark then 1 else 0) marks
+  undrawn marks = count_by is_open marks
 
 module _ {B A : Type 0} (rules : Rules B A) where
   -- where the tasks stand after a history
