@@ -21,8 +21,8 @@ is_taken terms task bundle =
     same_sections (sections_of bundle) (demand_of terms (version_at terms task) (student_at terms task))
 
 -- what is posted decides the version of the task
-abbrev pub is_decided : Terms → List (Option Bundle) → ℕ → Bool
-is_decided terms answers task =
+abbrev pub is_over : Terms → List (Option Bundle) → ℕ → Bool
+is_over terms answers task =
     is_settled (ask_of terms.asks (version_at terms task)) (row_of terms answers (version_at terms task))
 
 -- how many posted bundles of that version have the section that is asked of
@@ -34,4 +34,4 @@ counted terms answers task =
 -- task is over where the version is settled
 abbrev pub round_rules : Rules Terms Bundle
 round_rules =
-    record { count = task_count; is_right = is_taken; is_over = is_decided; tally = counted }
+    record { count = task_count; is_right = is_taken; is_over = is_over; tally = counted }

@@ -1,6 +1,6 @@
 pub mod Asked
 pub mod Closings
-pub mod Kept
+pub mod Lasting
 pub mod Openings
 pub mod Rows
 pub mod Seats

@@ -1,5 +1,5 @@
 -- What each version's posted bundles add up to.
-use Rattle.std.specs.Prelude.{ℕ, ◌≡◌, ◌<◌, ◌+◌, ◌==◌, ◌||◌, Bool, Option, Some, None, List, length, slice_index_or, nat_lt, nat_le}
+use Rattle.std.specs.Prelude.{ℕ, ◌≡◌, ◌<◌, Bool, Option, Some, None, List, length, slice_index_or, nat_lt}
 use Rattle.bundle_rules.specs.declared.bundle.Bundle.{Bundle}
 use Rattle.price_board.specs.declared.round.Ask.{Ask}
 use Rattle.price_board.specs.declared.round.Ask.TheVariants.{Counts, Exceeds}
@@ -20,12 +20,6 @@ pub record HaveTallied (terms : Terms) (tallies : List Tally)
   pub tallied : (version : ℕ) (d : Tally) → version < version_count terms
       → slice_index_or tallies version d
       ≡ tally_of (ask_of terms.asks version) (row_of terms answers version)
-
--- whether a version with this tally is settled
-abbrev pub settles : Ask → Tally → Bool
-settles Counts tally = tally.unfilled == 0
-settles (Exceeds section limit) tally =
-    nat_lt limit tally.count || nat_le (tally.count + tally.unfilled) limit
 
 -- whether a version with this tally has more bundles with the section than the limit, where that is
 -- asked

@@ -1,21 +1,20 @@
 // The tasks of a round, and what their posted bundles add up to.
-ghost use Rattle.std.specs.Prelude.{◌≡◌, ◌<◌, ◌≤◌, IfOk, length, map, slice_index_or};
+ghost use Rattle.std.specs.Prelude.{◌≡◌, ◌<◌, ◌≤◌, IfOk, None, length, slice_index_or};
 ghost use Rattle.std.specs.Arc.{arc_value};
 ghost use Rattle.task_board.specs.Openings.{no_answers};
 ghost use Rattle.price_board.specs.Asked.{round_rules, version_at};
-ghost use Rattle.price_board.specs.Closings.{AreSettled};
 ghost use Rattle.price_board.specs.Openings.{terms_of, IsMade, IsRound};
 ghost use Rattle.price_board.specs.Settling.{ask_of};
-ghost use Rattle.price_board.specs.Tallies.{exceeds_by, HaveTallied, settles};
+ghost use Rattle.price_board.specs.Tallies.{exceeds_by, HaveTallied};
 ghost use Rattle.price_board.specs.Terms.{student_count, task_count, version_count};
 
 use crate::round::{Ask, Round};
 use crate::tally::{Tally, exceeds_by, settles, with_bundle};
+use crate::terms::Terms;
 use bundle_rules::Bundle;
 use demand_api::Crowd;
 use market_units::NoMemory;
 use std::alloc::Global;
-use std::marker::Model;
 use std::sync::Arc;
 use task_board::{Mark, Tasks};
 
@@ -26,21 +25,11 @@ pub struct RoundTasks {
     round: Round,
     students: u32,
     tallies: Vec<Tally>,
-}
-
-impl Model for RoundTasks {
-    ghost use Rattle.std.specs.Coded.{codes};
-    ghost use Rattle.price_board.specs.contracts.tally.Tally as tally;
-    ghost use Rattle.price_board.specs.contracts.terms.Terms as terms;
-    ghost use Rattle.price_board.specs.Kept.{TasksData, tasks_of, IsKept};
-
-    ghost Value = { TasksData };
-
-    ghost coded = { Prim.hlevel (codes, tally.the_row.coded, terms.the_row.coded) };
-
-    ghost view = { tasks_of };
-
-    ghost invariant = { IsKept };
+    ghost students_are: { students ≡ student_count (terms_of (arc_value crowd) round) },
+    ghost few_students: { students ≤ 2000 },
+    ghost few_versions: { version_count (terms_of (arc_value crowd) round) ≤ 16 },
+    ghost asked: { length round.asks.items ≡ version_count (terms_of (arc_value crowd) round) },
+    ghost tallied: { length tallies.items ≡ version_count (terms_of (arc_value crowd) round) },
 }
 
 impl RoundTasks {
@@ -53,9 +42,12 @@ impl RoundTasks {
     ) -> Result<RoundTasks, NoMemory>
         requires crowd { IsMade (arc_value crowd) }
         requires round { IsRound (terms_of (arc_value crowd) round) }
-        ensures terms { IfOk result (λ tasks. tasks.terms ≡ terms_of (arc_value crowd) round) }
+        ensures terms { IfOk result
+            (λ tasks. terms_of (arc_value tasks.crowd) tasks.round
+            ≡ terms_of (arc_value crowd) round) }
         ensures fresh { IfOk result
-            (λ tasks. HaveTallied tasks.terms tasks.tallies (no_answers round_rules tasks.terms)) }
+            (λ tasks. HaveTallied (terms_of (arc_value crowd) round) tasks.tallies.items
+            (no_answers round_rules (terms_of (arc_value crowd) round))) }
     {
         let students = crowd.menus.len() as u32;
         let tally = Tally {
@@ -73,76 +65,66 @@ impl RoundTasks {
 
     // How many students there are.
     pub(crate) fn students(&self) -> u32
-        ensures value { result ≡ student_count self.now.terms }
-        ensures few { result ≤ 2000 }
+        ensures { result ≡ self.now.students }
     {
         self.students
     }
 
     // The version of a task.
     fn version_of(&self, task: u32) -> usize
-        requires { task < task_count self.now.terms }
-        ensures version { result ≡ version_at self.now.terms task }
-        ensures below { result < version_count self.now.terms }
+        requires { task < task_count (terms_of (arc_value self.now.crowd) self.now.round) }
+        ensures version { result
+            ≡ version_at (terms_of (arc_value self.now.crowd) self.now.round) task }
+        ensures below { result < length self.now.tallies.items }
     {
         (task / self.students) as usize
     }
 
-    // What is asked of a version, and what its posted bundles add up to.
-    fn asked(&self, version: usize) -> (Ask, Tally)
-        requires { version < version_count self.now.terms }
-        ensures ask { result.0 ≡ ask_of self.now.terms.asks version }
-        ensures tally { result.1 ≡ slice_index_or self.now.tallies version result.1 }
-        ensures few { student_count self.now.terms ≤ 2000 }
-    {
-        (self.round.asks[version], self.tallies[version])
-    }
-
     // Of an `Exceeds` version, whether more of its posted bundles than the limit have the section.
     pub(crate) fn exceeds(&self, version: usize) -> Option<bool>
-        ensures none { version_count self.now.terms ≤ version → result ≡ None }
-        ensures some { version < version_count self.now.terms
-            → (d : Tally) × (slice_index_or self.now.tallies version d ≡ d)
-            × (result ≡ exceeds_by (ask_of self.now.terms.asks version) d) }
+        ensures none { length self.now.tallies.items ≤ version → result ≡ None }
+        ensures some { (d : Tally) → version < length self.now.tallies.items
+            → result
+            ≡ exceeds_by (ask_of self.now.round.asks.items version)
+            (slice_index_or self.now.tallies.items version d) }
     {
         if version >= self.tallies.len() {
             return None;
         }
-        let (ask, tally) = self.asked(version);
-        exceeds_by(ask, tally)
+        exceeds_by(self.round.asks[version], self.tallies[version])
     }
 }
 
 impl Tasks for RoundTasks {
     ghost use Rattle.price_board.specs.Lasting.{settled_last};
 
-    type Terms = crate::terms::Terms;
+    type Terms = Terms;
 
     type Answer = Bundle;
 
     ghost rules = { round_rules };
 
-    ghost terms = { λ tasks. tasks.terms };
+    ghost terms = { λ tasks. terms_of (arc_value tasks.crowd) tasks.round };
 
-    ghost noted = { λ tasks answers. HaveTallied tasks.terms tasks.tallies answers };
+    ghost noted = { λ tasks answers. HaveTallied (terms_of (arc_value tasks.crowd) tasks.round) tasks.tallies.items answers };
 
     fn count(&self) -> u32 {
         self.tallies.len() as u32 * self.students
     }
 
     fn is_over(&self, _marks: &[Mark<Bundle>], task: u32) -> bool {
-        let (ask, tally) = self.asked(self.version_of(task));
-        settles(ask, tally)
+        let version = self.version_of(task);
+        settles(self.round.asks[version], self.tallies[version])
     }
 
     fn tally(&self, _marks: &[Mark<Bundle>], task: u32) -> u32 {
-        self.asked(self.version_of(task)).1.count
+        self.tallies[self.version_of(task)].count
     }
 
     fn note(&mut self, _marks: &[Mark<Bundle>], task: u32, bundle: Bundle) {
         let version = self.version_of(task);
-        let (ask, tally) = self.asked(version);
-        self.tallies[version] = with_bundle(ask, tally, &bundle);
+        let tally = self.tallies[version];
+        self.tallies[version] = with_bundle(self.round.asks[version], tally, &bundle);
     }
 
     ghost lasting = { settled_last };
