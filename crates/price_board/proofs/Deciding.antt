@@ -4,7 +4,7 @@ use Rattle.std.specs.Prelude.{IsSome, is_none}
 use Rattle.std.specs.List.{count_by}
 use Rattle.std.proofs.lemmas.Bool.{cases_Bool, false≢true}
 use Rattle.std.proofs.lemmas.Bool.Decides.{nat_tests}
-use Rattle.std.proofs.lemmas.List.{get_or-map, get_or_default, length-map, length-take}
+use Rattle.std.proofs.lemmas.List.{get_or-map, get_or_past, length-map}
 use Rattle.std.proofs.lemmas.List.Sums.{sum_by-cons, get_or-le-sum_by}
 use Rattle.bundle_rules.specs.declared.bundle.Bundle.{Bundle}
 use Rattle.bundle_rules.specs.Bundles.{sections_of}
@@ -80,15 +80,15 @@ module _ (terms : Terms) (marks : List (Mark Bundle)) (each : length marks ≡ t
         | inr more ↦
             full_settled (ask_of terms.asks v) row
             (none_unfilled row (λ s d below.
-                let within : s < student_count terms = subst (λ n. s < n) long below in
-                subst (λ (b : Option Bundle). IsSome b) (sym (answer_there v s d low within))
-                (elim (settled (number_of terms v s) (number-below terms v s low within)) [
-                  | inl some ↦ some
-                  | inr over ↦
-                      let at_version : is_settled (ask_of terms.asks v) row ≡ true =
-                      subst (λ w. is_settled (ask_of terms.asks w) (row_of terms (answers_in marks) w) ≡ true) (version-at terms v s within) over in
-                      absurd (false≢true (sym more ∙ at_version))
-                ])))
+            let within : s < student_count terms = subst (λ n. s < n) long below in
+            subst (λ (b : Option Bundle). IsSome b) (sym (answer_there v s d low within))
+            (elim (settled (number_of terms v s) (number-below terms v s low within)) [
+              | inl some ↦ some
+              | inr over ↦
+                  let at_version : is_settled (ask_of terms.asks v) row ≡ true =
+                  subst (λ w. is_settled (ask_of terms.asks w) (row_of terms (answers_in marks) w) ≡ true) (version-at terms v s within) over in
+                  absurd (false≢true (sym more ∙ at_version))
+            ])))
       ]
 
   -- each student of a `Counts` version is answered
@@ -182,7 +182,7 @@ module _ (terms : Terms) (marks : List (Mark Bundle)) (each : length marks ≡ t
             let k : ℕ = length (row_of terms (answers_in marks) v) in
             let long : k ≡ n = row-length terms (answers_in marks) v (each_answer terms marks each) low in
             let beyond : k ≤ s = grind (arith, nat_tests) in
-            let none : None ≡ Some bundle = sym (get_or_default (row_of terms (answers_in marks) v) s None beyond) ∙ is in cc
+            let none : None ≡ Some bundle = sym (get_or_past (row_of terms (answers_in marks) v) s None beyond) ∙ is in cc
       ]
 
   decides : (v : ℕ) (ask : Ask) → v < version_count terms → is_settled ask (row_of terms (answers_in marks) v) ≡ true
@@ -212,6 +212,6 @@ module _ (terms : Terms) (marks : List (Mark Bundle)) (each : length marks ≡ t
             ∙ decides v (ask_of terms.asks v) low (settled v low)
         | inr past ↦
             let beyond : n ≤ v = grind (arith, nat_tests) in
-            let counts : ask_of terms.asks v ≡ Counts = get_or_default terms.asks v Counts (subst (λ m. m ≤ v) (sym asked) beyond) in
+            let counts : ask_of terms.asks v ≡ Counts = get_or_past terms.asks v Counts (subst (λ m. m ≤ v) (sym asked) beyond) in
             none (let goal : k ≤ v = omega arith in goal) ∙ sym (ap (exceeds_at terms v) counts)
       ]

@@ -4,8 +4,7 @@ use bundle_rules::Bundle;
 use chronicle::Journal;
 use market_units::StudentNo;
 use std::marker::Model;
-use task_board::Answers as TaskAnswers;
-use task_board::BoardState;
+use task_board::{Answers as TaskAnswers, BoardState};
 
 /// The answers of a round whose versions are all settled, with the history that they are read from.
 #[derive(Drop)]

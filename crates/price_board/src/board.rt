@@ -24,8 +24,7 @@ use market_units::{NoMemory, StudentNo};
 use std::alloc::Global;
 use std::marker::Model;
 use std::sync::{Arc, Wait};
-use task_board::Board as TaskBoard;
-use task_board::{BoardSeat as TaskSeat, Posted};
+use task_board::{Board as TaskBoard, BoardSeat as TaskSeat, Posted};
 
 /// The right to draw and post on a board, which one thread uses at a time.
 pub type BoardSeat = TaskSeat<RoundTasks>;

@@ -1,5 +1,5 @@
 -- A board whose seats have finished.
-use Rattle.std.proofs.Common.{ℕ, zero, suc, ◌≡◌, ◌≤◌, ◌<◌, ◌+◌, ◌==◌, ◌&&◌, ◌++◌, ◌∙◌, ◌⊎◌, Bool, true, false, not, List, [], ◌∷◌, None, Some, Option, length, filter, refl, ap, sym, subst, arith, slice_index_or, ⊤, inl, inr}
+use Rattle.std.proofs.Common.{ℕ, zero, suc, ◌≡◌, ◌≤◌, ◌<◌, ◌+◌, ◌==◌, ◌&&◌, ◌++◌, ◌∙◌, ◌⊎◌, Bool, true, false, not, List, [], ◌∷◌, None, Some, Option, length, filter, refl, ap, sym, subst, arith, slice_index_or, nat_lt, ⊤, inl, inr}
 use Rattle.std.specs.List.{All, Any, list_any, AllByRecursion as Each}
 use Rattle.std.specs.Prelude.{IsSome}
 use Rattle.std.proofs.lemmas.Bool.{cases_Bool, false≢true}
@@ -58,6 +58,10 @@ done_of_seat n (step ∷ more) some =
       ])
     ]
 
+none_drawn : (found : Option ℕ) → is_done (Drew found) ≡ true → found ≡ None
+none_drawn None done = refl
+none_drawn (Some other) done = absurd (false≢true done)
+
 module _ {B A : Type 0} (rules : Rules B A) (terms : B) where
   -- each request of a legal history is sound
   sound_on : (now : Progress A) (history : HistoryOf A) (task : ℕ) → IsLegal (is_sound rules) (progress_after rules) (reply_to rules) terms now history
@@ -77,7 +81,7 @@ module _ {B A : Type 0} (rules : Rules B A) (terms : B) where
   right_in now history task seat answer said legal calls =
       let each : Each (λ (step : StepOf (Call A) Reply). is_sound rules terms step.request ≡ true) (drew seat task ∷ posted seat task answer said ∷ []) =
       subst (λ l. Each (λ (step : StepOf (Call A) Reply). is_sound rules terms step.request ≡ true) l) calls (sound_on now history task legal) in
-      and_second _ (rules.is_right terms task answer) each.1.0
+      and_second (nat_lt task (rules.count terms)) (rules.is_right terms task answer) each.1.0
 
   -- that there is no task is the reply where none is left
   gone_where : (now : Progress A) (seat : ℕ) (call : Call A) → length now.marks ≡ rules.count terms → is_done (reply_to rules terms now seat call) ≡ true
@@ -91,10 +95,6 @@ module _ {B A : Type 0} (rules : Rules B A) (terms : B) where
             none_is (is_left rules terms now.marks) 0 n (none_drawn (first_left rules terms now.marks) done) task (let goal : 0 ≤ task = omega arith in goal)
             (let goal : task < 0 + n = omega arith in goal);
       }
-    where
-      none_drawn : (found : Option ℕ) → is_done (Drew found) ≡ true → found ≡ None
-      none_drawn None done = refl
-      none_drawn (Some other) done = absurd (false≢true done)
   gone_where now seat (Post other answer) each done task below = absurd (false≢true done)
 
   -- and none is left after it

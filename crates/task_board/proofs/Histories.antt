@@ -65,9 +65,9 @@ module _ {B A : Type 0} (rules : Rules B A) (terms : B) where
       draw_by rules terms now.marks seat (λ found marks. AreCallsTo w (mark_at marks w) (past ++ calls_on w (step_of seat Draw (Drew found) ∷ [])))
       (λ none. still w (mark_at now.marks w) (mark_at now.marks w) past [] refl refl are)
       (λ task next.
-          let mine : (task == task) ≡ true = grind (arith, nat_tests) in
-          changed now.marks task w (Held seat) past (drew seat task) next.below (rw mine refl) (λ off. rw off refl)
-          (λ were. ap (λ l. l ++ drew seat task ∷ []) (subst (λ m. AreCallsTo task m past) (left_open rules terms now.marks task next.left) were)) are)
+      let mine : (task == task) ≡ true = grind (arith, nat_tests) in
+      changed now.marks task w (Held seat) past (drew seat task) next.below (rw mine refl) (λ off. rw off refl)
+      (λ were. ap (λ l. l ++ drew seat task ∷ []) (subst (λ m. AreCallsTo task m past) (left_open rules terms now.marks task next.left) were)) are)
 
   post_tells : (now : Progress A) (seat task w : ℕ) (answer : A) (past : HistoryOf A) → AreCallsTo w (mark_at now.marks w) past
       → AreCallsTo w (mark_at (progress_after rules terms now seat (Post task answer)).marks w)
@@ -77,17 +77,17 @@ module _ {B A : Type 0} (rules : Rules B A) (terms : B) where
       post_by rules terms now.marks seat task answer (λ said marks. AreCallsTo w (mark_at marks w) (past ++ calls_on w (posted seat task answer said ∷ [])))
       (λ stray. still w (mark_at now.marks w) (mark_at now.marks w) past [] refl refl are)
       (λ held over.
-          changed now.marks task w (Spent seat) past (posted seat task answer (Late (rules.tally terms (answers_in now.marks) task)))
-          (closed_below now.marks task (ap is_open held)) (rw mine refl) (λ off. rw off refl)
-          (λ were. (
-            answer,
-            rules.tally terms (answers_in now.marks) task,
-            ap (λ l. l ++ posted seat task answer (Late (rules.tally terms (answers_in now.marks) task)) ∷ []) (subst (λ m. AreCallsTo task m past) held were),
-          ))
-          are)
+      changed now.marks task w (Spent seat) past (posted seat task answer (Late (rules.tally terms (answers_in now.marks) task)))
+      (closed_below now.marks task (ap is_open held)) (rw mine refl) (λ off. rw off refl)
+      (λ were. (
+        answer,
+        rules.tally terms (answers_in now.marks) task,
+        ap (λ l. l ++ posted seat task answer (Late (rules.tally terms (answers_in now.marks) task)) ∷ []) (subst (λ m. AreCallsTo task m past) held were),
+      ))
+      are)
       (λ held asked.
-          changed now.marks task w (Filled seat answer) past (posted seat task answer Taken) (closed_below now.marks task (ap is_open held)) (rw mine refl)
-          (λ off. rw off refl) (λ were. ap (λ l. l ++ posted seat task answer Taken ∷ []) (subst (λ m. AreCallsTo task m past) held were)) are)
+      changed now.marks task w (Filled seat answer) past (posted seat task answer Taken) (closed_below now.marks task (ap is_open held)) (rw mine refl)
+      (λ off. rw off refl) (λ were. ap (λ l. l ++ posted seat task answer Taken ∷ []) (subst (λ m. AreCallsTo task m past) held were)) are)
 
   call_tells : (now : Progress A) (seat w : ℕ) (call : Call A) (reply : Reply) (past : HistoryOf A) → reply ≡ reply_to rules terms now seat call
       → AreCallsTo w (mark_at now.marks w) past

@@ -72,8 +72,8 @@ module _ {B A : Type 0} (rules : Rules B A) (terms : B) where
   gone_kept marks task other mark below closed same gone =
       gone_there marks task other mark below closed
       (λ apart.
-          ap (λ m. is_open m && not (is_over rules terms (slice_set marks task mark) other)) (mark-other marks task other mark apart)
-          ∙ ap (λ answers. is_open (mark_at marks other) && not (rules.is_over terms answers other)) (answers-kept marks task mark below same) ∙ gone)
+      ap (λ m. is_open m && not (is_over rules terms (slice_set marks task mark) other)) (mark-other marks task other mark apart)
+      ∙ ap (λ answers. is_open (mark_at marks other) && not (rules.is_over terms answers other)) (answers-kept marks task mark below same) ∙ gone)
 
   over_filled : (marks : List (Mark A)) (task other seat : ℕ) (answer : A) → IsLasting rules → length marks ≡ rules.count terms
       → mark_at marks task ≡ Held seat → is_over rules terms marks other ≡ true → is_over rules terms (slice_set marks task (Filled seat answer)) other ≡ true
@@ -90,12 +90,12 @@ module _ {B A : Type 0} (rules : Rules B A) (terms : B) where
       let after = slice_set marks task (Filled seat answer) in
       gone_there marks task other (Filled seat answer) (closed_below marks task (ap is_open held)) refl
       (λ apart. ap (λ m. is_open m && not (is_over rules terms after other)) (mark-other marks task other (Filled seat answer) apart)
-          ∙ elim (cases_Bool (is_open (mark_at marks other))) [
-            | inl opened ↦
-                let over = over_filled marks task other seat answer lasting each held (over_of rules terms marks other gone (open_is (mark_at marks other) opened)) in
-                rw (opened, over) refl
-            | inr closed ↦ rw closed refl
-          ])
+      ∙ elim (cases_Bool (is_open (mark_at marks other))) [
+        | inl opened ↦
+            let over = over_filled marks task other seat answer lasting each held (over_of rules terms marks other gone (open_is (mark_at marks other) opened)) in
+            rw (opened, over) refl
+        | inr closed ↦ rw closed refl
+      ])
 
   -- ---- the marks with what was drawn and posted
 

@@ -144,7 +144,7 @@ module _ {B A : Type 0} (rules : Rules B A) (board : BoardOf B A) where
         → Holds rules board new task ↔ (mark_at marks task ≡ Held old.number)
     holds_by marks is task =
         let same : mark_at (marks_after rules board new.seen) task ≡ mark_at marks task = ap (λ m. mark_at m task) is in
-        let number : Held {A = A} new.number ≡ Held old.number = ap Held called.same.1 in
+        let number = ap (λ (n : ℕ). let m : Mark A = Held n in m) called.same.1 in
         ((λ holds. sym same ∙ holds ∙ number), (λ holds. same ∙ holds ∙ sym number))
 
     pub seat_after : dones new.own ≤ 1 → posts new.own ≤ rules.count board.base
@@ -225,7 +225,8 @@ module _ {B A : Type 0} (rules : Rules B A) (board : BoardOf B A) (old new : Sea
         seat = seat;
         answer = draw_is ∙ ap (first_left rules board.base) (sym (before_is rules board old new is_seat Draw (Drew drew) called));
         holds = subst (λ t. HoldsDrawn rules board t new) (sym is) (nothing, done);
-        turn = λ turn. subst (λ t. AfterDraw rules board t new) (sym is) (record { is_seat = seat; holds_nothing = nothing; done = done });
+        turn = λ turn. let over : IsFinished rules board new = record { is_seat = seat; holds_nothing = nothing; done = done } in
+            subst (λ t. AfterDraw rules board t new) (sym is) over;
         seen = called.seen;
         own = called.own;
         number = called.same.1;
@@ -267,8 +268,9 @@ module _ {B A : Type 0} (rules : Rules B A) (board : BoardOf B A) (old new : Sea
             let q : ℕ = posts new.own in
             let same : q ≡ p + 0 = posts_more rules board old new is_seat Draw (Drew drew) called in
             let each : p + u ≤ n = turn.each_posted in
-            subst (λ t. AfterDraw rules board t new) (sym is)
-            (record { is_seat = seat; only = only; not_done = not_done; others_posted = (let goal : q + v < n = omega arith in goal) });
+            let holding : IsHolding rules board task new =
+            record { is_seat = seat; only = only; not_done = not_done; others_posted = (let goal : q + v < n = omega arith in goal) } in
+            subst (λ t. AfterDraw rules board t new) (sym is) holding;
         seen = called.seen;
         own = called.own;
         number = called.same.1;

@@ -7,4 +7,4 @@ post_for-requires-clause-student g c =
     subst (λ (n : ℕ). c.in-Task.task.student.0 < n)
     (students_are c.args.board.now.base c.args.crowd.now.menus.items c.args.crowd.now.budgets.items c.args.crowd.now.sections c.requires.base
     c.requires.crowd.same)
-    (c.in-Task.ensures.turn c.loop-task.invariant.free).only.student_below
+    c.in-Task.ensures.within.1
