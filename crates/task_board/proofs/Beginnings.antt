@@ -20,8 +20,8 @@ sum_of-replicate (suc n) share =
     let whole : suc n * share ≡ n * share + share = suc-mul n share in
     let goal : share + a ≡ suc n * share = omega arith in goal
 
-undrawn_all : {A : Type 0} (n : ℕ) → undrawn {A = A} (replicate n Open) ≡ n
-undrawn_all {A = A} n =
+undrawn_all : (A : Type 0) (n : ℕ) → undrawn {A = A} (replicate n Open) ≡ n
+undrawn_all A n =
     let a : ℕ = undrawn {A = A} (replicate n Open) in
     let all : a ≡ n * 1 = sum_by-replicate (λ (m : Mark A). cond (is_open m) 1 0) n Open in
     let goal : a ≡ n = omega arith in goal
@@ -33,7 +33,7 @@ module _ {B A : Type 0} (rules : Rules B A) (board : BoardOf B A) where
   fresh_free number left opens allotted =
       let n : ℕ = rules.count board.base in
       let u : ℕ = undrawn board.opening.marks in
-      let all : u ≡ n = ap (λ p. undrawn p.marks) opens ∙ undrawn_all n in
+      let all : u ≡ n = ap (λ p. undrawn p.marks) opens ∙ undrawn_all A n in
       let h : left ≡ 2 * n + 1 = allotted in
       record {
         is_seat = record {

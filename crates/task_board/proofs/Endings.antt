@@ -1,7 +1,7 @@
 -- A board whose seats have finished.
-use Rattle.std.proofs.Common.{ℕ, zero, suc, ◌≡◌, ◌≤◌, ◌<◌, ◌+◌, ◌==◌, ◌&&◌, ◌++◌, ◌∙◌, ◌⊎◌, Bool, true, false, not, List, [], ◌∷◌, None, Some, Option, length, filter, refl, ap, sym, subst, arith, slice_index_or, nat_lt, ⊤, inl, inr}
+use Rattle.std.proofs.Common.{ℕ, zero, suc, ◌≡◌, ◌≤◌, ◌<◌, ◌+◌, ◌==◌, ◌&&◌, ◌++◌, ◌∙◌, ◌⊎◌, Bool, true, false, not, List, [], ◌∷◌, None, Some, Option, length, filter, refl, ap, sym, subst, arith, slice_index_or, nat_lt, inl, inr}
 use Rattle.std.specs.List.{All, Any, list_any, AllByRecursion as Each}
-use Rattle.std.specs.Prelude.{IsSome}
+use Rattle.std.specs.Prelude.{IsSome, ⊤}
 use Rattle.std.proofs.lemmas.Bool.{cases_Bool, false≢true}
 use Rattle.std.proofs.lemmas.Bool.Decides.{nat_tests}
 use Rattle.market_units.specs.Beginnings.{BeginsWith}

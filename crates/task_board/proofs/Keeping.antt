@@ -1,6 +1,7 @@
 -- What the marks of a board keep through draws and posts.
-use Rattle.std.proofs.Common.{ℕ, ◌≡◌, ◌≢◌, ◌<◌, ◌≤◌, ◌+◌, ◌==◌, ◌&&◌, ◌∙◌, Bool, true, false, not, List, [], ◌∷◌, length, map, Some, None, Option, refl, sym, ap, subst, arith, slice_index_or, slice_set, cond, ⊤, inl, inr}
+use Rattle.std.proofs.Common.{ℕ, ◌≡◌, ◌≢◌, ◌<◌, ◌≤◌, ◌+◌, ◌==◌, ◌&&◌, ◌∙◌, Bool, true, false, not, List, [], ◌∷◌, length, map, Some, None, Option, refl, sym, ap, subst, arith, slice_index_or, slice_set, cond, inl, inr}
 use Rattle.std.specs.List.{AllByRecursion as Each}
+use Rattle.std.specs.Prelude.{⊤}
 use Rattle.std.proofs.lemmas.Bool.{cases_Bool, cases_eq, false≢true, true≢false}
 use Rattle.std.proofs.lemmas.Bool.Decides.{nat_tests}
 use Rattle.std.proofs.lemmas.List.{length-map, length-set}

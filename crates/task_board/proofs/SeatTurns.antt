@@ -1,6 +1,7 @@
 -- A seat's calls on a board.
-use Rattle.std.proofs.Common.{ℕ, zero, suc, ◌≡◌, ◌≢◌, ◌≤◌, ◌<◌, ◌+◌, ◌-◌, ◌==◌, ◌++◌, ◌∙◌, ◌↔◌, true, false, List, [], ◌∷◌, Some, None, Option, length, replicate, take, refl, ap, sym, subst, arith, slice_set, ⊤, inl, inr}
+use Rattle.std.proofs.Common.{ℕ, zero, suc, ◌≡◌, ◌≢◌, ◌≤◌, ◌<◌, ◌+◌, ◌-◌, ◌==◌, ◌++◌, ◌∙◌, ◌↔◌, true, false, List, [], ◌∷◌, Some, None, Option, length, replicate, take, refl, ap, sym, subst, arith, slice_set, inl, inr}
 use Rattle.std.proofs.Math.Seq.{take-append_seam}
+use Rattle.std.specs.Prelude.{⊤}
 use Rattle.std.proofs.lemmas.Bool.{cases_eq, false≢true, true≢false}
 use Rattle.std.proofs.lemmas.List.{length-append, length-replicate}
 use Rattle.std.proofs.lemmas.List.Elements.{filter-append}

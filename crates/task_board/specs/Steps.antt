@@ -12,6 +12,11 @@ abbrev pub first_from : (ℕ → Bool) → ℕ → ℕ → Option ℕ
 first_from test from zero = None
 first_from test from (suc more) = if test from then Some from else first_from test (from + 1) more
 
+-- the seat holds the task, if there is one
+abbrev pub with_holder : {A : Type 0} → ℕ → Option ℕ → List (Mark A) → List (Mark A)
+with_holder seat None marks = marks
+with_holder seat (Some task) marks = slice_set marks task (Held seat)
+
 module _ {B A : Type 0} (rules : Rules B A) (terms : B) where
   -- the task is over, by the answers that were posted
   abbrev pub is_over : List (Mark A) → ℕ → Bool
@@ -26,11 +31,6 @@ module _ {B A : Type 0} (rules : Rules B A) (terms : B) where
   first_left marks = first_from (is_left marks) 0 (length marks)
 
   -- the seat then holds it
-  abbrev pub with_holder : ℕ → Option ℕ → List (Mark A) → List (Mark A)
-  with_holder seat None marks = marks
-  with_holder seat (Some task) marks = slice_set marks task (Held seat)
-
-  -- the marks after a draw
   abbrev pub marks_drawn : List (Mark A) → ℕ → List (Mark A)
   marks_drawn marks seat = with_holder seat (first_left marks) marks
 
