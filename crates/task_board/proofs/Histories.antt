@@ -1,5 +1,5 @@
 -- What a legal history of a board says of each task.
-use Rattle.std.proofs.Common.{ℕ, zero, suc, ◌≡◌, ◌≢◌, ◌<◌, ◌==◌, ◌++◌, ◌∙◌, true, false, List, [], ◌∷◌, Some, None, Option, length, refl, ap, sym, subst, arith, append-nil, append_assoc, slice_set, replicate, inl, inr}
+use Rattle.std.proofs.Common.{ℕ, ◌≡◌, ◌≢◌, ◌<◌, ◌==◌, ◌++◌, ◌∙◌, true, false, List, [], ◌∷◌, Some, None, Option, length, refl, ap, sym, subst, arith, append-nil, append_assoc, slice_set, inl, inr}
 use Rattle.std.proofs.lemmas.Bool.{cases_Bool, cases_eq}
 use Rattle.std.proofs.lemmas.Bool.Decides.{nat_tests}
 use Rattle.std.proofs.lemmas.List.Elements.{filter-append}
@@ -21,6 +21,7 @@ use Rattle.task_board.specs.Rules.{Rules}
 use Rattle.task_board.specs.Seats.{HistoryOf}
 use Rattle.task_board.specs.Shared.{is_sound, reply_to, progress_after}
 use Rattle.task_board.specs.Steps.{first_left, post_answer, marks_drawn, marks_posted}
+use Rattle.task_board.proofs.Keeping.{open_at}
 use Rattle.task_board.proofs.Marking.{mark-same, mark-other, closed_below}
 use Rattle.task_board.proofs.Stepping.{draw_by, post_by, left_open}
 
@@ -115,11 +116,6 @@ module _ {B A : Type 0} (rules : Rules B A) (terms : B) where
 
   pub opened_at : (opening : Progress A) → IsOpening rules terms opening → (w : ℕ) → mark_at opening.marks w ≡ Open
   opened_at opening opens w = ap (λ (p : Progress A). mark_at p.marks w) opens ∙ open_at (rules.count terms) w
-    where
-      open_at : (n w : ℕ) → mark_at {A = A} (replicate n Open) w ≡ Open
-      open_at zero w = refl
-      open_at (suc n) zero = refl
-      open_at (suc n) (suc w) = open_at n w
 
   -- the calls on each task are those that brought it where it stands
   pub calls_tell : (opening : Progress A) (history : HistoryOf A) → IsOpening rules terms opening

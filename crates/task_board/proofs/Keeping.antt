@@ -1,10 +1,10 @@
 -- What the marks of a board keep through draws and posts.
-use Rattle.std.proofs.Common.{ℕ, ◌≡◌, ◌≢◌, ◌<◌, ◌≤◌, ◌+◌, ◌==◌, ◌&&◌, ◌∙◌, Bool, true, false, not, List, [], ◌∷◌, length, map, Some, None, Option, refl, sym, ap, subst, arith, slice_index_or, slice_set, cond, inl, inr}
+use Rattle.std.proofs.Common.{ℕ, zero, suc, ◌≡◌, ◌≢◌, ◌<◌, ◌≤◌, ◌+◌, ◌==◌, ◌&&◌, ◌∙◌, Bool, true, false, not, List, [], ◌∷◌, length, map, Some, None, Option, refl, sym, ap, subst, arith, slice_index_or, slice_set, replicate, cond, inl, inr}
 use Rattle.std.specs.List.{AllByRecursion as Each}
 use Rattle.std.specs.Prelude.{⊤}
 use Rattle.std.proofs.lemmas.Bool.{cases_Bool, cases_eq, false≢true, true≢false}
 use Rattle.std.proofs.lemmas.Bool.Decides.{nat_tests}
-use Rattle.std.proofs.lemmas.List.{length-map, length-set}
+use Rattle.std.proofs.lemmas.List.{length-map, length-set, length-replicate}
 use Rattle.std.proofs.lemmas.List.Sums.{sum_by-set}
 use Rattle.chronicle.specs.declared.journal.StepOf.{StepOf}
 use Rattle.chronicle.specs.History.{state_after, calls_by}
@@ -53,6 +53,16 @@ module _ {A : Type 0} where
       let ex : x ≡ 0 = ap (λ (m : Mark A). cond (is_open m) 1 0) was in
       let ey : y ≡ 0 = ap (λ c. cond c 1 0) is in
       let goal : a ≡ b = omega arith in goal
+
+-- nothing is drawn or posted at first
+pub open_at : {A : Type 0} (n task : ℕ) → mark_at {A = A} (replicate n Open) task ≡ Open
+open_at zero task = refl
+open_at (suc n) zero = refl
+open_at (suc n) (suc task) = open_at n task
+
+pub none_answered : {A : Type 0} (n : ℕ) → answers_in {A = A} (replicate n Open) ≡ replicate n None
+none_answered zero = refl
+none_answered (suc n) = ap (λ l. None ∷ l) (none_answered n)
 
 module _ {B A : Type 0} (rules : Rules B A) (terms : B) where
   -- ---- a task that is not left stays so
@@ -117,6 +127,7 @@ module _ {B A : Type 0} (rules : Rules B A) (terms : B) where
       let was : mark_at marks next ≡ Open = left_open rules terms marks next left in
       record {
         each = length-set marks next (Held seat) ∙ keeps.each;
+        few = subst (λ n. n ≤ 4294967295) (sym (length-set marks next (Held seat))) keeps.few;
         right = right_kept marks next (Held seat) below (λ answer is. let h : None ≡ Some answer = is in cc) keeps.right;
         passed = λ task low. elim (cases_eq task next) [
           | inl same ↦
@@ -133,6 +144,7 @@ module _ {B A : Type 0} (rules : Rules B A) (terms : B) where
       let below : task < length marks = closed_below marks task (ap is_open held) in
       record {
         each = length-set marks task (Spent seat) ∙ keeps.each;
+        few = subst (λ n. n ≤ 4294967295) (sym (length-set marks task (Spent seat))) keeps.few;
         right = right_kept marks task (Spent seat) below (λ answer is. let h : None ≡ Some answer = is in cc) keeps.right;
         passed = λ other low. gone_kept marks task other (Spent seat) below refl (sym (ap answer_in held)) (keeps.passed other low);
       }
@@ -143,12 +155,23 @@ module _ {B A : Type 0} (rules : Rules B A) (terms : B) where
       let below : task < length marks = closed_below marks task (ap is_open held) in
       record {
         each = length-set marks task (Filled seat answer) ∙ keeps.each;
+        few = subst (λ n. n ≤ 4294967295) (sym (length-set marks task (Filled seat answer))) keeps.few;
         right =
             right_kept marks task (Filled seat answer) below
             (λ other is. let h : Some answer ≡ Some other = is in let e : answer ≡ other = cc in ap (λ a. rules.is_right terms task a) (sym e) ∙ good)
             keeps.right;
         passed = λ other low. gone_filled marks task other seat answer lasting keeps.each held (keeps.passed other low);
       }
+
+  -- nobody drew a task
+  pub keeps_open : (marks : List (Mark A)) → rules.count terms ≤ 4294967295 → marks ≡ replicate (rules.count terms) Open → KeepsMarks rules terms marks 0
+  keeps_open marks few are = record {
+    each = ap length are ∙ length-replicate (rules.count terms) Open;
+    few = subst (λ n. n ≤ 4294967295) (sym (ap length are ∙ length-replicate (rules.count terms) Open)) few;
+    right =
+        λ task answer is. let none : None ≡ Some answer = sym (ap answer_in (ap (λ m. mark_at m task) are ∙ open_at (rules.count terms) task)) ∙ is in cc;
+    passed = λ task low. absurd (omega arith);
+  }
 
   -- ---- what all steps keep
 

@@ -1,8 +1,9 @@
 -- A seat's calls on a board.
-use Rattle.std.proofs.Common.{ℕ, zero, suc, ◌≡◌, ◌≢◌, ◌≤◌, ◌<◌, ◌+◌, ◌-◌, ◌==◌, ◌++◌, ◌∙◌, ◌↔◌, true, false, List, [], ◌∷◌, Some, None, Option, length, replicate, take, refl, ap, sym, subst, arith, slice_set, inl, inr}
+use Rattle.std.proofs.Common.{ℕ, zero, suc, ◌≡◌, ◌≢◌, ◌≤◌, ◌<◌, ◌+◌, ◌-◌, ◌==◌, ◌&&◌, ◌++◌, ◌∙◌, ◌↔◌, Bool, true, false, List, [], ◌∷◌, Some, None, Option, length, nat_lt, replicate, take, refl, ap, sym, subst, arith, slice_set, inl, inr}
 use Rattle.std.proofs.Math.Seq.{take-append_seam}
 use Rattle.std.specs.Prelude.{⊤}
 use Rattle.std.proofs.lemmas.Bool.{cases_eq, false≢true, true≢false}
+use Rattle.std.proofs.lemmas.Bool.Decides.{nat_tests}
 use Rattle.std.proofs.lemmas.List.{length-append, length-replicate}
 use Rattle.std.proofs.lemmas.List.Elements.{filter-append}
 use Rattle.chronicle.specs.declared.journal.StepOf.{StepOf}
@@ -41,6 +42,28 @@ front_of xs x =
     let e : n ≡ k + 1 = length-append xs (x ∷ []) in
     let m : n - 1 ≡ k = omega arith in
     ap (λ j. take j (xs ++ x ∷ [])) m ∙ take-append_seam xs (x ∷ [])
+
+-- a sound post is of a task of the board, with a right answer
+module _ {B A : Type 0} (rules : Rules B A) (terms : B) (task : ℕ) (answer : A) where
+  both_parts : (a b : Bool) → (a && b) ≡ true → (a ≡ true) × (b ≡ true)
+  both_parts true b both = (refl, both)
+  both_parts false b both = absurd (false≢true both)
+
+  pub sound_task : is_sound rules terms (Post task answer) ≡ true → task < rules.count terms
+  sound_task sound =
+      let n : ℕ = rules.count terms in
+      let low : nat_lt task n ≡ true = (both_parts (nat_lt task n) (rules.is_right terms task answer) sound).0 in
+      let goal : task < n = grind (arith, nat_tests) in goal
+
+  pub sound_answer : is_sound rules terms (Post task answer) ≡ true → rules.is_right terms task answer ≡ true
+  sound_answer sound = (both_parts (nat_lt task (rules.count terms)) (rules.is_right terms task answer) sound).1
+
+  pub sound_post : task < rules.count terms → rules.is_right terms task answer ≡ true → is_sound rules terms (Post task answer) ≡ true
+  sound_post below right =
+      let n : ℕ = rules.count terms in
+      let low : task < n = below in
+      let test : nat_lt task n ≡ true = grind (arith, nat_tests) in
+      rw (test, right) refl
 
 -- what is kept through a history keeps who holds a task, if its calls are those of others
 module _ {B A : Type 0} (rules : Rules B A) (terms : B) where
@@ -216,7 +239,7 @@ module _ {B A : Type 0} (rules : Rules B A) (board : BoardOf B A) (old new : Sea
       (posts old.own) (posts new.own) (dones old.own) (dones new.own) is_seat.calls_left fresh called.left
       (subst (λ m. undrawn m ≤ undrawn (marks_after rules board old.seen)) (sym after) (fewer rules board old new is_seat Draw (Drew drew) called))
       (posts_more rules board old new is_seat Draw (Drew drew) called)
-      (dones_more rules board old new is_seat Draw (Drew drew) called ∙ ap (λ d. dones old.own + dones (step_of old.number Draw (Drew d) ∷ [])) is) in
+      (dones_more rules board old new is_seat Draw (Drew drew) called ∙ ap (λ d. dones old.own + dones {A = A} (step_of old.number Draw (Drew d) ∷ [])) is) in
       let d : ℕ = dones new.own in
       let done : d ≡ 1 = numbers.0 in
       let seat = drew_seat (let goal : d ≤ 1 = omega arith in goal) numbers.1 in
@@ -245,7 +268,7 @@ module _ {B A : Type 0} (rules : Rules B A) (board : BoardOf B A) (old new : Sea
       let numbers =
       room_drawn (rules.count board.base) (undrawn (marks_after rules board old.seen)) v w old.left new.left (posts old.own) (posts new.own) (dones old.own)
       (dones new.own) is_seat.calls_left fresh called.left falls one_less (posts_more rules board old new is_seat Draw (Drew drew) called)
-      (dones_more rules board old new is_seat Draw (Drew drew) called ∙ ap (λ d. dones old.own + dones (step_of old.number Draw (Drew d) ∷ [])) is) in
+      (dones_more rules board old new is_seat Draw (Drew drew) called ∙ ap (λ d. dones old.own + dones {A = A} (step_of old.number Draw (Drew d) ∷ [])) is) in
       let d : ℕ = dones new.own in
       let not_done : d ≡ 0 = numbers.0 in
       let seat = drew_seat (let goal : d ≤ 1 = omega arith in goal) numbers.1 in

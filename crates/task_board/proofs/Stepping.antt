@@ -118,6 +118,27 @@ module _ {B A : Type 0} (rules : Rules B A) (terms : B) where
       not_false true is = refl
       not_false false is = absurd (true≢false is)
 
+  -- the first task that is left, by those that are not
+  pub nothing_left : (marks : List (Mark A)) (next : ℕ) → ((task : ℕ) → task < next → is_left rules terms marks task ≡ false) → length marks ≤ next
+      → first_left rules terms marks ≡ None
+  nothing_left marks next passed high =
+      let n : ℕ = length marks in
+      let end : n ≤ next = high in
+      is_none (is_left rules terms marks) 0 n
+      (λ task low below. passed task (let b : task < 0 + n = below in let goal : task < next = omega arith in goal))
+
+  pub next_left : (marks : List (Mark A)) (next : ℕ) → ((task : ℕ) → task < next → is_left rules terms marks task ≡ false) → next < length marks
+      → is_left rules terms marks next ≡ true → first_left rules terms marks ≡ Some next
+  next_left marks next passed below left =
+      let n : ℕ = length marks in
+      let low : next < n = below in
+      is_first (is_left rules terms marks) 0 n next (record {
+        low = (let goal : 0 ≤ next = omega arith in goal);
+        high = (let goal : next < 0 + n = omega arith in goal);
+        passes = left;
+        before = λ task _ earlier. passed task earlier;
+      })
+
   -- what a draw gives
   pub record IsNext (marks : List (Mark A)) (task : ℕ) : Type 0 where
     pub below : task < length marks

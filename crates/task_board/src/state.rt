@@ -89,7 +89,6 @@ impl<T: Tasks> BoardState<T> {
             → is_left T.rules self.now.terms self.now.marks task ≡ false }
         ensures stops { result < length self.now.marks
             → is_left T.rules self.now.terms self.now.marks result ≡ true }
-        ensures within { result ≤ T.rules.count self.now.terms }
     {
         let mut next = self.next;
         'tasks: while (next as usize) < self.marks.len() {
