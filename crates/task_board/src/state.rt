@@ -49,7 +49,7 @@ impl<T: Tasks> BoardState<T> {
             (λ board. board.room ≡ workers * (2 * T.rules.count (T.terms tasks) + 1)) }
     {
         let count = tasks.count();
-        let marks = vec![in alloc; Mark::Open; count as usize]?;
+        let marks = open_marks(alloc, count)?;
         Ok(BoardState {
             tasks,
             marks,
@@ -179,4 +179,15 @@ impl<T: Tasks> BoardState<T> {
     {
         self.calls -= 1;
     }
+}
+
+// So many marks of tasks that nobody drew.
+fn open_marks<A: Copy>(alloc: Global, count: u32) -> Result<Vec<Mark<A>>, NoMemory>
+    ensures { IfOk result (λ marks. marks.items ≡ replicate count Mark.Open) }
+{
+    let mut marks = Vec::with_capacity(alloc, count as usize)?;
+    for _ in 0..count {
+        marks.push(Mark::Open)?;
+    }
+    Ok(marks)
 }

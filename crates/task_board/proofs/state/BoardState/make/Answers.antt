@@ -8,7 +8,7 @@ pub invariant_of-result : goal.invariant_of-result
 invariant_of-result g c =
     let terms = g.T.Tasks.terms c.args.tasks in
     let opened : c.in_ok-marks.marks.items ≡ replicate (g.T.Tasks.rules.count terms) Open =
-    c.in_ok-marks.ensures.items_if_clones_equal (λ y is. is) ∙ ap (λ n. replicate n Open) c.count-count.ensures in
+    c.in_ok-marks.ensures ∙ ap (λ n. replicate n Open) c.count-count.ensures in
     let few : c.count-count.result ≤ 4294967295 = omega (arith, c.count-count.type_inv) in (
       keeps_open g.T.Tasks.rules terms c.in_ok-marks.marks.items (subst (λ n. n ≤ 4294967295) c.count-count.ensures few) opened,
       subst (λ answers. g.T.Tasks.noted c.args.tasks answers) (sym (ap answers_in opened ∙ none_answered (g.T.Tasks.rules.count terms))) c.requires.fresh,
