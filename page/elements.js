@@ -72,6 +72,7 @@ function compare(one, other) {
 // A table of rows. A column is { head, of, show, isText }: `of` gives the value by which a row sorts and which is copied,
 // `show` what stands in the cell, if that is another thing.
 function tableOf(caption, columns, rows, { filterAt = 8 } = {}) {
+  if (!rows.length) return p(el('b', {}, caption), ': nothing');
   let shown = rows, by = null, isFalling = false;
   const body = el('tbody'), said = el('span', { role: 'status', class: 'quiet' });
   const classOf = column => column.isText ? '' : 'number';
