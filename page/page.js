@@ -103,11 +103,11 @@ app.check = async () => {
     verdict('open', faults.length ? 'The files do not fit together' : 'Not all files are there yet', ...faults.map(it => p(it)), lacks.length ? lacksWords(lacks) : '');
     return app.draw();
   }
-  const checked = await checkedIn(parts, isOrdered);
+  const checked = await checkedIn(parts, isOrdered), { market, refusal } = checked.answer.status === 0 ? await marketOf(checked) : { refusal: checked };
   if (number !== app.checks) return;
-  if (checked.answer.status !== 0) return refused(checked);
-  await accepted(checked);
-  if (number === app.checks) app.draw();
+  if (market) accepted(market);
+  else refused(refusal);
+  app.draw();
 };
 
 function refused({ answer, call, parts }) {
@@ -115,26 +115,29 @@ function refused({ answer, call, parts }) {
   app.finding = told.finding;
   const again = answer.status === 'stopped' && button('Check again', () => app.check());
   verdict('wrong', told.title, p(told.words), told.finding ? findingPart(told.finding, parts) : '', told.help ? p(told.help) : '', again || '');
-  app.draw();
 }
 
-// Puts together what the views need; what the students want comes from the program, by the order of the text.
-async function accepted({ answer, parts }) {
+// Puts together what the views need of a text that holds; what the students want comes from the program, by the order of the text.
+async function marketOf({ answer, parts }) {
   const catalogue = catalogueIn(parts), roll = rollIn(parts), text = publishedOf(decoded(parts.text.bytes), catalogue, roll);
   const session = { name: 'all sessions in the order of the text', kind: 'session', bytes: merged(text.order, parts.sessions) };
   const call = callOf('prefer', { ...parts, sessions: [session] }), preferred = await app.work('Reading what the students want', call);
-  if (preferred.status !== 0) return refused({ answer: preferred, call, parts });
+  if (preferred.status !== 0) return { refusal: { answer: preferred, call, parts } };
   const files = [parts.catalogue, parts.roll, parts.settings, parts.text, ...parts.sessions];
   for (const it of files) it.sum ??= await hashOf(it.bytes);
-  app.market = {
+  return { market: {
     parts, catalogue, roll, text, files, ms: answer.ms,
     settings: JSON.parse(decoded(parts.settings.bytes)), wishes: preferencesOf(preferred.text),
     sectionOf: new Map(catalogue.map(it => [it.name, it])),
     counts: countsOf(text.bundles.map(it => it.names), catalogue), endCounts: countsOf(text.finals, catalogue),
-  };
+  } };
+}
+
+function accepted(market) {
+  const { parts, roll, catalogue, ms } = app.market = market;
   if ($('files').contains(document.activeElement)) $('files').querySelector('summary').focus();
   $('files').open = false;
-  verdict('right', 'This text holds', p(`${parts.text.name} was checked in ${timed(answer.ms)}: ${plural(roll.length, 'student')}, ${plural(catalogue.length, 'section')}. `
+  verdict('right', 'This text holds', p(`${parts.text.name} was checked in ${timed(ms)}: ${plural(roll.length, 'student')}, ${plural(catalogue.length, 'section')}. `
     + 'In the second stage each student has the best bundle that its budget buys at the published prices. '
     + 'At each turn of the aftermarket the student takes the best of what it holds and what is free. At no time has a section more students than seats.'));
 }
