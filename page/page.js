@@ -89,7 +89,7 @@ async function checkedIn(parts, isOrdered) {
 function lacksWords(lacks) {
   const canRun = lacks.every(it => it === NEEDED.text || it === NEEDED.settings), strange = app.files.filter(it => it.kind === 'unknown').map(it => it.name);
   return [p(`Missing: ${listed(lacks)}. ${canRun ? 'With “Run a market” you can make that from the other files.' : ''}`),
-    strange.length ? p(`What ${listed(strange)} is, the page can not tell: choose it in the list of the files.`) : ''];
+    strange.length ? p(`What ${listed(strange)} is, the page cannot tell: choose it in the list of the files.`) : ''];
 }
 
 app.check = async () => {

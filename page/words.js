@@ -76,12 +76,12 @@ const FINDINGS = [
   [/^journal at (\d+)$/, it => `The order line has to take all commands of each session, in their order; its entry ${it} does not. A session may be missing, be another file, or stand in another place of the list.`],
   [/^budget (\S+)$/, it => `The budget of ${it} is not what the roll, the settings and the draw give.`],
   [/^student (\S+) unaffordable$/, it => `The prices of the bundle of ${it} come to more than its budget.`],
-  [/^student (\S+) infeasible$/, it => `${it} can not have this bundle: two sections clash, a cap is passed, or a section is not rated.`],
+  [/^student (\S+) infeasible$/, it => `${it} cannot have this bundle: two sections clash, a cap is passed, or a section is not rated.`],
   [/^student (\S+) tree (\w+) at (\d+)$/, treeWords],
   [/^seats (\S+) (\d+) of (\d+)$/, (it, used, seats) => `In the second stage ${used} students have ${it}, which has ${seats} seats.`],
   [/^turn (\d+) order$/, it => `Turn ${it} of the aftermarket is not the one that is due.`],
   [/^turn (\d+) unaffordable$/, it => `The prices of the bundle of turn ${it} come to more than the raised budget.`],
-  [/^turn (\d+) infeasible$/, it => `The student of turn ${it} can not have this bundle: two sections clash, a cap is passed, or a section is not rated.`],
+  [/^turn (\d+) infeasible$/, it => `The student of turn ${it} cannot have this bundle: two sections clash, a cap is passed, or a section is not rated.`],
   [/^turn (\d+) taken$/, it => `At turn ${it} the student takes a section that it does not hold and that has no free seat.`],
   [/^turn (\d+) tree (\w+) at (\d+)$/, (it, ...where) => treeWords(`turn ${it}`, ...where)],
   [/^not quiet after (\d+) turns$/, it => `The aftermarket ends after ${it} turns, before a whole pass without a change.`],
@@ -114,7 +114,7 @@ const AGAIN = 'Nothing is lost: correct it and give the files again. The first f
 
 // What an answer says, by its status: { title, words, help?, finding? }. `line` is its last line, `name` the file that it names.
 const TOLD = {
-  2: ({ name }) => ({ title: 'A file can not be read', words: `${name} can not be read.`, help: AGAIN }),
+  2: ({ name }) => ({ title: 'A file cannot be read', words: `${name} cannot be read.`, help: AGAIN }),
   3: ({ line, call }) => ({ title: 'A file is refused', words: refusalWords(line, call), help: AGAIN }),
   4: ({ name }) => ({
     title: 'A file is too long', help: AGAIN,
