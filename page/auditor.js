@@ -21,8 +21,8 @@ function figuresPart(market) {
   const lines = [
     ['Checked in', timed(market.ms)],
     ['Students, sections, sessions', `${roll.length}, ${catalogue.length}, ${market.parts.sessions.length}`],
-    ['Error at the prices of the search', `${text.error} (the settings accept ${market.settings.accept})`],
-    ['Error at the prices of the second stage', String(errorOf(counts, catalogue, text.prices))],
+    ['Clearing error, search', `${text.error} (the settings accept ${market.settings.accept})`],
+    ['Clearing error, second stage', String(errorOf(counts, catalogue, text.prices))],
     ['Seats taken', `${sum(counts)} in the second stage, ${sum(endCounts)} in the end, of ${seats}`],
     ['Students without a section', `${text.bundles.filter(it => !it.names.length).length} in the second stage, ${text.finals.filter(it => !it.length).length} in the end`],
     ['Turns of the aftermarket', `${text.turns.length} in ${passes}; ${changes.length} changed something`],

@@ -59,7 +59,7 @@ function leafLine(walk, chosen, from, node) {
 function takenLine(walk, chosen, node, place) {
   const now = [...chosen, place], it = walk.menu.places[place];
   const isOnTheWay = now.every(that => walk.champion.includes(that)) && walk.champion.every(that => that > place || now.includes(that));
-  const must = node.symbol === '!' ? ' has to be taken' : '', rest = `${must} (rating ${it.rating}, price ${it.price}): ${leftWords(walk, now)}`;
+  const must = node.symbol === '!' ? ', which has to be taken' : '', rest = `${must} (rating ${it.rating}, price ${it.price}): ${leftWords(walk, now)}`;
   const summary = [el('span', { class: 'sign' }, node.symbol), ' with ', el('b', {}, it.name), rest];
   return el('li', { class: isOnTheWay ? 'way' : '' }, opening(summary, () => levelOf(walk, now, place + 1, node.with), isOnTheWay));
 }
@@ -83,10 +83,10 @@ const KEY = [
   ['!', 'the section that is asked for comes next, and has to be taken'],
   ['x', 'the section that is asked for can no more be taken'],
   ['*', 'this is the bundle that the tree proves to be the best'],
-  ['n', 'with all that may still come it gets no better than the bundle'],
-  ['b', 'what the tokens that are left can bring makes it no better than the bundle; the number is the place by whose worth a token is counted'],
-  ['c', 'the same by the credits that are left'],
-  ['m', 'the same by the number of sections that are left'],
+  ['n', 'what is chosen, with all that may still come, is no better than the bundle'],
+  ['b', 'what is chosen, with all that the tokens left can bring, is no better than the bundle; the number is the place by whose worth a token is counted'],
+  ['c', 'the same with the credits left'],
+  ['m', 'the same with the number of sections left'],
 ];
 
 // What the signs of a tree mean, of those that it has.
