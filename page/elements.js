@@ -96,7 +96,7 @@ function tableOf(caption, columns, rows, { filterAt = 8 } = {}) {
   const copy = button('Copy', async () => {
     const text = [columns.map(it => it.head), ...shown.map(row => columns.map(it => it.of(row)))].map(it => it.join('\t')).join('\n');
     said.textContent = await copied(text) ? `${plural(shown.length, 'row')} copied` : 'this browser did not let the page copy';
-  }, { class: 'small' });
+  }, { class: 'small', 'aria-label': `Copy: ${caption}` });
   draw();
   const table = el('table', {}, el('caption', { class: 'aside' }, caption), el('thead', {}, el('tr', {}, heads)), body);
   return el('div', { class: 'table' }, el('div', { class: 'tools' }, el('b', {}, caption), rows.length >= filterAt && filter, copy, said),
