@@ -2,7 +2,7 @@
 const SETTINGS = [
   ['seed', '0 to 18446744073709551615', 'Draws the ranks that tell equal budgets apart, and the prices of a search that starts anew. Publish it, or how it is drawn, before the wishes close.'],
   ['spread', '0 to 49', 'Tokens between the budgets of neighbouring ranks. With 1 or more no two students of equal base and carry have equal budgets. A large spread makes the draw matter more.'],
-  ['accept', '0 to 1000000000000', 'The greatest error with which the search may end. The error is the sum, over all sections, of the square of the students too many, or of the seats left free where the price is not 0. If the search does not come so far, the run tells the least error that it saw.'],
+  ['accept', '0 to 1000000000000', 'The greatest clearing error with which the search may end: the sum, over all sections, of the square of the students too many, or of the seats left free where the price is not 0. If the search does not come so far, the run tells the least error that it saw.'],
   ['turns', '0 to 10000', 'How many turns the search has. The time of a run grows with it.'],
   ['tabu', '1 to 1000', 'For how many turns the search does not come back to what it has seen.'],
   ['patience', '1 to 10000', 'After how many turns without a better result the search starts anew from drawn prices.'],
