@@ -9,7 +9,8 @@ ghost use Rattle.market_words.specs.Forms.{HasForm};
 
 use crate::Status;
 use crate::ended::{Ended, Output};
-use crate::published::{Published, take_published};
+use crate::market::MarketNames;
+use crate::published::{Published, PublishedNames, take_published};
 use crate::trouble::Trouble;
 use certificate_checker::{CheckEnd, finding_line};
 use fairness_audit::published_audit;
@@ -39,15 +40,16 @@ pub fn audit<R: Threads + Wait + Sync, H: Shelf>(
         ended.status)
         (AreReadTo (map string_bytes words.now) (trace H.Shelf shelf.old shelf.new)) }
 {
-    let published = take_published(
-        alloc,
-        shelf,
-        words[2].as_str(),
-        words[3].as_str(),
-        words[4].as_str(),
-        words[5].as_str(),
-        &words[6..],
-    )?;
+    let names = PublishedNames {
+        market: MarketNames {
+            catalog: words[2].as_str(),
+            roll: words[3].as_str(),
+            settings: words[4].as_str(),
+        },
+        text: words[5].as_str(),
+        sessions: &words[6..],
+    };
+    let published = take_published(alloc, shelf, names)?;
     let Published {
         market,
         text,

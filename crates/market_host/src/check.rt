@@ -10,7 +10,8 @@ ghost use Rattle.market_words.specs.Forms.{HasForm};
 use crate::Status;
 use crate::ended::{Ended, Output};
 use crate::line::accepted;
-use crate::published::{Published, take_published};
+use crate::market::MarketNames;
+use crate::published::{Published, PublishedNames, take_published};
 use crate::trouble::Trouble;
 use certificate_checker::{CheckEnd, check_owned, finding_line};
 use market_edge::Shelf;
@@ -30,15 +31,16 @@ pub fn check<H: Shelf>(alloc: Global, words: &[String], shelf: &mut H) -> Result
         ended.status)
         (AreReadTo (map string_bytes words.now) (trace H.Shelf shelf.old shelf.new)) }
 {
-    let published = take_published(
-        alloc,
-        shelf,
-        words[1].as_str(),
-        words[2].as_str(),
-        words[3].as_str(),
-        words[4].as_str(),
-        &words[5..],
-    )?;
+    let names = PublishedNames {
+        market: MarketNames {
+            catalog: words[1].as_str(),
+            roll: words[2].as_str(),
+            settings: words[3].as_str(),
+        },
+        text: words[4].as_str(),
+        sessions: &words[5..],
+    };
+    let published = take_published(alloc, shelf, names)?;
     let Published {
         market,
         text,

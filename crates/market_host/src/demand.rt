@@ -20,7 +20,7 @@ ghost use Rattle.session_hall.specs.Streams.{command_count, command_lists};
 
 use crate::Status;
 use crate::ended::{Ended, Output};
-use crate::market::{Market, take_market};
+use crate::market::{Market, MarketNames, take_market};
 use crate::prices::take_prices;
 use crate::sessions::take_sessions;
 use crate::trouble::Trouble;
@@ -56,13 +56,12 @@ pub fn demand<R: Threads + Wait + Sync, H: Shelf>(
         ended.status)
         (AreReadTo (map string_bytes words.now) (trace H.Shelf shelf.old shelf.new)) }
 {
-    let market = take_market(
-        alloc,
-        shelf,
-        words[2].as_str(),
-        words[3].as_str(),
-        words[4].as_str(),
-    )?;
+    let names = MarketNames {
+        catalog: words[2].as_str(),
+        roll: words[3].as_str(),
+        settings: words[4].as_str(),
+    };
+    let market = take_market(alloc, shelf, names)?;
     let prices = take_prices(alloc, shelf, words[5].as_str(), 4, &market.catalog)?;
     let streams = take_sessions(alloc, shelf, &words[6..], 5)?;
     let text = text_of(rt, alloc, workers, &market, &prices, &streams, gate)?;

@@ -16,7 +16,8 @@ ghost use Rattle.market_host.specs.Traces.{AreReadTo, AreUsed, trace};
 use crate::Status;
 use crate::ended::{Ended, Output};
 use crate::line::unknown_name;
-use crate::published::{Published, take_published};
+use crate::market::MarketNames;
+use crate::published::{Published, PublishedNames, take_published};
 use crate::trouble::Trouble;
 use certificate_checker::{CheckEnd, finding_line};
 use explain_desk::published_reason;
@@ -50,15 +51,16 @@ pub fn explain<H: Shelf>(
         ended.status)
         (AreReadTo (map string_bytes words.now) (trace H.Shelf shelf.old shelf.new)) }
 {
-    let published = take_published(
-        alloc,
-        shelf,
-        words[1].as_str(),
-        words[2].as_str(),
-        words[3].as_str(),
-        words[4].as_str(),
-        &words[7..],
-    )?;
+    let names = PublishedNames {
+        market: MarketNames {
+            catalog: words[1].as_str(),
+            roll: words[2].as_str(),
+            settings: words[3].as_str(),
+        },
+        text: words[4].as_str(),
+        sessions: &words[7..],
+    };
+    let published = take_published(alloc, shelf, names)?;
     let ended = reason_for(alloc, published, &student, &section)?;
     Ok(ended)
 }

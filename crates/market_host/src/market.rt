@@ -25,34 +25,41 @@ pub struct Market {
     pub settings: Settings,
 }
 
+/// The words that name the inputs of a market.
+#[derive(Clone, Copy)]
+pub struct MarketNames<'w> {
+    pub catalog: &'w str,
+    pub roll: &'w str,
+    pub settings: &'w str,
+}
+
 /// The market that the inputs of these names are, which are the first three, or why there is none.
 pub fn take_market<H: Shelf>(
     alloc: Global,
     shelf: &mut H,
-    catalog: &str,
-    roll: &str,
-    settings: &str,
+    names: MarketNames,
 ) -> Result<Market, Trouble>
     ensures catalog { IfOk result
-        (λ market. IsRead kind.Catalog (H.holds shelf.old) catalog.now
+        (λ market. IsRead kind.Catalog (H.holds shelf.old) names.entry.catalog.now
         (λ text. catalog_of text ≡ Ok market.catalog)) }
     ensures roll { IfOk result
-        (λ market. IsRead kind.Roll (H.holds shelf.old) roll.now
+        (λ market. IsRead kind.Roll (H.holds shelf.old) names.entry.roll.now
         (λ text. roll_of text ≡ Ok market.roll)) }
     ensures settings { IfOk result
-        (λ market. IsRead kind.Settings (H.holds shelf.old) settings.now
+        (λ market. IsRead kind.Settings (H.holds shelf.old) names.entry.settings.now
         (λ text. settings_of (without_mark text) ≡ Ok market.settings)) }
     ensures in_range { IfOk result (λ market. AreInRange market.settings) }
     ensures trouble { IfErr result
-        (IsTroubleOfMarket (sight H.Shelf shelf.old shelf.new) catalog.now roll.now settings.now) }
+        (IsTroubleOfMarket (sight H.Shelf shelf.old shelf.new) names.entry.catalog.now
+        names.entry.roll.now names.entry.settings.now) }
     ensures holds { H.holds shelf.new ≡ H.holds shelf.old }
     ensures later { (other : List ℕ) → H.faults shelf.old other ≤ H.faults shelf.new other }
     ensures used { Uses (trace H.Shelf shelf.old shelf.new)
-        (catalog.now ∷ roll.now ∷ settings.now ∷ []) 1 result }
+        (names.entry.catalog.now ∷ names.entry.roll.now ∷ names.entry.settings.now ∷ []) 1 result }
 {
-    let catalog: Catalog = take_input(alloc, shelf, catalog, 1)?;
-    let roll: Roll = take_input(alloc, shelf, roll, 2)?;
-    let settings: Settings = take_input(alloc, shelf, settings, 3)?;
+    let catalog: Catalog = take_input(alloc, shelf, names.catalog, 1)?;
+    let roll: Roll = take_input(alloc, shelf, names.roll, 2)?;
+    let settings: Settings = take_input(alloc, shelf, names.settings, 3)?;
     Ok(Market {
         catalog,
         roll,

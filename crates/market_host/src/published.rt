@@ -13,7 +13,7 @@ ghost use Rattle.market_host.specs.Traces.{Uses, trace};
 ghost use Rattle.market_host.specs.Troubles.{IsAtEnd};
 
 use crate::inputs::read_input;
-use crate::market::{Market, take_market};
+use crate::market::{Market, MarketNames, take_market};
 use crate::sessions::take_sessions;
 use crate::trouble::Trouble;
 use market_edge::Shelf;
@@ -30,49 +30,56 @@ pub struct Published {
     pub streams: Vec<Vec<Command>>,
 }
 
+/// The words that name the inputs of such a call.
+#[derive(Clone, Copy)]
+pub struct PublishedNames<'w> {
+    pub market: MarketNames<'w>,
+    pub text: &'w str,
+    pub sessions: &'w [String],
+}
+
 /// The market, the text and the sessions that the inputs of these names are, which are all inputs,
 /// or what stops the reading.
 pub fn take_published<H: Shelf>(
     alloc: Global,
     shelf: &mut H,
-    catalog: &str,
-    roll: &str,
-    settings: &str,
-    text: &str,
-    sessions: &[String],
+    names: PublishedNames,
 ) -> Result<Published, Trouble>
-    requires count { (1 ≤ length sessions.now) × (length sessions.now ≤ 64) }
+    requires count { (1 ≤ length names.sessions.now) × (length names.sessions.now ≤ 64) }
     ensures catalog { IfOk result
-        (λ published. IsRead kind.Catalog (H.holds shelf.old) catalog.now
+        (λ published. IsRead kind.Catalog (H.holds shelf.old) names.entry.market.catalog.now
         (λ bytes. catalog_of bytes ≡ Ok published.market.catalog)) }
     ensures roll { IfOk result
-        (λ published. IsRead kind.Roll (H.holds shelf.old) roll.now
+        (λ published. IsRead kind.Roll (H.holds shelf.old) names.entry.market.roll.now
         (λ bytes. roll_of bytes ≡ Ok published.market.roll)) }
     ensures settings { IfOk result
-        (λ published. IsRead kind.Settings (H.holds shelf.old) settings.now
+        (λ published. IsRead kind.Settings (H.holds shelf.old) names.entry.market.settings.now
         (λ bytes. settings_of (without_mark bytes) ≡ Ok published.market.settings)) }
     ensures in_range { IfOk result (λ published. AreInRange published.market.settings) }
     ensures text { IfOk result
-        (λ published. IsRead kind.Published (H.holds shelf.old) text.now
+        (λ published. IsRead kind.Published (H.holds shelf.old) names.entry.text.now
         (λ bytes. bytes ≡ published.text.items)) }
     ensures sessions { IfOk result
         (λ published. (texts : List (List ℕ)) × (room : ℕ)
-        × AreReadSessions (H.holds shelf.old) (map string_bytes sessions.now) texts
+        × AreReadSessions (H.holds shelf.old) (map string_bytes names.entry.sessions.now) texts
         published.streams.items room) }
     ensures trouble { IfErr result
-        (IsTroubleOfPublished (sight H.Shelf shelf.old shelf.new) catalog.now roll.now settings.now
-        text.now (map string_bytes sessions.now)) }
+        (IsTroubleOfPublished (sight H.Shelf shelf.old shelf.new) names.entry.market.catalog.now
+        names.entry.market.roll.now names.entry.market.settings.now names.entry.text.now
+        (map string_bytes names.entry.sessions.now)) }
     ensures end { OnOk result
-        (IsLastAtEnd (sight H.Shelf shelf.old shelf.new) (map string_bytes sessions.now)) }
+        (IsLastAtEnd (sight H.Shelf shelf.old shelf.new)
+        (map string_bytes names.entry.sessions.now)) }
     ensures holds { H.holds shelf.new ≡ H.holds shelf.old }
     ensures later { (other : List ℕ) → H.faults shelf.old other ≤ H.faults shelf.new other }
     ensures used { Uses (trace H.Shelf shelf.old shelf.new)
-        (catalog.now ∷ roll.now ∷ settings.now ∷ text.now ∷ map string_bytes sessions.now) 1
-        result }
+        (names.entry.market.catalog.now ∷ names.entry.market.roll.now
+        ∷ names.entry.market.settings.now ∷ names.entry.text.now
+        ∷ map string_bytes names.entry.sessions.now) 1 result }
 {
-    let market = take_market(alloc, shelf, catalog, roll, settings)?;
-    let text = take_text(alloc, shelf, text, 4)?;
-    let streams = take_sessions(alloc, shelf, sessions, 5)?;
+    let market = take_market(alloc, shelf, names.market)?;
+    let text = take_text(alloc, shelf, names.text, 4)?;
+    let streams = take_sessions(alloc, shelf, names.sessions, 5)?;
     Ok(Published {
         market,
         text,

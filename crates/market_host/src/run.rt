@@ -10,7 +10,7 @@ ghost use Rattle.market_words.specs.Forms.{HasForm};
 use crate::Status;
 use crate::ended::{Ended, Output};
 use crate::line::no_prices;
-use crate::market::take_market;
+use crate::market::{MarketNames, take_market};
 use crate::sessions::take_sessions;
 use crate::trouble::Trouble;
 use market_edge::{Gate, Shelf};
@@ -41,13 +41,12 @@ pub fn run<R: Threads + Wait + Sync, H: Shelf>(
         ended.status)
         (AreReadTo (map string_bytes words.now) (trace H.Shelf shelf.old shelf.new)) }
 {
-    let market = take_market(
-        alloc,
-        shelf,
-        words[2].as_str(),
-        words[3].as_str(),
-        words[4].as_str(),
-    )?;
+    let names = MarketNames {
+        catalog: words[2].as_str(),
+        roll: words[3].as_str(),
+        settings: words[4].as_str(),
+    };
+    let market = take_market(alloc, shelf, names)?;
     let streams = take_sessions(alloc, shelf, &words[5..], 4)?;
     match held_text(
         rt,
