@@ -114,7 +114,7 @@ async function lookAtWishes(parts, to) {
 
 async function registrarView() {
   const { parts, faults, lacks } = await partsOf(app.files, ['catalogue', 'roll']), to = el('div', { class: 'answer', id: 'run-answer', 'aria-live': 'polite' });
-  const about = 'This makes the published text of the catalogue, the roll, the settings and the sessions. The files stay on this machine.';
+  const about = 'This makes the text that is to be published, out of the catalogue, the roll, the settings and the sessions. The files stay on this machine.';
   const head = [el('h2', { tabindex: '-1' }, 'Run a market'), p(about)];
   if (lacks.length || faults.length) return [...head, p(faults.join(' ') || `First give the files above. Missing: ${listed(lacks)}.`)];
   const values = parts.settings ? settingsIn(decoded(parts.settings.bytes)) : {};

@@ -244,7 +244,7 @@ function envyPart(market, student) {
 const part = (title, ...children) => el('section', {}, el('h3', {}, title), ...children);
 
 const STAGES = 'First a search finds prices, in tokens. The second stage raises them until no section has more students than seats; at these prices each student gets the best bundle that its budget buys. '
-  + 'In the aftermarket budgets are raised, and at its turn a student takes the best of what it holds and what is free. Turns go by budget, the greatest first, and pass follows pass until one changes nothing. What is held then is held “in the end”: drop and add come later and are not in this text. '
+  + 'The seats that are left free go in the aftermarket, at the same prices, with raised budgets: at its turn a student takes the best of what it holds and what is free. Turns go by budget, the greatest first, and pass follows pass until one changes nothing. What is held then is held “in the end”: drop and add come later and are not in this text. '
   + 'A bundle is worth the sum of its ratings and adjustments.';
 
 // All of one student.
