@@ -18,7 +18,7 @@ use crate::ended::Ended;
 use crate::explain::explain;
 use crate::hall::hall;
 use crate::line::{line_for, usage};
-use crate::make::make;
+use crate::make::{Numbers, make};
 use crate::prefer::prefer;
 use crate::quote::quote;
 use crate::run::run;
@@ -128,6 +128,14 @@ fn answer<R: Threads + Wait + Sync, H: Shelf>(
             students,
             sections,
             accept,
-        } => Ok(make(rt, alloc, workers, seed, students, sections, accept, gate)?),
+        } => {
+            let numbers = Numbers {
+                seed,
+                students,
+                sections,
+                accept,
+            };
+            Ok(make(rt, alloc, workers, numbers, gate)?)
+        }
     }
 }
