@@ -8,8 +8,9 @@ function findingPart(finding, parts) {
   const from = Math.max(0, Math.min(start - 60, text.length)), shown = byte === null
     ? [shortenedLine(text)]
     : [from ? '.. ' : '', text.slice(from, start), el('mark', {}, text[start] ?? ' '), text.slice(start + 1, start + 80)];
-  const said = p(`It is line ${line} of the published text (the program's words: `, code(`finding: ${finding}`), '):');
-  return [said, el('pre', { class: 'place', tabindex: '0' }, shown)];
+  const place = `line ${line}${byte === null ? '' : `, column ${start + 1}`} of ${parts.text.name}`;
+  const said = p(`This is ${place} (the program's words: `, code(`finding: ${finding}`), '):');
+  return [said, el('pre', { class: 'place', tabindex: '0', role: 'region', 'aria-label': place }, shown)];
 }
 
 const shortenedLine = it => it.length > 300 ? it.slice(0, 297) + '..' : it;
@@ -20,11 +21,11 @@ function figuresPart(market) {
   const lines = [
     ['Checked in', timed(market.ms)],
     ['Students, sections, sessions', `${roll.length}, ${catalogue.length}, ${market.parts.sessions.length}`],
-    ['Error at the prices of the search', `${text.error} (the settings accept ${market.settings.accept})`],
-    ['Error of the second stage', String(errorOf(counts, catalogue, text.prices))],
-    ['Seats taken, second stage and end', `${sum(counts)} and ${sum(endCounts)} of ${seats}`],
-    ['Students without a section, second stage and end', `${text.bundles.filter(it => !it.names.length).length} and ${text.finals.filter(it => !it.length).length}`],
-    ['Turns of the aftermarket, and those that changed something', `${text.turns.length} in ${passes}, ${changes.length}`],
+    ['Clearing error, search', `${text.error} (the settings accept ${market.settings.accept})`],
+    ['Clearing error, second stage', String(errorOf(counts, catalogue, text.prices))],
+    ['Seats taken', `${sum(counts)} in the second stage, ${sum(endCounts)} in the end, of ${seats}`],
+    ['Students without a section', `${text.bundles.filter(it => !it.names.length).length} in the second stage, ${text.finals.filter(it => !it.length).length} in the end`],
+    ['Turns of the aftermarket', `${text.turns.length} in ${passes}; ${changes.length} changed something`],
   ];
   return el('dl', { class: 'figures' }, lines.map(([name, value]) => el('div', {}, el('dt', {}, name), el('dd', {}, value))));
 }
@@ -36,9 +37,9 @@ function sectionTable(market) {
   return tableOf('Sections: prices and seats', [
     { head: 'Section', of: it => it.name, isText: true },
     { head: 'Price', of: it => it.price, show: it => el('span', { class: 'with-bar' }, String(it.price), bar(it.price / top)) },
-    { head: 'Price of the search', of: it => it.start },
-    { head: 'Second stage', of: it => it.second, show: it => taken(it.second, it) },
-    { head: 'In the end', of: it => it.end, show: it => taken(it.end, it) },
+    { head: 'Price, search', of: it => it.start },
+    { head: 'Taken, second stage', of: it => it.second, show: it => taken(it.second, it) },
+    { head: 'Taken, in the end', of: it => it.end, show: it => taken(it.end, it) },
     { head: 'Seats', of: it => it.seats },
     { head: 'Credits', of: it => it.credits },
     { head: 'Meets', of: it => meetingWords(it), isText: true },
@@ -55,12 +56,12 @@ function studentTable(market) {
   return tableOf('Students: budgets and bundles', [
     { head: 'Student', of: it => it.name, isText: true, show: it => button(it.name, () => app.showStudent(it.name), { class: 'link' }) },
     { head: 'Budget', of: it => it.budget },
-    { head: 'Spent', of: it => it.spent },
-    { head: 'Rated', of: it => it.rated },
-    { head: 'Second stage', of: it => it.second.join(', ') || 'nothing', show: it => namesCell(it.second), isText: true },
-    { head: 'Worth', of: it => it.worth },
-    { head: 'In the end', of: it => it.end.join(', ') || 'nothing', show: it => namesCell(it.end), isText: true },
-    { head: 'Worth in the end', of: it => it.endWorth },
+    { head: 'Sections rated', of: it => it.rated },
+    { head: 'Bundle, second stage', of: it => it.second.join(', ') || 'nothing', show: it => namesCell(it.second), isText: true },
+    { head: 'Prices together, second stage', of: it => it.spent },
+    { head: 'Worth, second stage', of: it => it.worth },
+    { head: 'Bundle, in the end', of: it => it.end.join(', ') || 'nothing', show: it => namesCell(it.end), isText: true },
+    { head: 'Worth, in the end', of: it => it.endWorth },
   ], rows);
 }
 
@@ -73,6 +74,8 @@ function drawn(tag, properties, ...children) {
   return made;
 }
 
+const PRICES = 'A section has one price in the second stage and in the aftermarket. “Price, search” is what the text gives as the price before the second stage raised some; the check does not judge it.';
+
 // The budgets from the least to the greatest, a dot for each student.
 function budgetsPart(market) {
   const budgets = [...market.text.budgets].sort((one, other) => one - other), [least, most] = [budgets[0] ?? 0, budgets.at(-1) ?? 0];
@@ -80,8 +83,8 @@ function budgetsPart(market) {
   const up = it => high - 25 - (high - 40) * (most > least ? (it - least) / (most - least) : 0.5);
   const label = (x, y, text, anchor) => drawn('text', { x, y, 'text-anchor': anchor }, text);
   const middle = budgets[Math.floor(budgets.length / 2)];
-  const words = budgets.length ? `Budgets from the least, ${least}, to the greatest, ${most}; the middle one is ${middle}.` : 'No students.';
-  const picture = drawn('svg', { viewBox: `0 0 ${wide} ${high}`, class: 'chart', role: 'img', 'aria-label': words },
+  const words = budgets.length ? `The budgets of the second stage, before the raise, a dot for each student: from ${least} to ${most}, the middle one is ${middle}.` : 'There are no students.';
+  const picture = drawn('svg', { viewBox: `0 0 ${wide} ${high}`, class: 'chart', 'aria-hidden': 'true' },
     drawn('line', { x1: side, y1: high - 25, x2: wide - 5, y2: high - 25 }), drawn('line', { x1: side, y1: 10, x2: side, y2: high - 25 }),
     ...budgets.map((it, at) => drawn('circle', { cx: across(at), cy: up(it), r: budgets.length > 300 ? 1.2 : 2.5 })),
     label(side - 6, up(least), String(least), 'end'), label(side - 6, up(most) + 8, String(most), 'end'),
@@ -100,19 +103,19 @@ function changesTable(market) {
 }
 
 const MEANING = [
-  'The printed order takes each session\'s commands in its own order, and all of them.',
-  'The budgets are the ones that the seed draws.',
-  'At the printed prices each student has the best bundle that the budget buys, and the tree beside it proves so.',
-  'No section has more students than seats, at any time.',
-  'Each turn of the aftermarket is the due one and goes to the best of what is held and free; the last pass changes nothing.',
-  'The final bundles and the used seats are those that follow.',
+  'The published order takes all commands of each session, in the session\'s own order.',
+  'The budgets are those that the roll, the settings and the draw of the seed give.',
+  'In the second stage each student has the best bundle that its budget buys at the published prices; the tree beside it proves so.',
+  'At no time has a section more students than seats.',
+  'Each turn of the aftermarket is the one that is due, and takes the best of what the student holds and what is free; the last pass changes nothing.',
+  'What is held in the end, and the used seats, follow from that.',
 ];
 
 function meaningPart() {
   return [
     el('ul', {}, MEANING.map(it => el('li', {}, it))),
-    p('It does not mean that the prices came from the search, that they are the fairest, or that the sessions came in that order: '
-      + 'the lines “start” and “error” are read and not judged.'),
+    p('It does not mean that the prices came from the search, are the fairest or have the published error, nor that the sessions spoke in that order: '
+      + 'the lines “start” and “error” of the text are read and not judged.'),
   ];
 }
 
@@ -129,7 +132,7 @@ function auditorView(market) {
   return [
     el('h2', { tabindex: '-1' }, 'The whole text'),
     part('The check', figuresPart(market), opening('What “this text holds” means', meaningPart), opening('Which files were checked', () => hashesTable(market))),
-    part('Prices and seats', sectionTable(market)),
+    part('Prices and seats', p(PRICES), sectionTable(market)),
     part('Budgets', ...budgetsPart(market)),
     part('The aftermarket', changesTable(market)),
     part('All students', studentTable(market)),

@@ -36,7 +36,7 @@ SCRIPTS = (
 )
 EXAMPLE = ("catalogue.csv", "roll.csv", "settings.json", "published.txt", "desk.session", "web.session")
 UNPROVED = "This page was built without proofs, for work on the page alone. Trust nothing that it says."
-PROVED = "The program in this page is compiled from the LLVM module of the proved program for Linux. What is proved of that, and what is trusted beside it, the README of Course Match says."
+PROVED = "The program in this page is compiled from the LLVM module of the proved program for Linux. The README of Course Match says what is proved of that program, and what has to be trusted besides."
 
 
 def packed(data: bytes) -> str:

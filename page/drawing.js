@@ -5,7 +5,7 @@ const points = thousandths => (thousandths / 1000).toFixed(3).replace(/\.?0+$/, 
 
 function leftWords(walk, chosen) {
   const left = leftOf(walk, chosen);
-  return `${plural(left.b, 'token is', 'tokens are')} left of ${walk.budget}, ${plural(left.c, 'credit')} and ${plural(left.m, 'section')}`;
+  return `left are ${left.b} of ${plural(walk.budget, 'token')}, ${left.c} of ${plural(walk.credits, 'credit')} and ${left.m} of ${plural(walk.courses, 'section')}`;
 }
 
 // The line of one section that may not be taken, or of several.
@@ -22,7 +22,7 @@ const RESOURCES = { b: ['token', 'tokens'], c: ['credit', 'credits'], m: ['secti
 // The words of a leaf that a bound closes.
 function boundWords(walk, chosen, from, node) {
   const it = boundOf(walk, chosen, from, node), most = Math.floor(it.bound / 1000), isTie = most === walk.worth && losesTies(walk, chosen, from);
-  const tie = 'of two of equal worth the one with the earlier section is preferred, and that is the bundle.';
+  const tie = 'of bundles of equal worth the one with the earlier section is preferred, and that is the bundle.';
   const end = `So at most ${most}, ${isTie ? `no more than the ${walk.worth} of the bundle; ${tie}` : `less than the ${walk.worth} of the bundle: no more need be looked at.`}`;
   if (node.symbol === 'n') {
     const more = it.brought.map(that => `${that.worth} (${that.name})`).join(' + ');
@@ -59,7 +59,7 @@ function leafLine(walk, chosen, from, node) {
 function takenLine(walk, chosen, node, place) {
   const now = [...chosen, place], it = walk.menu.places[place];
   const isOnTheWay = now.every(that => walk.champion.includes(that)) && walk.champion.every(that => that > place || now.includes(that));
-  const must = node.symbol === '!' ? ' has to be taken' : '', rest = `${must} (rated ${it.rating}, costs ${it.price}): ${leftWords(walk, now)}`;
+  const must = node.symbol === '!' ? ', which has to be taken' : '', rest = `${must} (rating ${it.rating}, price ${it.price}): ${leftWords(walk, now)}`;
   const summary = [el('span', { class: 'sign' }, node.symbol), ' with ', el('b', {}, it.name), rest];
   return el('li', { class: isOnTheWay ? 'way' : '' }, opening(summary, () => levelOf(walk, now, place + 1, node.with), isOnTheWay));
 }
@@ -77,6 +77,22 @@ function levelOf(walk, chosen, from, node) {
   return el('ul', { class: 'tree' }, lines);
 }
 
+const KEY = [
+  ['+', 'the section may be taken: below the line stands what follows with it, on the next line what follows without it'],
+  ['-', 'the section may not be taken, or the sections, one sign for each'],
+  ['!', 'the section that is asked for comes next, and has to be taken'],
+  ['x', 'the section that is asked for can no more be taken'],
+  ['*', 'this is the bundle that the tree proves to be the best'],
+  ['n', 'what is chosen, with all that may still come, is no better than the bundle'],
+  ['b', 'what is chosen, with all that the tokens left can bring, is no better than the bundle; the number is the place by whose worth a token is counted'],
+  ['c', 'the same with the credits left'],
+  ['m', 'the same with the number of sections left'],
+];
+
+// What the signs of a tree mean, of those that it has.
+const keyOf = text => el('ul', { class: 'plain quiet', 'aria-label': 'What the signs mean' },
+  KEY.filter(([sign]) => text.includes(sign)).map(([sign, words]) => el('li', {}, el('span', { class: 'sign' }, sign), ` ${words}`)));
+
 // The whole drawing, with the tree's text and the table of its places.
 function drawingOf(walk, text) {
   const places = tableOf('The places of the tree', [
@@ -86,8 +102,8 @@ function drawingOf(walk, text) {
     { head: 'Price', of: it => it.price },
   ], walk.menu.places, { filterAt: 20 });
   return [
-    p('From the top down each line takes a section or does without it: a line that opens shows what follows when the section is taken, '
-      + `the next line what follows without it. ${leftWords(walk, [])} at first.`),
+    p(`Read from the top down. A line that opens takes its section, and shows what follows; the next line does without it. At first ${leftWords(walk, [])}.`),
+    keyOf(text),
     levelOf(walk, [], 0, nodesOf(text)),
     opening('The tree as it is published, and its places', () => [el('p', { class: 'tree-text' }, code(text)), places]),
   ];

@@ -72,6 +72,7 @@ function compare(one, other) {
 // A table of rows. A column is { head, of, show, isText }: `of` gives the value by which a row sorts and which is copied,
 // `show` what stands in the cell, if that is another thing.
 function tableOf(caption, columns, rows, { filterAt = 8 } = {}) {
+  if (!rows.length) return p(el('b', {}, caption), ': nothing');
   let shown = rows, by = null, isFalling = false;
   const body = el('tbody'), said = el('span', { role: 'status', class: 'quiet' });
   const classOf = column => column.isText ? '' : 'number';
@@ -95,7 +96,7 @@ function tableOf(caption, columns, rows, { filterAt = 8 } = {}) {
   const copy = button('Copy', async () => {
     const text = [columns.map(it => it.head), ...shown.map(row => columns.map(it => it.of(row)))].map(it => it.join('\t')).join('\n');
     said.textContent = await copied(text) ? `${plural(shown.length, 'row')} copied` : 'this browser did not let the page copy';
-  }, { class: 'small' });
+  }, { class: 'small', 'aria-label': `Copy: ${caption}` });
   draw();
   const table = el('table', {}, el('caption', { class: 'aside' }, caption), el('thead', {}, el('tr', {}, heads)), body);
   return el('div', { class: 'table' }, el('div', { class: 'tools' }, el('b', {}, caption), rows.length >= filterAt && filter, copy, said),

@@ -6,11 +6,13 @@ const KINDS = {
 const NEEDED = { catalogue: 'the catalogue', roll: 'the roll', settings: 'the settings', text: 'the published text' };
 const BY_NAME = [[/catalog/i, 'catalogue'], [/roll|student/i, 'roll'], [/setting/i, 'settings'], [/publish/i, 'text'], [/session/i, 'session']];
 
-function kindOfJson(text) {
+// What a manifest lists, each with its role, file and sha256; null where these bytes are no manifest.
+function entriesIn(bytes) {
   try {
-    return Array.isArray(JSON.parse(text).inputs) ? 'manifest' : 'settings';
+    const { inputs, text } = JSON.parse(decoded(bytes));
+    return [...inputs, ...text ? [{ ...text, role: 'text' }] : []].filter(it => Object.hasOwn(KINDS, it.role));
   } catch {
-    return 'settings';
+    return null;
   }
 }
 
@@ -18,7 +20,7 @@ function kindOfJson(text) {
 function kindOf(name, bytes) {
   const head = decoded(bytes.subarray(0, 65536)), first = head.split(/\r\n|\r|\n/, 1)[0];
   if (head.startsWith('course-match ')) return 'text';
-  if (/^\s*\{/.test(head)) return kindOfJson(decoded(bytes));
+  if (/^\s*\{/.test(head)) return entriesIn(bytes) ? 'manifest' : 'settings';
   if (/section.*course/i.test(first)) return 'catalogue';
   if (/student.*budget/i.test(first)) return 'roll';
   if (/^section.*price/i.test(first)) return 'other';
@@ -57,12 +59,13 @@ const baseName = path => String(path).split(/[\\/]/).at(-1);
 
 // The files that a manifest names, in its order; the faults are in words.
 async function byManifest(manifest, files) {
-  const { inputs, text } = JSON.parse(decoded(manifest.bytes)), found = { sessions: [] }, faults = [];
-  for (const { role, file, sha256 } of [...inputs, ...(text ? [{ role: 'text', ...text }] : [])]) {
+  const entries = entriesIn(manifest.bytes), found = { sessions: [] }, faults = entries ? [] : [`${manifest.name} is taken for a manifest and is none.`];
+  for (const { role, file, sha256 } of entries ?? []) {
     const named = files.find(it => it.name === baseName(file));
     if (!named) { faults.push(`${manifest.name} names ${baseName(file)}, which is not among the files.`); continue; }
     const sum = await hashOf(named.bytes);
     if (sum && sha256 && sum !== String(sha256).toLowerCase()) faults.push(`${named.name} is not the file that ${manifest.name} tells of: its SHA-256 is another.`);
+    named.kind = role;
     if (role === 'session') found.sessions.push(named);
     else found[role] = named;
   }
@@ -81,6 +84,6 @@ async function partsOf(files, wanted = Object.keys(NEEDED)) {
     if (!found[kind] && of(kind).length > 1) faults.push(`Several files are taken for ${NEEDED[kind]} (${listed(of(kind).map(it => it.name))}): remove all but one.`);
   }
   const lacks = wanted.filter(kind => !parts[kind]).map(kind => NEEDED[kind]);
-  if (!parts.sessions.length) lacks.push('the sessions (what the students said)');
+  if (!parts.sessions.length) lacks.push('the sessions (what the students wished)');
   return { parts, faults, lacks, isOrdered };
 }

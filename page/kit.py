@@ -89,8 +89,14 @@ def proved_module(crate: Path, room: Path) -> Path:
 
 
 def is_left_by_gate(crate: Path) -> bool:
-    """Whether the program and all libraries that it stands on are there, as `rt ci` leaves them."""
-    return (crate / "out" / crate.name).is_file() and all(it.is_dir() for it in libraries_of(crate)[1].values())
+    """Whether the program and all libraries that it stands on are there, as `rt ci` leaves them, and nothing that they are
+    made of was changed since."""
+    program, below = crate / "out" / crate.name, libraries_of(crate)[1]
+    if not program.is_file() or not all(it.is_dir() for it in below.values()):
+        return False
+    folders = [crate.parent / name / part for name in (crate.name, *below) for part in ("src", "specs", "proofs", "c")]
+    sources = [crate.parent.parent / "crates.txt", *(it for folder in folders for it in folder.rglob("*"))]
+    return all(it.stat().st_mtime <= program.stat().st_mtime for it in sources)
 
 
 def libraries_of(crate: Path) -> tuple[list[str], dict[str, Path]]:

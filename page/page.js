@@ -4,19 +4,21 @@ const app = { files: [], market: null, about: null, program: null, view: 'studen
 // Runs one call of the program, and tells that it works and for how long.
 app.work = async (title, call) => {
   app.works++;
-  $('working-words').textContent = `${title} ..`;
+  app.title = `${title} ..`;
   app.begun ??= performance.now();
   app.clock ??= setInterval(() => {
     const ms = performance.now() - app.begun;
     if (ms > 300) $('working').hidden = false;
+    for (const it of ['working-words', 'working-said']) if (ms > 300 && $(it).textContent !== app.title) $(it).textContent = app.title;
     $('working-time').textContent = ms < 1000 ? '' : `${Math.floor(ms / 1000)} s`;
   }, 100);
   const answer = await app.program.ask(call, app.limit);
   if (--app.works === 0) {
     clearInterval(app.clock);
     [app.clock, app.begun] = [null, null];
+    if ($('working').contains(document.activeElement)) $(`to-${app.view}`).focus();
     $('working').hidden = true;
-    $('working-words').textContent = '';
+    $('working-said').textContent = '';
   }
   return answer;
 };
@@ -51,6 +53,14 @@ function fileRow(file) {
   return el('li', { class: file.kind }, el('span', { class: 'name' }, file.name), kind, up, remove);
 }
 
+// Draws the list of the files anew; what has the focus in it has it again.
+function drawFiles() {
+  const list = $('file-list'), label = list.contains(document.activeElement) && document.activeElement.getAttribute('aria-label');
+  list.replaceChildren(...app.files.map(fileRow));
+  $('files-count').textContent = app.files.length ? `: ${app.files.length}` : '';
+  if (label) ([...list.querySelectorAll('[aria-label]')].find(it => it.getAttribute('aria-label') === label) ?? $('choose')).focus();
+}
+
 function removeFile(at) {
   app.files.splice(at, 1);
   app.check();
@@ -77,8 +87,9 @@ async function checkedIn(parts, isOrdered) {
 }
 
 function lacksWords(lacks) {
-  const canRun = lacks.every(it => it === NEEDED.text || it === NEEDED.settings);
-  return p(`Missing: ${listed(lacks)}. ${canRun ? '“Run a market” makes it of the others.' : ''}`);
+  const canRun = lacks.every(it => it === NEEDED.text || it === NEEDED.settings), strange = app.files.filter(it => it.kind === 'unknown').map(it => it.name);
+  return [p(`Missing: ${listed(lacks)}. ${canRun ? 'With “Run a market” you can make that from the other files.' : ''}`),
+    strange.length ? p(`What ${listed(strange)} is, the page cannot tell: choose it in the list of the files.`) : ''];
 }
 
 app.check = async () => {
@@ -86,17 +97,17 @@ app.check = async () => {
   if (number !== app.checks) return;
   app.market = app.finding = null;
   $('verdict').replaceChildren();
-  $('file-list').replaceChildren(...app.files.map(fileRow));
-  $('files-count').textContent = app.files.length ? `: ${app.files.length}` : '';
-  if (!app.files.length || lacks.length || faults.length) {
-    verdict('open', app.files.length ? 'Not all files are there yet' : '', ...faults.map(it => p(it)), app.files.length && lacks.length ? lacksWords(lacks) : '');
+  drawFiles();
+  if (!app.files.length) return app.draw();
+  if (lacks.length || faults.length) {
+    verdict('open', faults.length ? 'The files do not fit together' : 'Not all files are there yet', ...faults.map(it => p(it)), lacks.length ? lacksWords(lacks) : '');
     return app.draw();
   }
-  const checked = await checkedIn(parts, isOrdered);
+  const checked = await checkedIn(parts, isOrdered), { market, refusal } = checked.answer.status === 0 ? await marketOf(checked) : { refusal: checked };
   if (number !== app.checks) return;
-  if (checked.answer.status !== 0) return refused(checked);
-  await accepted(checked);
-  if (number === app.checks) app.draw();
+  if (market) accepted(market);
+  else refused(refusal);
+  app.draw();
 };
 
 function refused({ answer, call, parts }) {
@@ -104,27 +115,31 @@ function refused({ answer, call, parts }) {
   app.finding = told.finding;
   const again = answer.status === 'stopped' && button('Check again', () => app.check());
   verdict('wrong', told.title, p(told.words), told.finding ? findingPart(told.finding, parts) : '', told.help ? p(told.help) : '', again || '');
-  app.draw();
 }
 
-// Puts together what the views need; what the students want comes from the program, by the order of the text.
-async function accepted({ answer, parts }) {
+// Puts together what the views need of a text that holds; what the students want comes from the program, by the order of the text.
+async function marketOf({ answer, parts }) {
   const catalogue = catalogueIn(parts), roll = rollIn(parts), text = publishedOf(decoded(parts.text.bytes), catalogue, roll);
   const session = { name: 'all sessions in the order of the text', kind: 'session', bytes: merged(text.order, parts.sessions) };
-  const call = callOf('prefer', { ...parts, sessions: [session] }), preferred = await app.work('Asking the desk', call);
-  if (preferred.status !== 0) return refused({ answer: preferred, call, parts });
+  const call = callOf('prefer', { ...parts, sessions: [session] }), preferred = await app.work('Reading what the students want', call);
+  if (preferred.status !== 0) return { refusal: { answer: preferred, call, parts } };
   const files = [parts.catalogue, parts.roll, parts.settings, parts.text, ...parts.sessions];
   for (const it of files) it.sum ??= await hashOf(it.bytes);
-  app.market = {
+  return { market: {
     parts, catalogue, roll, text, files, ms: answer.ms,
     settings: JSON.parse(decoded(parts.settings.bytes)), wishes: preferencesOf(preferred.text),
     sectionOf: new Map(catalogue.map(it => [it.name, it])),
     counts: countsOf(text.bundles.map(it => it.names), catalogue), endCounts: countsOf(text.finals, catalogue),
-  };
+  } };
+}
+
+function accepted(market) {
+  const { parts, roll, catalogue, ms } = app.market = market;
+  if ($('files').contains(document.activeElement)) $('files').querySelector('summary').focus();
   $('files').open = false;
-  verdict('right', 'This text holds', p(`${parts.text.name} was checked in ${timed(answer.ms)}: ${plural(roll.length, 'student')}, ${plural(catalogue.length, 'section')}. `
-    + 'Each student has the best bundle that the budget buys at the printed prices, no section has more students than seats, '
-    + 'and each turn of the aftermarket is as it has to be.'));
+  verdict('right', 'This text holds', p(`${parts.text.name} was checked in ${timed(ms)}: ${plural(roll.length, 'student')}, ${plural(catalogue.length, 'section')}. `
+    + 'In the second stage each student has the best bundle that its budget buys at the published prices. '
+    + 'At each turn of the aftermarket the student takes the best of what it holds and what is free. At no time has a section more students than seats.'));
 }
 
 // Student's view: the name is chosen by typing.
@@ -133,7 +148,7 @@ function chooser(market) {
   const names = el('datalist', { id: 'student-names' }, market.roll.map(it => el('option', { value: it.name })));
   input.addEventListener('input', () => { if (market.roll.some(it => it.name === input.value)) app.showStudent(input.value, false); });
   return el('form', { class: 'chooser', onsubmit: event => { event.preventDefault(); app.showStudent(input.value); } },
-    el('label', { for: 'student-name' }, 'Name of the student'), input, names, el('button', { class: 'main' }, 'Show'));
+    el('label', { for: 'student-name' }, 'Name of the student'), input, names, el('button', { class: 'main' }, 'Show'), el('div', { id: 'student-said', role: 'status' }));
 }
 
 app.showStudent = (typed, focuses = true) => {
@@ -142,16 +157,20 @@ app.showStudent = (typed, focuses = true) => {
   if (app.view !== 'student') app.show('student');
   if (!found) {
     delete $('student-answer').dataset.name;
-    $('student-answer').replaceChildren(p(near.length && name ? `Which of them: ${shortList(near.map(it => it.name))}?` : 'No student of the roll has this name.'));
+    $('student-answer').replaceChildren();
+    $('student-said').replaceChildren(...near.length && name ? whichOf(near) : ['No student of the roll has this name.']);
     return;
   }
+  $('student-said').textContent = focuses ? '' : 'shown below';
   $('student-name').value = found.name;
   if ($('student-answer').dataset.name !== found.name) $('student-answer').replaceChildren(...studentView(app.market, found.at));
   $('student-answer').dataset.name = found.name;
   if (focuses) $('student-answer').querySelector('h2').focus({ preventScroll: false });
 };
 
-const GIVE = 'Give the published files above first: when the text holds, what it says stands here.';
+const whichOf = near => ['Which of them? ', ...near.slice(0, 12).flatMap(it => [button(it.name, () => app.showStudent(it.name), { class: 'link' }), ' ']), near.length > 12 ? `and ${near.length - 12} more` : ''];
+
+const GIVE = 'First give the published files above. When their text holds, this part shows what it says.';
 const NOTHING = 'The text does not hold, so nothing of it is shown here.';
 
 app.draw = async () => {
@@ -180,6 +199,7 @@ async function takeExample() {
 }
 
 function listen() {
+  addEventListener('unhandledrejection', event => verdict('wrong', 'The page failed', p(String(event.reason))));
   $('choose').addEventListener('change', async event => {
     await app.take(await Promise.all([...event.target.files].map(loaded)));
     event.target.value = '';
@@ -194,9 +214,9 @@ function listen() {
     $('drop').classList.remove('over');
     await app.take(await Promise.all((await filesDropped(event.dataTransfer)).map(loaded)));
   });
-  // What is closed on the screen is open on paper.
+  // Of the questions that were asked, those that are closed on the screen are open on paper.
   const closed = [];
-  addEventListener('beforeprint', () => { for (const it of document.querySelectorAll('details.question:not([open])')) { it.open = true; closed.push(it); } });
+  addEventListener('beforeprint', () => { for (const it of document.querySelectorAll('details.question:not([open]):has(.answer)')) { it.open = true; closed.push(it); } });
   addEventListener('afterprint', () => { for (const it of closed.splice(0)) it.open = false; });
 }
 
@@ -204,6 +224,7 @@ async function begin() {
   app.about = JSON.parse($('about').textContent);
   if (!hasMemory64()) {
     $('old-browser').hidden = false;
+    document.querySelector('main').hidden = true;
     return;
   }
   app.program = new Program(await WebAssembly.compile(await unpacked('module')), $('worker').textContent);

@@ -1,12 +1,12 @@
 // What a registrar does here: chooses settings, looks what the desk replies, runs the market and saves what it publishes.
 const SETTINGS = [
   ['seed', '0 to 18446744073709551615', 'Draws the ranks that tell equal budgets apart, and the prices of a search that starts anew. Publish it, or how it is drawn, before the wishes close.'],
-  ['spread', '0 to 49', 'Tokens between the budgets of neighbouring ranks. With 1 or more no two students of equal base and carry have equal budgets; a large one is a lottery that matters.'],
-  ['accept', '0 to 1000000000000', 'The greatest error with which the search may end: the sum of the squares of what is wanted above the seats, or below them where the price is not 0. If it is not reached, the run tells the least error that it saw.'],
+  ['spread', '0 to 49', 'Tokens between the budgets of neighbouring ranks. With 1 or more no two students of equal base and carry have equal budgets. A large spread makes the draw matter more.'],
+  ['accept', '0 to 1000000000000', 'The greatest clearing error with which the search may end: the sum, over all sections, of the square of the students too many, or of the seats left free where the price is not 0. If the search does not come so far, the run tells the least error that it saw.'],
   ['turns', '0 to 10000', 'How many turns the search has. The time of a run grows with it.'],
   ['tabu', '1 to 1000', 'For how many turns the search does not come back to what it has seen.'],
   ['patience', '1 to 10000', 'After how many turns without a better result the search starts anew from drawn prices.'],
-  ['steps', '1 to 16 numbers, each 1 to 100000', 'By so many tokens for each student too many the search raises all prices at once, one try for each number. Each is one more question to all students, each turn.'],
+  ['steps', '1 to 16 numbers, each 1 to 100000', 'Each number is one try of the search: it raises each price by so many tokens for each student too many, or lowers it by so many for each free seat, all sections at once. Each is one more question to all students, each turn.'],
   ['raise', '0 to 50', 'By how many percent budgets rise in the aftermarket, where the free seats go.'],
 ];
 const USUAL = { seed: '2026', spread: '7', accept: '60', turns: '120', tabu: '30', patience: '25', steps: '3, 12, 50', raise: '10' };
@@ -54,7 +54,7 @@ function lookPart(answer, parts) {
     silent.length ? `${plural(silent.length, 'student wants', 'students want')} nothing: ${shortList(silent)}.` : 'Each student wants something.',
     unwanted.length ? `Nobody wants ${shortList(unwanted)}.` : 'Each section is wanted by somebody.',
   ];
-  if (several.length) lines.push(`${plural(several.length, 'student is', 'students are')} named in more than one session (${shortList(several)}): the end may depend on who came first.`);
+  if (several.length) lines.push(`${plural(several.length, 'student is', 'students are')} named in more than one session (${shortList(several)}): what they want at the end may depend on which session is heard first.`);
   const table = replies.length ? tableOf('Commands that the desk did not carry out', [
     { head: 'File', of: it => it.file, isText: true },
     { head: 'Line', of: it => it.row },
@@ -96,7 +96,8 @@ async function runMarket(parts, settings, to) {
   const text = { name: 'published.txt', kind: 'text', bytes: answer.out }, all = { ...parts, settings };
   const manifest = await manifestOf(all, text, answer.ms);
   to.replaceChildren(el('h3', {}, 'The market has prices'),
-    p(`The run took ${timed(answer.ms)}. Publish the text with the catalogue, the roll, the settings and the sessions; whoever has them can check it.`),
+    p(`The run took ${timed(answer.ms)}. Publish the text with the catalogue, the roll, the settings and the sessions: whoever has them can check it. `
+      + 'The manifest, which the registrar\'s tools read, has the names of these files and the SHA-256 of each.'),
     el('p', { class: 'buttons' },
       button('Save the published text', () => save('published.txt', text.bytes)),
       button('Save the settings', () => save('settings.json', settings.bytes)),
@@ -105,7 +106,7 @@ async function runMarket(parts, settings, to) {
 }
 
 async function lookAtWishes(parts, to) {
-  const call = callOf('prefer', parts), answer = await app.work('Asking the desk', call);
+  const call = callOf('prefer', parts), answer = await app.work('Reading what the students want', call);
   if (answer.status === 0) return to.replaceChildren(el('h3', {}, 'What the desk replies'), ...lookPart(answer.text, parts).filter(Boolean));
   const told = answerWords(answer, call);
   to.replaceChildren(el('h3', {}, told.title), p(told.words), told.help ? p(told.help) : '');
@@ -113,14 +114,14 @@ async function lookAtWishes(parts, to) {
 
 async function registrarView() {
   const { parts, faults, lacks } = await partsOf(app.files, ['catalogue', 'roll']), to = el('div', { class: 'answer', id: 'run-answer', 'aria-live': 'polite' });
-  const about = 'From the catalogue, the roll, the settings and the sessions to the text that is published. The files stay on this machine.';
+  const about = 'This makes the text that is to be published, out of the catalogue, the roll, the settings and the sessions. The files stay on this machine.';
   const head = [el('h2', { tabindex: '-1' }, 'Run a market'), p(about)];
-  if (lacks.length || faults.length) return [...head, p(faults.join(' ') || `Give the files above first; missing: ${listed(lacks)}.`)];
+  if (lacks.length || faults.length) return [...head, p(faults.join(' ') || `First give the files above. Missing: ${listed(lacks)}.`)];
   const values = parts.settings ? settingsIn(decoded(parts.settings.bytes)) : {};
   const form = el('form', { onsubmit: event => { event.preventDefault(); runMarket(parts, settingsFile(formValues(form)), to); } }, settingsForm(values),
     el('p', { class: 'buttons' },
       button('Look at the wishes', () => lookAtWishes(parts, to)),
       el('button', { class: 'main' }, 'Run the market')));
   const used = listed([parts.catalogue, parts.roll, ...parts.sessions].map(it => it.name));
-  return [...head, p(`It takes ${used}. Sessions are heard one after the other here, in the order of the list above.`), form, to];
+  return [...head, p(`It takes ${used}. Here the sessions are heard one after the other, in the order of the list above.`), form, to];
 }

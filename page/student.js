@@ -1,15 +1,18 @@
 // What a student sees: the own budget, bundle, turns and end, why a better section is not there, the trees, and envy.
 
+// Why a section is not in the bundle that a student bought in the second stage.
 const REASONS = {
-  held: it => `The bundle of the second stage has ${it.section}. It was given up in the aftermarket for a bundle that ${it.student} likes better: see the turns.`,
-  unrated: it => `${it.student} gave ${it.section} no rating above 0, so did not ask for it.`,
-  'alone price': it => `${it.section} costs ${it.price}. Alone it costs more than the whole budget of ${it.budget}.`,
-  'alone credits': it => `${it.section} alone has more credits (${it.credits}) than the cap of ${it.caps.credits}.`,
+  held: it => `${it.student} bought ${it.section} in the second stage, and gave it up in the aftermarket for a bundle that it prefers: see “Stage by stage”.`,
+  unrated: it => `${it.student} gave ${it.section} no rating above 0, and so did not ask for it.`,
+  'alone price': it => `The price of ${it.section} is ${it.price}, more than the whole budget of ${it.budget}.`,
+  'alone credits': it => `${it.section} has ${plural(it.credits, 'credit')}, more than the cap of ${it.caps.credits}.`,
   'alone courses': it => `The roll allows ${it.student} no section at all.`,
-  'beside price': it => `${it.section} costs ${it.price}. Beside what ${it.student} has in the second stage (${it.held}, together ${it.spent}) it passes the budget of ${it.budget}.`,
-  'beside credits': it => `Beside what ${it.student} has in the second stage (${it.held}) its ${plural(it.credits, 'credit')} pass the cap of ${it.caps.credits}.`,
-  'beside courses': it => `${it.student} has ${it.held} in the second stage, and one section more passes the cap of ${it.caps.courses}.`,
-  less: it => `${it.student} could have had ${it.section} besides all else, and did not want to: the given adjustments make the bundle worth less with it.`,
+  'beside price': it => `The price of ${it.section} is ${it.price}. ${it.student} bought ${it.held}, whose prices together are ${it.spent}. `
+    + `Of its budget of ${it.budget} that leaves ${it.budget - it.spent}, too little for ${it.section} besides.`,
+  'beside credits': it => `${it.section} has ${plural(it.credits, 'credit')}. With what ${it.student} bought (${it.held}) that passes the cap of ${it.caps.credits} credits.`,
+  'beside courses': it => `${it.student} bought ${it.held}. With ${it.section} that passes the cap of ${plural(it.caps.courses, 'section')}.`,
+  clash: it => `${it.section} ${it.clash} ${it.other}, which ${it.student} bought.`,
+  less: it => `${it.student} could have had ${it.section} besides what it bought, but by its own adjustments that is worth no more.`,
 };
 
 // Whether each question is answered at once; of a larger market it is, each, when it is asked.
@@ -29,30 +32,35 @@ function reasonWords(market, student, section, told) {
   const it = {
     student: name, section, price: market.text.prices[of.at], credits: of.credits, caps: market.roll[student],
     budget: market.text.budgets[student], held: listed(held), spent: priceOf(market, held),
+    other: told.other, clash: told.other && clashOf(of, market.sectionOf.get(told.other)),
   };
-  if (told.reason !== 'clash') return REASONS[told.reason](it);
-  return `${section} ${clashOf(of, market.sectionOf.get(told.other))} ${told.other}, which ${name} has in the second stage.`;
+  return REASONS[told.reason](it);
 }
 
 function bestWords(market, student, section, told) {
-  const { name } = market.roll[student], cost = priceOf(market, told.best), worth = told.worth + told.lost;
-  const more = told.lost ? `${told.lost} more` : 'as much; of two bundles of equal worth the one with the earlier section of the catalogue is taken';
-  return `The best that ${name} could have had with it is ${listed(told.best)}, worth ${told.worth} by the own ratings, for ${cost} of the ${market.text.budgets[student]} tokens. `
-    + `What ${name} has in the second stage is worth ${worth}, ${more}.`;
+  const { name } = market.roll[student], worth = told.worth + told.lost;
+  const more = told.lost ? `${told.lost} more` : 'as much; of bundles of equal worth the best is the one with the earliest section, in the order of the catalogue, that only one of them has';
+  return `With ${section} the best bundle that the budget buys is ${listed(told.best)} (prices together ${priceOf(market, told.best)}), worth ${told.worth} by the ratings of ${name}. `
+    + `What ${name} bought is worth ${worth}, ${more}.`;
 }
 
-// What became of a section at the turns of the student in the aftermarket, where it was not held.
-function laterWords(market, student, section) {
-  const turns = turnsOf(market, student).filter(it => !it.names.includes(section)), { name } = market.roll[student];
-  const { seats } = market.sectionOf.get(section), free = seats - market.counts.get(section);
-  const passes = turns.filter(it => it.allowed.has(section)).map(it => it.pass);
-  if (!turns.length) return null;
-  if (passes.length) {
-    return `In the aftermarket a seat of ${section} was free at the turn of ${name} in pass ${listed(passes)}. The bundle that was taken there is the best that the raised budget of `
-      + `${raisedBudget(market, student)} buys of what was held and free: its tree proves it.`;
+const passWords = ({ first, last }) => first === last ? `pass ${first}` : `passes ${first} to ${last}`;
+
+// How many seats of a section were free when, and what that says of the student's turns in the aftermarket.
+function laterParts(market, student, section) {
+  const { name } = market.roll[student], { seats } = market.sectionOf.get(section), turns = turnsOf(market, student), runs = [];
+  for (const { pass, free } of turns) {
+    if (runs.at(-1)?.free === free.get(section)) runs.at(-1).last = pass;
+    else runs.push({ first: pass, last: pass, free: free.get(section) });
   }
-  const left = free ? `After the second stage ${free} of its ${seats} seats ${free === 1 ? 'was' : 'were'} free. ` : '';
-  return `${left}In the aftermarket turns go by budget, the greatest first, and at no turn of ${name} was a seat of ${section} free.`;
+  const count = it => it > 0 ? it : 'none', after = seats - market.counts.get(section), isFree = runs.some(it => it.free > 0);
+  const why = isFree
+    ? `Where a seat was free and ${name} did not take it, the best bundle that its raised budget of ${raisedBudget(market, student)} buys of what it held and what was free is one without ${section}: the tree of that turn proves it.`
+    : `In each pass turns go by budget, the greatest first, and the turn of ${name} is number ${turns[0].number + 1} of ${market.roll.length}.${after ? ' Others had taken the free seats before it.' : ''}`;
+  return [p(el('b', {}, 'Free seats'), ` of ${section}, of ${seats} in all:`), el('ul', {},
+    el('li', {}, `at the end of the second stage: ${count(after)}`),
+    runs.map(it => el('li', {}, `in the aftermarket, at the turn of ${name} in ${passWords(it)}: ${count(it.free)}`)),
+    el('li', {}, `in the end: ${count(seats - market.endCounts.get(section))}`)), p(why)];
 }
 
 const raisedBudget = (market, student) => market.text.budgets[student] + Math.floor(market.text.budgets[student] * market.settings.raise / 100);
@@ -60,22 +68,21 @@ const raisedBudget = (market, student) => market.text.budgets[student] + Math.fl
 async function explained(market, student, section) {
   const call = callOf('explain', market.parts, [market.roll[student].name, section]), answer = await app.work(`Asking about ${section}`, call);
   if (answer.status !== 0) return [p(answerWords(answer, call).words)];
-  const told = explanationOf(answer.text), parts = [p(reasonWords(market, student, section, told))];
+  const told = explanationOf(answer.text), parts = [p(el('b', {}, 'Second stage. '), reasonWords(market, student, section, told))];
   if (told.best) parts.push(p(bestWords(market, student, section, told)));
-  const later = told.reason === 'held' || told.reason === 'unrated' ? null : laterWords(market, student, section);
-  if (later) parts.push(p(later));
+  if (told.reason !== 'held' && told.reason !== 'unrated') parts.push(...laterParts(market, student, section));
   if (told.tree) {
     const walk = walkOf(market, student, { budget: market.text.budgets[student], champion: told.best, forced: section });
-    parts.push(opening(`The proof that no better bundle with ${section} was to be had`, () => drawingOf(walk, told.tree)));
+    parts.push(opening(`The tree that proves that no bundle with ${section} was better`, () => drawingOf(walk, told.tree)));
   }
   return parts;
 }
 
 function budgetWords(market, student) {
   const { name, base, carry } = market.roll[student], budget = market.text.budgets[student], { spread } = market.settings;
-  const drawn = budget - base - carry, rank = spread ? ` (${spread} tokens for each of the ${drawn / spread} students that the draw ranks below)` : '';
+  const drawn = budget - base - carry, rank = spread ? ` (${spread} for each of the ${plural(drawn / spread, 'student')} whom the draw ranks lower)` : '';
   return `${budget} tokens: ${base} by the roll${carry ? `, ${carry} carried over` : ''}, and ${drawn} by the draw${rank}. `
-    + `In the aftermarket it is raised by ${market.settings.raise} percent to ${raisedBudget(market, student)}.`;
+    + `In the aftermarket it is raised by ${market.settings.raise} percent, to ${raisedBudget(market, student)}.`;
 }
 
 // The rows of what the student rated or holds, in the order of the catalogue.
@@ -104,15 +111,14 @@ function adjustmentWords(market, student) {
   return p(`Together worth more, or less, than apart: ${pairs.map(([one, other, worth]) => `${one} with ${other} ${worth > 0 ? '+' : ''}${worth}`).join('; ')}.`);
 }
 
-// Both stages as a table: what was bought, what it cost, what it is worth.
+// Each stage with its bundle, the prices of that together, the budget, and what the bundle is worth.
 function stageRows(market, student) {
   const menu = menuOf(market, student), { text } = market, budget = text.budgets[student];
-  const row = (stage, names, of) => ({ stage, names, cost: priceOf(market, names), of, worth: worthOf(menu, names.map(it => menu.of.get(it))) });
+  const row = (stage, names, of) => ({ stage, names, prices: priceOf(market, names), of, worth: worthOf(menu, names.map(it => menu.of.get(it))) });
   return [
-    { ...row('Second stage', text.bundles[student].names, budget), change: 'bought at the prices' },
-    ...passesOf(market, student).map(({ first, last, turn }) => ({
-      ...row(`Aftermarket, ${first === last ? `pass ${first}` : `passes ${first} to ${last}`}`, turn.names, raisedBudget(market, student)),
-      change: changeWords(turn.before, turn.names),
+    { ...row('Second stage', text.bundles[student].names, budget), change: 'bought' },
+    ...passesOf(market, student).map(it => ({
+      ...row(`Aftermarket, ${passWords(it)}`, it.turn.names, raisedBudget(market, student)), change: changeWords(it.turn.before, it.turn.names),
     })),
     { ...row('In the end', text.finals[student], raisedBudget(market, student)), change: '' },
   ];
@@ -141,7 +147,7 @@ function stageTable(market, student) {
   return tableOf('Each stage', [
     { head: 'Stage', of: it => it.stage, isText: true },
     { head: 'Bundle', of: it => it.names.join(', ') || 'nothing', show: it => namesCell(it.names), isText: true },
-    { head: 'Costs', of: it => it.cost },
+    { head: 'Prices together', of: it => it.prices },
     { head: 'Budget', of: it => it.of },
     { head: 'Worth', of: it => it.worth },
     { head: 'Change', of: it => it.change, isText: true },
@@ -165,16 +171,21 @@ function missedSections(market, student) {
 
 // One question that opens with its answer.
 function question(market, student, it, isOpen = false) {
-  return opening(['Why not ', el('b', {}, it.name), `? (rated ${it.rating}, costs ${it.price})`], () => {
-    const answer = el('div', { class: 'answer', 'aria-live': 'polite' }, 'Asking ..');
+  return opening(['Why not ', el('b', {}, it.name), `? (rating ${it.rating}, price ${it.price})`], () => {
+    const answer = el('div', { class: 'answer', 'aria-live': isOpen ? null : 'polite' }, 'Asking ..');
     explained(market, student, it.name).then(parts => answer.replaceChildren(...parts));
     return answer;
   }, isOpen, { class: 'question' });
 }
 
+function missedWords(name, end, higher) {
+  if (!end.length) return higher.length ? `${name} holds nothing in the end. It rated these sections:` : `${name} rated nothing.`;
+  return higher.length ? `${name} rated these sections higher than one that it holds in the end:` : `${name} rated no other section higher than one that it holds in the end.`;
+}
+
 function whyPart(market, student) {
   const { higher, others } = missedSections(market, student), { name } = market.roll[student], isQuick = isSmall(market);
-  const other = el('div');
+  const other = el('div', { 'aria-live': 'polite' });
   const chooser = el('select', { id: 'other-section', onchange: event => {
     const section = market.sectionOf.get(event.target.value);
     const rating = market.wishes.get(name)?.ratings.get(section.name) ?? 0;
@@ -182,9 +193,9 @@ function whyPart(market, student) {
   } }, el('option', { value: '', disabled: true, selected: true }, 'choose a section'),
   market.catalogue.filter(it => !market.text.finals[student].includes(it.name)).map(it => el('option', { value: it.name }, it.name)));
   return [
-    p(higher.length ? `${name} rated ${plural(higher.length, 'section')} higher than one that is held in the end:` : `${name} rated no section higher than those that are held in the end.`),
+    p(missedWords(name, market.text.finals[student], higher)),
     higher.map(it => question(market, student, it, isQuick)),
-    others.length ? opening(`${plural(others.length, 'section')} rated no higher`, () => others.map(it => question(market, student, it))) : null,
+    others.length ? opening(`${plural(others.length, 'section')} that ${name} rated no higher`, () => others.map(it => question(market, student, it))) : null,
     el('p', { class: 'ask' }, el('label', { for: 'other-section' }, 'Ask about another section: '), chooser), other,
   ];
 }
@@ -203,13 +214,13 @@ function envyOf(answer) {
 
 function envyWords(market, student, part, when) {
   const { name } = market.roll[student], { counts: [lower, higher, beyond], sees } = market.envy[part].get(name);
-  if (!lower && !higher) return p(`${when} ${name} would not rather have what any other student has.`);
-  const of = [lower && `${plural(lower, 'student')} whose budget is no greater`, higher && `${plural(higher, 'student')} whose budget is greater`].filter(Boolean);
+  if (!lower && !higher) return p(`${when} ${name} envies nobody.`);
+  const of = [lower && `${plural(lower, 'student')} of a budget no greater than its own`, higher && `${plural(higher, 'student')} of a greater budget`].filter(Boolean);
   const first = lower + higher > 1 ? 'The first of them is' : 'It is', tokens = market.text.budgets[market.roll.findIndex(it => it.name === sees.other)];
-  const end = sees.but ? `But for ${sees.but} it would be no better.` : 'Leaving out one section does not end that.';
-  const more = beyond && sees.but ? ` (With ${beyond} of them leaving out one section does not end it.)` : '';
-  return p(`${when} ${name} would rather have what ${listed(of)} got. ${first} ${sees.other} with ${tokens} tokens: of those sections ${name} could use ${listed(sees.names)}, `
-    + `which are worth more to ${name} than the own ones. ${end}${more}`);
+  const end = sees.but ? `Without ${sees.but} it would not envy ${sees.other}.` : `It would envy ${sees.other} without any one of these sections too.`;
+  const more = beyond && sees.but ? ` (${beyond} of them it would envy without any one of their sections too.)` : '';
+  return p(`${when} ${name} envies ${listed(of)}. ${first} ${sees.other}, whose budget is ${tokens}: of the sections of ${sees.other} ${name} could use ${listed(sees.names)}, `
+    + `which are worth more to ${name} than its own bundle. ${end}${more}`);
 }
 
 async function showEnvy(market, student, to) {
@@ -219,21 +230,22 @@ async function showEnvy(market, student, to) {
     market.envy = envyOf(answer.text);
   }
   to.replaceChildren(envyWords(market, student, 'settled', 'In the second stage'), envyWords(market, student, 'final', 'In the end'),
-    el('p', { class: 'quiet' }, 'By the own ratings, timetable and caps. In the second stage nobody would rather have what a student has whose budget is no greater; '
-      + 'in the end that may be, since free seats go by turns.'));
+    el('p', { class: 'quiet' }, 'A student envies another if what it can use of the other\'s bundle is worth more to it, by its own ratings, than its own bundle. '
+      + 'In the second stage nobody envies a student of a budget no greater than its own. In the end that can be, since free seats go by turns.'));
 }
 
 function envyPart(market, student) {
-  const to = el('div', { 'aria-live': 'polite' });
-  if (market.envy || isSmall(market)) showEnvy(market, student, to);
+  const isAtOnce = market.envy || isSmall(market), to = el('div', { 'aria-live': isAtOnce ? null : 'polite' });
+  if (isAtOnce) showEnvy(market, student, to);
   else to.append(button('Look whom each student envies (this may take minutes)', () => showEnvy(market, student, to)));
   return to;
 }
 
 const part = (title, ...children) => el('section', {}, el('h3', {}, title), ...children);
 
-const STAGES = 'First prices are found, and raised until no section has more students than seats: at these prices each student buys the best bundle that the own budget of tokens affords. '
-  + 'That is the second stage. Then the seats that are left go by turns, the greatest budget first, until a whole pass changes nothing: that is the aftermarket. A bundle is worth the sum of its ratings and adjustments.';
+const STAGES = 'First a search finds prices, in tokens. The second stage raises them until no section has more students than seats; at these prices each student gets the best bundle that its budget buys. '
+  + 'The seats that are left free go in the aftermarket, at the same prices, with raised budgets: at its turn a student takes the best of what it holds and what is free. Turns go by budget, the greatest first, and pass follows pass until one changes nothing. What is held then is held “in the end”: drop and add come later and are not in this text. '
+  + 'A bundle is worth the sum of its ratings and adjustments.';
 
 // All of one student.
 function studentView(market, student) {
@@ -246,7 +258,7 @@ function studentView(market, student) {
     part('Why not?', ...whyPart(market, student)),
     part('Ratings and prices', ratedTable(market, student), adjustmentWords(market, student)),
     part('The proof that nothing better was to be had',
-      p('Beside each bundle a tree is published. It goes through all bundles that the budget buys, and shows that none is better.'), treesPart(market, student)),
+      p('Beside each bundle a tree is published. It goes through all bundles that the budget buys (in the aftermarket, of what is held and what is free), and so proves that none is better.'), treesPart(market, student)),
     part('What others have', envyPart(market, student)),
   ];
 }

@@ -59,7 +59,7 @@ function overlaps(one, other) {
   return one.day === other.day && one.from < other.to && other.from < one.to;
 }
 
-// Why two different sections can not be taken together, in words; null where they can.
+// Why two different sections cannot be taken together, in words; null where they can.
 function clashOf(one, other) {
   if (one.course === other.course) return 'is of the same course as';
   const shares = [...one.parts].some(it => other.parts.includes(it));

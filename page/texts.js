@@ -43,14 +43,15 @@ function countsOf(bundles, catalogue) {
   return counts;
 }
 
-// Each turn with what was held before it, and which sections were then to be had: held or free.
+// Each turn with what was held before it, how many seats of each section were then free, and what was to be had: held or free.
 function turnsOf(market, student) {
   const held = market.text.bundles.map(it => it.names), counts = countsOf(held, market.catalogue), found = [];
   for (const turn of market.text.turns) {
     const before = held[turn.student];
     if (turn.student === student) {
-      const allowed = new Set(market.catalogue.filter(it => before.includes(it.name) || counts.get(it.name) < it.seats).map(it => it.name));
-      found.push({ ...turn, before, allowed });
+      const free = new Map(market.catalogue.map(it => [it.name, it.seats - counts.get(it.name)]));
+      const allowed = new Set([...free.keys()].filter(it => before.includes(it) || free.get(it) > 0));
+      found.push({ ...turn, before, free, allowed });
     }
     for (const it of before) counts.set(it, counts.get(it) - 1);
     for (const it of turn.names) counts.set(it, counts.get(it) + 1);

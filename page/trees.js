@@ -67,7 +67,7 @@ function closedBy(walk, chosen, place) {
     const clash = clashOf(section, walk.menu.places[it].section);
     if (clash) return `${clash} ${walk.menu.places[it].name}`;
   }
-  if (price > left.b) return `costs ${price}, and ${plural(left.b, 'token is', 'tokens are')} left`;
+  if (price > left.b) return `has the price ${price}, and ${plural(left.b, 'token is', 'tokens are')} left`;
   if (section.credits > left.c) return `has ${plural(section.credits, 'credit')}, and ${plural(left.c, 'credit is', 'credits are')} left`;
   if (left.m < 1) return `would be one section more than the ${walk.courses} that the roll allows`;
   return null;

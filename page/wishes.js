@@ -16,16 +16,16 @@ function countsIn(order) {
   return counts;
 }
 
-// The orders of the given sessions in which each has as many commands as the text says, at most `most`.
+// The orders of the given sessions in which each has as many commands as the text says, at most `most`. Where no order has,
+// that is seen before any is tried.
 function possibleOrders(sessions, order, most = 24) {
-  const counts = countsIn(order), sizes = sessions.map(it => commandsOf(it.bytes).length), found = [];
+  const counts = countsIn(order), sizes = sessions.map(it => commandsOf(it.bytes).length), wanted = sessions.map((_, at) => counts.get(at + 1) ?? 0), found = [];
   const go = chosen => {
     if (found.length === most) return;
     if (chosen.length === sessions.length) { found.push(chosen.map(it => sessions[it])); return; }
-    const wanted = counts.get(chosen.length + 1) ?? 0;
-    sizes.forEach((size, at) => { if (size === wanted && !chosen.includes(at)) go([...chosen, at]); });
+    sizes.forEach((size, at) => { if (size === wanted[chosen.length] && !chosen.includes(at)) go([...chosen, at]); });
   };
-  go([]);
+  if (String([...sizes].sort()) === String([...wanted].sort())) go([]);
   return found;
 }
 

@@ -37,43 +37,56 @@ function recordWords(kind, row, cause, text) {
   return at(cause === 'meetings' ? 5 : 6) + '.';
 }
 
+// Where a text stops to be JSON, if the browser tells it.
+function jsonPlace(text) {
+  try {
+    JSON.parse(text);
+  } catch (fault) {
+    const [, row, column] = /line (\d+) column (\d+)/.exec(fault.message) ?? [];
+    if (row) return `, line ${row}, column ${column}`;
+  }
+  return '';
+}
+
 function settingsWords(cause) {
   const [, key] = /(?:missing|range of) (\w+)$/.exec(cause) ?? [];
   if (cause === 'not json') return 'It is not JSON (a comma, a quote or a bracket too many or too few).';
   if (cause === 'not an object') return 'It is JSON, but no object: the settings stand between { and }.';
-  if (cause === 'unknown key') return `It has a setting that is none. There are these: ${listed(Object.keys(RANGES))}.`;
+  if (cause === 'unknown key') return `It has a setting that there is not. The settings are ${listed(Object.keys(RANGES))}.`;
   if (cause.startsWith('missing')) return `The setting ${key} is missing.`;
-  return `The setting ${key} is out of its range: ${key === 'steps' ? '' : 'a whole number, '}${RANGES[key]}. Expected without point, exponent or sign.`;
+  return `The setting ${key} is out of its range. Expected: ${key === 'steps' ? '' : 'a whole number, '}${RANGES[key]}, without point, exponent or sign.`;
 }
 
 function refusalWords(line, call) {
   const [, number, row, cause] = /^input (\d+) row (\d+): (.*)$/.exec(line), file = call.inputs[number - 1];
-  if (row === '0') return `${file.name}: ${settingsWords(cause)}`;
-  return `${file.name}, row ${row} (the header is row 1): ${recordWords(file.kind, Number(row), cause, decoded(file.bytes))}`;
+  const text = decoded(file.bytes);
+  if (row === '0') return `${file.name}${jsonPlace(text)}: ${settingsWords(cause)}`;
+  return `${file.name}, row ${row} (the header is row 1): ${recordWords(file.kind, Number(row), cause, text)}`;
 }
 
 const DEFECTS = {
-  syntax: 'no symbol stands there', open: 'the tree stops where it has to go on, or a better bundle was found', redundant: 'the tree goes on where it has to stop',
-  leaf: 'another bound closes it', branch: 'another of the symbols * + - has to stand there', rest: 'the tree is at its end, and more follows',
+  syntax: 'stands no sign of a tree', open: 'it stops where it has to go on, or a better bundle was found', redundant: 'it goes on where it has to stop',
+  leaf: 'another bound is due', branch: 'another of the signs * + - is due', rest: 'it is at its end, and more follows',
 };
+const treeWords = (whose, defect, at) => `The tree of ${whose} does not prove that the bundle is the best one: behind its first ${at} characters ${DEFECTS[defect]}.`;
 const FINDINGS = [
   [/^line (\d+) missing$/, 'A line is missing.'],
-  [/^line (\d+) form$/, 'The line has not the form that is due there. (A text that a spreadsheet or an editor saved with other line ends is another text.)'],
+  [/^line (\d+) form$/, 'The line does not have the form that is due there. (A text that a spreadsheet or an editor saved with other line ends is another text.)'],
   [/^line (\d+) rest$/, 'There is more behind the end.'],
-  [/^journal at (\d+)$/, it => `The order line does not take each session's commands in their order, and all of them: entry ${it} is wrong. A session may be missing, be another file, or stand in another place.`],
+  [/^journal at (\d+)$/, it => `The order line has to take all commands of each session, in their order; its entry ${it} does not. A session may be missing, be another file, or stand in another place of the list.`],
   [/^budget (\S+)$/, it => `The budget of ${it} is not what the roll, the settings and the draw give.`],
-  [/^student (\S+) unaffordable$/, it => `The bundle of ${it} costs more than the budget.`],
-  [/^student (\S+) infeasible$/, it => `${it} can not have this bundle: two sections clash, a cap is passed, or a section is not rated.`],
-  [/^student (\S+) tree (\w+) at (\d+)$/, (it, defect, at) => `The tree of ${it} does not prove that the bundle is the best one: at its symbol ${at} (counted from 0) ${DEFECTS[defect]}.`],
-  [/^seats (\S+) (\d+) of (\d+)$/, (it, used, seats) => `${it} has ${used} students in the second stage, and ${seats} seats.`],
-  [/^turn (\d+) order$/, it => `Turn ${it} is not the one that is due.`],
-  [/^turn (\d+) unaffordable$/, it => `The bundle of turn ${it} costs more than the raised budget.`],
-  [/^turn (\d+) infeasible$/, it => `The student of turn ${it} can not have this bundle: two sections clash, a cap is passed, or a section is not rated.`],
-  [/^turn (\d+) taken$/, it => `At turn ${it} one of the sections is neither held nor free.`],
-  [/^turn (\d+) tree (\w+) at (\d+)$/, (it, defect, at) => `The tree of turn ${it} does not prove that the bundle is the best one: at its symbol ${at} (counted from 0) ${DEFECTS[defect]}.`],
-  [/^not quiet after (\d+) turns$/, it => `The turns end after ${it}, before a whole pass without a change.`],
-  [/^final (\S+)$/, it => `The last bundle of ${it} is not the one after the last turn.`],
-  [/^used (\S+)$/, it => `The used seats of ${it} are not those that the last bundles take, or the seats are not the catalogue's.`],
+  [/^student (\S+) unaffordable$/, it => `The prices of the bundle of ${it} come to more than its budget.`],
+  [/^student (\S+) infeasible$/, it => `${it} cannot have this bundle: two sections clash, a cap is passed, or a section is not rated.`],
+  [/^student (\S+) tree (\w+) at (\d+)$/, treeWords],
+  [/^seats (\S+) (\d+) of (\d+)$/, (it, used, seats) => `In the second stage ${used} students have ${it}, which has ${seats} seats.`],
+  [/^turn (\d+) order$/, it => `Turn ${it} of the aftermarket is not the one that is due.`],
+  [/^turn (\d+) unaffordable$/, it => `The prices of the bundle of turn ${it} come to more than the raised budget.`],
+  [/^turn (\d+) infeasible$/, it => `The student of turn ${it} cannot have this bundle: two sections clash, a cap is passed, or a section is not rated.`],
+  [/^turn (\d+) taken$/, it => `At turn ${it} the student takes a section that it does not hold and that has no free seat.`],
+  [/^turn (\d+) tree (\w+) at (\d+)$/, (it, ...where) => treeWords(`turn ${it}`, ...where)],
+  [/^not quiet after (\d+) turns$/, it => `The aftermarket ends after ${it} turns, before a whole pass without a change.`],
+  [/^final (\S+)$/, it => `What ${it} holds in the end is not its bundle after its last turn.`],
+  [/^used (\S+)$/, it => `The used seats of ${it} are not those that the bundles in the end take, or its seats are not those of the catalogue.`],
 ];
 
 function findingWords(words) {
@@ -101,11 +114,11 @@ const AGAIN = 'Nothing is lost: correct it and give the files again. The first f
 
 // What an answer says, by its status: { title, words, help?, finding? }. `line` is its last line, `name` the file that it names.
 const TOLD = {
-  2: ({ name }) => ({ title: 'A file can not be read', words: `${name} can not be read.`, help: AGAIN }),
+  2: ({ name }) => ({ title: 'A file cannot be read', words: `${name} cannot be read.`, help: AGAIN }),
   3: ({ line, call }) => ({ title: 'A file is refused', words: refusalWords(line, call), help: AGAIN }),
   4: ({ name }) => ({
     title: 'A file is too long', help: AGAIN,
-    words: `${name} is too long: a file has at most 16,777,216 bytes (a published text 67,108,864), and all sessions together at most 200,000 commands.`,
+    words: `${name} is too long. A file has at most 16,777,216 bytes (a published text 67,108,864), and all sessions together have at most 200,000 commands.`,
   }),
   5: ({ line }) => ({
     title: 'No prices were found', help: 'Set “accept” to that number, or give it more “turns”, and run again with the same files.',

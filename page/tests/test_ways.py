@@ -111,13 +111,20 @@ class Ways(unittest.TestCase):
         for words in (
             "n.jones holds ACCT-611-B, FNCE-601-A and MGMT-691-B in the end",
             "4542 tokens: 4500 by the roll, and 42 by the draw",
-            "FNCE-717-A costs 3252. Beside what n.jones has in the second stage (ACCT-611-B, FNCE-601-A and HCMG-841-A, together 3914) it passes the budget of 4542.",
-            "ACCT-611-B and FNCE-717-A, worth 188 by the own ratings, for 4103 of the 4542 tokens",
+            "The price of FNCE-717-A is 3252. n.jones bought ACCT-611-B, FNCE-601-A and HCMG-841-A, whose prices together are 3914. "
+            "Of its budget of 4542 that leaves 628, too little for FNCE-717-A besides.",
+            "ACCT-611-B and FNCE-717-A (prices together 4103), worth 188 by the ratings of n.jones",
             "worth 260, 72 more",
-            "s.adler with 5018 tokens",
+            "at the end of the second stage: 8",
+            "in the aftermarket, at the turn of n.jones in passes 1 to 5: none",
+            "in the end: none",
+            "the turn of n.jones is number 100 of 100. Others had taken the free seats before it.",
+            "s.adler, whose budget is 5018",
             "ACCT-611-B, FNCE-601-A and MGMT-691-B, which are worth more",
+            "Without ACCT-611-B it would not envy s.adler.",
         ):
             self.assertIn(words, told)
+        self.assertNotIn("costs", told)
         self.pictures("student")
 
     def test_trees_are_read_as_the_guide_reads_them(self) -> None:
@@ -128,8 +135,8 @@ class Ways(unittest.TestCase):
         self.open_all("#student-answer")
         told = self.words("#student-answer")
         for words in (
-            "3691 tokens are left of 4542",
-            "1749 tokens are left of 4542",
+            "3691 of 4542 tokens, 6 of 8 credits and 4 of 5 sections",
+            "1749 of 4542 tokens",
             "FNCE-601-B is of the same course as FNCE-601-A",
             "What is chosen is worth 188. Nothing else can come to it.",
             "109 for 2989 tokens, 0.036 a token",
@@ -139,8 +146,9 @@ class Ways(unittest.TestCase):
             "= 260.508",
             "So at most 260, no more than the 260 of the bundle",
             "= 247.429",
-            "439 tokens are left",
-            "FNCE-717-A can no more be taken: it costs 3252, and 1749 tokens are left",
+            "439 of 4542 tokens",
+            "FNCE-717-A can no more be taken: it has the price 3252, and 1749 tokens are left",
+            "! the section that is asked for comes next, and has to be taken",
             "72 (HCMG-841-A)",
             "So at most 172, less than the 188 of the bundle",
         ):
@@ -183,11 +191,12 @@ class Ways(unittest.TestCase):
         )
         self.give(FILES, {"published.txt": spoilt})
         told = self.verdict("This text does not hold")
-        line = spoilt[: spoilt.index(b"bundle n.jones")].count(b"\n") + 1
+        at = spoilt.index(b"bundle n.jones")
+        line, column = spoilt[:at].count(b"\n") + 1, spoilt.index(b"] ", at) - at + 3 + 11
         for words in (
             "finding: student n.jones tree open at 11",
-            f"It is line {line} of the published text",
-            "The tree of n.jones does not prove",
+            f"This is line {line}, column {column} of published.txt",
+            "The tree of n.jones does not prove that the bundle is the best one: behind its first 11 characters it stops where it has to go on",
         ):
             self.assertIn(words, told)
         self.assertEqual("*", self.words("#verdict mark"))
@@ -249,9 +258,9 @@ class Ways(unittest.TestCase):
             ),
             (
                 {"settings.json": settings.replace(b'"spread": 7', b'"spread": 70')},
-                "settings.json: The setting spread is out of its range: a whole number, 0 to 49",
+                "settings.json: The setting spread is out of its range. Expected: a whole number, 0 to 49",
             ),
-            ({"settings.json": settings.replace(b"7,", b"7")}, "settings.json: It is not JSON"),
+            ({"settings.json": settings.replace(b"7,", b"7")}, "settings.json, line 4, column 3: It is not JSON"),
         ):
             with self.subTest(words=words):
                 self.give(FILES, changed)
@@ -284,7 +293,9 @@ class Ways(unittest.TestCase):
         self.tab.evaluate("app.files = []; app.check()")
         (self.room / "z.session").write_bytes(sessions[0] + b"# changed\n")
         self.tab.choose("#choose", sorted(self.room.iterdir()))
-        self.assertIn("z.session is not the file that manifest.json tells of", self.verdict("Not all files are there yet"))
+        self.assertIn("z.session is not the file that manifest.json tells of", self.verdict("The files do not fit together"))
+        self.tab.evaluate("app.files.find(it => it.kind === 'manifest').bytes = new Uint8Array(); app.check()")
+        self.assertIn("manifest.json is taken for a manifest and is none", self.verdict("The files do not fit together"))
 
     def test_old_browser_is_told_which_ones_can(self) -> None:
         script = self.tab.call("Page.addScriptToEvaluateOnNewDocument", source=NO_MEMORY64)["identifier"]
@@ -294,8 +305,10 @@ class Ways(unittest.TestCase):
         self.tab.call("Page.removeScriptToEvaluateOnNewDocument", identifier=script)
 
     def test_keyboard_reaches_everything(self) -> None:
-        self.click("Take the example term")
+        self.tab.evaluate("$('example').focus()")
+        self.tab.press("Enter", "\r")
         self.verdict("This text holds")
+        self.assertEqual("The files: 6", self.tab.evaluate("document.activeElement.textContent"))
         self.tab.evaluate("document.activeElement.blur(); scrollTo(0, 0)")
         reached = set()
         for _ in range(40):

@@ -14,8 +14,14 @@ use std::time::{Clock, Duration};
 
 mod adder;
 
+// How many threads share the history.
+const THREADS: u64 = 4;
+
 // How often each thread calls.
 const CALLS: u64 = 50;
+
+// How often a thread looks for the others before it calls without them.
+const TURNS: u32 = 1_000_000_000;
 
 // How long a step takes that makes the other threads sleep, in looks of theirs.
 const SLOW: u32 = 6000;
@@ -75,14 +81,47 @@ fn each_reply_is_the_sum(rt: HostRuntime) -> Result<(), Fail> {
     Ok(())
 }
 
-// Calls with requests from 1 to 4, by the seat's number.
-fn call_often<R: Wait>(rt: &R, chronicle: &Chronicle<Adder>, seat: &mut Seat<Adder>)
+// Where the threads meet before their first calls.
+#[derive(Drop)]
+struct Meeting {
+    come: AtomicU64,
+    missed: AtomicU64,
+}
+
+impl Meeting {
+    fn new() -> Self {
+        Meeting {
+            come: AtomicU64::new(0),
+            missed: AtomicU64::new(0),
+        }
+    }
+
+    // Waits until all threads have come, and counts a thread that waits in vain.
+    fn meet(&self) {
+        self.come.fetch_add(1, Ordering::SeqCst);
+        for _ in 0..TURNS {
+            if self.come.load(Ordering::SeqCst) == THREADS {
+                return;
+            }
+        }
+        self.missed.fetch_add(1, Ordering::SeqCst);
+    }
+}
+
+// Calls with requests from 1 to 4, by the seat's number, once all threads have come.
+fn call_often<R: Wait>(
+    rt: &R,
+    chronicle: &Chronicle<Adder>,
+    seat: &mut Seat<Adder>,
+    meeting: &Meeting,
+)
     requires chronicle { seat.old.chronicle ≡ Some chronicle.now }
     requires left { seat.old.left ≡ CALLS }
     ensures chronicle { seat.new.chronicle ≡ seat.old.chronicle }
     ensures number { seat.new.number ≡ seat.old.number }
 {
     let request = u32::from(seat.number() % 4) + 1;
+    meeting.meet();
     for _ in 0..CALLS {
         chronicle.call(rt, seat, request);
     }
@@ -93,6 +132,7 @@ fn call_all<R: Threads + Wait + Sync>(
     rt: &R,
     chronicle: &Chronicle<Adder>,
     seats: &mut [Seat<Adder>],
+    meeting: &Meeting,
 )
     requires { All (λ s. (s.chronicle ≡ Some chronicle.now) × (s.left ≡ CALLS)) seats.old }
     ensures chronicle { (i : ℕ) (d : _) → i < length seats.old
@@ -108,7 +148,7 @@ fn call_all<R: Threads + Wait + Sync>(
         rt,
         seats,
         threads,
-        &|_, seat| call_often(rt, chronicle, seat),
+        &|_, seat| call_often(rt, chronicle, seat, meeting),
     );
 }
 
@@ -132,15 +172,16 @@ fn count_calls(steps: &[Step<Adder>], seat: u16) -> Option<u64> {
 fn call_at_once<R: Threads + Wait + Sync>(
     rt: &R,
     alloc: Global,
+    meeting: &Meeting,
 ) -> Result<(Adder, Journal<Adder>), NoMemory> {
     let allotments = vec![in alloc; CALLS, CALLS, CALLS, CALLS]?;
     let adder = Adder {
         sum: 0,
-        room: 4 * CALLS,
+        room: THREADS * CALLS,
         pause: SLOW,
     };
     let (chronicle, mut seats) = Chronicle::start(alloc, adder, allotments)?;
-    call_all(rt, &chronicle, seats.as_mut_slice());
+    call_all(rt, &chronicle, seats.as_mut_slice(), meeting);
     let closed = close_in_order(chronicle, seats);
     Ok(closed)
 }
@@ -149,9 +190,10 @@ fn call_at_once<R: Threads + Wait + Sync>(
 fn call_and_tell<R: Threads + Wait + Sync>(
     rt: &R,
     alloc: Global,
+    meeting: &Meeting,
     is_done: &AtomicU64,
 ) -> Result<(Adder, Journal<Adder>), NoMemory> {
-    let closed = call_at_once(rt, alloc);
+    let closed = call_at_once(rt, alloc, meeting);
     is_done.store(1, Ordering::SeqCst);
     closed
 }
@@ -167,17 +209,19 @@ fn watch<R: Clock + Abort>(rt: &R, is_done: &AtomicU64) {
     panic!(rt; "a thread was not woken");
 }
 
-// Several real threads share one history. Each sleeps while the others have their turns, and is
-// woken.
+// Four threads that run at once share one history: none calls before all have come. Each sleeps
+// while the others have their turns, and is woken.
 #[test]
 fn threads_share_one_history(rt: HostRuntime) -> Result<(), Fail> {
     let is_done = AtomicU64::new(0);
+    let meeting = Meeting::new();
     let (_, closed) = thread::join(
         &rt,
         || watch(&rt, &is_done),
-        || call_and_tell(&rt, rt.alloc(), &is_done),
+        || call_and_tell(&rt, rt.alloc(), &meeting, &is_done),
     );
     let (adder, journal) = closed?;
+    assert_eq!(rt; meeting.missed.load(Ordering::SeqCst), 0);
     assert_eq!(rt; adder.sum, CALLS * 10);
     assert_eq!(rt; journal.steps().len(), 200);
     for seat in 0..4u16 {

@@ -1,3 +1,4 @@
+pub mod Answering
 pub mod AuditFacts
 pub mod CheckFacts
 pub mod Completions

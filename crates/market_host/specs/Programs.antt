@@ -1,15 +1,14 @@
--- What the process ends with, and what it writes.
+-- What the words of a process are, and what it ends with.
 use Rattle.std.specs.Prelude.{ℕ, ◌≡◌, ◌⊎◌, List, [], map, drop, Result, Ok, Err, String}
 use Rattle.std.proofs.Common.{Global}
 use Rattle.std.specs.String.{string_bytes}
 use Rattle.std.specs.Vec.Iter.{into_iter_items}
 use Rattle.std.specs.declared.vec.IntoIter.{IntoIter}
+use Rattle.market_edge.specs.declared.shelf.Shelf as Shelf
 use Rattle.market_host.specs.declared.status.Status.{Status}
-use Rattle.market_host.specs.declared.status.Status.TheVariants.{OutOfMemory}
-use Rattle.market_host.specs.declared.trouble.Trouble.TheVariants as trouble
-use Rattle.market_host.specs.Lines.{line_of}
-use Rattle.market_host.specs.Outcomes.{IsOutcome}
-use Rattle.market_host.specs.Sights.{Sight}
+use Rattle.market_host.specs.Answers.{IsAnswered, IsWordless}
+use Rattle.market_host.specs.Sights.{Writing, sight}
+use Rattle.market_host.specs.Traces.{trace}
 
 -- the words behind the program's name, as the system hands them over; where it hands over none that
 -- are text, there are none
@@ -17,8 +16,11 @@ abbrev pub words_given : {E : Type 0} → Result (IntoIter (String Global) Globa
 words_given (Ok args) = map string_bytes (drop 1 (into_iter_items args))
 words_given (Err error) = []
 
--- the outcome of a call with these words, or memory is wanted for the words themselves
-abbrev pub IsAnswer : List (List ℕ) → Sight → Status → List ℕ → Type 0
-IsAnswer words seen status text =
-    IsOutcome words seen status text
-    ⊎ ((status ≡ OutOfMemory) × (text ≡ line_of trouble.OutOfMemory))
+-- A process with these words behind its name answers this status, where its shelf was the first and
+-- is the second: as a call with these words does; or there is no memory for them, and the shelf
+-- stays as it was.
+abbrev pub EndsProcess : {H : Type 0} → List (List ℕ) → Shelf.Ghosts H → H → H → Writing → Status
+    → Type 0
+EndsProcess words shelf old new writes status =
+    IsAnswered words (sight shelf old new) (trace shelf old new) writes status
+    ⊎ (IsWordless writes status × (new ≡ old))

@@ -1,6 +1,7 @@
--- What is seen of a shelf at a call.
+-- What is seen of a shelf and of a sink at a call.
 use Rattle.std.specs.Prelude.{ℕ, Bool, List, Option}
 use Rattle.market_edge.specs.declared.shelf.Shelf as Shelf
+use Rattle.market_edge.specs.declared.sink.Sink as Sink
 use Rattle.market_edge.specs.Holdings.{Holding}
 
 -- What a shelf holds, where it tells, and its counts of faults before and after a call; and after
@@ -23,4 +24,20 @@ sight shelf old new = record {
   begun = shelf.is_begun new;
   serves = shelf.serves new;
   left = shelf.left new;
+}
+
+-- What a sink has taken, where it tells, and its count of faults, before and after a call.
+pub record Writing : Type 0 where
+  pub taken_before : Option (List ℕ)
+  pub taken_after : Option (List ℕ)
+  pub faults_before : ℕ
+  pub faults_after : ℕ
+
+-- what is seen of a sink that was the first before a call, and is the second after it
+abbrev pub writing : {K : Type 0} → Sink.Ghosts K → K → K → Writing
+writing sink old new = record {
+  taken_before = sink.taken old;
+  taken_after = sink.taken new;
+  faults_before = sink.faults old;
+  faults_after = sink.faults new;
 }

@@ -1,19 +1,15 @@
 // The catalogue of a call.
-ghost use Rattle.std.specs.Prelude.{◌≡◌, ◌<◌, ◌≤◌, ◌-◌, ◌^◌, List, ℕ, length, Ok, IfOk, IfErr, [], ◌∷◌};
+ghost use Rattle.std.specs.Prelude.{◌≡◌, Ok, refl, ⊤};
 ghost use Rattle.course_catalog.specs.Reading.{catalog_of};
 ghost use Rattle.course_catalog.specs.Refusal.{TellsRefusal};
-ghost use Rattle.market_host.specs.Kinds as kind;
-ghost use Rattle.market_host.specs.Reading.{IsRead, IsRefusal, IsTroubleOf};
+ghost use Rattle.market_host.specs.Kinds as kinds;
+ghost use Rattle.market_host.specs.Reading.{IsRefusal};
 ghost use Rattle.market_host.specs.Refusals.{IsNoCatalog};
-ghost use Rattle.market_host.specs.Sights.{sight};
-ghost use Rattle.market_host.specs.Traces.{Uses, trace};
 
 use crate::Cause;
-use crate::inputs::read_input;
+use crate::input::Input;
 use crate::trouble::Trouble;
 use course_catalog::{Catalog, CatalogRefusal, read_catalog};
-use market_edge::Shelf;
-use market_units::MAX_INPUT_BYTES;
 use std::alloc::Global;
 
 // The header is row 1, and a table has at most 400 sections behind it.
@@ -21,36 +17,25 @@ const HEADER_ROW: u32 = 1;
 
 const SURPLUS_ROW: u32 = 402;
 
-/// The catalogue that the input of this name and number is, or why there is none.
-pub fn take_catalog<H: Shelf>(
-    alloc: Global,
-    shelf: &mut H,
-    name: &str,
-    input: u16,
-) -> Result<Catalog, Trouble>
-    ensures read { IfOk result
-        (λ catalog. IsRead kind.Catalog (H.holds shelf.old) name.now
-        (λ text. catalog_of text ≡ Ok catalog)) }
-    ensures trouble { IfErr result
-        (IsTroubleOf (sight H.Shelf shelf.old shelf.new) kind.Catalog name.now input) }
-    ensures holds { H.holds shelf.new ≡ H.holds shelf.old }
-    ensures later { (other : List ℕ) → H.faults shelf.old other ≤ H.faults shelf.new other }
-    ensures used { Uses (trace H.Shelf shelf.old shelf.new) (name.now ∷ []) input result }
-{
-    let bytes = read_input(alloc, shelf, name, input, MAX_INPUT_BYTES)?;
-    catalog_in(alloc, &bytes, input)
-}
+impl Input for Catalog {
+    ghost kind = { kinds.Catalog };
 
-// The catalogue that the text of this input stands for, or its first fault.
-fn catalog_in(alloc: Global, bytes: &[u8], input: u16) -> Result<Catalog, Trouble>
-    requires { length bytes.now < 2 ^ 32 - 1 }
-    ensures read { IfOk result (λ catalog. catalog_of bytes.now ≡ Ok catalog) }
-    ensures refused { IfErr result (IsRefusal (IsNoCatalog bytes.now) input) }
-{
-    match read_catalog(alloc, bytes) {
-        Ok(catalog) => Ok(catalog),
-        Err(refusal) => Err(trouble_of(bytes, input, refusal)),
+    ghost is_said_by = { λ text catalog. catalog_of text ≡ Ok catalog };
+
+    ghost is_sound = { λ _. ⊤ };
+
+    ghost is_faulty = { IsNoCatalog };
+
+    fn read_from(alloc: Global, bytes: &[u8], input: u16) -> Result<Self, Trouble> {
+        match read_catalog(alloc, bytes) {
+            Ok(catalog) => Ok(catalog),
+            Err(refusal) => Err(trouble_of(bytes, input, refusal)),
+        }
     }
+
+    ghost within = { refl };
+
+    ghost faults = { λ earlier text row cause is. is };
 }
 
 // What is told of a refusal of these bytes.

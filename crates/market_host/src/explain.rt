@@ -25,6 +25,11 @@ use market_units::{Name, NoMemory};
 use market_words::Form;
 use std::alloc::Global;
 
+// The words of `explain` that name the student and the section, where its own word is the first.
+const STUDENT_WORD: u16 = 6;
+
+const SECTION_WORD: u16 = 7;
+
 /// Why the student that `explain` names does not have the section, by the published text that it
 /// names, or that one of the two is not known, or the first finding on the text, or why there is
 /// none of these.
@@ -76,10 +81,10 @@ fn reason_for(
         streams,
     } = published;
     let Some(enrolled) = market.roll.find(student) else {
-        return Ok(unknown(6));
+        return Ok(unknown(STUDENT_WORD));
     };
     let Some(listed) = market.catalog.find(section) else {
-        return Ok(unknown(7));
+        return Ok(unknown(SECTION_WORD));
     };
     match published_reason(
         alloc,

@@ -8,19 +8,20 @@ ghost use Rattle.market_host.specs.Traces.{AreReadTo, AreUsed, trace};
 ghost use Rattle.market_words.specs.Forms.{HasForm};
 
 use crate::Status;
-use crate::catalog::take_catalog;
 use crate::ended::{Ended, Output};
+use crate::input::take_input;
 use crate::published::take_text;
-use crate::roll::take_roll;
 use crate::sessions::take_sessions;
 use crate::trouble::Trouble;
 use certificate_checker::{CheckEnd, finding_line};
+use course_catalog::Catalog;
 use dropadd_hall::published_hall;
 use market_edge::{Gate, Passed, Shelf};
 use market_words::Form;
 use std::alloc::Global;
 use std::sync::Wait;
 use std::thread::Threads;
+use student_roll::Roll;
 
 /// The text of the hall that opens with the published text which `hall` names, or the first
 /// finding, where none opens with it, or why there is neither.
@@ -41,8 +42,8 @@ pub fn hall<R: Threads + Wait + Sync, H: Shelf>(
         ended.status)
         (AreReadTo (map string_bytes words.now) (trace H.Shelf shelf.old shelf.new)) }
 {
-    let catalog = take_catalog(alloc, shelf, words[1].as_str(), 1)?;
-    let roll = take_roll(alloc, shelf, words[2].as_str(), 2)?;
+    let catalog: Catalog = take_input(alloc, shelf, words[1].as_str(), 1)?;
+    let roll: Roll = take_input(alloc, shelf, words[2].as_str(), 2)?;
     let text = take_text(alloc, shelf, words[3].as_str(), 3)?;
     let streams = take_sessions(alloc, shelf, &words[4..], 4)?;
     let passed = Passed { gate };

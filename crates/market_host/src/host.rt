@@ -4,13 +4,11 @@ ghost use Rattle.std.specs.String.{string_bytes};
 ghost use Rattle.market_edge.specs.Faults.{Rose};
 ghost use Rattle.market_edge.specs.Sinks.{Takes, TakesFront};
 ghost use Rattle.market_words.specs.Forms.{HasForm};
-ghost use Rattle.market_host.specs.Completeness.{CanBeDone, EndsWork};
-ghost use Rattle.market_host.specs.Ends.{IsReadOutAt};
+ghost use Rattle.market_host.specs.Answers.{IsAnswered, IsWordless};
 ghost use Rattle.market_host.specs.Lines.{line_of};
-ghost use Rattle.market_host.specs.Outcomes.{IsEnded, IsOutcome, IsStopped};
-ghost use Rattle.market_host.specs.Sights.{sight};
+ghost use Rattle.market_host.specs.Outcomes.{IsEnded, IsStopped};
+ghost use Rattle.market_host.specs.Sights.{sight, writing};
 ghost use Rattle.market_host.specs.Traces.{AreReadTo, AreUsed, trace};
-ghost use Rattle.market_host.specs.declared.trouble.Trouble.TheVariants as trouble;
 
 use crate::Status;
 use crate::audit::audit;
@@ -20,7 +18,7 @@ use crate::ended::Ended;
 use crate::explain::explain;
 use crate::hall::hall;
 use crate::line::{line_for, usage};
-use crate::make::make;
+use crate::make::{Numbers, make};
 use crate::prefer::prefer;
 use crate::quote::quote;
 use crate::run::run;
@@ -42,33 +40,10 @@ pub fn course_match<R: Threads + Wait + Sync, H: Shelf, K: Sink>(
     sink: &mut K,
     gate: &(dyn Gate + Sync),
 ) -> Status
-    // The status and its text are the outcome of the call, and the sink took that text, all of it
-    // unless it fails.
-    ensures written { result ≢ Status.SinkFault → (text : List ℕ)
-        × IsOutcome (map string_bytes words.now) (sight H.Shelf shelf.old shelf.new) result text × Takes (K.taken sink.old) (K.taken sink.new) text }
-
-    // A sink fault stands for the outcome of the call, and some of its text was not taken.
-    ensures sink_fault { result ≡ Status.SinkFault → Rose (K.faults sink.old) (K.faults sink.new) }
-    ensures replaced { result ≡ Status.SinkFault → (instead : _) × (text : List ℕ)
-        × IsOutcome (map string_bytes words.now) (sight H.Shelf shelf.old shelf.new) instead text
-        × AreUsed (map string_bytes words.now) (trace H.Shelf shelf.old shelf.new) instead × TakesFront (K.taken sink.old) (K.taken sink.new) text }
-
-    // Where every input is held and in order and no fault is counted, the work is ended, or memory
-    // is wanted.
-    ensures complete { CanBeDone (map string_bytes words.now) (sight H.Shelf shelf.old shelf.new)
-        → ¬ Rose (K.faults sink.old) (K.faults sink.new) → EndsWork result }
-
-    // Where the work is ended, the last input was read to its end, and where an input is refused,
-    // that one.
-    ensures read_out { IsReadOutAt (map string_bytes words.now) (sight H.Shelf shelf.old shelf.new)
-        result }
-
-    // Where the shelf tells what was begun: each input is begun in its turn and read to its end,
-    // and so is each before the one that stops the call. Where neither the shelf nor the sink is at
-    // fault, no count of theirs rose.
-    ensures used { result ≢ Status.SinkFault
-        → AreUsed (map string_bytes words.now) (trace H.Shelf shelf.old shelf.new) result }
-    ensures uncounted { result ≢ Status.SinkFault → K.faults sink.new ≡ K.faults sink.old }
+    // The status is that of the outcome, and the sink took its text; or it is that of a sink fault,
+    // which stands for one.
+    ensures answered { IsAnswered (map string_bytes words.now) (sight H.Shelf shelf.old shelf.new)
+        (trace H.Shelf shelf.old shelf.new) (writing K.Sink sink.old sink.new) result }
 
     // What the shelf holds stays, and no count of faults falls.
     ensures holds { H.holds shelf.new ≡ H.holds shelf.old }
@@ -87,13 +62,7 @@ pub fn course_match<R: Threads + Wait + Sync, H: Shelf, K: Sink>(
 /// What is answered where there is no memory for the words themselves: that memory is wanted,
 /// unless the sink fails.
 pub fn no_memory_for_words<K: Sink>(sink: &mut K) -> Status
-    ensures written { result ≢ Status.SinkFault
-        → (result ≡ Status.OutOfMemory)
-        × Takes (K.taken sink.old) (K.taken sink.new) (line_of trouble.OutOfMemory) }
-    ensures sink_fault { result ≡ Status.SinkFault → Rose (K.faults sink.old) (K.faults sink.new) }
-    ensures replaced { result ≡ Status.SinkFault
-        → TakesFront (K.taken sink.old) (K.taken sink.new) (line_of trouble.OutOfMemory) }
-    ensures uncounted { result ≢ Status.SinkFault → K.faults sink.new ≡ K.faults sink.old }
+    ensures answered { IsWordless (writing K.Sink sink.old sink.new) result }
     ensures sink_later { K.faults sink.old ≤ K.faults sink.new }
 {
     finish(
@@ -159,6 +128,14 @@ fn answer<R: Threads + Wait + Sync, H: Shelf>(
             students,
             sections,
             accept,
-        } => Ok(make(rt, alloc, workers, seed, students, sections, accept, gate)?),
+        } => {
+            let numbers = Numbers {
+                seed,
+                students,
+                sections,
+                accept,
+            };
+            Ok(make(rt, alloc, workers, numbers, gate)?)
+        }
     }
 }

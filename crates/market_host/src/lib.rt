@@ -13,6 +13,7 @@ mod ended;
 mod explain;
 mod hall;
 mod host;
+mod input;
 mod inputs;
 pub mod laws;
 mod line;

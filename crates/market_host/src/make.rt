@@ -17,29 +17,44 @@ use std::alloc::Global;
 use std::sync::Wait;
 use std::thread::Threads;
 
+/// The numbers that a made market is made of: those of the words of `make`, in their ranges.
+#[derive(Clone, Copy)]
+pub struct Numbers {
+    pub seed: u64,
+    pub students: u16,
+    pub sections: u16,
+    pub accept: u64,
+}
+
 /// The summary of the market that `make` makes of these numbers and runs, or the least error where
 /// no prices are found. It reads no input, so that nothing but memory can be wanted.
 pub fn make<R: Threads + Wait + Sync>(
     rt: &R,
     alloc: Global,
     workers: u16,
-    seed: u64,
-    students: u16,
-    sections: u16,
-    accept: u64,
+    numbers: Numbers,
     gate: &(dyn Gate + Sync),
 ) -> Result<Ended, NoMemory>
     requires { (words : List (List ℕ))
-        × HasForm words (Form.Make workers seed students sections accept) }
+        × HasForm words (Form.Make workers numbers.seed numbers.students numbers.sections
+        numbers.accept) }
     ensures ended { IfOk result
         (λ ended. (words : List (List ℕ)) (seen : Sight)
-        → HasForm words (Form.Make workers seed students sections accept)
+        → HasForm words (Form.Make workers numbers.seed numbers.students numbers.sections
+        numbers.accept)
         → IsEnded words seen ended) }
     ensures used { IfOk result
         (λ ended. (words : List (List ℕ)) (seen : Trace)
-        → HasForm words (Form.Make workers seed students sections accept) → AreReadOut seen []
-        → AreUsed words seen ended.status) }
+        → HasForm words (Form.Make workers numbers.seed numbers.students numbers.sections
+        numbers.accept)
+        → AreReadOut seen [] → AreUsed words seen ended.status) }
 {
+    let Numbers {
+        seed,
+        students,
+        sections,
+        accept,
+    } = numbers;
     match made_summary(rt, alloc, workers, seed, students, sections, accept, gate) {
         Ok(text) => Ok(Ended {
             status: Status::Done,

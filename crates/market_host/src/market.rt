@@ -9,9 +9,7 @@ ghost use Rattle.market_host.specs.Reading.{IsRead, IsTroubleOfMarket};
 ghost use Rattle.market_host.specs.Sights.{sight};
 ghost use Rattle.market_host.specs.Traces.{Uses, trace};
 
-use crate::catalog::take_catalog;
-use crate::roll::take_roll;
-use crate::settings::take_settings;
+use crate::input::take_input;
 use crate::trouble::Trouble;
 use course_catalog::Catalog;
 use market_edge::Shelf;
@@ -52,9 +50,9 @@ pub fn take_market<H: Shelf>(
     ensures used { Uses (trace H.Shelf shelf.old shelf.new)
         (catalog.now ∷ roll.now ∷ settings.now ∷ []) 1 result }
 {
-    let catalog = take_catalog(alloc, shelf, catalog, 1)?;
-    let roll = take_roll(alloc, shelf, roll, 2)?;
-    let settings = take_settings(alloc, shelf, settings, 3)?;
+    let catalog: Catalog = take_input(alloc, shelf, catalog, 1)?;
+    let roll: Roll = take_input(alloc, shelf, roll, 2)?;
+    let settings: Settings = take_input(alloc, shelf, settings, 3)?;
     Ok(Market {
         catalog,
         roll,

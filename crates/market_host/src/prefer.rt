@@ -13,9 +13,8 @@ ghost use Rattle.preference_text.specs.Texts as texts;
 ghost use Rattle.session_hall.specs.Streams.{command_count, command_lists};
 
 use crate::Status;
-use crate::catalog::take_catalog;
 use crate::ended::{Ended, Output};
-use crate::roll::take_roll;
+use crate::input::take_input;
 use crate::sessions::take_sessions;
 use crate::trouble::Trouble;
 use course_catalog::Catalog;
@@ -49,8 +48,8 @@ pub fn prefer<R: Threads + Wait + Sync, H: Shelf>(
         ended.status)
         (AreReadTo (map string_bytes words.now) (trace H.Shelf shelf.old shelf.new)) }
 {
-    let catalog = take_catalog(alloc, shelf, words[1].as_str(), 1)?;
-    let roll = take_roll(alloc, shelf, words[2].as_str(), 2)?;
+    let catalog: Catalog = take_input(alloc, shelf, words[1].as_str(), 1)?;
+    let roll: Roll = take_input(alloc, shelf, words[2].as_str(), 2)?;
     let streams = take_sessions(alloc, shelf, &words[3..], 3)?;
     let text = text_of(rt, alloc, &catalog, &roll, &streams, gate)?;
     Ok(Ended {

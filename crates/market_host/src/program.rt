@@ -1,11 +1,9 @@
 // The whole process, over whatever shelf, sink and gate it is given.
-ghost use Rattle.std.specs.Prelude.{◌≡◌, ◌≢◌, List, ℕ, drop, IfOk};
+ghost use Rattle.std.specs.Prelude.{◌≡◌, ◌≤◌, List, ℕ, drop, IfOk};
 ghost use Rattle.std.specs.Process.{exit_status};
 ghost use Rattle.std.specs.Vec.Iter.{into_iter_items};
-ghost use Rattle.market_edge.specs.Faults.{Rose};
-ghost use Rattle.market_edge.specs.Sinks.{Takes, TakesFront};
-ghost use Rattle.market_host.specs.Programs.{IsAnswer, words_given};
-ghost use Rattle.market_host.specs.Sights.{sight};
+ghost use Rattle.market_host.specs.Programs.{EndsProcess, words_given};
+ghost use Rattle.market_host.specs.Sights.{writing};
 ghost use Rattle.market_host.specs.Statuses.{number_of};
 
 use crate::Status;
@@ -30,12 +28,16 @@ pub fn exit_code<R: Threads + Wait + Sync, H: Shelf, K: Sink>(
     sink: &mut K,
     gate: &(dyn Gate + Sync),
 ) -> ExitCode
-    // The process ends with the number of a status. It is that of the answer, whose text the sink
-    // took, or that of a sink fault, which stands for an answer some of whose text was not taken.
+    // The process ends with the number of a status, which a call with the words behind its name
+    // answers; or there is no memory for these words, and the shelf stays as it was.
     ensures written { (status : Status) × (exit_status result ≡ number_of status)
-        × (status ≢ Status.SinkFault → (text : List ℕ) × IsAnswer (words_given args) (sight H.Shelf shelf.old shelf.new) status text × Takes (K.taken sink.old) (K.taken sink.new) text)
-        × (status ≡ Status.SinkFault → Rose (K.faults sink.old) (K.faults sink.new) × (instead : Status) × (text : List ℕ)
-        × IsAnswer (words_given args) (sight H.Shelf shelf.old shelf.new) instead text × TakesFront (K.taken sink.old) (K.taken sink.new) text) }
+        × EndsProcess (words_given args) H.Shelf shelf.old shelf.new
+        (writing K.Sink sink.old sink.new) status }
+
+    // What the shelf holds stays, and no count of faults falls.
+    ensures holds { H.holds shelf.new ≡ H.holds shelf.old }
+    ensures later { (other : List ℕ) → H.faults shelf.old other ≤ H.faults shelf.new other }
+    ensures sink_later { K.faults sink.old ≤ K.faults sink.new }
 {
     let status = answered(rt, alloc, args, shelf, sink, gate);
     ExitCode::from(status.number())
@@ -50,11 +52,11 @@ fn answered<R: Threads + Wait + Sync, H: Shelf, K: Sink>(
     sink: &mut K,
     gate: &(dyn Gate + Sync),
 ) -> Status
-    ensures written { result ≢ Status.SinkFault → (text : List ℕ)
-        × IsAnswer (words_given args) (sight H.Shelf shelf.old shelf.new) result text × Takes (K.taken sink.old) (K.taken sink.new) text }
-    ensures sink_fault { result ≡ Status.SinkFault → Rose (K.faults sink.old) (K.faults sink.new) }
-    ensures replaced { result ≡ Status.SinkFault → (status : Status) × (text : List ℕ)
-        × IsAnswer (words_given args) (sight H.Shelf shelf.old shelf.new) status text × TakesFront (K.taken sink.old) (K.taken sink.new) text }
+    ensures ends { EndsProcess (words_given args) H.Shelf shelf.old shelf.new
+        (writing K.Sink sink.old sink.new) result }
+    ensures holds { H.holds shelf.new ≡ H.holds shelf.old }
+    ensures later { (other : List ℕ) → H.faults shelf.old other ≤ H.faults shelf.new other }
+    ensures sink_later { K.faults sink.old ≤ K.faults sink.new }
 {
     match args {
         Ok(args) => match words_behind_name(alloc, args) {

@@ -16,8 +16,8 @@ ghost use Rattle.preference_desk.specs.MarketNames.{market_names};
 ghost use Rattle.student_roll.specs.Students.{single_student};
 
 use crate::Status;
-use crate::catalog::take_catalog;
 use crate::ended::{Ended, Output};
+use crate::input::take_input;
 use crate::session::take_session;
 use crate::text::text_of;
 use crate::trouble::Trouble;
@@ -52,7 +52,7 @@ pub fn quote<H: Shelf>(
         ended.status)
         (AreReadTo (map string_bytes words.now) (trace H.Shelf shelf.old shelf.new)) }
 {
-    let catalog = take_catalog(alloc, shelf, words[1].as_str(), 1)?;
+    let catalog: Catalog = take_input(alloc, shelf, words[1].as_str(), 1)?;
     let commands = take_session(alloc, shelf, words[2].as_str(), 2, MAX_COMMANDS)?;
     let text = best_text(alloc, &catalog, &commands, name, credits, courses)?;
     Ok(Ended {

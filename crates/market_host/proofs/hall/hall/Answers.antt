@@ -30,7 +30,7 @@ returns-in_err-catalog-clause-answer g c =
     let long = length-hall c.args.words.now c.requires in
     let named = first-hall c.args.words.now c.index-words-1.result long.0 c.index-words-1.is in
     let held = g.H.Shelf.holds c.args.shelf.now in
-    rw (p.1, p.2) (input_stops words Hall c.requires held (g.H.Shelf.faults c.args.shelf.now) (sight g.H.Shelf c.args.shelf.now c.take_catalog.new.shelf) refl (λ _. omega arith) [] [] (none_read Hall held) Catalog
+    rw (p.1, p.2) (input_stops words Hall c.requires held (g.H.Shelf.faults c.args.shelf.now) (sight g.H.Shelf c.args.shelf.now c.take_input.new.shelf) refl (λ _. omega arith) [] [] (none_read Hall held) Catalog
     (string_bytes c.index-words-1.result) (drop 2 words) 1 c.in_err-catalog.field-0.0 named refl refl (rw c.as_str.ensures.value at c.in_err-catalog.ensures.trouble))
 
 pub returns-in_err-roll-clause-answer : goal.returns-in_err-roll-clause-answer
@@ -41,7 +41,7 @@ returns-in_err-roll-clause-answer g c =
     let named = second-hall c.args.words.now c.index-words-1.result c.index-words-2.result long.0 c.index-words-1.is c.index-words-2.is in
     let held = g.H.Shelf.holds c.args.shelf.now in
     let first = rw c.as_str.ensures.value at c.in_ok-catalog.ensures.read in
-    rw (p.1, p.2) (input_stops words Hall c.requires held (g.H.Shelf.faults c.args.shelf.now) (sight g.H.Shelf c.take_catalog.new.shelf c.take_roll.new.shelf) c.in_ok-catalog.ensures.holds c.in_ok-catalog.ensures.later
+    rw (p.1, p.2) (input_stops words Hall c.requires held (g.H.Shelf.faults c.args.shelf.now) (sight g.H.Shelf c.take_input.new.shelf c.take_input-2.new.shelf) c.in_ok-catalog.ensures.holds c.in_ok-catalog.ensures.later
     (string_bytes c.index-words-1.result ∷ []) (first.0 ∷ []) (catalog_first Hall held (string_bytes c.index-words-1.result) _ refl (omega arith) first) Roll
     (string_bytes c.index-words-2.result)
     (drop 3 words) 2 c.in_err-roll.field-0.0 named refl refl (rw c.as_str-2.ensures.value at c.in_err-roll.ensures.trouble))
@@ -57,7 +57,7 @@ returns-in_err-text-clause-answer g c =
     let held = g.H.Shelf.holds c.args.shelf.now in
     let first = rw c.as_str.ensures.value at c.in_ok-catalog.ensures.read in
     let second = rw (c.as_str-2.ensures.value, c.in_ok-catalog.ensures.holds) at c.in_ok-roll.ensures.read in
-    rw (p.1, p.2) (input_stops words Hall c.requires held (g.H.Shelf.faults c.args.shelf.now) (sight g.H.Shelf c.take_roll.new.shelf c.take_text.new.shelf)
+    rw (p.1, p.2) (input_stops words Hall c.requires held (g.H.Shelf.faults c.args.shelf.now) (sight g.H.Shelf c.take_input-2.new.shelf c.take_text.new.shelf)
     (c.in_ok-roll.ensures.holds ∙ c.in_ok-catalog.ensures.holds) (λ other. omega (arith, c.in_ok-catalog.ensures.later other, c.in_ok-roll.ensures.later other))
     (string_bytes c.index-words-1.result ∷ string_bytes c.index-words-2.result ∷ []) (first.0 ∷ second.0 ∷ [])
     (roll_second Hall held (string_bytes c.index-words-1.result) (string_bytes c.index-words-2.result) _ _ refl (omega arith) refl first second) Published
@@ -161,7 +161,7 @@ returns-in_err-catalog-clause-used g c =
     let long = length-hall c.args.words.now c.requires in
     let named = first-hall c.args.words.now c.index-words-1.result long.0 c.index-words-1.is in
     rw (p.1, p.2)
-    (front_stops g.H.Shelf words (Hall) c.requires c.args.shelf.now c.take_catalog.new.shelf (string_bytes c.index-words-1.result ∷ []) (drop 2 words)
+    (front_stops g.H.Shelf words (Hall) c.requires c.args.shelf.now c.take_input.new.shelf (string_bytes c.index-words-1.result ∷ []) (drop 2 words)
     c.in_err-catalog.field-0.0 named (rw c.as_str.ensures.value at c.in_err-catalog.ensures.used))
 
 pub returns-in_err-roll-clause-used : goal.returns-in_err-roll-clause-used
@@ -171,7 +171,7 @@ returns-in_err-roll-clause-used g c =
     let long = length-hall c.args.words.now c.requires in
     let named = second-hall c.args.words.now c.index-words-1.result c.index-words-2.result long.0 c.index-words-1.is c.index-words-2.is in
     rw (p.1, p.2)
-    (next_stops g.H.Shelf words (Hall) c.requires c.args.shelf.now c.take_catalog.new.shelf c.take_roll.new.shelf (string_bytes c.index-words-1.result ∷ [])
+    (next_stops g.H.Shelf words (Hall) c.requires c.args.shelf.now c.take_input.new.shelf c.take_input-2.new.shelf (string_bytes c.index-words-1.result ∷ [])
     (string_bytes c.index-words-2.result ∷ []) (drop 3 words) c.in_err-roll.field-0.0 named (rw c.as_str.ensures.value at c.in_ok-catalog.ensures.used)
     (rw c.as_str-2.ensures.value at c.in_err-roll.ensures.used))
 
@@ -184,11 +184,11 @@ returns-in_err-text-clause-used g c =
     inputs-hall c.args.words.now c.index-words-1.result c.index-words-2.result c.index-words-3.result long.0 c.index-words-1.is c.index-words-2.is
     c.index-words-3.is in
     let front1 =
-    read_behind g.H.Shelf c.args.shelf.now c.take_catalog.new.shelf c.take_roll.new.shelf (string_bytes c.index-words-1.result ∷ [])
+    read_behind g.H.Shelf c.args.shelf.now c.take_input.new.shelf c.take_input-2.new.shelf (string_bytes c.index-words-1.result ∷ [])
     (string_bytes c.index-words-2.result ∷ []) (rw c.as_str.ensures.value at c.in_ok-catalog.ensures.used)
     (rw c.as_str-2.ensures.value at c.in_ok-roll.ensures.used) in
     rw (p.1, p.2)
-    (next_stops g.H.Shelf words (Hall) c.requires c.args.shelf.now c.take_roll.new.shelf c.take_text.new.shelf
+    (next_stops g.H.Shelf words (Hall) c.requires c.args.shelf.now c.take_input-2.new.shelf c.take_text.new.shelf
     (string_bytes c.index-words-1.result ∷ string_bytes c.index-words-2.result ∷ []) (string_bytes c.index-words-3.result ∷ [])
     (map string_bytes (take (length c.args.words.now - 4) (drop 4 c.args.words.now))) c.in_err-text.field-0.0 named front1
     (rw c.as_str-3.ensures.value at c.in_err-text.ensures.used))
@@ -202,11 +202,11 @@ returns-in_err-streams-clause-used g c =
     inputs-hall c.args.words.now c.index-words-1.result c.index-words-2.result c.index-words-3.result long.0 c.index-words-1.is c.index-words-2.is
     c.index-words-3.is in
     let front1 =
-    read_behind g.H.Shelf c.args.shelf.now c.take_catalog.new.shelf c.take_roll.new.shelf (string_bytes c.index-words-1.result ∷ [])
+    read_behind g.H.Shelf c.args.shelf.now c.take_input.new.shelf c.take_input-2.new.shelf (string_bytes c.index-words-1.result ∷ [])
     (string_bytes c.index-words-2.result ∷ []) (rw c.as_str.ensures.value at c.in_ok-catalog.ensures.used)
     (rw c.as_str-2.ensures.value at c.in_ok-roll.ensures.used) in
     let front2 =
-    read_behind g.H.Shelf c.args.shelf.now c.take_roll.new.shelf c.take_text.new.shelf
+    read_behind g.H.Shelf c.args.shelf.now c.take_input-2.new.shelf c.take_text.new.shelf
     (string_bytes c.index-words-1.result ∷ string_bytes c.index-words-2.result ∷ []) (string_bytes c.index-words-3.result ∷ []) front1
     (rw c.as_str-3.ensures.value at c.in_ok-text.ensures.used) in
     rw (p.1, p.2)
@@ -223,11 +223,11 @@ returns-in-Ok-clause-used g c =
     inputs-hall c.args.words.now c.index-words-1.result c.index-words-2.result c.index-words-3.result long.0 c.index-words-1.is c.index-words-2.is
     c.index-words-3.is in
     let front1 =
-    read_behind g.H.Shelf c.args.shelf.now c.take_catalog.new.shelf c.take_roll.new.shelf (string_bytes c.index-words-1.result ∷ [])
+    read_behind g.H.Shelf c.args.shelf.now c.take_input.new.shelf c.take_input-2.new.shelf (string_bytes c.index-words-1.result ∷ [])
     (string_bytes c.index-words-2.result ∷ []) (rw c.as_str.ensures.value at c.in_ok-catalog.ensures.used)
     (rw c.as_str-2.ensures.value at c.in_ok-roll.ensures.used) in
     let front2 =
-    read_behind g.H.Shelf c.args.shelf.now c.take_roll.new.shelf c.take_text.new.shelf
+    read_behind g.H.Shelf c.args.shelf.now c.take_input-2.new.shelf c.take_text.new.shelf
     (string_bytes c.index-words-1.result ∷ string_bytes c.index-words-2.result ∷ []) (string_bytes c.index-words-3.result ∷ []) front1
     (rw c.as_str-3.ensures.value at c.in_ok-text.ensures.used) in
     all_read g.H.Shelf words (Hall) c.requires c.args.shelf.now c.take_text.new.shelf c.take_sessions.new.shelf
@@ -242,11 +242,11 @@ returns-in-Err-Found-clause-used g c =
     inputs-hall c.args.words.now c.index-words-1.result c.index-words-2.result c.index-words-3.result long.0 c.index-words-1.is c.index-words-2.is
     c.index-words-3.is in
     let front1 =
-    read_behind g.H.Shelf c.args.shelf.now c.take_catalog.new.shelf c.take_roll.new.shelf (string_bytes c.index-words-1.result ∷ [])
+    read_behind g.H.Shelf c.args.shelf.now c.take_input.new.shelf c.take_input-2.new.shelf (string_bytes c.index-words-1.result ∷ [])
     (string_bytes c.index-words-2.result ∷ []) (rw c.as_str.ensures.value at c.in_ok-catalog.ensures.used)
     (rw c.as_str-2.ensures.value at c.in_ok-roll.ensures.used) in
     let front2 =
-    read_behind g.H.Shelf c.args.shelf.now c.take_roll.new.shelf c.take_text.new.shelf
+    read_behind g.H.Shelf c.args.shelf.now c.take_input-2.new.shelf c.take_text.new.shelf
     (string_bytes c.index-words-1.result ∷ string_bytes c.index-words-2.result ∷ []) (string_bytes c.index-words-3.result ∷ []) front1
     (rw c.as_str-3.ensures.value at c.in_ok-text.ensures.used) in
     all_read g.H.Shelf words (Hall) c.requires c.args.shelf.now c.take_text.new.shelf c.take_sessions.new.shelf
@@ -261,11 +261,11 @@ returns-clause-used g c =
     inputs-hall c.args.words.now c.index-words-1.result c.index-words-2.result c.index-words-3.result long.0 c.index-words-1.is c.index-words-2.is
     c.index-words-3.is in
     let front1 =
-    read_behind g.H.Shelf c.args.shelf.now c.take_catalog.new.shelf c.take_roll.new.shelf (string_bytes c.index-words-1.result ∷ [])
+    read_behind g.H.Shelf c.args.shelf.now c.take_input.new.shelf c.take_input-2.new.shelf (string_bytes c.index-words-1.result ∷ [])
     (string_bytes c.index-words-2.result ∷ []) (rw c.as_str.ensures.value at c.in_ok-catalog.ensures.used)
     (rw c.as_str-2.ensures.value at c.in_ok-roll.ensures.used) in
     let front2 =
-    read_behind g.H.Shelf c.args.shelf.now c.take_roll.new.shelf c.take_text.new.shelf
+    read_behind g.H.Shelf c.args.shelf.now c.take_input-2.new.shelf c.take_text.new.shelf
     (string_bytes c.index-words-1.result ∷ string_bytes c.index-words-2.result ∷ []) (string_bytes c.index-words-3.result ∷ []) front1
     (rw c.as_str-3.ensures.value at c.in_ok-text.ensures.used) in
     memory_wanted g.H.Shelf words c.args.shelf.now c.take_sessions.new.shelf

@@ -27,7 +27,7 @@ returns-in_err-catalog-clause-answer g c =
     let long = length-prefer c.args.words.now c.requires in
     let named = first-prefer c.args.words.now c.index-words-1.result long.0 c.index-words-1.is in
     let held = g.H.Shelf.holds c.args.shelf.now in
-    rw (p.1, p.2) (input_stops words Prefer c.requires held (g.H.Shelf.faults c.args.shelf.now) (sight g.H.Shelf c.args.shelf.now c.take_catalog.new.shelf) refl (λ _. omega arith) [] [] (none_read Prefer held) Catalog
+    rw (p.1, p.2) (input_stops words Prefer c.requires held (g.H.Shelf.faults c.args.shelf.now) (sight g.H.Shelf c.args.shelf.now c.take_input.new.shelf) refl (λ _. omega arith) [] [] (none_read Prefer held) Catalog
     (string_bytes c.index-words-1.result) (drop 2 words) 1 c.in_err-catalog.field-0.0 named refl refl (rw c.as_str.ensures.value at c.in_err-catalog.ensures.trouble))
 
 pub returns-in_err-roll-clause-answer : goal.returns-in_err-roll-clause-answer
@@ -38,7 +38,7 @@ returns-in_err-roll-clause-answer g c =
     let named = inputs-prefer c.args.words.now c.index-words-1.result c.index-words-2.result long.0 c.index-words-1.is c.index-words-2.is in
     let held = g.H.Shelf.holds c.args.shelf.now in
     let first = rw c.as_str.ensures.value at c.in_ok-catalog.ensures.read in
-    rw (p.1, p.2) (input_stops words Prefer c.requires held (g.H.Shelf.faults c.args.shelf.now) (sight g.H.Shelf c.take_catalog.new.shelf c.take_roll.new.shelf) c.in_ok-catalog.ensures.holds c.in_ok-catalog.ensures.later
+    rw (p.1, p.2) (input_stops words Prefer c.requires held (g.H.Shelf.faults c.args.shelf.now) (sight g.H.Shelf c.take_input.new.shelf c.take_input-2.new.shelf) c.in_ok-catalog.ensures.holds c.in_ok-catalog.ensures.later
     (string_bytes c.index-words-1.result ∷ []) (first.0 ∷ []) (catalog_first Prefer held (string_bytes c.index-words-1.result) _ refl (omega arith) first) Roll
     (string_bytes c.index-words-2.result)
     (map string_bytes (take (length c.args.words.now - 3) (drop 3 c.args.words.now))) 2 c.in_err-roll.field-0.0 named refl refl (rw c.as_str-2.ensures.value at c.in_err-roll.ensures.trouble))
@@ -52,7 +52,7 @@ returns-in_err-streams-clause-answer g c =
     let held = g.H.Shelf.holds c.args.shelf.now in
     let first = rw c.as_str.ensures.value at c.in_ok-catalog.ensures.read in
     let second = rw (c.as_str-2.ensures.value, c.in_ok-catalog.ensures.holds) at c.in_ok-roll.ensures.read in
-    rw (p.1, p.2) (sessions_stop words Prefer c.requires held (g.H.Shelf.faults c.args.shelf.now) (sight g.H.Shelf c.take_roll.new.shelf c.take_sessions.new.shelf)
+    rw (p.1, p.2) (sessions_stop words Prefer c.requires held (g.H.Shelf.faults c.args.shelf.now) (sight g.H.Shelf c.take_input-2.new.shelf c.take_sessions.new.shelf)
     (c.in_ok-roll.ensures.holds ∙ c.in_ok-catalog.ensures.holds) (λ other. omega (arith, c.in_ok-catalog.ensures.later other, c.in_ok-roll.ensures.later other))
     (string_bytes c.index-words-1.result ∷ string_bytes c.index-words-2.result ∷ []) (first.0 ∷ second.0 ∷ [])
     (roll_second Prefer held (string_bytes c.index-words-1.result) (string_bytes c.index-words-2.result) _ _ refl (omega arith) refl first second)
@@ -65,7 +65,7 @@ text_of-requires-clause-sessions g c κs within =
     let names : length (map string_bytes (take (length c.args.words.now - 3) (drop 3 c.args.words.now))) ≡ length c.args.words.now - 3 =
     length-words c.args.words.now 3 (omega (arith, long.0)) in
     let count =
-    streams_of_names IsCommandOf (g.H.Shelf.holds c.take_roll.new.shelf) (map string_bytes (take (length c.args.words.now - 3) (drop 3 c.args.words.now)))
+    streams_of_names IsCommandOf (g.H.Shelf.holds c.take_input-2.new.shelf) (map string_bytes (take (length c.args.words.now - 3) (drop 3 c.args.words.now)))
     read.0 c.in_ok-streams.streams.items read.1 read.2 in
     rw c.deref.ensures.value (omega (arith, count, names, long.0), omega (arith, count, names, long.1))
 
@@ -92,7 +92,7 @@ returns-clause-answer g c =
     let first = rw c.as_str.ensures.value at c.in_ok-catalog.ensures.read in
     let second = rw (c.as_str-2.ensures.value, c.in_ok-catalog.ensures.holds) at c.in_ok-roll.ensures.read in
     let read = rw (c.in_ok-roll.ensures.holds, c.in_ok-catalog.ensures.holds) at c.in_ok-streams.ensures.read in
-    prefer_done words (g.H.Shelf.faults c.args.shelf.now) (sight g.H.Shelf c.take_roll.new.shelf c.take_sessions.new.shelf) (g.H.Shelf.holds c.args.shelf.now)
+    prefer_done words (g.H.Shelf.faults c.args.shelf.now) (sight g.H.Shelf c.take_input-2.new.shelf c.take_sessions.new.shelf) (g.H.Shelf.holds c.args.shelf.now)
     (string_bytes c.index-words-1.result)
     (string_bytes c.index-words-2.result) names read.0 read.1 _ _ c.in_ok-streams.streams.items _ c.requires named (omega (arith, count, long.0)) first second
     (c.in_ok-roll.ensures.holds ∙ c.in_ok-catalog.ensures.holds) read.2 c.in_ok-streams.ensures.end (rw c.deref.ensures.value at c.in_ok-text.ensures)
@@ -104,7 +104,7 @@ returns-in_err-catalog-clause-used g c =
     let long = length-prefer c.args.words.now c.requires in
     let named = first-prefer c.args.words.now c.index-words-1.result long.0 c.index-words-1.is in
     rw (p.1, p.2)
-    (front_stops g.H.Shelf words (Prefer) c.requires c.args.shelf.now c.take_catalog.new.shelf (string_bytes c.index-words-1.result ∷ []) (drop 2 words)
+    (front_stops g.H.Shelf words (Prefer) c.requires c.args.shelf.now c.take_input.new.shelf (string_bytes c.index-words-1.result ∷ []) (drop 2 words)
     c.in_err-catalog.field-0.0 named (rw c.as_str.ensures.value at c.in_err-catalog.ensures.used))
 
 pub returns-in_err-roll-clause-used : goal.returns-in_err-roll-clause-used
@@ -114,7 +114,7 @@ returns-in_err-roll-clause-used g c =
     let long = length-prefer c.args.words.now c.requires in
     let named = inputs-prefer c.args.words.now c.index-words-1.result c.index-words-2.result long.0 c.index-words-1.is c.index-words-2.is in
     rw (p.1, p.2)
-    (next_stops g.H.Shelf words (Prefer) c.requires c.args.shelf.now c.take_catalog.new.shelf c.take_roll.new.shelf
+    (next_stops g.H.Shelf words (Prefer) c.requires c.args.shelf.now c.take_input.new.shelf c.take_input-2.new.shelf
     (string_bytes c.index-words-1.result ∷ []) (string_bytes c.index-words-2.result ∷ [])
     (map string_bytes (take (length c.args.words.now - 3) (drop 3 c.args.words.now))) c.in_err-roll.field-0.0 named
     (rw c.as_str.ensures.value at c.in_ok-catalog.ensures.used) (rw c.as_str-2.ensures.value at c.in_err-roll.ensures.used))
@@ -126,11 +126,11 @@ returns-in_err-streams-clause-used g c =
     let long = length-prefer c.args.words.now c.requires in
     let named = inputs-prefer c.args.words.now c.index-words-1.result c.index-words-2.result long.0 c.index-words-1.is c.index-words-2.is in
     let front1 =
-    read_behind g.H.Shelf c.args.shelf.now c.take_catalog.new.shelf c.take_roll.new.shelf (string_bytes c.index-words-1.result ∷ [])
+    read_behind g.H.Shelf c.args.shelf.now c.take_input.new.shelf c.take_input-2.new.shelf (string_bytes c.index-words-1.result ∷ [])
     (string_bytes c.index-words-2.result ∷ []) (rw c.as_str.ensures.value at c.in_ok-catalog.ensures.used)
     (rw c.as_str-2.ensures.value at c.in_ok-roll.ensures.used) in
     rw (p.1, p.2)
-    (last_stops g.H.Shelf words (Prefer) c.requires c.args.shelf.now c.take_roll.new.shelf c.take_sessions.new.shelf
+    (last_stops g.H.Shelf words (Prefer) c.requires c.args.shelf.now c.take_input-2.new.shelf c.take_sessions.new.shelf
     (string_bytes c.index-words-1.result ∷ string_bytes c.index-words-2.result ∷ [])
     (map string_bytes (take (length c.args.words.now - 3) (drop 3 c.args.words.now))) c.in_err-streams.field-0.0 named front1
     c.in_err-streams.ensures.used)
@@ -142,12 +142,12 @@ returns-in_err-text-clause-used g c =
     let long = length-prefer c.args.words.now c.requires in
     let named = inputs-prefer c.args.words.now c.index-words-1.result c.index-words-2.result long.0 c.index-words-1.is c.index-words-2.is in
     let front1 =
-    read_behind g.H.Shelf c.args.shelf.now c.take_catalog.new.shelf c.take_roll.new.shelf (string_bytes c.index-words-1.result ∷ [])
+    read_behind g.H.Shelf c.args.shelf.now c.take_input.new.shelf c.take_input-2.new.shelf (string_bytes c.index-words-1.result ∷ [])
     (string_bytes c.index-words-2.result ∷ []) (rw c.as_str.ensures.value at c.in_ok-catalog.ensures.used)
     (rw c.as_str-2.ensures.value at c.in_ok-roll.ensures.used) in
     rw (p.1, p.2)
     (memory_wanted g.H.Shelf words c.args.shelf.now c.take_sessions.new.shelf
-    (all_read g.H.Shelf words (Prefer) c.requires c.args.shelf.now c.take_roll.new.shelf c.take_sessions.new.shelf
+    (all_read g.H.Shelf words (Prefer) c.requires c.args.shelf.now c.take_input-2.new.shelf c.take_sessions.new.shelf
     (string_bytes c.index-words-1.result ∷ string_bytes c.index-words-2.result ∷ [])
     (map string_bytes (take (length c.args.words.now - 3) (drop 3 c.args.words.now))) named front1 c.in_ok-streams.ensures.used))
 
@@ -157,9 +157,9 @@ returns-clause-used g c =
     let long = length-prefer c.args.words.now c.requires in
     let named = inputs-prefer c.args.words.now c.index-words-1.result c.index-words-2.result long.0 c.index-words-1.is c.index-words-2.is in
     let front1 =
-    read_behind g.H.Shelf c.args.shelf.now c.take_catalog.new.shelf c.take_roll.new.shelf (string_bytes c.index-words-1.result ∷ [])
+    read_behind g.H.Shelf c.args.shelf.now c.take_input.new.shelf c.take_input-2.new.shelf (string_bytes c.index-words-1.result ∷ [])
     (string_bytes c.index-words-2.result ∷ []) (rw c.as_str.ensures.value at c.in_ok-catalog.ensures.used)
     (rw c.as_str-2.ensures.value at c.in_ok-roll.ensures.used) in
-    all_read g.H.Shelf words (Prefer) c.requires c.args.shelf.now c.take_roll.new.shelf c.take_sessions.new.shelf
+    all_read g.H.Shelf words (Prefer) c.requires c.args.shelf.now c.take_input-2.new.shelf c.take_sessions.new.shelf
     (string_bytes c.index-words-1.result ∷ string_bytes c.index-words-2.result ∷ [])
     (map string_bytes (take (length c.args.words.now - 3) (drop 3 c.args.words.now))) named front1 c.in_ok-streams.ensures.used

@@ -23,7 +23,7 @@ returns-in_err-catalog-clause-answer g c =
     let six = length-quote c.args.words.now c.args.name c.args.credits c.args.courses c.requires in
     let named = first-quote c.args.words.now c.args.name c.args.credits c.args.courses c.index-words-1.result six c.index-words-1.is in
     let held = g.H.Shelf.holds c.args.shelf.now in
-    rw (p.1, p.2) (input_stops (map string_bytes c.args.words.now) form c.requires held (g.H.Shelf.faults c.args.shelf.now) (sight g.H.Shelf c.args.shelf.now c.take_catalog.new.shelf) refl (λ _. omega arith) [] []
+    rw (p.1, p.2) (input_stops (map string_bytes c.args.words.now) form c.requires held (g.H.Shelf.faults c.args.shelf.now) (sight g.H.Shelf c.args.shelf.now c.take_input.new.shelf) refl (λ _. omega arith) [] []
     (none_read form held) Catalog (string_bytes c.index-words-1.result) (take 1 (drop 2 (map string_bytes c.args.words.now))) 1 c.in_err-catalog.field-0.0 named
     refl refl
     (rw c.as_str.ensures.value at c.in_err-catalog.ensures.trouble))
@@ -38,7 +38,7 @@ returns-in_err-commands-clause-answer g c =
     c.index-words-2.is in
     let held = g.H.Shelf.holds c.args.shelf.now in
     let first = rw c.as_str.ensures.value at c.in_ok-catalog.ensures.read in
-    rw (p.1, p.2) (session_stops (map string_bytes c.args.words.now) form c.requires held (g.H.Shelf.faults c.args.shelf.now) (sight g.H.Shelf c.take_catalog.new.shelf c.take_session.new.shelf) c.in_ok-catalog.ensures.holds
+    rw (p.1, p.2) (session_stops (map string_bytes c.args.words.now) form c.requires held (g.H.Shelf.faults c.args.shelf.now) (sight g.H.Shelf c.take_input.new.shelf c.take_session.new.shelf) c.in_ok-catalog.ensures.holds
     c.in_ok-catalog.ensures.later (string_bytes c.index-words-1.result ∷ []) (first.0 ∷ [])
     (catalog_first form held (string_bytes c.index-words-1.result) _ refl (omega arith) first)
     (string_bytes c.index-words-2.result) [] 2 200000 c.in_err-commands.field-0.0 named refl (omega arith) refl refl (rw c.as_str-2.ensures.value at c.in_err-commands.ensures.trouble))
@@ -63,7 +63,7 @@ returns-clause-answer g c =
     let first = rw c.as_str.ensures.value at c.in_ok-catalog.ensures.read in
     let second = rw c.as_str-2.ensures.value at c.in_ok-commands.ensures.read in
     let ended = rw c.as_str-2.ensures.value at c.in_ok-commands.ensures.end in
-    quote_done (map string_bytes c.args.words.now) (g.H.Shelf.faults c.args.shelf.now) (sight g.H.Shelf c.take_catalog.new.shelf c.take_session.new.shelf)
+    quote_done (map string_bytes c.args.words.now) (g.H.Shelf.faults c.args.shelf.now) (sight g.H.Shelf c.take_input.new.shelf c.take_session.new.shelf)
     (g.H.Shelf.holds c.args.shelf.now)
     (string_bytes c.index-words-1.result) (string_bytes c.index-words-2.result) c.args.name c.args.credits c.args.courses _ c.in_ok-commands.commands.items _
     c.requires named first c.in_ok-catalog.ensures.holds second ended
@@ -76,7 +76,7 @@ returns-in_err-catalog-clause-used g c =
     let long = length-quote c.args.words.now c.args.name c.args.credits c.args.courses c.requires in
     let named = first-quote c.args.words.now c.args.name c.args.credits c.args.courses c.index-words-1.result long c.index-words-1.is in
     rw (p.1, p.2)
-    (front_stops g.H.Shelf words (Quote c.args.name c.args.credits c.args.courses) c.requires c.args.shelf.now c.take_catalog.new.shelf
+    (front_stops g.H.Shelf words (Quote c.args.name c.args.credits c.args.courses) c.requires c.args.shelf.now c.take_input.new.shelf
     (string_bytes c.index-words-1.result ∷ []) (take 1 (drop 2 words)) c.in_err-catalog.field-0.0 named
     (rw c.as_str.ensures.value at c.in_err-catalog.ensures.used))
 
@@ -89,7 +89,7 @@ returns-in_err-commands-clause-used g c =
     inputs-quote c.args.words.now c.args.name c.args.credits c.args.courses c.index-words-1.result c.index-words-2.result long c.index-words-1.is
     c.index-words-2.is in
     rw (p.1, p.2)
-    (next_stops g.H.Shelf words (Quote c.args.name c.args.credits c.args.courses) c.requires c.args.shelf.now c.take_catalog.new.shelf
+    (next_stops g.H.Shelf words (Quote c.args.name c.args.credits c.args.courses) c.requires c.args.shelf.now c.take_input.new.shelf
     c.take_session.new.shelf (string_bytes c.index-words-1.result ∷ []) (string_bytes c.index-words-2.result ∷ []) ([]) c.in_err-commands.field-0.0
     named (rw c.as_str.ensures.value at c.in_ok-catalog.ensures.used) (rw c.as_str-2.ensures.value at c.in_err-commands.ensures.used))
 
@@ -103,7 +103,7 @@ returns-in_err-text-clause-used g c =
     c.index-words-2.is in
     rw (p.1, p.2)
     (memory_wanted g.H.Shelf words c.args.shelf.now c.take_session.new.shelf
-    (all_read g.H.Shelf words (Quote c.args.name c.args.credits c.args.courses) c.requires c.args.shelf.now c.take_catalog.new.shelf
+    (all_read g.H.Shelf words (Quote c.args.name c.args.credits c.args.courses) c.requires c.args.shelf.now c.take_input.new.shelf
     c.take_session.new.shelf (string_bytes c.index-words-1.result ∷ []) (string_bytes c.index-words-2.result ∷ []) named
     (rw c.as_str.ensures.value at c.in_ok-catalog.ensures.used) (rw c.as_str-2.ensures.value at c.in_ok-commands.ensures.used)))
 
@@ -114,6 +114,6 @@ returns-clause-used g c =
     let named =
     inputs-quote c.args.words.now c.args.name c.args.credits c.args.courses c.index-words-1.result c.index-words-2.result long c.index-words-1.is
     c.index-words-2.is in
-    all_read g.H.Shelf words (Quote c.args.name c.args.credits c.args.courses) c.requires c.args.shelf.now c.take_catalog.new.shelf c.take_session.new.shelf
+    all_read g.H.Shelf words (Quote c.args.name c.args.credits c.args.courses) c.requires c.args.shelf.now c.take_input.new.shelf c.take_session.new.shelf
     (string_bytes c.index-words-1.result ∷ []) (string_bytes c.index-words-2.result ∷ []) named (rw c.as_str.ensures.value at c.in_ok-catalog.ensures.used)
     (rw c.as_str-2.ensures.value at c.in_ok-commands.ensures.used)

@@ -7,7 +7,7 @@ use Rattle.market_host.proofs.sure.sure_match.Goals as goal
 
 pub returns-clause-read : goal.returns-clause-read
 returns-clause-read g c = λ input is.
-    let told = c.course_match.ensures.written (λ other. cc) in
+    let told = c.course_match.ensures.answered.written (λ other. cc) in
     let seen : Sight = record {
       held = held_by c.args.shelf.now;
       before = λ name. 0;
@@ -19,7 +19,7 @@ returns-clause-read g c = λ input is.
     never_unread (map string_bytes c.args.words.now) seen c.course_match.result input told.0 told.1 (λ name rose. absurd (omega (arith, rose))) is
 
 pub returns-clause-taken : goal.returns-clause-taken
-returns-clause-taken g c = λ is. absurd (omega (arith, c.course_match.ensures.sink_fault is))
+returns-clause-taken g c = λ is. absurd (omega (arith, c.course_match.ensures.answered.sink_fault is))
 
 pub returns-clause-complete : goal.returns-clause-complete
-returns-clause-complete g c = λ can. c.course_match.ensures.complete can (λ rose. absurd (omega (arith, rose)))
+returns-clause-complete g c = λ can. c.course_match.ensures.answered.complete can (λ rose. absurd (omega (arith, rose)))

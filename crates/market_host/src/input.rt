@@ -1,0 +1,63 @@
+// One input of a call that is read by itself.
+ghost use Rattle.std.specs.Prelude.{◌≡◌, ◌<◌, ◌≤◌, ◌-◌, ◌^◌, List, ℕ, length, IfOk, IfErr, [], ◌∷◌};
+ghost use Rattle.market_host.specs.declared.cause.Cause.{Cause};
+ghost use Rattle.market_host.specs.Inputs.{HasFault};
+ghost use Rattle.market_host.specs.Kinds.{Kind, limit_of};
+ghost use Rattle.market_host.specs.Reading.{IsRead, IsRefusal, IsTroubleOf};
+ghost use Rattle.market_host.specs.Sights.{sight};
+ghost use Rattle.market_host.specs.Traces.{Uses, trace};
+
+use crate::inputs::read_input;
+use crate::trouble::Trouble;
+use market_edge::Shelf;
+use market_units::MAX_INPUT_BYTES;
+use std::alloc::Global;
+
+/// What one input of a call says, whatever the others say: a catalogue, a roll or settings.
+pub trait Input: Drop {
+    /// The kind of the input.
+    ghost kind: { Kind };
+
+    /// It is what this text stands for.
+    ghost is_said_by: { List ℕ → Self → Type 0 };
+
+    /// What holds of all that is read.
+    ghost is_sound: { Self → Type 0 };
+
+    /// The text stands for nothing, and its first fault has this row and this cause.
+    ghost is_faulty: { List ℕ → ℕ → Cause → Type 0 };
+
+    /// What the text stands for, or its first fault, told of the input of this number.
+    fn read_from(alloc: Global, bytes: &[u8], input: u16) -> Result<Self, Trouble>
+        requires { length bytes.now < 2 ^ 32 - 1 }
+        ensures said { IfOk result (is_said_by bytes.now) }
+        ensures sound { IfOk result is_sound }
+        ensures refused { IfErr result (IsRefusal (is_faulty bytes.now) input) };
+
+    /// The limit of the kind is that of a table.
+    ghost within: { limit_of kind ≡ 16777216 };
+
+    /// A fault is one of the kind, whatever inputs stand before.
+    ghost faults: { (earlier : List (List ℕ)) (text : List ℕ) (row : ℕ) (cause : Cause)
+        → is_faulty text row cause → HasFault kind earlier row cause text };
+}
+
+/// What the input of this name and number says, or why there is nothing.
+pub fn take_input<H: Shelf, I: Input>(
+    alloc: Global,
+    shelf: &mut H,
+    name: &str,
+    input: u16,
+) -> Result<I, Trouble>
+    ensures read { IfOk result
+        (λ said. IsRead I.kind (H.holds shelf.old) name.now (λ text. I.is_said_by text said)) }
+    ensures sound { IfOk result I.is_sound }
+    ensures trouble { IfErr result
+        (IsTroubleOf (sight H.Shelf shelf.old shelf.new) I.kind name.now input) }
+    ensures holds { H.holds shelf.new ≡ H.holds shelf.old }
+    ensures later { (other : List ℕ) → H.faults shelf.old other ≤ H.faults shelf.new other }
+    ensures used { Uses (trace H.Shelf shelf.old shelf.new) (name.now ∷ []) input result }
+{
+    let bytes = read_input(alloc, shelf, name, input, MAX_INPUT_BYTES)?;
+    I::read_from(alloc, &bytes, input)
+}
