@@ -12,7 +12,7 @@ use course_catalog::Catalog;
 use demand_api::Crowd;
 use fairness_audit::{EnvyRow, Seen, audit, is_allocation, put_rows};
 use market_edge::{Gate, MeetingGate, OpenGate};
-use market_units::{SectionNo, StudentNo, Tokens};
+use market_units::{MAX_WORKERS, SectionNo, StudentNo, Tokens};
 use std::alloc::Global;
 use std::process::Abort;
 use std::sync::{Arc, Wait};
@@ -125,7 +125,7 @@ fn rows_of<R: Abort + Threads + Wait + Sync, G: Gate + Sync>(
 ) -> Result<Vec<EnvyRow>, Fail>
     requires crowd { MakeCrowd (arc_value crowd.now).menus.items (arc_value crowd.now).budgets.items
         (arc_value crowd.now).sections }
-    requires workers { (1 ≤ workers) × (workers ≤ 16) }
+    requires workers { (1 ≤ workers) × (workers ≤ MAX_WORKERS) }
     ensures { IfOk result
         (λ rows. AreRowsAmong (length (arc_value crowd.now).menus.items)
         (arc_value crowd.now).sections (map row_of rows.items)) }
@@ -149,7 +149,7 @@ fn text_of<R: Abort + Threads + Wait + Sync>(
 ) -> Result<Vec<u8>, Fail>
     requires crowd { MakeCrowd (arc_value crowd.now).menus.items (arc_value crowd.now).budgets.items
         (arc_value crowd.now).sections }
-    requires workers { (1 ≤ workers) × (workers ≤ 16) }
+    requires workers { (1 ≤ workers) × (workers ≤ MAX_WORKERS) }
 {
     assert_eq!(rt; catalog.len(), crowd.sections);
     assert_eq!(rt; usize::from(roll.len()), crowd.menus.len());

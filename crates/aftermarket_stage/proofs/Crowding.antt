@@ -9,7 +9,7 @@ use Rattle.market_units.specs.declared.units.Tokens.{Tokens}
 use Rattle.market_units.specs.declared.units.StudentNo.{StudentNo}
 use Rattle.bundle_rules.specs.declared.bundle.Bundle.{Bundle}
 use Rattle.bundle_rules.specs.Bundles.{sections_of}
-use Rattle.bundle_rules.specs.Sets.{has}
+use Rattle.market_units.specs.Members.{has}
 use Rattle.bundle_rules.specs.Menus.{MenuData, wishes_of}
 use Rattle.bundle_rules.specs.Demand.{price_in, IsBest, HasPrices}
 use Rattle.budget_draw.specs.AfterOrder.{after_order_of}
@@ -23,7 +23,8 @@ use Rattle.aftermarket_stage.specs.declared.turns.Turn.{Turn}
 use Rattle.held_seats.specs.Choices.{AreHeldWithin, may_choose}
 use Rattle.aftermarket_stage.specs.Turns.{Terms, TurnData, IsTurn, after_turn, after_turns, EachTurn, IsQuiet}
 use Rattle.aftermarket_stage.specs.Passes.{due_of, IsPass, IsAftermarket}
-use Rattle.aftermarket_stage.specs.After.{terms_of, turn_of, turns_of, AreSectionPrices}
+use Rattle.demand_api.specs.Asking.{AreSectionPrices}
+use Rattle.aftermarket_stage.specs.After.{terms_of, turn_of, turns_of}
 use Rattle.held_seats.specs.Floors.{AreBelow}
 use Rattle.aftermarket_stage.specs.HeldChoices.{AreChoices, AreTerms}
 use Rattle.aftermarket_stage.specs.Runs.{IsBestAt, HasTurned, HaveTurned}

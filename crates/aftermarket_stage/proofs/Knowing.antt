@@ -8,7 +8,7 @@ use Rattle.std.proofs.lemmas.List.{length-set, get_or_default}
 use Rattle.std.proofs.lemmas.Option.{slice_get_within, get_or_from_slice_get}
 use Rattle.market_units.specs.declared.units.Tokens.{Tokens}
 use Rattle.bundle_rules.specs.declared.menu.Rated.{Rated}
-use Rattle.bundle_rules.specs.Sets.{has}
+use Rattle.market_units.specs.Members.{has}
 use Rattle.bundle_rules.specs.Menus.{MenuData, wishes_of}
 use Rattle.bundle_rules.specs.Demand.{price_in, IsBest}
 use Rattle.budget_draw.specs.Budgets.{raised_by}

@@ -2,6 +2,7 @@
 use Rattle.std.specs.Prelude.{ℕ, ◌≤◌, ◌≡◌, ◌||◌, true, not, List, All, IsTrue, length, Option, Some, slice_get}
 use Rattle.std.specs.Ordering.{nat_cmp}
 use Rattle.std.specs.FinSet as set
+use Rattle.market_units.specs.declared.limits.TheConstants.{MAX_RAISE}
 use Rattle.bundle_rules.specs.declared.menu.Rated.{Rated}
 use Rattle.market_units.specs.declared.units.Tokens.{Tokens}
 use Rattle.bundle_rules.specs.Menus.{wishes_of}
@@ -11,7 +12,7 @@ use Rattle.demand_api.specs.Crowds.{Student, CrowdData}
 use Rattle.demand_api.specs.Made.{MakeCrowd}
 use Rattle.demand_api.specs.declared.crowd.Crowd.{Crowd}
 use Rattle.aftermarket_stage.specs.Turns.{Terms}
-use Rattle.aftermarket_stage.specs.After.{AreSectionPrices}
+use Rattle.demand_api.specs.Asking.{AreSectionPrices}
 
 -- a student and what it holds: a bundle that it may take and afford with the raise
 pub record HoldsChoice (terms : Terms) (held : List (List ℕ)) (who : Student)
@@ -34,7 +35,7 @@ pub record AreTerms (crowd : Crowd) (seats : List ℕ) (prices : List Tokens)
   pub whole : MakeCrowd crowd.menus.items crowd.budgets.items crowd.sections
   pub seats_each : length seats ≡ crowd.sections
   pub prices_each : AreSectionPrices crowd.sections prices
-  pub raise_low : raise ≤ 50
+  pub raise_low : raise ≤ MAX_RAISE
 
 -- where sections are known of a student, the bundle that it holds is the best of these within its
 -- raised budget

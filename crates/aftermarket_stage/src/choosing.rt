@@ -1,10 +1,11 @@
 // The best bundles of students, sought only where something new may be chosen.
 ghost use Rattle.std.specs.Prelude.{◌≡◌, ◌<◌, ◌≤◌, ◌||◌, ℕ, [], List, Option, None, Some, IfOk, IsTrue, All, true, not, length, map, slice_get, slice_index_or, slice_set};
 ghost use Rattle.std.specs.FinSet as set;
-ghost use Rattle.bundle_rules.specs.Sets.{has};
+ghost use Rattle.market_units.specs.Members.{has};
 ghost use Rattle.bundle_rules.specs.Bundles.{sections_of};
 ghost use Rattle.demand_api.specs.Made.{MakeCrowd, crowd_of};
-ghost use Rattle.aftermarket_stage.specs.After.{AreSectionPrices, terms_of};
+ghost use Rattle.demand_api.specs.Asking.{AreSectionPrices};
+ghost use Rattle.aftermarket_stage.specs.After.{terms_of};
 ghost use Rattle.aftermarket_stage.specs.HeldChoices.{AreKnown, IsSettled};
 ghost use Rattle.aftermarket_stage.specs.Runs.{IsBestAt};
 
@@ -12,7 +13,7 @@ use budget_draw::raised;
 use bundle_rules::{Bundle, Rated};
 use demand_api::Crowd;
 use demand_oracle::{Workspace, demand};
-use market_units::{NoMemory, SectionNo, SectionSet, Tokens};
+use market_units::{MAX_RAISE, MAX_SECTIONS, NoMemory, SectionNo, SectionSet, Tokens};
 use std::alloc::Global;
 
 // Room for demands, and for each student the sections of which the bundle that it holds is known to
@@ -54,7 +55,7 @@ impl Chooser {
         requires crowd { MakeCrowd crowd.now.menus.items crowd.now.budgets.items
             crowd.now.sections }
         requires prices { AreSectionPrices crowd.now.sections prices.now }
-        requires raise { raise ≤ 50 }
+        requires raise { raise ≤ MAX_RAISE }
         requires place { place < length crowd.now.menus.items }
         requires students { length held.now ≡ length crowd.now.menus.items }
         requires size { length self.old.known.items ≡ length crowd.now.menus.items }
@@ -86,7 +87,7 @@ impl Chooser {
     // among which are all of these that are on its menu.
     fn is_settled(&self, places: &[Rated], allowed: &SectionSet, place: usize) -> bool
         requires place { place < length self.now.known.items }
-        requires low { All (λ rated. rated.section.0 < 400) places.now }
+        requires low { All (λ rated. rated.section.0 < MAX_SECTIONS) places.now }
         ensures { IsTrue result → IsSettled self.now.known.items place places.now allowed.now }
     {
         match self.known[place] {
@@ -98,7 +99,7 @@ impl Chooser {
 
 // Whether each of these sections that is allowed is among the known ones.
 fn none_new(places: &[Rated], known: &SectionSet, allowed: &SectionSet) -> bool
-    requires { All (λ rated. rated.section.0 < 400) places.now }
+    requires { All (λ rated. rated.section.0 < MAX_SECTIONS) places.now }
     ensures { IsTrue result
         → All
         (λ rated. IsTrue
@@ -112,7 +113,7 @@ fn none_new(places: &[Rated], known: &SectionSet, allowed: &SectionSet) -> bool
 }
 
 fn is_old(section: SectionNo, known: &SectionSet, allowed: &SectionSet) -> bool
-    requires { section.0 < 400 }
+    requires { section.0 < MAX_SECTIONS }
     ensures { result
         ≡ (set.contains known.now section.0 || not (set.contains allowed.now section.0)) }
 {

@@ -8,7 +8,8 @@ ghost use Rattle.demand_api.specs.Made.{MakeCrowd, crowd_of};
 ghost use Rattle.aftermarket_stage.specs.Turns.{after_turns};
 ghost use Rattle.held_seats.specs.Choices.{AreHeldWithin};
 ghost use Rattle.aftermarket_stage.specs.Passes.{IsAftermarket};
-ghost use Rattle.aftermarket_stage.specs.After.{AreSectionPrices, terms_of, turns_of};
+ghost use Rattle.demand_api.specs.Asking.{AreSectionPrices};
+ghost use Rattle.aftermarket_stage.specs.After.{terms_of, turns_of};
 ghost use Rattle.held_seats.specs.Floors.{AreBelow, IsFloor, held_on};
 ghost use Rattle.aftermarket_stage.specs.HeldChoices.{AreChoices, AreKnown, AreTerms};
 ghost use Rattle.aftermarket_stage.specs.Runs.{HasTurned, HaveTurned};
@@ -20,7 +21,7 @@ use budget_draw::after_order;
 use bundle_rules::Bundle;
 use demand_api::Crowd;
 use held_seats::Floor;
-use market_units::{NoMemory, StudentNo, Tokens};
+use market_units::{MAX_RAISE, MAX_SECTIONS, MAX_STUDENTS, NoMemory, StudentNo, Tokens};
 use std::alloc::Global;
 
 // What the aftermarket works in: who seeks the best bundles, what is held, and the turns so far.
@@ -56,7 +57,7 @@ pub fn aftermarket(
         ≡ demands (crowd_of crowd.now.menus.items crowd.now.budgets.items crowd.now.sections)
         (price_in prices.now) }
     requires within { AreHeldWithin crowd.now.sections seats.now (map sections_of bundles.now) }
-    requires raise { raise ≤ 50 }
+    requires raise { raise ≤ MAX_RAISE }
     ensures turns { IfOk result
         (λ after. IsAftermarket (terms_of crowd.now seats.now prices.now raise)
         (map sections_of bundles.now) (turns_of after.turns.items) after.passes) }
@@ -85,8 +86,8 @@ pub fn aftermarket(
 impl Stage {
     // The stage on which these bundles are held, before any turn.
     fn open(alloc: Global, seats: &[u16], bundles: &[Bundle]) -> Result<Stage, NoMemory>
-        requires sections { length seats.now ≤ 400 }
-        requires few { length bundles.now ≤ 2000 }
+        requires sections { length seats.now ≤ MAX_SECTIONS }
+        requires few { length bundles.now ≤ MAX_STUDENTS }
         requires below { AreBelow (length seats.now) (map sections_of bundles.now) }
         ensures turns { IfOk result (λ stage. stage.turns.items ≡ []) }
         ensures held { IfOk result (λ stage. held_on stage.floor ≡ map sections_of bundles.now) }
@@ -189,7 +190,7 @@ impl Stage {
 
     // What the turns come to.
     fn close(self, alloc: Global, passes: u64) -> Result<After, NoMemory>
-        requires { All (λ count. count ≤ 2000) self.floor.used.items }
+        requires { All (λ count. count ≤ MAX_STUDENTS) self.floor.used.items }
         ensures turns { IfOk result (λ after. after.turns.items ≡ self.turns.items) }
         ensures passes { IfOk result (λ after. after.passes ≡ passes) }
         ensures bundles { IfOk result (λ after. after.bundles.items ≡ self.floor.held.items) }

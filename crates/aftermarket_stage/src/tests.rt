@@ -5,12 +5,12 @@ ghost use Rattle.bundle_rules.specs.Demand.{price_in};
 ghost use Rattle.demand_api.specs.Crowds.{demands, holders};
 ghost use Rattle.demand_api.specs.Made.{MakeCrowd, crowd_of};
 ghost use Rattle.held_seats.specs.Choices.{AreHeldWithin};
-ghost use Rattle.aftermarket_stage.specs.After.{AreSectionPrices};
+ghost use Rattle.demand_api.specs.Asking.{AreSectionPrices};
 
 use super::*;
 use bundle_rules::{Bundle, Menu, Rated, best_plain};
 use demand_api::Crowd;
-use market_units::{MAX_PRICE, NoMemory, SectionNo, SectionSet, Tokens};
+use market_units::{MAX_PRICE, MAX_SECTIONS, NoMemory, SectionNo, SectionSet, Tokens};
 use std::alloc::Global;
 use std::process::Abort;
 use std::test::Fail;
@@ -40,7 +40,7 @@ fn are_priced(sections: u16, prices: &[Tokens]) -> bool
 }
 
 fn none_too_high(prices: &[Tokens]) -> bool
-    ensures { IsTrue result → All (λ price. price.0 ≤ 1000001) prices.now }
+    ensures { IsTrue result → All (λ price. price.0 ≤ MAX_PRICE) prices.now }
 {
     prices.iter().all(|price| price.0 <= MAX_PRICE)
 }
@@ -56,7 +56,7 @@ fn holders_of(bundles: &[Bundle], section: SectionNo) -> usize
 }
 
 fn are_within(seats: &[u16], bundles: &[Bundle]) -> bool
-    requires { length seats.now ≤ 400 }
+    requires { length seats.now ≤ MAX_SECTIONS }
     ensures { IsTrue result
         → AreHeldWithin (length seats.now) seats.now (map sections_of bundles.now) }
 {

@@ -60,28 +60,28 @@ abbrev pub bounds : Offer → ℕ → List ℕ → List (Leaf × ℤ)
 bounds offer k chosen =
     bounds_over offer chosen (prospects offer chosen (open_places offer k chosen))
 
--- the bound closes the node: nothing that can still be reached has the champion's utility, or more
+-- the bound prunes the node: nothing that can still be reached has the champion's utility, or more
 -- than it where the first decided place on which the champion and the chosen ones differ is the
 -- champion's
-abbrev pub Closes : Offer → ℕ → List ℕ → List ℕ → ℤ → Type 0
-Closes offer k chosen champion bound =
+abbrev pub Prunes : Offer → ℕ → List ℕ → List ℕ → ℤ → Type 0
+Prunes offer k chosen champion bound =
     (bound <ℤ (pos 1000 *ℤ utility (by_place offer.menu) champion))
     ⊎
     ((bound <ℤ (pos 1000 *ℤ (utility (by_place offer.menu) champion +ℤ pos 1)))
     × IsAhead k champion chosen)
 
--- none of these bounds closes the node
-abbrev pub NoneCloses : Offer → ℕ → List ℕ → List ℕ → List (Leaf × ℤ) → Type 0
-NoneCloses offer k chosen champion [] = ⊤
-NoneCloses offer k chosen champion (b ∷ bs) =
-    (¬ Closes offer k chosen champion b.1) × NoneCloses offer k chosen champion bs
+-- none of these bounds prunes the node
+abbrev pub NonePrunes : Offer → ℕ → List ℕ → List ℕ → List (Leaf × ℤ) → Type 0
+NonePrunes offer k chosen champion [] = ⊤
+NonePrunes offer k chosen champion (b ∷ bs) =
+    (¬ Prunes offer k chosen champion b.1) × NonePrunes offer k chosen champion bs
 
--- the leaf of the first of these bounds that closes the node
-abbrev pub IsFirstClosing : Offer → ℕ → List ℕ → List ℕ → List (Leaf × ℤ) → Leaf → Type 0
-IsFirstClosing offer k chosen champion [] leaf = ⊥
-IsFirstClosing offer k chosen champion (b ∷ bs) leaf =
-    (Closes offer k chosen champion b.1 × (b.0 ≡ leaf))
-    ⊎ ((¬ Closes offer k chosen champion b.1) × IsFirstClosing offer k chosen champion bs leaf)
+-- the leaf of the first of these bounds that prunes the node
+abbrev pub IsFirstPruning : Offer → ℕ → List ℕ → List ℕ → List (Leaf × ℤ) → Leaf → Type 0
+IsFirstPruning offer k chosen champion [] leaf = ⊥
+IsFirstPruning offer k chosen champion (b ∷ bs) leaf =
+    (Prunes offer k chosen champion b.1 × (b.0 ≡ leaf))
+    ⊎ ((¬ Prunes offer k chosen champion b.1) × IsFirstPruning offer k chosen champion bs leaf)
 
 -- the leaf is on this menu of bounds, with this number
 abbrev pub HasBound : List (Leaf × ℤ) → Leaf → ℤ → Type 0

@@ -5,6 +5,8 @@ ghost use Rattle.bundle_bounds.specs.declared.prospects.Prospect.{Prospect};
 ghost use Rattle.bundle_bounds.specs.declared.prospects.Resource.{Resource};
 ghost use Rattle.bundle_bounds.specs.Bounds.{at_price};
 
+use market_units::MAX_PRICE;
+
 // More than any price of a bound.
 const HIGHEST: u64 = 20_000_001;
 
@@ -33,7 +35,7 @@ impl Known {
     // not below the limit.
     pub(crate) fn has_ratio(&self, worth: u64, taken: u64) -> bool
         requires worth { worth ≤ 20000000 }
-        requires taken { taken ≤ 1000001 }
+        requires taken { taken ≤ MAX_PRICE }
         requires low { self.now.low ≤ 20000002 }
         requires high { self.now.high ≤ 20000001 }
         ensures { IsTrue result → 0 < taken → (base limit : ℤ) (rest : ℕ) (resource : Resource) (all : List Prospect) → IsKnown base limit rest resource all self.now

@@ -2,7 +2,6 @@
 // Neither: how long it takes.
 #![tactic(auto)]
 
-mod closing;
 mod known;
 pub mod laws;
 mod leaving;
@@ -10,10 +9,11 @@ mod nodes;
 mod opens;
 mod places;
 mod prospects;
+mod pruning;
 mod sifting;
 mod stems;
 mod tangents;
 
-pub use nodes::{Leaf, Node, bound, bound_closes, is_open};
+pub use nodes::{Leaf, Node, bound, bound_prunes, is_open};
 pub use places::{adjustments_with, is_apart, price_of_place};
 pub use stems::Stem;

@@ -4,6 +4,8 @@ ghost use Rattle.bundle_bounds.specs.Courses.{takes_of, has_course, greatest, by
 ghost use Rattle.bundle_bounds.specs.Bounds.{over_price, at_price};
 ghost use Rattle.bundle_bounds.specs.Modest.{IsModest};
 
+use market_units::{MAX_PRICE, MAX_RATINGS};
+
 /// What a bundle takes of: the budget, the credits, the number of sections.
 #[derive(Clone, Copy, Debug, PartialEq, Eq)]
 pub(crate) enum Resource {
@@ -25,7 +27,7 @@ pub(crate) struct Prospect {
 
 // Courses are told apart by a place of the menu. These are at most 60, so that a small array has a
 // mark for each course; course numbers have no such bound.
-const COURSES: usize = 60;
+const COURSES: usize = MAX_RATINGS;
 
 // Room for what is known of the open places of a menu.
 pub(crate) const NO_PROSPECTS: [Prospect; COURSES] = [Prospect {
@@ -40,7 +42,7 @@ pub(crate) const NO_PROSPECTS: [Prospect; COURSES] = [Prospect {
 pub(crate) fn takes(prospect: &Prospect, resource: Resource) -> u64
     requires { IsModest prospect.now }
     ensures value { result ≡ takes_of resource prospect.now }
-    ensures high { result ≤ 1000001 }
+    ensures high { result ≤ MAX_PRICE }
 {
     match resource {
         Resource::Money => u64::from(prospect.price),
@@ -62,10 +64,10 @@ pub(crate) fn over_price(prospect: &Prospect, resource: Resource, price: u64) ->
 // The price of the rest of a resource, and of each course the most that is left over the price.
 pub(crate) fn at_price(prospects: &[Prospect], resource: Resource, rest: u32, price: u64) -> u64
     requires modest { All IsModest prospects.now }
-    requires few { length prospects.now ≤ 60 }
+    requires few { length prospects.now ≤ MAX_RATINGS }
     requires price { price ≤ 20000000 }
     ensures value { result ≡ at_price resource rest price prospects.now }
-    ensures high { result ≤ 20000000 * rest + 20000000 * 60 }
+    ensures high { result ≤ 20000000 * rest + 20000000 * MAX_RATINGS }
 {
     price * u64::from(rest) + add_up(prospects, resource, price)
 }
@@ -73,7 +75,7 @@ pub(crate) fn at_price(prospects: &[Prospect], resource: Resource, rest: u32, pr
 // For each course the most that is left over the price, added up.
 fn add_up(prospects: &[Prospect], resource: Resource, price: u64) -> u64
     requires modest { All IsModest prospects.now }
-    requires few { length prospects.now ≤ 60 }
+    requires few { length prospects.now ≤ MAX_RATINGS }
     requires price { price ≤ 20000000 }
     ensures value { result ≡ by_course (over_price resource price) prospects.now }
     ensures high { result ≤ 20000000 * length prospects.now }
@@ -99,11 +101,11 @@ pub(crate) fn at_two_prices(
     price: u64,
 ) -> (u64, u64)
     requires modest { All IsModest prospects.now }
-    requires few { length prospects.now ≤ 60 }
+    requires few { length prospects.now ≤ MAX_RATINGS }
     requires price { price ≤ 20000000 }
     ensures here { result.0 ≡ at_price resource rest price prospects.now }
     ensures after { result.1 ≡ at_price resource rest (price + 1) prospects.now }
-    ensures high { result.0 ≤ 20000000 * rest + 20000000 * 60 }
+    ensures high { result.0 ≤ 20000000 * rest + 20000000 * MAX_RATINGS }
 {
     let (here, after) = add_up_twice(prospects, resource, price);
     let rest = u64::from(rest);
@@ -114,7 +116,7 @@ pub(crate) fn at_two_prices(
 #[inline(always)]
 fn add_up_twice(prospects: &[Prospect], resource: Resource, price: u64) -> (u64, u64)
     requires modest { All IsModest prospects.now }
-    requires few { length prospects.now ≤ 60 }
+    requires few { length prospects.now ≤ MAX_RATINGS }
     requires price { price ≤ 20000000 }
     ensures here { result.0 ≡ by_course (over_price resource price) prospects.now }
     ensures after { result.1 ≡ by_course (over_price resource (price + 1)) prospects.now }

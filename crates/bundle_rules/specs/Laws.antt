@@ -3,7 +3,8 @@ use Rattle.std.specs.Prelude.{ℕ, ◌<◌, ◌≡◌, ◌≢◌, ◌↔◌, ◌
 use Rattle.market_units.specs.Subsets.{chosen}
 use Rattle.bundle_rules.specs.declared.bundle.Bundle.{Bundle}
 use Rattle.bundle_rules.specs.Bundles.{sections_of}
-use Rattle.bundle_rules.specs.Sets.{has, IsAscending}
+use Rattle.market_units.specs.Members.{has}
+use Rattle.bundle_rules.specs.Sets.{IsAscending}
 use Rattle.bundle_rules.specs.Ahead.{IsAhead, is_ahead}
 use Rattle.bundle_rules.specs.Wishes.{Wishes, AllRated, utility}
 use Rattle.bundle_rules.specs.Agreement.{Agrees}

@@ -84,7 +84,7 @@ fn all_name_others(pair: (u8, u8, i16), others: &[(u8, u8, i16)]) -> bool
 }
 
 pub(crate) fn are_clashes(places: &[Rated], clashes: &[u64]) -> bool
-    requires { length places.now ≤ 60 }
+    requires { length places.now ≤ MAX_RATINGS }
     ensures { IsTrue result ↔ AreClashes places.now clashes.now }
 {
     if clashes.len() != places.len() {
@@ -99,7 +99,7 @@ pub(crate) fn are_clashes(places: &[Rated], clashes: &[u64]) -> bool
 }
 
 fn row_is_sound(places: &[Rated], clashes: &[u64], a: usize) -> bool
-    requires few { length places.now ≤ 60 }
+    requires few { length places.now ≤ MAX_RATINGS }
     requires words { length clashes.now ≡ length places.now }
     requires on_menu { a < length places.now }
     ensures { IsTrue result ↔ RowIsSound places.now clashes.now a }
@@ -113,7 +113,7 @@ fn row_is_sound(places: &[Rated], clashes: &[u64], a: usize) -> bool
 }
 
 fn clashes_well(places: &[Rated], clashes: &[u64], a: usize, b: usize) -> bool
-    requires few { length places.now ≤ 60 }
+    requires few { length places.now ≤ MAX_RATINGS }
     requires words { length clashes.now ≡ length places.now }
     requires first { a < length places.now }
     requires second { b < length places.now }

@@ -10,7 +10,7 @@ use Rattle.bundle_bounds.specs.Offers.{offer_of}
 use Rattle.bundle_rules.specs.Bundles.{sections_of}
 use Rattle.bundle_rules.specs.Existence.Members.{has-cases}
 use Rattle.bundle_rules.specs.Menus.{MenuData}
-use Rattle.bundle_rules.specs.Sets.{has}
+use Rattle.market_units.specs.Members.{has}
 use Rattle.demand_api.specs.Crowds.{Student}
 use Rattle.demand_api.specs.Made.{crowd_of, students_of}
 use Rattle.demand_api.proofs.Takers.{students_length}

@@ -9,7 +9,7 @@ use Rattle.bundle_bounds.specs.Offers.{Offer, offer_of}
 use Rattle.bundle_rules.specs.Bundles.{sections_of}
 use Rattle.bundle_rules.specs.Demand.{HasPrices, IsPriced, price_in}
 use Rattle.bundle_rules.specs.Menus.{MenuData, wishes_of}
-use Rattle.bundle_rules.specs.Sets.{has}
+use Rattle.market_units.specs.Members.{has}
 use Rattle.bundle_rules.specs.Wishes.{IsFeasible}
 use Rattle.budget_draw.specs.Budgets.{raised_by}
 use Rattle.demand_api.specs.Crowds.{IsWithin}

@@ -14,7 +14,7 @@ use Rattle.bundle_bounds.specs.Offers.{Offer}
 use Rattle.bundle_rules.specs.Bundles.{sections_of}
 use Rattle.bundle_rules.specs.declared.bundle.Bundle.{Bundle}
 use Rattle.bundle_rules.specs.Menus.{MenuData}
-use Rattle.bundle_rules.specs.Sets.{has}
+use Rattle.market_units.specs.Members.{has}
 use Rattle.budget_draw.specs.AfterOrder.{after_order_of, goes_before, ordered, placed}
 use Rattle.budget_draw.specs.Budgets.{amounts, raised_by}
 use Rattle.demand_api.specs.Crowds.{CrowdData, Student}

@@ -1,5 +1,6 @@
 -- What the parts of a check go by.
 use Rattle.std.specs.Prelude.{ℕ, ◌≡◌, ◌<◌, ◌≤◌, ◌+◌, ◌*◌, true, false, Bool, List, Some, length, slice_get}
+use Rattle.market_units.specs.declared.limits.TheConstants.{MAX_RAISE}
 use Rattle.demand_api.specs.Made.{MakeCrowd}
 use Rattle.market_certificate.specs.Publications.{IsPublication, ProvedTurn, Publication}
 use Rattle.market_certificate.specs.Tables.{Tables}
@@ -17,7 +18,7 @@ pub record CanCheck (terms : Terms) (p : Publication) : Type 0 where
   pub sections : length tables.sections ≡ terms.crowd.sections
   pub whole : MakeCrowd terms.crowd.menus.items terms.crowd.budgets.items terms.crowd.sections
   pub seats : length terms.seats.items ≡ terms.crowd.sections
-  pub raise : terms.raise ≤ 50
+  pub raise : terms.raise ≤ MAX_RAISE
 
 -- How far the passes have come after the first turns: so many whole passes, and so many turns of
 -- the next one; whether one of these made a change; and whether some whole pass was without one.

@@ -3,7 +3,7 @@ use Rattle.std.specs.Prelude.{ℕ, ◌≡◌, ◌≤◌, true, None, List, [], s
 use Rattle.market_units.specs.Totals.{total}
 use Rattle.bundle_bounds.specs.Offers.{Offer}
 use Rattle.bundle_rules.specs.Menus.{wishes_of}
-use Rattle.bundle_rules.specs.Sets.{has}
+use Rattle.market_units.specs.Members.{has}
 use Rattle.bundle_rules.specs.Wishes.{IsFeasible}
 use Rattle.demand_api.specs.Crowds.{CrowdData, Student}
 use Rattle.market_certificate.specs.Publications.{Proved, Publication}

@@ -3,7 +3,7 @@ ghost use Rattle.std.specs.Prelude.{◌≡◌, ◌↔◌, ◌<◌, ◌≤◌, �
 ghost use Rattle.std.specs.FinSet as set;
 ghost use Rattle.market_units.specs.Totals.{total};
 ghost use Rattle.bundle_rules.specs.Bundles.{sections_of};
-ghost use Rattle.bundle_rules.specs.Sets.{has};
+ghost use Rattle.market_units.specs.Members.{has};
 ghost use Rattle.bundle_rules.specs.Demand.{IsPriced, price_in};
 ghost use Rattle.bundle_rules.specs.Ordinals.{ordinals};
 ghost use Rattle.bundle_bounds.specs.Offers.{offer_of};
@@ -17,7 +17,7 @@ use crate::Finding;
 use crate::terms::Terms;
 use bundle_rules::{Bundle, all_allowed, feasible, price_of};
 use market_certificate::Publication;
-use market_units::{SectionNo, SectionSet, StudentNo, Tokens};
+use market_units::{MAX_SECTIONS, SectionNo, SectionSet, StudentNo, Tokens};
 use proof_tree::check_tree;
 
 // Whether each student's bundle of stage two is affordable and feasible, and has its tree.
@@ -80,7 +80,7 @@ pub(crate) fn is_affordable(prices: &[Tokens], budget: Tokens, bundle: &Bundle) 
 
 // Whether each section of the bundle is among the allowed ones.
 pub(crate) fn is_offered(allowed: &SectionSet, bundle: &Bundle) -> bool
-    requires { All (λ section. section < 400) (sections_of bundle.now) }
+    requires { All (λ section. section < MAX_SECTIONS) (sections_of bundle.now) }
     ensures { IsTrue result
         ↔ ((s : ℕ) → has (sections_of bundle.now) s ≡ true → set.contains allowed.now s ≡ true) }
 {

@@ -15,6 +15,7 @@ use course_catalog::Catalog;
 use demand_api::Crowd;
 use market_crowd::make_crowd;
 use market_settings::Settings;
+use market_units::MAX_SPREAD;
 use std::alloc::Global;
 use student_roll::Roll;
 use utility_language::Command;
@@ -41,7 +42,7 @@ pub(crate) fn terms_after(
     order: &[u8],
 ) -> Result<Terms, CheckEnd>
     requires few { length order.now < 2 ^ 32 - 1 }
-    requires spread { settings.now.spread ≤ 49 }
+    requires spread { settings.now.spread ≤ MAX_SPREAD }
     ensures terms { IfOk result
         (λ terms. terms_of terms
         ≡ terms_in (market_of catalog.now roll.now settings.now) (terms_of terms).crowd) }

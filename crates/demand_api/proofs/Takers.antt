@@ -9,7 +9,7 @@ use Rattle.std.proofs.Math.Seq.{take-append_seam}
 use Rattle.market_units.specs.declared.units.SectionNo.{SectionNo}
 use Rattle.market_units.specs.declared.units.Tokens.{Tokens}
 use Rattle.market_units.proofs.Sums.{total-append}
-use Rattle.bundle_rules.specs.Sets.{has}
+use Rattle.market_units.specs.Members.{has}
 use Rattle.bundle_rules.specs.Menus.{MenuData, wishes_of}
 use Rattle.bundle_rules.specs.Places.{places_from}
 use Rattle.bundle_rules.specs.Demand.{price_in, HasPrices, IsChoice, IsBest}

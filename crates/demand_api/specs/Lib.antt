@@ -5,3 +5,4 @@ pub mod Prices
 pub mod Asking
 pub mod Counting
 pub mod Laws
+pub mod Views

@@ -1,5 +1,6 @@
 -- The crowd of given menus and budgets.
 use Rattle.std.specs.Prelude.{ℕ, ◌≤◌, ◌≡◌, List, [], ◌∷◌, All, length, max}
+use Rattle.market_units.specs.declared.limits.TheConstants.{MAX_BUDGET, MAX_SECTIONS, MAX_STUDENTS}
 use Rattle.market_units.specs.declared.units.Tokens.{Tokens}
 use Rattle.bundle_rules.specs.Menus.{MenuData}
 use Rattle.demand_api.specs.Crowds.{Student, CrowdData, IsWithin}
@@ -20,9 +21,9 @@ crowd_of menus budgets sections =
 -- among which are those of the menus
 pub record MakeCrowd (menus : List MenuData) (budgets : List Tokens) (sections : ℕ) : Type 0 where
   pub same : length budgets ≡ length menus
-  pub few : length menus ≤ 2000
-  pub high : All (λ budget. budget.0 ≤ 1000000) budgets
-  pub sections_few : sections ≤ 400
+  pub few : length menus ≤ MAX_STUDENTS
+  pub high : All (λ budget. budget.0 ≤ MAX_BUDGET) budgets
+  pub sections_few : sections ≤ MAX_SECTIONS
   pub within : All (IsWithin sections) menus
 
 -- the greatest of these budgets, 0 where there is none

@@ -67,7 +67,7 @@ impl Crowd {
     /// there twice. The one error is the want of memory.
     pub fn choose(&self, alloc: Global, students: &[StudentNo]) -> Result<Crowd, NoMemory>
         requires crowd { MakeCrowd self.now.menus.items self.now.budgets.items self.now.sections }
-        requires few { length students.now ≤ 2000 }
+        requires few { length students.now ≤ MAX_STUDENTS }
         requires range { All (λ student. student.0 < length self.now.menus.items) students.now }
         ensures menus { IfOk result
             (λ crowd. AreChosen self.now.menus.items students.now crowd.menus.items) }

@@ -16,6 +16,7 @@ mod plain_demands;
 pub use asking::Demands;
 pub use counting::{count_bundle, uncount_bundle};
 pub use crowd::Crowd;
+use market_units::MAX_VERSIONS;
 pub use plain_demands::PlainDemands;
 
 #[cfg(test)]
@@ -97,7 +98,7 @@ mod tests {
     ) -> Vec<Vec<u32>>
         requires crowd { MakeCrowd crowd.menus.items crowd.budgets.items crowd.sections }
         requires some { 1 ≤ length batch.now }
-        requires few { length batch.now ≤ 16 }
+        requires few { length batch.now ≤ MAX_VERSIONS }
     {
         assert!(rt; all_have_prices(&crowd, batch));
         let crowd = Arc::new(alloc, crowd).expect(rt, "memory");

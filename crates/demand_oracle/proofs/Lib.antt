@@ -1,7 +1,7 @@
 pub mod Additions
 pub mod Beside
-pub mod Branches
-pub mod Closing
+pub mod SummedNodes
+pub mod Pruning
 pub mod Covering
 pub mod Goodness
 pub mod Growing

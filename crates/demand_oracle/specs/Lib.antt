@@ -1,5 +1,5 @@
 pub mod Beside
-pub mod Branches
+pub mod SummedNodes
 pub mod Cells
 pub mod Covers
 pub mod Laws

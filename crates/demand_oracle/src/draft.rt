@@ -8,7 +8,7 @@ use crate::multipliers::Multipliers;
 use crate::tables::{MILLION, PLACES};
 use bundle_bounds::price_of_place;
 use bundle_rules::Menu;
-use market_units::{SectionSet, Tokens};
+use market_units::{MAX_RATINGS, SectionSet, Tokens};
 
 // The places that are chosen so far, and what they leave.
 #[derive(Clone, Copy)]
@@ -72,7 +72,7 @@ impl Draft {
 
     // Whether the place is chosen.
     pub(crate) fn has(&self, place: u8) -> bool
-        requires { place < 60 }
+        requires { place < MAX_RATINGS }
     {
         (self.chosen >> place) & 1 == 1
     }

@@ -1,7 +1,7 @@
 // How the tables of what can be reached are filled, from the last place to the first.
 ghost use Rattle.std.specs.Ordering.{nat_cmp};
 ghost use Rattle.std.specs.FinSet as set;
-ghost use Rattle.std.specs.Prelude.{◌≡◌, ◌<◌, ◌≤◌, ◌*◌, ◌+◌, ◌-◌, ◌/◌, ◌^◌, ℕ, List, true, max, length, slice_index};
+ghost use Rattle.std.specs.Prelude.{◌≡◌, ◌<◌, ◌≤◌, ◌*◌, ◌+◌, ◌-◌, ◌/◌, ◌^◌, ℕ, List, true, max, unsigned_abs, length, slice_index};
 ghost use Rattle.market_units.specs.declared.units.Tokens.{Tokens};
 ghost use Rattle.bundle_rules.specs.Demand.{HasPrices};
 ghost use Rattle.bundle_rules.specs.Menus.{adjustment_in, clash_in, credits_at, IsMenu};
@@ -13,13 +13,15 @@ ghost use Rattle.demand_oracle.specs.Reaches.{HoldsHopes, HoldsCovers, IsLightes
 use crate::multipliers::Multipliers;
 use bundle_bounds::price_of_place;
 use bundle_rules::Menu;
-use market_units::{MAX_SECTION_CREDITS, SectionSet, Tokens};
+use market_units::{
+    MAX_ADJUSTMENT, MAX_COURSES, MAX_RATINGS, MAX_SECTION_CREDITS, SectionSet, Tokens,
+};
 
-pub(crate) const ROWS: usize = 61;
+pub(crate) const ROWS: usize = MAX_RATINGS + 1;
 
-pub(crate) const PLACES: usize = 60;
+pub(crate) const PLACES: usize = MAX_RATINGS;
 
-pub(crate) const COUNTS: usize = 9;
+pub(crate) const COUNTS: usize = MAX_COURSES as usize + 1;
 
 // With twice as many, 5 percent fewer nodes are opened, and the table takes twice as long to fill.
 pub(crate) const UNITS: usize = 64;
@@ -58,7 +60,7 @@ pub(crate) fn shift_for(budget: Tokens) -> u32
 pub(crate) fn lightest(menu: &Menu, allowed: &SectionSet) -> u32
     ensures lightest { (prices : List Tokens) (budget : ℕ)
         → IsLightest (offer_of menu.now prices budget allowed.now) result }
-    ensures high { result ≤ 100 }
+    ensures high { result ≤ MAX_SECTION_CREDITS }
 {
     let mut lightest = MAX_SECTION_CREDITS;
     for place in 0..menu.len() {
@@ -122,7 +124,7 @@ fn hope_of(menu: &Menu, earlier: u8, place: u8) -> u16
     requires earlier { earlier < length menu.now.places }
     requires place { place < length menu.now.places }
     ensures value { result ≡ above_zero (adjustment_in menu.now.pairs earlier place) }
-    ensures high { result ≤ 200 }
+    ensures high { result ≤ unsigned_abs MAX_ADJUSTMENT }
     ensures menu { IsMenu menu.now }
 {
     prove!(place < menu.len());
@@ -166,8 +168,8 @@ pub(crate) fn put_most(
 
 // Writes that no place is left to add anything.
 fn put_nothing(place: u8, most: &mut Table)
-    requires { place ≤ 60 }
-    ensures { (count units : ℕ) → count ≤ 8 → within_at most.new place count units ≡ 0 }
+    requires { place ≤ MAX_RATINGS }
+    ensures { (count units : ℕ) → count ≤ MAX_COURSES → within_at most.new place count units ≡ 0 }
 {
     for count in 0..COUNTS {
         most[usize::from(place) * COUNTS + count] = [0; UNITS];
@@ -256,9 +258,9 @@ fn thousandths(value: u64) -> u32
 // later places can add, and of the value with what one fewer can add from the next place on that
 // does not clash.
 fn put_counts(courses: u8, place: u8, next: u8, value: u32, cost: usize, most: &mut Table)
-    requires courses { courses ≤ 8 }
+    requires courses { courses ≤ MAX_COURSES }
     requires place { place < next }
-    requires next { next ≤ 60 }
+    requires next { next ≤ MAX_RATINGS }
     requires value { value ≤ 65635001 }
     requires small { (count units : ℕ) → count < courses → units < 64
         → within_at most.old next count units ≤ 65635001 * count }

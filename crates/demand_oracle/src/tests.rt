@@ -4,10 +4,10 @@ ghost use Rattle.std.specs.Prelude.{◌<◌, ◌≤◌};
 ghost use Rattle.bundle_rules.specs.Demand.{HasPrices};
 
 use super::*;
-use crate::branch::Branch;
 use crate::pending::Pending;
+use crate::summed_node::SummedNode;
 use bundle_rules::{Bundle, Menu, Rated, best_plain, feasible, has_prices, prefers};
-use market_units::{SectionNo, SectionSet, Tokens};
+use market_units::{MAX_SECTIONS, SectionNo, SectionSet, Tokens};
 use std::alloc::Global;
 use std::process::Abort;
 use std::test::Fail;
@@ -282,7 +282,7 @@ fn best_beside(
     section: SectionNo,
 ) -> Bundle
     requires prices { HasPrices menu.now prices.now }
-    requires section { section.0 < 400 }
+    requires section { section.0 < MAX_SECTIONS }
 {
     let fewer = allowed.without(section);
     let first = demand(workspace, menu, prices, budget, &fewer);
@@ -339,13 +339,13 @@ fn the_last_that_was_put_is_next(rt: HostRuntime) -> Result<(), Fail> {
     let mut pending = Pending::reserve(rt.alloc()).expect(&rt, "memory");
     for _ in 0..2 {
         assert!(rt; pending.take().is_none());
-        let mut branch = Branch::root();
+        let mut summed = SummedNode::root();
         for place in 0..60 {
-            branch.node.place = place;
-            pending.put(branch);
+            summed.node.place = place;
+            pending.put(summed);
         }
         for place in (0..60).rev() {
-            let next = pending.take().map(|branch| branch.node.place);
+            let next = pending.take().map(|summed| summed.node.place);
             assert_eq!(rt; next, Some(place));
         }
     }

@@ -10,7 +10,8 @@ use Rattle.demand_api.specs.Made.{MakeCrowd, students_of, crowd_of}
 use Rattle.price_board.specs.declared.round.Ask.TheVariants.{Exceeds}
 use Rattle.price_board.specs.declared.round.Round.{Round}
 use Rattle.price_board.specs.declared.shared.Terms.{Terms}
-use Rattle.price_board.specs.Openings.{terms_of, IsRound, ArePrices, IsAskOf}
+use Rattle.demand_api.specs.Asking.{AreSectionPrices}
+use Rattle.price_board.specs.Openings.{terms_of, IsRound, IsAskOf}
 use Rattle.price_board.specs.Terms.{version_count, student_count, task_count, demand_of}
 use Rattle.std.proofs.lemmas.List.{length-append}
 use Rattle.chronicle.specs.declared.origin.Origin.{Origin}
@@ -48,9 +49,9 @@ round_of crowd round limit versions asks one = record {
   some = (let n : ℕ = version_count (terms_of crowd round) in let h : n ≡ 1 = ap length versions in let goal : 1 ≤ n = omega arith in goal);
   few = (let n : ℕ = version_count (terms_of crowd round) in let h : n ≡ 1 = ap length versions in let goal : n ≤ 16 = omega arith in goal);
   prices =
-      all_one (ArePrices crowd.sections) (terms_of crowd round).versions free versions
+      all_one (AreSectionPrices crowd.sections) (terms_of crowd round).versions free versions
       (record {
-        each = sym one;
+        same = sym one;
         high = all_one (λ (price : Tokens). price.0 ≤ 1000001) free (record { 0 = 0 }) refl (let goal : 0 ≤ 1000001 = omega arith in goal);
       });
   asks = ap length asks ∙ sym (ap length versions);

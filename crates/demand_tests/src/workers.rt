@@ -3,13 +3,14 @@ ghost use Rattle.std.specs.Prelude.{◌≡◌, ◌≤◌, IsTrue, IfOk, All, len
 ghost use Rattle.std.specs.Arc.{arc_value};
 ghost use Rattle.demand_api.specs.Asking.{ArePricesFor};
 ghost use Rattle.price_board.specs.Openings.{IsMade};
-ghost use Rattle.demand_workers.specs.Rounds.{data_of, AreVersionsFor};
+ghost use Rattle.demand_api.specs.Views.{data_of};
+ghost use Rattle.demand_workers.specs.Rounds.{AreVersionsFor};
 
 use bundle_rules::{Menu, Rated};
 use demand_api::{Crowd, Demands};
-use demand_workers::{Bench, PooledDemands};
+use demand_workers::{Pool, PooledDemands};
 use market_edge::{Gate, OpenGate, Stop};
-use market_units::{NoMemory, SectionNo, StudentNo, Tokens};
+use market_units::{MAX_WORKERS, NoMemory, SectionNo, StudentNo, Tokens};
 use std::alloc::Global;
 use std::process::Abort;
 use std::sync::atomic::{AtomicU64, Ordering};
@@ -119,7 +120,7 @@ fn counts_by<R: Abort + Threads + Wait + Sync>(
     workers: u16,
     gate: &(dyn Gate + Sync),
 ) -> Result<[u32; 4], Fail>
-    requires { (1 ≤ workers) × (workers ≤ 16) }
+    requires { (1 ≤ workers) × (workers ≤ MAX_WORKERS) }
 {
     let crowd = four_students(rt, alloc)?;
     let batch = [
@@ -129,7 +130,7 @@ fn counts_by<R: Abort + Threads + Wait + Sync>(
         at(alloc, 0)?,
     ];
     assert!(rt; all_have_prices(&crowd, &batch));
-    let mut demands = PooledDemands::make(Bench::reserve(alloc, workers)?, crowd, gate);
+    let mut demands = PooledDemands::make(Pool::reserve(alloc, workers)?, crowd, gate);
     let found = demands.counts(rt, alloc, &batch)?;
     let mut counts = [9; 4];
     assert_eq!(rt; found.len(), 4);
@@ -179,7 +180,7 @@ fn counts_in_turn<R: Abort + Threads + Wait + Sync>(
     assert!(rt; all_have_prices(&crowd, &second));
     assert!(rt; all_have_prices(&crowd, &third));
     let gate = CountingGate::new();
-    let mut demands = PooledDemands::make(Bench::reserve(alloc, 2)?, crowd, &gate);
+    let mut demands = PooledDemands::make(Pool::reserve(alloc, 2)?, crowd, &gate);
     let found = demands.counts(rt, alloc, &first)?;
     let at_first = (only(rt, &found), gate.take().1);
     let found = demands.counts(rt, alloc, &second)?;
@@ -204,12 +205,12 @@ fn bundles_by<R: Abort + Threads + Wait + Sync>(
     alloc: Global,
     workers: u16,
 ) -> Result<[bool; 4], Fail>
-    requires { (1 ≤ workers) × (workers ≤ 16) }
+    requires { (1 ≤ workers) × (workers ≤ MAX_WORKERS) }
 {
     let crowd = four_students(rt, alloc)?;
     let prices = [Tokens(102)];
     assert!(rt; crowd.has_prices(&prices));
-    let mut demands = PooledDemands::make(Bench::reserve(alloc, workers)?, crowd, &OpenGate);
+    let mut demands = PooledDemands::make(Pool::reserve(alloc, workers)?, crowd, &OpenGate);
     assert_eq!(rt; demands.students(), 4);
     assert_eq!(rt; demands.top(), Tokens(104));
     let students = [StudentNo(3), StudentNo(0), StudentNo(2), StudentNo(2)];
@@ -244,7 +245,7 @@ fn settle<R: Abort + Threads + Wait + Sync>(
     assert!(rt; crowd.has_prices(&prices));
     assert_eq!(rt; crowd.sections, 1);
     let gate = CountingGate::new();
-    let mut demands = PooledDemands::make(Bench::reserve(alloc, 1)?, crowd, &gate);
+    let mut demands = PooledDemands::make(Pool::reserve(alloc, 1)?, crowd, &gate);
     let more = demands.exceeds(rt, alloc, &prices, SectionNo(0), limit)?;
     let (_, calls) = gate.take();
     Ok((more, calls))
@@ -267,7 +268,7 @@ fn least_prices_of_four_students(rt: HostRuntime) -> Result<(), Fail> {
     let prices = [Tokens(50)];
     assert!(rt; crowd.has_prices(&prices));
     assert_eq!(rt; crowd.sections, 1);
-    let mut demands = PooledDemands::make(Bench::reserve(alloc, 2)?, crowd, &OpenGate);
+    let mut demands = PooledDemands::make(Pool::reserve(alloc, 2)?, crowd, &OpenGate);
     let section = SectionNo(0);
     let pairs = [(section, 2), (section, 4), (section, 0), (section, 1)];
     let found = demands.least_prices(&rt, alloc, &prices, &pairs)?;
@@ -285,7 +286,7 @@ fn least_prices_of_many(rt: HostRuntime) -> Result<(), Fail> {
     let prices = [Tokens(50)];
     assert!(rt; crowd.has_prices(&prices));
     assert_eq!(rt; crowd.sections, 1);
-    let mut demands = PooledDemands::make(Bench::reserve(alloc, 2)?, crowd, &OpenGate);
+    let mut demands = PooledDemands::make(Pool::reserve(alloc, 2)?, crowd, &OpenGate);
     let section = SectionNo(0);
     let pairs = [(section, 30), (section, 10), (section, 100)];
     let found = demands.least_prices(&rt, alloc, &prices, &pairs)?;

@@ -3,7 +3,7 @@ ghost use Rattle.std.specs.Prelude.{◌≡◌, ◌<◌, ◌++◌, ◌∷◌, [],
 ghost use Rattle.std.specs.Fmt.{decimal};
 ghost use Rattle.market_units.specs.Name.{name_bytes};
 ghost use Rattle.bundle_rules.specs.Bundles.{sections_of};
-ghost use Rattle.market_certificate.specs.Tables.{section_names};
+ghost use Rattle.course_catalog.specs.Sections.{section_names};
 ghost use Rattle.market_certificate.specs.Texts.{order_line};
 ghost use Rattle.preference_desk.specs.Journals.{sessions_of};
 ghost use Rattle.demand_text.specs.Texts.{count_line, taken_line};

@@ -10,7 +10,8 @@ use Rattle.std.proofs.lemmas.List.Elements.{All-cons, All-tail, All-set}
 use Rattle.std.proofs.lemmas.List.Sorted.{All-permutation, IsPermutation-sym, sum_by_popped, sum_by_pushed}
 use Rattle.market_units.specs.declared.units.Tokens.{Tokens}
 use Rattle.market_units.specs.Totals.{total}
-use Rattle.bundle_rules.specs.Sets.{has, IsAscending}
+use Rattle.market_units.specs.Members.{has}
+use Rattle.bundle_rules.specs.Sets.{IsAscending}
 use Rattle.bundle_rules.specs.Demand.{price_in}
 use Rattle.bundle_rules.specs.Existence.Orders.{none_below}
 use Rattle.bundle_rules.specs.Menus.{MenuData}

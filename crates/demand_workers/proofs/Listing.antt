@@ -8,7 +8,7 @@ use Rattle.demand_api.proofs.Takers.{students_length}
 use Rattle.demand_workers.specs.declared.questions.Question.{Question}
 use Rattle.demand_workers.specs.Leaving.{AreLeft}
 use Rattle.demand_workers.specs.Questions.{IsQuestion, IsListed}
-use Rattle.demand_workers.specs.Rounds.{data_of}
+use Rattle.demand_api.specs.Views.{data_of}
 
 -- the holders that are left are listed
 pub listed_left : (crowd : Crowd) (price : ℕ → ℕ) (s level : ℕ) (hs : List (ℕ × ℕ)) → length crowd.budgets.items ≡ length crowd.menus.items

@@ -15,7 +15,8 @@ use Rattle.price_board.specs.declared.calls.BoardReply.{BoardReply}
 use Rattle.price_board.specs.declared.round.Ask.{Ask}
 use Rattle.price_board.specs.declared.shared.Terms.{Terms}
 use Rattle.price_board.specs.declared.shared.Progress.{Progress}
-use Rattle.price_board.specs.Openings.{ArePrices, IsAskOf, IsRound}
+use Rattle.demand_api.specs.Asking.{AreSectionPrices}
+use Rattle.price_board.specs.Openings.{IsAskOf, IsRound}
 use Rattle.demand_workers.specs.Rounds.{prices_of, AreVersionsFor}
 
 -- the top is at most the greatest price
@@ -37,9 +38,9 @@ versions_are_round menus budgets sections versions copies asks make are some few
     record {
       some = (let goal : 1 ≤ length (prices_of copies) = omega arith in goal);
       few = (let goal : length (prices_of copies) ≤ 16 = omega arith in goal);
-      prices = subst (All (ArePrices sections)) (sym same)
-          (All-map (ArePrices sections) (λ (version : Vec Tokens Global). version.items) versions (λ k d low. record {
-            each = (are k d low).same;
+      prices = subst (All (AreSectionPrices sections)) (sym same)
+          (All-map (AreSectionPrices sections) (λ (version : Vec Tokens Global). version.items) versions (λ k d low. record {
+            same = (are k d low).same;
             high =
                 λ i e below. (let h : (slice_index_or (slice_index_or versions k d).items i e).0
                 ≤ top (crowd_of menus budgets sections) = (are k d low).high i e below in let goal :

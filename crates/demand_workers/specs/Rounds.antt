@@ -3,16 +3,10 @@ use Rattle.std.specs.Prelude.{◌≡◌, List, All, map}
 use Rattle.std.proofs.Common.{Vec, Global}
 use Rattle.chronicle.specs.declared.origin.Origin.{Origin}
 use Rattle.market_units.specs.declared.units.Tokens.{Tokens}
-use Rattle.demand_api.specs.declared.crowd.Crowd.{Crowd}
 use Rattle.demand_api.specs.Crowds.{CrowdData}
-use Rattle.demand_api.specs.Made.{crowd_of}
 use Rattle.demand_api.specs.Asking.{ArePricesFor}
 use Rattle.price_board.specs.declared.shared.Terms.{Terms}
 use Rattle.price_board.specs.declared.shared.Progress.{Progress}
-
--- the crowd as plain data
-abbrev pub data_of : Crowd → CrowdData
-data_of crowd = crowd_of crowd.menus.items crowd.budgets.items crowd.sections
 
 -- the prices of each version
 abbrev pub prices_of : List (Vec Tokens Global) → List (List Tokens)

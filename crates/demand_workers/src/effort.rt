@@ -3,11 +3,11 @@ ghost use Rattle.std.specs.Prelude.{◌<◌, ◌≤◌, All, length};
 ghost use Rattle.demand_api.specs.Asking.{ArePricesFor};
 ghost use Rattle.price_board.specs.Openings.{IsMade};
 ghost use Rattle.demand_workers.specs.Remembered.{AreRemembered};
-ghost use Rattle.demand_workers.specs.Rounds.{data_of};
+ghost use Rattle.demand_api.specs.Views.{data_of};
 
 use crate::remembered::Remembered;
 use demand_api::Crowd;
-use market_units::{StudentNo, Tokens};
+use market_units::{MAX_STUDENTS, StudentNo, Tokens};
 
 // A call for which at most one student in so many has to be asked is answered by the caller's own
 // thread: the draws and posts of the others on a shared board, and the starts of threads, take
@@ -41,7 +41,7 @@ pub(crate) fn few_listed(
     requires crowd { IsMade crowd.now }
     requires prices { ArePricesFor (data_of crowd.now) prices.now }
     requires students { All (λ student. student.0 < length crowd.now.menus.items) students.now }
-    requires few { length students.now ≤ 2000 }
+    requires few { length students.now ≤ MAX_STUDENTS }
 {
     let mut asked = 0;
     for student in students {
@@ -67,7 +67,7 @@ fn asked_at(remembered: &Remembered, crowd: &Crowd, prices: &[Tokens]) -> usize
         remembered.now.bundles.items }
     requires crowd { IsMade crowd.now }
     requires prices { ArePricesFor (data_of crowd.now) prices.now }
-    ensures { result ≤ 2000 }
+    ensures { result ≤ MAX_STUDENTS }
 {
     let mut asked = 0;
     for place in 0..crowd.menus.len() {

@@ -4,7 +4,7 @@ ghost use Rattle.std.specs.BinaryHeap.{IsHeap, heap_items};
 ghost use Rattle.std.specs.Ordering.{nat_cmp, ordering_then};
 ghost use Rattle.bundle_rules.specs.Bundles.{sections_of};
 ghost use Rattle.bundle_rules.specs.Demand.{price_in};
-ghost use Rattle.bundle_rules.specs.Sets.{has};
+ghost use Rattle.market_units.specs.Members.{has};
 ghost use Rattle.demand_api.specs.Asking.{ArePricesFor};
 ghost use Rattle.demand_api.specs.Crowds.{top, demand_of};
 ghost use Rattle.demand_api.specs.Prices.{IsLeastFrom, AreLeastPrices};
@@ -13,7 +13,7 @@ ghost use Rattle.demand_workers.specs.Leaving.{leaves, takes, AreLeft};
 ghost use Rattle.demand_workers.specs.Notes.{AreNoted};
 ghost use Rattle.demand_workers.specs.Questions.{AreAnswered};
 ghost use Rattle.demand_workers.specs.Remembered.{AreRemembered};
-ghost use Rattle.demand_workers.specs.Rounds.{data_of};
+ghost use Rattle.demand_api.specs.Views.{data_of};
 ghost use Rattle.demand_workers.specs.Walks.{IsForeseen};
 
 use crate::ahead::{Foreseen, answers_at};
@@ -195,7 +195,7 @@ pub(crate) fn holder_of(
         ≡ demand_of (data_of crowd.now) (price_in prices.now) student.0 }
     requires holds { has (sections_of bundle.now) section.0 ≡ true }
     ensures student { result.1 ≡ student.0 }
-    ensures room { result.0 ≤ 1000001 }
+    ensures room { result.0 ≤ MAX_PRICE }
     ensures later { price_in prices.now section.0 < leaves result }
     ensures capped { leaves result ≤ top (data_of crowd.now) }
     ensures still { takes (data_of crowd.now) (price_in prices.now) section.0 (leaves result - 1)

@@ -8,7 +8,7 @@ ghost use Rattle.demand_api.specs.Crowds.{top, demand_of};
 ghost use Rattle.price_board.specs.Openings.{IsMade};
 ghost use Rattle.demand_workers.specs.Notes.{AreNoted};
 ghost use Rattle.demand_workers.specs.Remembered.{AreRemembered};
-ghost use Rattle.demand_workers.specs.Rounds.{data_of};
+ghost use Rattle.demand_api.specs.Views.{data_of};
 
 use crate::leaving::{Note, Walk};
 use crate::remembered::Remembered;

@@ -7,7 +7,7 @@ ghost use Rattle.demand_api.specs.Asking.{ArePricesFor};
 ghost use Rattle.demand_api.specs.Crowds.{count, counts, demand_of};
 ghost use Rattle.price_board.specs.Openings.{IsMade};
 ghost use Rattle.demand_workers.specs.Remembered.{AreRemembered, AreTaken};
-ghost use Rattle.demand_workers.specs.Rounds.{data_of};
+ghost use Rattle.demand_api.specs.Views.{data_of};
 
 use crate::remembered::Remembered;
 use bundle_rules::Bundle;

@@ -9,7 +9,7 @@ use Rattle.bundle_rules.specs.Demand.{HasPrices, IsBest, IsPriced, price_in}
 use Rattle.bundle_rules.specs.Menus.{MenuData, wishes_of}
 use Rattle.bundle_bounds.specs.Offers.{Offer}
 use Rattle.course_catalog.specs.Catalog.{CatalogData}
-use Rattle.course_catalog.specs.Sections.{Section}
+use Rattle.course_catalog.specs.Sections.{Section, section_names}
 use Rattle.student_roll.specs.Students.{RollData, Student as Enrolled, names_of}
 use Rattle.demand_api.specs.Crowds.{CrowdData, IsWithin, Student}
 use Rattle.demand_api.specs.Made.{MakeCrowd, crowd_of, students_of}
@@ -27,7 +27,7 @@ use Rattle.certificate_checker.proofs.Optimal.{best_in_stage_two}
 use Rattle.certificate_checker.proofs.Reading.{length_map, proved_is, student_is}
 use Rattle.explain_desk.specs.Explanations.{ExplainedData, IsExplained, offer_of_all}
 use Rattle.explain_desk.specs.Texts.{explained_text}
-use Rattle.market_certificate.specs.Tables.{name_at, section_names}
+use Rattle.market_certificate.specs.Tables.{name_at}
 use Rattle.explain_desk.specs.Told.{IsTold}
 use Rattle.explain_desk.specs.Checked.{IsChecked}
 

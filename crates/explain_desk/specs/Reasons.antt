@@ -1,6 +1,6 @@
 -- Why a student does not have a section.
 use Rattle.std.specs.Prelude.{ℕ, ◌<◌, ◌≡◌, Bool, true, false, ⊤, List, [], ◌∷◌}
-use Rattle.bundle_rules.specs.Sets.{has}
+use Rattle.market_units.specs.Members.{has}
 use Rattle.bundle_rules.specs.Wishes.{Wishes}
 use Rattle.explain_desk.specs.declared.reasons.Reason.{Reason}
 use Rattle.explain_desk.specs.declared.reasons.Reason.TheVariants.{Held, Unrated, Alone, Clash, Beside, Less}

@@ -7,7 +7,8 @@ use Rattle.demand_api.specs.Crowds.{CrowdData}
 use Rattle.explain_desk.specs.Explanations.{ExplainedData, IsExplained}
 use Rattle.explain_desk.specs.Texts.{explained_text}
 use Rattle.market_certificate.specs.Publications.{Publication}
-use Rattle.market_certificate.specs.Tables.{name_at, section_names}
+use Rattle.course_catalog.specs.Sections.{section_names}
+use Rattle.market_certificate.specs.Tables.{name_at}
 use Rattle.published_parts.specs.Markets.{Market}
 use Rattle.student_roll.specs.Students.{RollData, names_of}
 use Rattle.utility_language.specs.declared.commands.Command.{Command}

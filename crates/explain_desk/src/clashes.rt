@@ -2,7 +2,8 @@
 ghost use Rattle.std.specs.Prelude.{◌≡◌, ◌<◌, ℕ, true, false, IfSome, IfNone, All, length};
 ghost use Rattle.bundle_rules.specs.Menus.{place_in, wishes_of};
 ghost use Rattle.bundle_rules.specs.Ordinals.{ordinals};
-ghost use Rattle.bundle_rules.specs.Sets.{has, IsAscending};
+ghost use Rattle.market_units.specs.Members.{has};
+ghost use Rattle.bundle_rules.specs.Sets.{IsAscending};
 ghost use Rattle.explain_desk.specs.Reasons.{ClashesFirst};
 
 use bundle_rules::Menu;

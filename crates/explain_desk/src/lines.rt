@@ -2,7 +2,7 @@
 ghost use Rattle.std.specs.Prelude.{◌≡◌, ◌<◌, ◌++◌, ◌∷◌, [], All, OnOk, length};
 ghost use Rattle.market_units.specs.Name.{name_bytes};
 ghost use Rattle.bundle_rules.specs.Bundles.{sections_of};
-ghost use Rattle.market_certificate.specs.Tables.{section_names};
+ghost use Rattle.course_catalog.specs.Sections.{section_names};
 ghost use Rattle.explain_desk.specs.Texts.{best_line, limit_word, lost_line, NamesBelow, reason_line, tree_line};
 
 use crate::{Limit, Reason};

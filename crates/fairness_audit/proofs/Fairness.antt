@@ -6,7 +6,7 @@ use Rattle.std.proofs.lemmas.List.{get_or-map}
 use Rattle.market_units.specs.Totals.{total}
 use Rattle.bundle_rules.specs.Demand.{IsBest, IsChoice}
 use Rattle.bundle_rules.specs.Preferences.{IsPreferred}
-use Rattle.bundle_rules.specs.Sets.{has}
+use Rattle.market_units.specs.Members.{has}
 use Rattle.bundle_rules.specs.Wishes.{IsFeasible, Wishes, utility}
 use Rattle.bundle_rules.proofs.BestValue.{best-only}
 use Rattle.bundle_rules.proofs.Parts.{total_part}

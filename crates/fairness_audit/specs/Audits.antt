@@ -7,7 +7,7 @@ use Rattle.fairness_audit.specs.Allocations.{Allocation, student_count}
 use Rattle.fairness_audit.specs.Rows.{row, rows}
 use Rattle.fairness_audit.specs.Texts.{audit_text}
 use Rattle.market_certificate.specs.Publications.{Publication}
-use Rattle.market_certificate.specs.Tables.{section_names}
+use Rattle.course_catalog.specs.Sections.{section_names}
 use Rattle.published_parts.specs.Holdings.{demanded}
 use Rattle.published_parts.specs.Markets.{Market}
 use Rattle.student_roll.specs.Students.{RollData, names_of}

@@ -3,7 +3,7 @@ use Rattle.std.specs.Prelude.{ℕ, ◌≡◌, ◌<◌, false, ◌≤◌, ◌≤�
 use Rattle.demand_api.specs.Crowds.{IsCrowd, demand_of}
 use Rattle.fairness_audit.specs.Allocations.{Allocation, bundle_at, student_count}
 use Rattle.fairness_audit.specs.Rows.{has_lower_envy, row}
-use Rattle.bundle_rules.specs.Sets.{has}
+use Rattle.market_units.specs.Members.{has}
 use Rattle.bundle_rules.specs.Wishes.{IsFeasible, utility}
 use Rattle.certificate_checker.specs.Certificates.{IsAccepted}
 use Rattle.market_certificate.specs.Publications.{Publication}

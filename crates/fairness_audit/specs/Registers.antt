@@ -1,6 +1,7 @@
 -- What a register is in contracts, and what it keeps.
 use Rattle.std.specs.Prelude.{ℕ, ◌≡◌, ◌≤◌, List, length, vec_capacity}
 use Rattle.std.specs.Arc.{arc_value}
+use Rattle.market_units.specs.declared.limits.TheConstants.{MAX_STUDENTS}
 use Rattle.fairness_audit.specs.Allocations.{Allocation, allocation_of, student_count}
 use Rattle.fairness_audit.specs.declared.place.Place.{Place}
 use Rattle.fairness_audit.specs.declared.register.Register.TheInside.{Inside}
@@ -26,6 +27,6 @@ register_of register =
 -- at most 2,000 students, of whom no more than all are drawn, and memory for a place of each
 pub record IsKept (register : Inside) : Type 0 where
   pub students : register.students ≡ student_count (allocation_in register)
-  pub few : register.students ≤ 2000
+  pub few : register.students ≤ MAX_STUDENTS
   pub drawn : length register.places.items ≤ register.students
   pub reserved : register.students ≤ vec_capacity register.places

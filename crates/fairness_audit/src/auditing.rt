@@ -72,7 +72,7 @@ fn work_and_write<R: Threads + Wait + Sync, G: Gate + Sync>(
     requires crowd { MakeCrowd crowd.now.menus.items crowd.now.budgets.items crowd.now.sections }
     requires bundles { IsAllocation (allocation_of crowd.now bundles.now) }
     requires chronicle { chronicle.base.allocation ≡ allocation_of crowd.now bundles.now }
-    requires count { (1 ≤ vec_len seats) × (vec_len seats ≤ 16)
+    requires count { (1 ≤ vec_len seats) × (vec_len seats ≤ MAX_WORKERS)
         × (length chronicle.allotments ≡ vec_len seats) }
     requires numbers { (n : ℕ) (d : _) → n < vec_len seats
         → (slice_index_or seats.items n d).number ≡ n }
@@ -99,7 +99,7 @@ fn work_all<R: Threads + Wait + Sync, G: Gate + Sync>(
     requires crowd { MakeCrowd crowd.now.menus.items crowd.now.budgets.items crowd.now.sections }
     requires bundles { IsAllocation (allocation_of crowd.now bundles.now) }
     requires chronicle { chronicle.now.base.allocation ≡ allocation_of crowd.now bundles.now }
-    requires count { (1 ≤ length seats.old) × (length seats.old ≤ 16) }
+    requires count { (1 ≤ length seats.old) × (length seats.old ≤ MAX_WORKERS) }
     requires numbers { (n : ℕ) (d : _) → n < length seats.old
         → (slice_index_or seats.old n d).number ≡ n }
     requires free { All (λ seat. IsFree chronicle.now seat) seats.old }
@@ -114,7 +114,7 @@ fn work_all<R: Threads + Wait + Sync, G: Gate + Sync>(
         seats,
         threads,
         &|n, seat|
-            requires { (seat.now.number < 16) × IsFree chronicle.now seat.now
+            requires { (seat.now.number < MAX_WORKERS) × IsFree chronicle.now seat.now
                 × MakeCrowd crowd.now.menus.items crowd.now.budgets.items crowd.now.sections
                 × IsAllocation (allocation_of crowd.now bundles.now)
                 × (chronicle.now.base.allocation ≡ allocation_of crowd.now bundles.now) }

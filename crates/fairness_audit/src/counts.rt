@@ -6,6 +6,7 @@ ghost use Rattle.fairness_audit.specs.Texts.{IsRowAmong};
 ghost use Rattle.fairness_audit.specs.Views.{row_of};
 
 use crate::row::EnvyRow;
+use market_units::MAX_STUDENTS;
 
 /// The three counts of a row, or of several together.
 #[derive(Clone, Copy)]
@@ -32,7 +33,7 @@ impl Counts {
 
 // The counts of all rows, of which there are at most 2,000.
 pub(crate) fn sum_up(rows: &[EnvyRow]) -> Counts
-    requires { length rows.now ≤ 2000 }
+    requires { length rows.now ≤ MAX_STUDENTS }
     ensures lower { result.lower ≡ total (λ (row : RowData). row.lower) (map row_of rows.now) }
     ensures higher { result.higher ≡ total (λ (row : RowData). row.higher) (map row_of rows.now) }
     ensures beyond { result.beyond ≡ total (λ (row : RowData). row.beyond) (map row_of rows.now) }

@@ -2,7 +2,7 @@
 ghost use Rattle.std.specs.Prelude.{◌≡◌, ◌<◌, ◌++◌, ◌∷◌, [], ℕ, OnOk, IfSome, length, option_map};
 ghost use Rattle.market_units.specs.declared.units.SectionNo.{SectionNo};
 ghost use Rattle.market_certificate.specs.Lines.{joined};
-ghost use Rattle.market_certificate.specs.Tables.{section_names};
+ghost use Rattle.course_catalog.specs.Sections.{section_names};
 ghost use Rattle.student_roll.specs.Students.{names_of};
 ghost use Rattle.fairness_audit.specs.Texts.{IsSightAmong, counts_line, ending, first_lines, sight_line};
 ghost use Rattle.fairness_audit.specs.Views.{seen_of};

@@ -13,7 +13,7 @@ ghost use Rattle.published_parts.specs.Holdings.{demanded};
 ghost use Rattle.published_parts.specs.Markets.{market_of};
 ghost use Rattle.certificate_checker.specs.Certificates.{IsAccepted};
 ghost use Rattle.certificate_checker.specs.Findings.{IsFirstFinding, OnFound};
-ghost use Rattle.certificate_checker.specs.Views.{crowd_seen};
+ghost use Rattle.demand_api.specs.Views.{data_of};
 ghost use Rattle.certificate_checker.specs.Words.{IsNamedIn};
 ghost use Rattle.fairness_audit.specs.Audits.{IsAuditOf, IsAudited};
 ghost use Rattle.fairness_audit.specs.Checked.{IsChecked};
@@ -26,7 +26,7 @@ use demand_api::Crowd;
 use market_certificate::Publication;
 use market_edge::Gate;
 use market_settings::Settings;
-use market_units::{MAX_WORKERS, NoMemory};
+use market_units::{MAX_RAISE, MAX_SPREAD, MAX_WORKERS, NoMemory};
 use std::alloc::Global;
 use std::sync::{Arc, Wait};
 use std::thread::Threads;
@@ -53,8 +53,8 @@ pub fn published_audit<R: Threads + Wait + Sync, G: Gate + Sync>(
 ) -> Result<Vec<u8>, CheckEnd>
     requires workers { (1 ≤ workers) × (workers ≤ MAX_WORKERS) }
     requires text { length text.items < 2 ^ 32 - 1 }
-    requires spread { settings.now.spread ≤ 49 }
-    requires raise { settings.now.raise ≤ 50 }
+    requires spread { settings.now.spread ≤ MAX_SPREAD }
+    requires raise { settings.now.raise ≤ MAX_RAISE }
     ensures audited { IfOk result
         (λ audited. IsAuditOf (market_of catalog.now roll.now settings.now)
         (map (λ stream. stream.items) streams.now) text.items audited.items) }
@@ -87,11 +87,11 @@ fn audit_accepted<R: Threads + Wait + Sync, G: Gate + Sync>(
 ) -> Result<Vec<u8>, NoMemory>
     requires workers { (1 ≤ workers) × (workers ≤ MAX_WORKERS) }
     requires checked { IsChecked catalog.now roll.now (publication_of accepted.publication)
-        (crowd_seen accepted.crowd) }
+        (data_of accepted.crowd) }
     requires whole { MakeCrowd accepted.crowd.menus.items accepted.crowd.budgets.items
         accepted.crowd.sections }
     ensures { IfOk result
-        (λ audited. IsAudited catalog.now roll.now (crowd_seen accepted.crowd)
+        (λ audited. IsAudited catalog.now roll.now (data_of accepted.crowd)
         (publication_of accepted.publication) audited.items) }
 {
     let Accepted { publication, crowd } = accepted;

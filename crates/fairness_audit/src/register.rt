@@ -12,7 +12,7 @@ use crate::place::Place;
 use crate::row::EnvyRow;
 use bundle_rules::Bundle;
 use demand_api::Crowd;
-use market_units::{NoMemory, StudentNo};
+use market_units::{MAX_STUDENTS, MAX_WORKERS, NoMemory, StudentNo};
 use std::alloc::Global;
 use std::marker::Model;
 use std::sync::Arc;
@@ -54,7 +54,7 @@ impl Register {
     ) -> Result<Register, NoMemory>
         requires crowd { MakeCrowd (arc_value crowd).menus.items (arc_value crowd).budgets.items
             (arc_value crowd).sections }
-        requires workers { (1 ≤ workers) × (workers ≤ 16) }
+        requires workers { (1 ≤ workers) × (workers ≤ MAX_WORKERS) }
         ensures allocation { IfOk result
             (λ register. register.allocation
             ≡ allocation_of (arc_value crowd) (arc_value bundles).items) }
@@ -79,7 +79,7 @@ impl Register {
     // How many students there are.
     pub(crate) fn student_count(&self) -> usize
         ensures value { result ≡ student_count self.now.allocation }
-        ensures few { result ≤ 2000 }
+        ensures few { result ≤ MAX_STUDENTS }
     {
         self.students
     }

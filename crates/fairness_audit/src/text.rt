@@ -1,7 +1,7 @@
 // The whole text.
 ghost use Rattle.std.specs.Prelude.{◌≡◌, ◌≤◌, ◌++◌, IfOk, OnOk, length, map};
 ghost use Rattle.market_certificate.specs.Lines.{joined};
-ghost use Rattle.market_certificate.specs.Tables.{section_names};
+ghost use Rattle.course_catalog.specs.Sections.{section_names};
 ghost use Rattle.student_roll.specs.Students.{names_of};
 ghost use Rattle.fairness_audit.specs.Texts.{AreRowsAmong, IsRowAmong, audit_text, part_lines, row_lines};
 ghost use Rattle.fairness_audit.specs.Views.{row_of};

@@ -11,6 +11,7 @@ use bundle_rules::Bundle;
 use chronicle::{Chronicle, Seat};
 use demand_api::Crowd;
 use market_edge::{Gate, Stop};
+use market_units::MAX_WORKERS;
 use std::sync::Wait;
 
 // Draws one student after another, and posts its row, until no student is left. The worker passes
@@ -26,7 +27,7 @@ pub(crate) fn work<R: Wait, G: Gate>(
     requires crowd { MakeCrowd crowd.now.menus.items crowd.now.budgets.items crowd.now.sections }
     requires bundles { IsAllocation (allocation_of crowd.now bundles.now) }
     requires chronicle { chronicle.now.base.allocation ≡ allocation_of crowd.now bundles.now }
-    requires number { seat.old.number < 16 }
+    requires number { seat.old.number < MAX_WORKERS }
     requires free { IsFree chronicle.now seat.old }
     ensures finished { IsFinished chronicle.now seat.new }
     ensures number { seat.new.number ≡ seat.old.number }

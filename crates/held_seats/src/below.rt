@@ -1,7 +1,7 @@
 // Whether bundles have only sections of a market.
 ghost use Rattle.std.specs.Prelude.{◌≡◌, ◌↔◌, ◌<◌, ℕ, true, IsTrue, All, map};
 ghost use Rattle.bundle_rules.specs.Bundles.{sections_of};
-ghost use Rattle.bundle_rules.specs.Sets.{has};
+ghost use Rattle.market_units.specs.Members.{has};
 ghost use Rattle.held_seats.specs.Floors.{AreBelow};
 
 use bundle_rules::Bundle;

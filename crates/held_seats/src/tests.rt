@@ -5,7 +5,7 @@ ghost use Rattle.held_seats.specs.Floors.{IsFloor};
 use super::*;
 use crate::below::is_below;
 use bundle_rules::Bundle;
-use market_units::{SectionNo, SectionSet};
+use market_units::{MAX_SECTIONS, SectionNo, SectionSet};
 use std::process::Abort;
 use std::test::Fail;
 
@@ -26,7 +26,7 @@ fn may_choose<R: Abort>(rt: &R, floor: &Floor, place: usize) -> [bool; 3] {
 
 // Gives a student a bundle, and tells whether it held another one.
 fn given<R: Abort>(rt: &R, floor: &mut Floor, seats: &[u16], place: usize, bundle: Bundle) -> bool
-    requires sections { length seats.now ≤ 400 }
+    requires sections { length seats.now ≤ MAX_SECTIONS }
     requires floor { IsFloor seats.now floor.old }
     ensures { IsFloor seats.now floor.new }
 {

@@ -79,11 +79,11 @@ pub(crate) fn streams_in(
     first: &[u8],
     second: &[u8],
 ) -> Result<Vec<Vec<Command>>, NoMemory>
-    requires { length (command_lines first.now) + length (command_lines second.now) ≤ 200000 }
+    requires { length (command_lines first.now) + length (command_lines second.now) ≤ MAX_COMMANDS }
     ensures commands { IfOk result
         (λ streams. AllZip AreCommands (first.now ∷ second.now ∷ [])
         (map (λ (stream : Vec Command Global). stream.items) streams.items)) }
-    ensures few { IfOk result (λ streams. total vec_len streams.items ≤ 200000) }
+    ensures few { IfOk result (λ streams. total vec_len streams.items ≤ MAX_COMMANDS) }
 {
     let mut streams = Vec::with_capacity(alloc, 2)?;
     let first = stream_in(alloc, first, MAX_COMMANDS)?;

@@ -9,7 +9,7 @@ use budget_draw::draw;
 use course_catalog::Catalog;
 use demand_api::Crowd;
 use market_menus::menus;
-use market_units::NoMemory;
+use market_units::{MAX_SPREAD, NoMemory};
 use preference_desk::Preferences;
 use std::alloc::Global;
 use student_roll::Roll;
@@ -28,7 +28,7 @@ pub fn make_crowd(
     requires students { length (preferences_of preferences.now) ≡ length roll.now.students }
     requires sections { All (SectionsBelow (length catalog.now.sections))
         (preferences_of preferences.now) }
-    requires spread { spread ≤ 49 }
+    requires spread { spread ≤ MAX_SPREAD }
     ensures crowd { IfOk result
         (λ crowd. IsCrowdOf catalog.now.sections roll.now.students (preferences_of preferences.now)
         seed spread (crowd_of crowd.menus.items crowd.budgets.items crowd.sections)) }

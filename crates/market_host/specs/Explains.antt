@@ -3,7 +3,7 @@
 use Rattle.std.specs.Prelude.{ℕ, ◌≡◌, ◌<◌, ◌⊎◌, ◌↔◌, true, false, List, ◌∷◌, length, is_some}
 use Rattle.bundle_rules.specs.Given.{SomeHas}
 use Rattle.bundle_rules.specs.Menus.{wishes_of}
-use Rattle.bundle_rules.specs.Sets.{has}
+use Rattle.market_units.specs.Members.{has}
 use Rattle.certificate_checker.specs.declared.findings.Finding.{Finding}
 use Rattle.certificate_checker.specs.Certificates.{HoldsBy, IsAccepted, IsTextOf}
 use Rattle.certificate_checker.specs.Findings.{IsFirstFinding}
@@ -13,7 +13,8 @@ use Rattle.demand_api.specs.Crowds.{CrowdData}
 use Rattle.explain_desk.specs.Explanations.{ExplainedData, IsExplained}
 use Rattle.explain_desk.specs.Texts.{explained_text}
 use Rattle.market_certificate.specs.Publications.{Publication}
-use Rattle.market_certificate.specs.Tables.{name_at, section_names}
+use Rattle.course_catalog.specs.Sections.{section_names}
+use Rattle.market_certificate.specs.Tables.{name_at}
 use Rattle.published_parts.specs.Markets.{Market, tables_in}
 use Rattle.student_roll.specs.Students.{names_of}
 use Rattle.utility_language.specs.declared.commands.Command.{Command}

@@ -1,7 +1,7 @@
 // Parts of lines, written behind a text.
 ghost use Rattle.std.specs.Prelude.{◌≡◌, ◌<◌, [], ◌∷◌, ◌++◌, OnOk};
 ghost use Rattle.std.specs.Fmt.{decimal, signed_decimal};
-ghost use Rattle.market_maker.specs.Catalogs.{clock, two_digits};
+ghost use Rattle.timetable_rules.specs.Spelling.{clock, two_digits};
 
 use market_units::{NoMemory, put_number};
 

@@ -1,7 +1,7 @@
 // A market that workers run.
 ghost use Rattle.std.specs.Prelude.{◌≡◌, ◌≤◌, ℕ, Err, IfOk, All};
 ghost use Rattle.std.specs.Arc.{arc_value};
-ghost use Rattle.demand_workers.specs.Rounds.{data_of};
+ghost use Rattle.demand_api.specs.Views.{data_of};
 ghost use Rattle.market_certificate.specs.Publications.{IsPublication, IsSession};
 ghost use Rattle.market_certificate.specs.Tables.{tables_of};
 ghost use Rattle.market_certificate.specs.Views.{publication_of};
@@ -14,7 +14,7 @@ ghost use Rattle.published_market.specs.Publishing.{HasNoPrices, IsPublicationOf
 
 use course_catalog::Catalog;
 use demand_api::Crowd;
-use demand_workers::{Bench, PooledDemands};
+use demand_workers::{Pool, PooledDemands};
 use market_edge::Gate;
 use market_settings::Settings;
 use market_units::{MAX_WORKERS, NoMemory};
@@ -37,10 +37,10 @@ pub(crate) struct Ran {
 struct Shared {
     crowd: Arc<Crowd>,
     asked: Arc<Crowd>,
-    bench: Bench,
+    pool: Pool,
 }
 
-// The crowd after the desk's journal, twice shared, and a bench for the workers.
+// The crowd after the desk's journal, twice shared, and a pool for the workers.
 fn share(
     alloc: Global,
     workers: u16,
@@ -61,11 +61,11 @@ fn share(
     let crowd = crowd_after(alloc, catalog, roll, settings, desk)?;
     let crowd = Arc::new(alloc, crowd)?;
     let asked = crowd.clone()?;
-    let bench = Bench::reserve(alloc, workers)?;
+    let pool = Pool::reserve(alloc, workers)?;
     Ok(Shared {
         crowd,
         asked,
-        bench,
+        pool,
     })
 }
 
@@ -99,9 +99,9 @@ pub(crate) fn run<R: Threads + Wait + Sync>(
     let Shared {
         crowd,
         asked,
-        bench,
+        pool,
     } = share(alloc, workers, catalog, roll, settings, desk)?;
-    let mut demands = PooledDemands::make(bench, asked, gate);
+    let mut demands = PooledDemands::make(pool, asked, gate);
     let published = publish(
         rt,
         alloc,

@@ -8,6 +8,7 @@ ghost use Rattle.market_run.specs.Sums.{AreRatedBy, worth_by_menus};
 
 use bundle_rules::{Bundle, Menu, utility};
 use market_certificate::{Proved, ProvedTurn};
+use market_units::MAX_STUDENTS;
 
 // The seats that are used, of all sections.
 pub(crate) fn used_seats(used: &[(u16, u16)]) -> u128
@@ -46,7 +47,7 @@ pub(crate) fn turn_trees(turns: &[ProvedTurn]) -> u128
 
 // What the students with these menus have of their bundles, added up.
 pub(crate) fn worth(menus: &[Menu], bundles: &[Bundle]) -> i64
-    requires few { length menus.now ≤ 2000 }
+    requires few { length menus.now ≤ MAX_STUDENTS }
     requires rated { AreRatedBy menus.now (map sections_of bundles.now) }
     ensures value { result ≡ worth_by_menus menus.now (map sections_of bundles.now) }
     ensures low { neg_ℤ (pos (2 ^ 31 * length menus.now)) ≤ℤ result }

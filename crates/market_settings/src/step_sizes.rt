@@ -58,7 +58,7 @@ pub fn are_step_sizes(sizes: &[u32]) -> bool
 
 // Whether this is a number of step sizes.
 pub(crate) fn is_step_count(count: usize) -> bool
-    ensures { result ≡ (nat_le 1 count && nat_le count 16) }
+    ensures { result ≡ (nat_le 1 count && nat_le count MAX_STEPS) }
 {
     1 <= count && count <= MAX_STEPS
 }

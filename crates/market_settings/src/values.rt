@@ -9,6 +9,7 @@ ghost use Rattle.market_settings.specs.Values.{reading, whole_within, numbers_wi
 use crate::keys::is_setting;
 use crate::step_sizes::is_step_count;
 use crate::{Key, SettingsRefusal, StepSizes};
+use market_units::MAX_STEP;
 use serde_json::{Map, Value};
 use std::alloc::Global;
 
@@ -99,13 +100,14 @@ fn step_items(value: &Value) -> Option<&Vec<Value>>
 // The items as step sizes, if each is one.
 fn sizes_within(alloc: Global, items: &[Value]) -> Result<Vec<u32>, SettingsRefusal>
     ensures sizes { IfOk result
-        (λ sizes. numbers_within 1 100000 (items_view items.now) ≡ Some sizes.items) }
+        (λ sizes. numbers_within 1 MAX_STEP (items_view items.now) ≡ Some sizes.items) }
     ensures count { IfOk result (λ sizes. length sizes.items ≡ length items.now) }
-    ensures within { IfOk result (λ sizes. All (λ size. (1 ≤ size) × (size ≤ 100000)) sizes.items) }
+    ensures within { IfOk result
+        (λ sizes. All (λ size. (1 ≤ size) × (size ≤ MAX_STEP)) sizes.items) }
     ensures only { IfErr result
         (λ e. e ≢ SettingsRefusal.NoMemory
         → (e ≡ SettingsRefusal.Range Key.Steps)
-        × (numbers_within 1 100000 (items_view items.now) ≡ None)) }
+        × (numbers_within 1 MAX_STEP (items_view items.now) ≡ None)) }
 {
     let mut sizes = Vec::new(alloc);
     for item in items {

@@ -6,7 +6,7 @@ ghost use Rattle.own_price.specs.Holding.{Holds};
 ghost use Rattle.oversubscription_stage.specs.Rounds.{AreCountsWithin, IsMostOver, IsRound};
 
 use demand_api::Demands;
-use market_units::{NoMemory, SectionNo};
+use market_units::{MAX_SECTIONS, NoMemory, SectionNo};
 use own_price::Held;
 use std::alloc::Global;
 use std::sync::Wait;
@@ -16,7 +16,7 @@ use std::thread::Threads;
 // its seats.
 pub(crate) fn most_over(held: &Held, seats: &[u16]) -> Option<SectionNo>
     requires seats { length seats.now ≡ length held.now.prices }
-    requires few { length seats.now ≤ 400 }
+    requires few { length seats.now ≤ MAX_SECTIONS }
     ensures some { IfSome result
         (λ section. IsMostOver (length seats.now) (λ s. holders s held.now.bundles) seats.now
         section.0) }

@@ -5,7 +5,7 @@ ghost use Rattle.bundle_rules.specs.Places.{places_from};
 ghost use Rattle.own_price.specs.Exchanges.{AreHolders};
 
 use bundle_rules::Bundle;
-use market_units::{NoMemory, SectionNo, StudentNo};
+use market_units::{MAX_STUDENTS, NoMemory, SectionNo, StudentNo};
 use std::alloc::Global;
 
 // All students, in file order.
@@ -27,7 +27,7 @@ pub(crate) fn holders(
     bundles: &[Bundle],
     section: SectionNo,
 ) -> Result<Vec<StudentNo>, NoMemory>
-    requires { length bundles.now ≤ 2000 }
+    requires { length bundles.now ≤ MAX_STUDENTS }
     ensures { IfOk result
         (λ students. AreHolders section.0 (map sections_of bundles.now) students.items) }
 {

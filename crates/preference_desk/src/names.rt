@@ -1,16 +1,17 @@
 // The names that the desk knows.
 ghost use Rattle.std.specs.Prelude.{◌≤◌, length};
+ghost use Rattle.market_units.specs.declared.limits.TheConstants.{MAX_SECTIONS, MAX_STUDENTS};
 
 use indexmap::IndexSet;
-use market_units::{Name, SectionNo, StudentNo};
+use market_units::{MAX_SECTIONS, MAX_STUDENTS, Name, SectionNo, StudentNo};
 
 /// The names of a roll's students and of a catalogue's sections, in file order.
 #[derive(Drop)]
 pub(crate) struct Names {
     students: IndexSet<Name>,
     sections: IndexSet<Name>,
-    ghost few_students: { length students.keys ≤ 2000 },
-    ghost few_sections: { length sections.keys ≤ 400 },
+    ghost few_students: { length students.keys ≤ MAX_STUDENTS },
+    ghost few_sections: { length sections.keys ≤ MAX_SECTIONS },
 }
 
 impl Names {
@@ -21,8 +22,8 @@ impl Names {
 
     // The names of these sets.
     pub(crate) fn of(students: IndexSet<Name>, sections: IndexSet<Name>) -> Names
-        requires students { length students.keys ≤ 2000 }
-        requires sections { length sections.keys ≤ 400 }
+        requires students { length students.keys ≤ MAX_STUDENTS }
+        requires sections { length sections.keys ≤ MAX_SECTIONS }
         ensures students { (names_in result).students ≡ map name_bytes students.keys }
         ensures sections { (names_in result).sections ≡ map name_bytes sections.keys }
     {

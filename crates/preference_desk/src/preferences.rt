@@ -1,7 +1,7 @@
 // What all students want.
 use crate::pairs::Pairs;
 use crate::ratings::Ratings;
-use market_units::{NoMemory, SectionNo, StudentNo};
+use market_units::{MAX_ADJUSTMENT, MAX_RATING, NoMemory, SectionNo, StudentNo};
 use std::alloc::Global;
 
 /// What one student wants.
@@ -98,7 +98,7 @@ impl Preferences {
     // Sets a rating; `false`, and nothing changes, where there is no room for it.
     pub(crate) fn rate(&mut self, student: StudentNo, section: SectionNo, rating: u8) -> bool
         requires student { student.0 < length (preferences_of self.old) }
-        requires small { rating ≤ 100 }
+        requires small { rating ≤ MAX_RATING }
         ensures room { result
             ≡ not (has_no_room_to_rate (wanted_by self.old student.0) section.0 rating) }
         ensures set { preferences_of self.new
@@ -120,7 +120,7 @@ impl Preferences {
     ) -> bool
         requires student { student.0 < length (preferences_of self.old) }
         requires order { first.0 < second.0 }
-        requires small { unsigned_abs n ≤ 200 }
+        requires small { unsigned_abs n ≤ unsigned_abs MAX_ADJUSTMENT }
         ensures room { result
             ≡ not
             (has_no_room_to_pair (wanted_by self.old student.0) (first.0, second.0)

@@ -3,11 +3,12 @@ ghost use Rattle.std.specs.Prelude.{◌≡◌, ◌≤◌, ◌==◌, None, Some, 
 ghost use Rattle.std.specs.List.{position};
 ghost use Rattle.std.specs.Ordering.{nat_cmp};
 ghost use Rattle.std.specs.Vec.{vec_capacity};
+ghost use Rattle.market_units.specs.declared.limits.TheConstants.{MAX_RATINGS};
 ghost use Rattle.preference_desk.specs.Places.{place_in, stands};
 ghost use Rattle.preference_desk.specs.Rows.{AreRatings, rating_entry};
 
 use crate::rows;
-use market_units::{MAX_RATINGS, NoMemory, SectionNo};
+use market_units::{MAX_RATING, MAX_RATINGS, NoMemory, SectionNo};
 use std::alloc::Global;
 
 /// The ratings of one student, section by section, in room that was taken once.
@@ -15,7 +16,7 @@ use std::alloc::Global;
 pub(crate) struct Ratings {
     items: Vec<(SectionNo, u8)>,
     ghost kept: { AreRatings items.items },
-    ghost room: { 60 ≤ vec_capacity items },
+    ghost room: { MAX_RATINGS ≤ vec_capacity items },
 }
 
 impl Ratings {
@@ -43,11 +44,11 @@ impl Ratings {
     // The section's rating becomes this, and 0 takes it out; `false`, and nothing changes, where
     // there is no room for one more.
     pub(crate) fn set(&mut self, section: SectionNo, rating: u8) -> bool
-        requires { rating ≤ 100 }
+        requires { rating ≤ MAX_RATING }
         ensures room { result
             ≡ not
             (nat_lt 0 rating && not (contains_key (ratings_in self.old) section.0)
-            && nat_le 60 (len (ratings_in self.old))) }
+            && nat_le MAX_RATINGS (len (ratings_in self.old))) }
         ensures set { ratings_in self.new
             ≡ (if result then with_rating (ratings_in self.old) section.0 rating
             else ratings_in self.old) }

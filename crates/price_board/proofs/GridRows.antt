@@ -4,10 +4,11 @@ use Rattle.std.specs.FinMap as map
 use Rattle.std.proofs.lemmas.Bool.{cases_Bool, false≢true}
 use Rattle.std.proofs.lemmas.Bool.Decides.{nat_tests}
 use Rattle.std.proofs.lemmas.List.{replicate_more}
-use Rattle.row_region.specs.Rows.{Rows, IsLive, with_row, spare_of, rewritten}
+use Rattle.row_region.specs.Rows.{Rows, IsLive, with_row, spare_of, rewritten, cells_of}
 use Rattle.row_region.proofs.Filling.{rewritten_same}
 use Rattle.row_region.proofs.Rows.{row_here, row_there, live_here, live_there, spare_apart}
-use Rattle.price_board.specs.Cells.{cells_of, rows_in, is_among, AreLive}
+use Rattle.market_units.specs.Members.{has}
+use Rattle.price_board.specs.Cells.{rows_in, AreLive}
 
 tests_apart : (a b : ℕ) → a ≢ b → (a == b) ≡ false
 tests_apart a b apart = elim (cases_Bool (a == b)) [
@@ -22,13 +23,13 @@ or_false false b h = (refl, h)
 apart_of_test : (a b : ℕ) → (a == b) ≡ false → a ≢ b
 apart_of_test a b h e = let same : (a == b) ≡ true = grind (arith, nat_tests, e) in false≢true (sym h ∙ same)
 
-lacks_more : (ids : List ℕ) (id x : ℕ) → is_among ids x ≡ false → id ≢ x → is_among (ids ++ id ∷ []) x ≡ false
+lacks_more : (ids : List ℕ) (id x : ℕ) → has ids x ≡ false → id ≢ x → has (ids ++ id ∷ []) x ≡ false
 lacks_more [] id x lacks apart = rw (tests_apart id x apart) refl
 lacks_more (y ∷ ids) id x lacks apart =
-    let parts = or_false (y == x) (is_among ids x) lacks in
+    let parts = or_false (y == x) (has ids x) lacks in
     rw (parts.0) (lacks_more ids id x parts.1 apart)
 
-among_at : (ids : List ℕ) (v : ℕ) → v < length ids → is_among ids (get_or ids v 0) ≡ true
+among_at : (ids : List ℕ) (v : ℕ) → v < length ids → has ids (get_or ids v 0) ≡ true
 among_at [] v below = absurd (omega arith)
 among_at (x ∷ ids) zero below = let same : (x == x) ≡ true = grind (arith, nat_tests) in rw same refl
 among_at (x ∷ ids) (suc v) below =
@@ -44,18 +45,18 @@ first_spare rows = omega arith
 
 module _ {T : Type 0} where
   -- a change to a row that is none of these
-  rows_other : (live : map.FinMap nat_cmp (List T)) (id : ℕ) (row : List T) (ids : List ℕ) → is_among ids id ≡ false
+  rows_other : (live : map.FinMap nat_cmp (List T)) (id : ℕ) (row : List T) (ids : List ℕ) → has ids id ≡ false
       → rows_in (map.insert live id row) ids ≡ rows_in live ids
   rows_other live id row [] lacks = refl
   rows_other live id row (x ∷ ids) lacks =
-      let parts = or_false (x == id) (is_among ids id) lacks in
+      let parts = or_false (x == id) (has ids id) lacks in
       let here : cells_of (map.get (map.insert live id row) x) ≡ cells_of (map.get live x) =
       ap cells_of (row_there live id row x (apart_of_test x id parts.0)) in
       let rest = rows_other live id row ids parts.1 in
       rw (here, rest) refl
 
   -- a spare row is none of the live ones
-  lacks_spare : (region : Rows T) (id : ℕ) (ids : List ℕ) → map.get region.live id ≡ None → AreLive region ids → is_among ids id ≡ false
+  lacks_spare : (region : Rows T) (id : ℕ) (ids : List ℕ) → map.get region.live id ≡ None → AreLive region ids → has ids id ≡ false
   lacks_spare region id [] spare live = refl
   lacks_spare region id (x ∷ ids) spare live =
       let apart : (x == id) ≡ false = tests_apart x id (spare_apart region.live id x spare live.0) in
@@ -111,7 +112,7 @@ module _ {T : Type 0} where
       let k : ℕ = length ids in
       let low : v < k = (let b : suc v < suc k = below in omega arith) in
       let id : ℕ = get_or ids v 0 in
-      let other : x ≢ id = λ e. false≢true (sym live.1 ∙ ap (is_among ids) e ∙ among_at ids v low) in
+      let other : x ≢ id = λ e. false≢true (sym live.1 ∙ ap (has ids) e ∙ among_at ids v low) in
       let here : cells_of (map.get (map.insert region.live id row) x) ≡ cells_of (map.get region.live x) = ap cells_of (row_there region.live id row x other) in
       let rest = rows_written region row ids v low live.2 in
       rw (here, rest) refl

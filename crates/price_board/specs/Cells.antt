@@ -1,29 +1,20 @@
 -- How a grid keeps its rows: in one live row of a region for each.
-use Rattle.std.specs.Prelude.{ℕ, ◌≡◌, ◌==◌, ◌||◌, Bool, false, ⊤, List, [], ◌∷◌, Option, None, Some}
+use Rattle.std.specs.Prelude.{ℕ, ◌≡◌, false, ⊤, List, [], ◌∷◌}
 use Rattle.std.specs.Ordering.{nat_cmp}
 use Rattle.std.specs.FinMap as map
-use Rattle.row_region.specs.Rows.{Rows, IsLive}
+use Rattle.market_units.specs.Members.{has}
+use Rattle.row_region.specs.Rows.{Rows, IsLive, cells_of}
 use Rattle.price_board.specs.declared.grid.Grid.TheInside.{Inside}
-
--- what a row holds, and nothing where it is spare
-abbrev pub cells_of : {T : Type 0} → Option (List T) → List T
-cells_of None = []
-cells_of (Some row) = row
 
 -- what the rows of these numbers hold
 abbrev pub rows_in : {T : Type 0} → map.FinMap nat_cmp (List T) → List ℕ → List (List T)
 rows_in live [] = []
 rows_in live (id ∷ ids) = cells_of (map.get live id) ∷ rows_in live ids
 
--- whether a number is among these
-abbrev pub is_among : List ℕ → ℕ → Bool
-is_among [] id = false
-is_among (other ∷ ids) id = other == id || is_among ids id
-
 -- the numbers are those of live rows, no two the same
 abbrev pub AreLive : {T : Type 0} → Rows T → List ℕ → Type 0
 AreLive region [] = ⊤
-AreLive region (id ∷ ids) = IsLive region id × (is_among ids id ≡ false) × AreLive region ids
+AreLive region (id ∷ ids) = IsLive region id × (has ids id ≡ false) × AreLive region ids
 
 -- the rows of a grid
 abbrev pub rows_of : {T : Type 0} → Inside T → List (List T)

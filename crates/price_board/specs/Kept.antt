@@ -1,6 +1,7 @@
 -- What a board keeps.
 use Rattle.std.specs.Prelude.{ℕ, ◌≡◌, ◌≤◌, List, length}
 use Rattle.std.specs.Arc.{arc_value}
+use Rattle.market_units.specs.declared.limits.TheConstants.{MAX_STUDENTS, MAX_VERSIONS}
 use Rattle.price_board.specs.declared.place.Place.{Place}
 use Rattle.price_board.specs.declared.shared.Terms.{Terms}
 use Rattle.price_board.specs.declared.state.BoardState.TheInside.{Inside}
@@ -30,8 +31,8 @@ pub record KeepsTasks (terms : Terms) (places : List (List Place)) (tallies : Li
 
 -- what a board keeps
 pub record IsKept (board : Inside) : Type 0 where
-  pub few_versions : version_count (terms_in board) ≤ 16
-  pub few_students : student_count (terms_in board) ≤ 2000
+  pub few_versions : version_count (terms_in board) ≤ MAX_VERSIONS
+  pub few_students : student_count (terms_in board) ≤ MAX_STUDENTS
   pub asked : length board.round.asks.items ≡ version_count (terms_in board)
   pub students : board.students ≡ student_count (terms_in board)
   pub tasks : KeepsTasks (terms_in board) board.places board.tallies.items board.next.version

@@ -1,8 +1,10 @@
 -- A round of a crowd, and how its board begins.
-use Rattle.std.specs.Prelude.{ℕ, ◌≡◌, ◌<◌, ◌≤◌, ⊤, List, length, map, replicate, All}
-use Rattle.market_units.specs.declared.units.Tokens.{Tokens}
+use Rattle.std.specs.Prelude.{ℕ, ◌≡◌, ◌<◌, ◌≤◌, ⊤, length, map, replicate, All}
+use Rattle.market_units.specs.declared.limits.TheConstants.{MAX_VERSIONS}
 use Rattle.demand_api.specs.declared.crowd.Crowd.{Crowd}
-use Rattle.demand_api.specs.Made.{crowd_of, MakeCrowd}
+use Rattle.demand_api.specs.Asking.{AreSectionPrices}
+use Rattle.demand_api.specs.Made.{MakeCrowd}
+use Rattle.demand_api.specs.Views.{data_of}
 use Rattle.price_board.specs.declared.place.Place.TheVariants.{Open}
 use Rattle.price_board.specs.declared.round.Ask.{Ask}
 use Rattle.price_board.specs.declared.round.Ask.TheVariants.{Counts, Exceeds}
@@ -15,7 +17,7 @@ use Rattle.price_board.specs.Terms.{student_count, version_count}
 abbrev pub terms_of : Crowd → Round → Terms
 terms_of crowd round =
     record {
-      crowd = crowd_of crowd.menus.items crowd.budgets.items crowd.sections;
+      crowd = data_of crowd;
       versions = map (λ version. version.items) round.versions.items;
       asks = round.asks.items;
     }
@@ -23,11 +25,6 @@ terms_of crowd round =
 -- a crowd that can be asked
 abbrev pub IsMade : Crowd → Type 0
 IsMade crowd = MakeCrowd crowd.menus.items crowd.budgets.items crowd.sections
-
--- a price for each section, each at most 1,000,001
-pub record ArePrices (sections : ℕ) (prices : List Tokens) : Type 0 where
-  pub each : length prices ≡ sections
-  pub high : All (λ price. price.0 ≤ 1000001) prices
 
 -- what is asked is of a section of the market
 abbrev pub IsAskOf : ℕ → Ask → Type 0
@@ -37,8 +34,8 @@ IsAskOf sections (Exceeds section limit) = section.0 < sections
 -- 1 to 16 versions of prices, and what is asked of each
 pub record IsRound (terms : Terms) : Type 0 where
   pub some : 1 ≤ version_count terms
-  pub few : version_count terms ≤ 16
-  pub prices : All (ArePrices terms.crowd.sections) terms.versions
+  pub few : version_count terms ≤ MAX_VERSIONS
+  pub prices : All (AreSectionPrices terms.crowd.sections) terms.versions
   pub asks : length terms.asks ≡ version_count terms
   pub sections : All (IsAskOf terms.crowd.sections) terms.asks
 

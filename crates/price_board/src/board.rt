@@ -19,7 +19,7 @@ use crate::state::BoardState;
 use bundle_rules::Bundle;
 use chronicle::{Chronicle, Seat};
 use demand_api::Crowd;
-use market_units::{NoMemory, StudentNo};
+use market_units::{MAX_WORKERS, NoMemory, StudentNo};
 use std::alloc::Global;
 use std::marker::Model;
 use std::sync::{Arc, Wait};
@@ -63,7 +63,7 @@ impl Board {
     ) -> Result<(Board, Vec<BoardSeat>), NoMemory>
         requires crowd { IsMade (arc_value crowd) }
         requires round { IsRound (terms_of (arc_value crowd) round) }
-        requires workers { (1 ≤ workers) × (workers ≤ 16) }
+        requires workers { (1 ≤ workers) × (workers ≤ MAX_WORKERS) }
         ensures terms { IfOk result (λ r. r.0.base ≡ terms_of (arc_value crowd) round) }
         ensures allotments { IfOk result (λ r. length r.0.allotments ≡ workers) }
         ensures count { IfOk result (λ r. vec_len r.1 ≡ workers) }

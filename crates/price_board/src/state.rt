@@ -21,7 +21,7 @@ use crate::tally::{Tally, exceeds_by, settles, with_bundle};
 use bundle_rules::Bundle;
 use chronicle::Journal;
 use demand_api::Crowd;
-use market_units::{NoMemory, StudentNo};
+use market_units::{MAX_STUDENTS, MAX_VERSIONS, MAX_WORKERS, NoMemory, StudentNo};
 use std::alloc::Global;
 use std::marker::Model;
 use std::sync::Arc;
@@ -74,7 +74,7 @@ impl BoardState {
     ) -> Result<BoardState, NoMemory>
         requires crowd { IsMade (arc_value crowd) }
         requires round { IsRound (terms_of (arc_value crowd) round) }
-        requires workers { (1 ≤ workers) × (workers ≤ 16) }
+        requires workers { (1 ≤ workers) × (workers ≤ MAX_WORKERS) }
         ensures terms { IfOk result (λ board. board.terms ≡ terms_of (arc_value crowd) round) }
         ensures opening { IfOk result
             (λ board. board.rows ≡ (opening_of (terms_of (arc_value crowd) round)).rows) }
@@ -108,7 +108,7 @@ impl BoardState {
     // How many tasks the round has: at most 16 versions of 2,000 students.
     pub(crate) fn task_count(&self) -> u64
         ensures value { result ≡ task_count self.now.terms }
-        ensures few { result ≤ 32000 }
+        ensures few { result ≤ MAX_VERSIONS * MAX_STUDENTS }
     {
         self.tallies.len() as u64 * self.students as u64
     }

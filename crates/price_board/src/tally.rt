@@ -7,6 +7,7 @@ ghost use Rattle.price_board.specs.Tallies.{settles, exceeds_by};
 
 use crate::round::Ask;
 use bundle_rules::Bundle;
+use market_units::MAX_STUDENTS;
 
 /// How many places of a version are still to be filled, and how many of its posted bundles have the
 /// section that is asked of.
@@ -18,7 +19,7 @@ pub struct Tally {
 
 // Whether the version of this tally is settled.
 pub(crate) fn settles(ask: Ask, tally: Tally) -> bool
-    requires { tally.count + tally.unfilled ≤ 2000 }
+    requires { tally.count + tally.unfilled ≤ MAX_STUDENTS }
     ensures { result ≡ settles ask tally }
 {
     match ask {
@@ -31,7 +32,7 @@ pub(crate) fn settles(ask: Ask, tally: Tally) -> bool
 
 // The tally after one more bundle.
 pub(crate) fn with_bundle(ask: Ask, tally: Tally, bundle: &Bundle) -> Tally
-    requires { (1 ≤ tally.unfilled) × (tally.count ≤ 2000) }
+    requires { (1 ≤ tally.unfilled) × (tally.count ≤ MAX_STUDENTS) }
     ensures { result
         ≡ record {
           unfilled = tally.unfilled - 1;

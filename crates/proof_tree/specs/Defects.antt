@@ -2,7 +2,7 @@
 use Rattle.std.specs.Prelude.{ℕ, ◌-◌, ◌≡◌, ◌≢◌, ◌⊎◌, ◌^◌, min, ⊤, Option, None, List, [], ◌∷◌, length}
 use Rattle.bundle_bounds.specs.Offers.{Offer, places_of}
 use Rattle.proof_tree.specs.declared.signs.Sign.{Sign}
-use Rattle.proof_tree.specs.declared.signs.Sign.TheVariants.{Shut, Closed, Forced}
+use Rattle.proof_tree.specs.declared.signs.Sign.TheVariants.{Shut, Pruned, Forced}
 use Rattle.proof_tree.specs.declared.defects.TreeDefect.{TreeDefect}
 use Rattle.proof_tree.specs.declared.defects.TreeDefect.TheVariants.{Syntax, NotClosed, Redundant, WrongLeaf, WrongBranch, Rest}
 use Rattle.proof_tree.specs.Trees.{IsSign, HasNoSign}
@@ -15,7 +15,7 @@ offset text rest = min (length text - length rest) (2 ^ 32 - 1)
 
 -- a leaf: n, b, c, m with their places
 abbrev pub IsLeaf : Sign → Type 0
-IsLeaf (Closed leaf) = ⊤
+IsLeaf (Pruned leaf) = ⊤
 IsLeaf sign = ⊥
 
 -- a sign of canonical trees: one of *, n, b, c, m, +, -

@@ -3,7 +3,7 @@ ghost use Rattle.std.specs.Prelude.{◌≡◌, ◌≢◌, ◌<◌, ◌≤◌, �
 ghost use Rattle.std.specs.Fmt.{decimal};
 ghost use Rattle.bundle_bounds.specs.declared.nodes.Leaf.{Leaf};
 ghost use Rattle.proof_tree.specs.declared.signs.Sign.{Sign};
-ghost use Rattle.proof_tree.specs.declared.signs.Sign.TheVariants.{Closed};
+ghost use Rattle.proof_tree.specs.declared.signs.Sign.TheVariants.{Pruned};
 ghost use Rattle.proof_tree.specs.Spellings.{bytes_of};
 ghost use Rattle.proof_tree.specs.Texts.{IsDigit, NoDigitFirst, IsShort, Stands, leaf_text, number_of, symbol};
 
@@ -88,7 +88,7 @@ fn single_sign(byte: u8) -> Option<Sign>
     match byte {
         b'*' => Some(Sign::Champion),
         b'x' => Some(Sign::Shut),
-        b'n' => Some(Sign::Closed(Leaf::Plain)),
+        b'n' => Some(Sign::Pruned(Leaf::Plain)),
         b'!' => Some(Sign::Forced),
         b'+' => Some(Sign::Open),
         b'-' => Some(Sign::Passed),
@@ -100,7 +100,7 @@ fn single_sign(byte: u8) -> Option<Sign>
 fn numbered_leaf(letter: u8, place: u8) -> Option<Leaf>
     ensures some { IfSome result
         (λ leaf. (leaf_text leaf ≡ letter ∷ decimal place)
-        × (number_of (Closed leaf) ≡ Some place)) }
+        × (number_of (Pruned leaf) ≡ Some place)) }
     ensures none { IfNone result ((letter ≢ 98) × (letter ≢ 99) × (letter ≢ 109)) }
 {
     match letter {
@@ -124,7 +124,7 @@ pub(crate) fn read_symbol(text: &[u8]) -> Option<(Sign, &[u8])>
             }
             let (place, later) = read_place(rest)?;
             let leaf = numbered_leaf(*letter, place)?;
-            Some((Sign::Closed(leaf), later))
+            Some((Sign::Pruned(leaf), later))
         }
     }
 }
@@ -180,7 +180,7 @@ fn numbered(letter: u8, place: u8) -> Symbol
 
 // The symbol of a leaf.
 fn spell_leaf(leaf: Leaf) -> Symbol
-    requires { IsShort (Closed leaf) }
+    requires { IsShort (Pruned leaf) }
     ensures len { result.len ≤ 3 }
     ensures bytes { bytes_of result ≡ leaf_text leaf }
 {
@@ -201,7 +201,7 @@ pub(crate) fn spell(sign: Sign) -> Symbol
     match sign {
         Sign::Champion => single(b'*'),
         Sign::Shut => single(b'x'),
-        Sign::Closed(leaf) => spell_leaf(leaf),
+        Sign::Pruned(leaf) => spell_leaf(leaf),
         Sign::Forced => single(b'!'),
         Sign::Open => single(b'+'),
         Sign::Passed => single(b'-'),

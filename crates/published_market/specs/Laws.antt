@@ -1,6 +1,7 @@
 -- The laws of published markets. The first six are the sentences on what a published text says of
 -- students and sections.
 use Rattle.std.specs.Prelude.{ℕ, ◌<◌, ◌≤◌, ◌≡◌, ◌^◌, ◌⊎◌, List, [], ◌++◌, length, slice_index, slice_index_or}
+use Rattle.market_units.specs.declared.limits.TheConstants.{MAX_SESSIONS}
 use Rattle.bundle_rules.specs.Demand.{IsBest}
 use Rattle.budget_draw.specs.Budgets.{budgets_of}
 use Rattle.course_catalog.specs.Catalog.{IsCatalog}
@@ -91,7 +92,7 @@ pub record AreInOrder (market : Market) (streams : List (List Command)) : Type 0
   pub catalog : IsCatalog market.catalog
   pub roll : IsRoll market.roll
   pub settings : AreInRange market.settings
-  pub sessions : length streams ≤ 64
+  pub sessions : length streams ≤ MAX_SESSIONS
 
 -- what is published for inputs in order is a publication in the ranges of the text, where its text
 -- is not of 2 ^ 64 bytes or more

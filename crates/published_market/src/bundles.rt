@@ -18,10 +18,15 @@ use crate::rooms::{Room, reserve_rooms, workers_for};
 use bundle_rules::{Bundle, Menu};
 use demand_api::Crowd;
 use market_certificate::Proved;
-use market_units::{NoMemory, SectionSet, Tokens};
+use market_units::{MAX_COURSES, MAX_RATINGS, NoMemory, SectionSet, Tokens};
 use std::alloc::Global;
 use std::thread;
 use std::thread::Threads;
+
+// At most this many places are on a menu, and at most this many sections in a bundle.
+const PLACES: u8 = MAX_RATINGS as u8;
+
+const COURSES: usize = MAX_COURSES as usize;
 
 // The best bundle of a menu with its tree, which is in the room where it fits.
 pub(crate) fn prove_bundle(
@@ -44,8 +49,8 @@ pub(crate) fn prove_bundle(
         (sections_of proved.bundle) proved.tree.items) }
     ensures form { IfOk result (λ proved. HasForm (sections_of proved.bundle) proved.tree.items) }
 {
-    prove!(menu.len() <= 60);
-    prove!(bundle.sections().len() <= 8);
+    prove!(menu.len() <= PLACES);
+    prove!(bundle.sections().len() <= COURSES);
     let tree = room.tree(alloc, menu, prices, budget, allowed, bundle)?;
     Ok(Proved {
         bundle: *bundle,

@@ -22,7 +22,7 @@ use course_catalog::Catalog;
 use demand_api::{Crowd, Demands};
 use market_certificate::Publication;
 use market_settings::Settings;
-use market_units::NoMemory;
+use market_units::{MAX_SEATS, NoMemory};
 use oversubscription_stage::{Settled, settle};
 use preference_desk::Entry;
 use std::alloc::Global;
@@ -227,7 +227,7 @@ fn put_together<R: Threads + Sync>(
 ) -> Result<Published, NoMemory>
     requires sessions { All (λ entry. IsSession entry.session) journal.now }
     requires seats { length seats.now ≡ crowd.now.sections }
-    requires low { All (λ count. count ≤ 9999) seats.now }
+    requires low { All (λ count. count ≤ MAX_SEATS) seats.now }
     requires crowd { MakeCrowd crowd.now.menus.items crowd.now.budgets.items crowd.now.sections }
     requires settings { AreInRange settings.now }
     requires stages { AreStages

@@ -16,7 +16,7 @@ use aftermarket_stage::Turn;
 use budget_draw::raised;
 use demand_api::Crowd;
 use market_certificate::{Proved, ProvedTurn};
-use market_units::{NoMemory, StudentNo, Tokens};
+use market_units::{MAX_RAISE, NoMemory, StudentNo, Tokens};
 use std::alloc::Global;
 use std::thread;
 use std::thread::Threads;
@@ -52,7 +52,7 @@ fn prove_turn(
     requires crowd { MakeCrowd crowd.now.menus.items crowd.now.budgets.items crowd.now.sections }
     requires prices { ArePricesFor
         (crowd_of crowd.now.menus.items crowd.now.budgets.items crowd.now.sections) prices.now }
-    requires raise { raise ≤ 50 }
+    requires raise { raise ≤ MAX_RAISE }
     requires best { IsBestTurn
         (crowd_of crowd.now.menus.items crowd.now.budgets.items crowd.now.sections) prices.now raise
         (turn_of turn.now) }
@@ -90,7 +90,7 @@ fn fill_room(
     requires crowd { MakeCrowd crowd.now.menus.items crowd.now.budgets.items crowd.now.sections }
     requires prices { ArePricesFor
         (crowd_of crowd.now.menus.items crowd.now.budgets.items crowd.now.sections) prices.now }
-    requires raise { raise ≤ 50 }
+    requires raise { raise ≤ MAX_RAISE }
     requires best { All
         (IsBestTurn (crowd_of crowd.now.menus.items crowd.now.budgets.items crowd.now.sections)
         prices.now raise)
@@ -119,7 +119,7 @@ fn fill_rooms<R: Threads + Sync>(
     requires crowd { MakeCrowd crowd.now.menus.items crowd.now.budgets.items crowd.now.sections }
     requires prices { ArePricesFor
         (crowd_of crowd.now.menus.items crowd.now.budgets.items crowd.now.sections) prices.now }
-    requires raise { raise ≤ 50 }
+    requires raise { raise ≤ MAX_RAISE }
     requires best { All
         (IsBestTurn (crowd_of crowd.now.menus.items crowd.now.budgets.items crowd.now.sections)
         prices.now raise)
@@ -136,7 +136,7 @@ fn fill_rooms<R: Threads + Sync>(
         &|n, room|
             requires { (first + n < length turns.now) × MakeCrowd crowd.now.menus.items crowd.now.budgets.items crowd.now.sections
                 × ArePricesFor (crowd_of crowd.now.menus.items crowd.now.budgets.items crowd.now.sections) prices.now
-                × (raise ≤ 50)
+                × (raise ≤ MAX_RAISE)
                 × All (IsBestTurn (crowd_of crowd.now.menus.items crowd.now.budgets.items crowd.now.sections) prices.now raise) (turns_of turns.now) }
             ensures { IsRoomOfTurnAt crowd.entry.now prices.entry.now raise turns.entry.now
                 (first + n) room.exit.now }
@@ -157,7 +157,7 @@ fn put_turns(
     requires crowd { MakeCrowd crowd.now.menus.items crowd.now.budgets.items crowd.now.sections }
     requires prices { ArePricesFor
         (crowd_of crowd.now.menus.items crowd.now.budgets.items crowd.now.sections) prices.now }
-    requires raise { raise ≤ 50 }
+    requires raise { raise ≤ MAX_RAISE }
     requires best { All
         (IsBestTurn (crowd_of crowd.now.menus.items crowd.now.budgets.items crowd.now.sections)
         prices.now raise)
@@ -192,7 +192,7 @@ pub(crate) fn prove_turns<R: Threads + Sync>(
     requires crowd { MakeCrowd crowd.now.menus.items crowd.now.budgets.items crowd.now.sections }
     requires prices { ArePricesFor
         (crowd_of crowd.now.menus.items crowd.now.budgets.items crowd.now.sections) prices.now }
-    requires raise { raise ≤ 50 }
+    requires raise { raise ≤ MAX_RAISE }
     requires best { All
         (IsBestTurn (crowd_of crowd.now.menus.items crowd.now.budgets.items crowd.now.sections)
         prices.now raise)

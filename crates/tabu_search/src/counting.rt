@@ -29,7 +29,7 @@ pub(crate) fn count_one<R: Threads + Wait + Sync, D: Demands>(
 // The next vectors to be counted, as many as are asked for at once.
 fn next_batch(vectors: &[Vec<Tokens>], done: usize) -> &[Vec<Tokens>]
     requires { done ≤ length vectors.now }
-    ensures { result.now ≡ take 16 (drop done vectors.now) }
+    ensures { result.now ≡ take MAX_VERSIONS (drop done vectors.now) }
 {
     let rest = &vectors[done..];
     &rest[..rest.len().min(MAX_VERSIONS)]

@@ -1,23 +1,23 @@
 use Rattle.std.proofs.Common.{◌≡◌, ◌<◌, ◌≤◌, ◌++◌, ◌∷◌, [], ℕ, true, length, ap, sym, ◌∙◌, arith}
 use Rattle.std.specs.Prelude.{not}
 use Rattle.std.proofs.lemmas.Bool.{true≢false, false≢true}
-use Rattle.bundle_rules.specs.Sets.{has}
+use Rattle.market_units.specs.Members.{has}
 use Rattle.bundle_rules.specs.Menus.{section_at}
 use Rattle.bundle_bounds.specs.Offers.{offer_of}
 use Rattle.bundle_bounds.specs.Laws.{IsTakable}
-use Rattle.demand_oracle.specs.Branches.{chosen_of}
+use Rattle.demand_oracle.specs.SummedNodes.{chosen_of}
 use Rattle.demand_oracle.proofs.Wanting.{lacks_lost}
 use Rattle.demand_oracle.proofs.oracle.is_lost.Goals as goal
 
-pub returns-else-place-branch : goal.returns-else-place-branch
-returns-else-place-branch c champion is_menu is bundle may is_wanted completes =
+pub returns-else-place-summed : goal.returns-else-place-summed
+returns-else-place-summed c champion is_menu is bundle may is_wanted completes =
     let menu = c.args.menu.now in
     let offer = offer_of menu c.args.prices.now c.args.budget.0 c.args.allowed.now in
     let place : ℕ = c.in-Some.place in
-    let k : ℕ = c.args.branch.now.node.place in
-    let chosen = chosen_of c.args.branch.now in
+    let k : ℕ = c.args.summed.now.node.place in
+    let chosen = chosen_of c.args.summed.now in
     let on : place < length menu.places = rw c.in-Some.is at c.requires.given in
-    let later : k ≤ place = omega (arith, c.if-place-branch.false) in
+    let later : k ≤ place = omega (arith, c.if-place-summed.false) in
     let lost : IsTakable offer (chosen ++ section_at menu.places place ∷ []) → ⊥ =
     λ takable. false≢true (sym (ap not (c.may_take.ensures.takable.1 takable)) ∙ is) in
     let lacks = lacks_lost offer is_menu place on k chosen c.requires.node later lost bundle may completes in

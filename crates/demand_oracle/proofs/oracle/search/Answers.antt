@@ -2,7 +2,7 @@ use Rattle.std.proofs.Common.{◌≡◌, [], Option, None, Some, refl, sym, subs
 use Rattle.std.specs.Prelude.{IfNone}
 use Rattle.bundle_rules.specs.Demand.{price_in}
 use Rattle.bundle_bounds.specs.Offers.{offer_of}
-use Rattle.demand_oracle.specs.Branches.{chosen_of}
+use Rattle.demand_oracle.specs.SummedNodes.{chosen_of}
 use Rattle.demand_oracle.specs.Search.{wanted_by}
 use Rattle.demand_oracle.specs.Waiting.{AreSearched, before_waiting}
 use Rattle.demand_oracle.proofs.Searching.{leads_wanted, wanted_at_end}
@@ -16,7 +16,7 @@ loop-next-init c =
     record {
       may_wait =
           rw c.requires.none
-          (root_waits offer c.root.result c.root.ensures.place c.root.ensures.chosen (c.root.ensures.branch c.args.menu.now (price_in c.args.prices.now)));
+          (root_waits offer c.root.result c.root.ensures.place c.root.ensures.chosen (c.root.ensures.summed c.args.menu.now (price_in c.args.prices.now)));
       champion = c.first_champion-champion.ensures.champion;
       reach = c.measure.ensures;
       same_result =

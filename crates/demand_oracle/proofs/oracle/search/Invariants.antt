@@ -3,13 +3,13 @@ use Rattle.std.specs.Prelude.{IfNone}
 use Rattle.bundle_rules.specs.Places.{menu_sections}
 use Rattle.bundle_rules.specs.Menus.{IsMenu}
 use Rattle.bundle_bounds.specs.Offers.{offer_of}
-use Rattle.demand_oracle.specs.Branches.{chosen_of}
+use Rattle.demand_oracle.specs.SummedNodes.{chosen_of}
 use Rattle.demand_oracle.specs.Reaches.{IsReach}
 use Rattle.demand_oracle.specs.Search.{wanted_by, IsSearched}
 use Rattle.demand_oracle.specs.Waiting.{AreSearched, before_waiting, IsChampion, MayWait, nodes_left}
 use Rattle.demand_oracle.proofs.oracle.search.Given as goal
 
--- what the search of the waiting branches gives from the champion so far is what the search from the root gives from the first one
+-- what the search of the waiting nodes gives from the champion so far is what the search from the root gives from the first one
 abbrev pub invariant-loop-next : goal.invariant-loop-next
 invariant-loop-next l = record {
   may_wait : MayWait (offer_of l.menu l.prices l.budget.0 l.allowed) (before_waiting l.next l.frames.pending);

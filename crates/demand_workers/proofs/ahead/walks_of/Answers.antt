@@ -1,7 +1,7 @@
 use Rattle.std.proofs.Common.{rules, All, heap_items, sym, subst}
 use Rattle.std.proofs.lemmas.List.Elements.{All-nil, All-push}
 use Rattle.demand_workers.specs.Questions.{IsAnswered, AreAnswered}
-use Rattle.demand_workers.specs.Rounds.{data_of}
+use Rattle.demand_api.specs.Views.{data_of}
 use Rattle.demand_workers.specs.Walks.{IsForeseen}
 use Rattle.demand_workers.proofs.Listing.{listed_left}
 use Rattle.demand_workers.proofs.ahead.walks_of.Goals as goal

@@ -6,7 +6,7 @@ use Rattle.bundle_rules.specs.Demand.{price_in}
 use Rattle.demand_api.specs.Crowds.{demand_of}
 use Rattle.demand_api.proofs.Takers.{priced_at, found_demand}
 use Rattle.demand_workers.specs.Remembered.{AreWithin}
-use Rattle.demand_workers.specs.Rounds.{data_of}
+use Rattle.demand_api.specs.Views.{data_of}
 use Rattle.demand_workers.proofs.LeadingOthers.{leads_demand, dearer_but}
 use Rattle.demand_workers.proofs.Recalling.{places_low, taken_priced}
 use Rattle.demand_workers.proofs.beside.asked_beside.Goals as goal

@@ -3,7 +3,7 @@ use Rattle.market_units.specs.Totals.{total}
 use Rattle.bundle_rules.specs.Bundles.{sections_of}
 use Rattle.bundle_rules.specs.Demand.{price_in}
 use Rattle.demand_workers.specs.Leaving.{leaves, takes}
-use Rattle.demand_workers.specs.Rounds.{data_of}
+use Rattle.demand_api.specs.Views.{data_of}
 use Rattle.demand_workers.proofs.HoldersLeave.{HolderTold, holder_told}
 use Rattle.demand_workers.proofs.Recalling.{taken_priced}
 use Rattle.demand_workers.proofs.leaving.holder_of.Goals as goal

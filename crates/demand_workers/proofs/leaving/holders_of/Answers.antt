@@ -1,10 +1,10 @@
 use Rattle.std.proofs.Common.{rules, ◌≡◌, ◌<◌, ◌≤◌, ◌∙◌, ℕ, false, length, heap_items, ap, sym, arith}
 use Rattle.bundle_rules.specs.Bundles.{sections_of}
 use Rattle.bundle_rules.specs.Demand.{price_in}
-use Rattle.bundle_rules.specs.Sets.{has}
+use Rattle.market_units.specs.Members.{has}
 use Rattle.demand_api.specs.Crowds.{demand_of}
 use Rattle.demand_api.proofs.Takers.{students_length}
-use Rattle.demand_workers.specs.Rounds.{data_of}
+use Rattle.demand_api.specs.Views.{data_of}
 use Rattle.demand_workers.proofs.HoldersLeave.{first_skip, first_more, first_all, keeps_now}
 use Rattle.demand_workers.proofs.leaving.holders_of.Goals as goal
 

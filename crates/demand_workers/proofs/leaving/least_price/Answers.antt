@@ -7,7 +7,7 @@ use Rattle.demand_api.specs.Crowds.{count, demand_of}
 use Rattle.demand_api.specs.Prices.{with_price}
 use Rattle.demand_api.proofs.Takers.{students_length}
 use Rattle.demand_workers.specs.Leaving.{leaves}
-use Rattle.demand_workers.specs.Rounds.{data_of}
+use Rattle.demand_api.specs.Views.{data_of}
 use Rattle.demand_workers.proofs.HoldersLeave.{first_keeps, first_student, many_below, has_left, has_stayed, less_left, less_stayed, least_found, written_twice, put_back, trial_there, asked_there, keeps_asked, leaves_later}
 use Rattle.demand_workers.proofs.Noting.{noted_more}
 use Rattle.demand_workers.proofs.leaving.least_price.Goals as goal

@@ -4,7 +4,7 @@ use Rattle.bundle_rules.specs.Bundles.{sections_of}
 use Rattle.bundle_rules.specs.Demand.{price_in}
 use Rattle.demand_api.specs.Crowds.{demand_of}
 use Rattle.demand_workers.specs.Notes.{IsNoted}
-use Rattle.demand_workers.specs.Rounds.{data_of}
+use Rattle.demand_api.specs.Views.{data_of}
 use Rattle.demand_workers.proofs.Noting.{lower_there, menu_there, nobody}
 use Rattle.demand_workers.proofs.Recalling.{kept_demand, taken_priced}
 use Rattle.demand_workers.proofs.raised.noted.Goals as goal

@@ -3,11 +3,11 @@ use Rattle.std.proofs.lemmas.Bool.{cases_order}
 use Rattle.market_units.specs.declared.units.Tokens.{Tokens}
 use Rattle.bundle_rules.specs.Bundles.{sections_of}
 use Rattle.bundle_rules.specs.Demand.{price_in}
-use Rattle.bundle_rules.specs.Sets.{has}
+use Rattle.market_units.specs.Members.{has}
 use Rattle.demand_api.specs.Crowds.{demand_of}
 use Rattle.demand_api.proofs.Halving.{price_written}
 use Rattle.demand_workers.specs.Notes.{AreNoted}
-use Rattle.demand_workers.specs.Rounds.{data_of}
+use Rattle.demand_api.specs.Views.{data_of}
 use Rattle.demand_workers.proofs.Noting.{noted_raised, item_there, lacking_stays}
 use Rattle.demand_workers.proofs.raised.raised_memory.Goals as goal
 

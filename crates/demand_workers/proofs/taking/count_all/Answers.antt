@@ -3,7 +3,7 @@ use Rattle.bundle_rules.specs.Bundles.{sections_of}
 use Rattle.bundle_rules.specs.Demand.{price_in}
 use Rattle.demand_api.specs.Crowds.{demands, demand_of}
 use Rattle.demand_api.proofs.Takers.{sections_low, counts_room, counts_done, demands_length}
-use Rattle.demand_workers.specs.Rounds.{data_of}
+use Rattle.demand_api.specs.Views.{data_of}
 use Rattle.demand_workers.proofs.Counting.{counts_begin, counts_step}
 use Rattle.demand_workers.proofs.taking.count_all.Goals as goal
 

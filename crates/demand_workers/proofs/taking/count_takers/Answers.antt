@@ -5,7 +5,7 @@ use Rattle.bundle_rules.specs.Bundles.{sections_of}
 use Rattle.bundle_rules.specs.Demand.{price_in}
 use Rattle.demand_api.specs.Crowds.{demands, holders}
 use Rattle.demand_api.proofs.Takers.{counted, demands_length}
-use Rattle.demand_workers.specs.Rounds.{data_of}
+use Rattle.demand_api.specs.Views.{data_of}
 use Rattle.demand_workers.proofs.taking.count_takers.Goals.{then-has, else-has}
 use Rattle.demand_workers.proofs.taking.count_takers.Goals as goal
 

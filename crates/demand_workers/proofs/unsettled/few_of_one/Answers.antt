@@ -1,5 +1,5 @@
 use Rattle.std.proofs.Common.{rules}
-use Rattle.demand_workers.specs.Rounds.{data_of}
+use Rattle.demand_api.specs.Views.{data_of}
 use Rattle.demand_workers.proofs.Surveying.{first_kept}
 use Rattle.demand_workers.proofs.unsettled.few_of_one.Goals as goal
 

@@ -6,7 +6,7 @@ use Rattle.bundle_rules.specs.Menus.{wishes_of}
 use Rattle.bundle_rules.specs.Wishes.{utility}
 use Rattle.bundle_bounds.specs.Offers.{offer_of, places_of}
 use Rattle.bundle_bounds.specs.Opens.{budget_left, credits_left}
-use Rattle.demand_oracle.specs.Branches.{chosen_of}
+use Rattle.demand_oracle.specs.SummedNodes.{chosen_of}
 use Rattle.demand_oracle.specs.Covers.{hoped_of, CoversWithin}
 use Rattle.demand_oracle.specs.Reaches.{within_at}
 use Rattle.demand_oracle.proofs.Openings.{budget_kept, credits_kept}
@@ -18,19 +18,19 @@ returns-clause-value c prices allowed reach is node bundle may completes =
     let menu = c.args.menu.now in
     let self = c.args.self.now in
     let offer = offer_of menu prices c.args.budget.0 allowed in
-    let branch = c.args.branch.now in
-    let k : ℕ = branch.node.place in
-    let chosen = chosen_of branch in
+    let summed = c.args.summed.now in
+    let k : ℕ = summed.node.place in
+    let chosen = chosen_of summed in
     let cs = places_of menu chosen in
     let multipliers = self.credits in
     let budget : c.budget_left-budget_left.result ≡ budget_left offer cs =
-    c.budget_left-budget_left.ensures ∙ budget_kept offer c.requires.menu branch is node in
+    c.budget_left-budget_left.ensures ∙ budget_kept offer c.requires.menu summed is node in
     let credits : c.credits_left-credits_left.result ≡ credits_left offer cs =
-    c.credits_left-credits_left.ensures.value ∙ credits_kept offer c.requires.menu branch is node in
+    c.credits_left-credits_left.ensures.value ∙ credits_kept offer c.requires.menu summed is node in
     let count : ℕ = c.fitting-count.result in
     let fits =
-    fits_count offer k chosen bundle self.lightest (menu.courses - length chosen) (menu.credits - branch.credits) count c.requires.menu node may completes
-    reach.lightest refl (credits_kept offer c.requires.menu branch is node) c.fitting-count.ensures.enough in
+    fits_count offer k chosen bundle self.lightest (menu.courses - length chosen) (menu.credits - summed.credits) count c.requires.menu node may completes
+    reach.lightest refl (credits_kept offer c.requires.menu summed is node) c.fitting-count.ensures.enough in
     let units : ℕ = c.in_units-units.result in
     let units_are : units ≡ budget_left offer cs / 2 ^ self.shift = c.in_units-units.ensures ∙ ap (λ n. n / 2 ^ self.shift) budget in
     let most : ℕ = within_at self.most k count units in

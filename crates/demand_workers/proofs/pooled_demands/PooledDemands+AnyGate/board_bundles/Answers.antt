@@ -2,7 +2,7 @@ use Rattle.std.proofs.Common.{rules, ◌≡◌, ◌∙◌, length, ap, sym, subs
 use Rattle.std.specs.Arc.{arc_value}
 use Rattle.demand_api.specs.Crowds.{CrowdData, IsCrowd}
 use Rattle.demand_api.proofs.Takers.{crowd_made, students_length}
-use Rattle.demand_workers.specs.Rounds.{data_of}
+use Rattle.demand_api.specs.Views.{data_of}
 use Rattle.demand_workers.proofs.Recalling.{remembered_once}
 use Rattle.demand_workers.proofs.pooled_demands.PooledDemands+AnyGate.board_bundles.Goals as goal
 

@@ -1,5 +1,5 @@
 use Rattle.std.specs.Arc.{arc_value}
-use Rattle.demand_workers.specs.Rounds.{data_of}
+use Rattle.demand_api.specs.Views.{data_of}
 use Rattle.demand_workers.proofs.pooled_demands.PooledDemands+AnyGate.make.Goals as goal
 
 pub invariant_of-result : goal.invariant_of-result
