@@ -2,7 +2,6 @@
 // tables and bundles.
 ghost use Rattle.std.specs.Prelude.{◌≡◌, ◌≤◌, IfOk, length, map};
 ghost use Rattle.std.specs.Arc.{arc_value};
-ghost use Rattle.demand_api.specs.Made.{MakeCrowd};
 ghost use Rattle.fairness_audit.specs.Texts.{AreRowsAmong};
 ghost use Rattle.fairness_audit.specs.Views.{row_of};
 
@@ -85,23 +84,14 @@ fn crowd_of<R: Abort>(
     alloc: Global,
     students: &[Student],
     sections: u16,
-) -> Result<Arc<Crowd>, Fail>
-    ensures { IfOk result
-        (λ crowd. MakeCrowd (arc_value crowd).menus.items (arc_value crowd).budgets.items
-        (arc_value crowd).sections) }
-{
+) -> Result<Arc<Crowd>, Fail> {
     let mut menus = Vec::new(alloc);
     let mut budgets = Vec::new(alloc);
     for student in students {
         menus.push(menu_of(rt, alloc, student)?)?;
         budgets.push(Tokens(student.0))?;
     }
-    let crowd = Crowd {
-        menus,
-        budgets,
-        sections,
-    };
-    assert!(rt; crowd.is_whole());
+    let crowd = Crowd::of(menus, budgets, sections).expect(rt, "a crowd");
     Ok(Arc::new(alloc, crowd)?)
 }
 
@@ -123,8 +113,6 @@ fn rows_of<R: Abort + Threads + Wait + Sync, G: Gate + Sync>(
     workers: u16,
     gate: &G,
 ) -> Result<Vec<EnvyRow>, Fail>
-    requires crowd { MakeCrowd (arc_value crowd.now).menus.items (arc_value crowd.now).budgets.items
-        (arc_value crowd.now).sections }
     requires workers { (1 ≤ workers) × (workers ≤ MAX_WORKERS) }
     ensures { IfOk result
         (λ rows. AreRowsAmong (length (arc_value crowd.now).menus.items)
@@ -147,8 +135,6 @@ fn text_of<R: Abort + Threads + Wait + Sync>(
     crowd: &Arc<Crowd>,
     workers: u16,
 ) -> Result<Vec<u8>, Fail>
-    requires crowd { MakeCrowd (arc_value crowd.now).menus.items (arc_value crowd.now).budgets.items
-        (arc_value crowd.now).sections }
     requires workers { (1 ≤ workers) × (workers ≤ MAX_WORKERS) }
 {
     assert_eq!(rt; catalog.len(), crowd.sections);

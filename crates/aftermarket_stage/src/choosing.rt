@@ -3,7 +3,7 @@ ghost use Rattle.std.specs.Prelude.{◌≡◌, ◌<◌, ◌≤◌, ◌||◌, ℕ
 ghost use Rattle.std.specs.FinSet as set;
 ghost use Rattle.market_units.specs.Members.{has};
 ghost use Rattle.bundle_rules.specs.Bundles.{sections_of};
-ghost use Rattle.demand_api.specs.Made.{MakeCrowd, crowd_of};
+ghost use Rattle.demand_api.specs.Views.{data_of};
 ghost use Rattle.demand_api.specs.Asking.{AreSectionPrices};
 ghost use Rattle.aftermarket_stage.specs.After.{terms_of};
 ghost use Rattle.aftermarket_stage.specs.HeldChoices.{AreKnown, IsSettled};
@@ -52,8 +52,6 @@ impl Chooser {
         held: &[Bundle],
         place: usize,
     ) -> Bundle
-        requires crowd { MakeCrowd crowd.now.menus.items crowd.now.budgets.items
-            crowd.now.sections }
         requires prices { AreSectionPrices crowd.now.sections prices.now }
         requires raise { raise ≤ MAX_RAISE }
         requires place { place < length crowd.now.menus.items }
@@ -61,16 +59,14 @@ impl Chooser {
         requires size { length self.old.known.items ≡ length crowd.now.menus.items }
         requires held { (s : ℕ) → has (slice_index_or (map sections_of held.now) place []) s ≡ true
             → set.contains allowed.now s ≡ true }
-        requires known { AreKnown
-            (crowd_of crowd.now.menus.items crowd.now.budgets.items crowd.now.sections) prices.now
-            raise (map sections_of held.now) self.old.known.items }
+        requires known { AreKnown (data_of crowd.now) prices.now raise (map sections_of held.now)
+            self.old.known.items }
         ensures best { (seats : List ℕ)
             → IsBestAt (terms_of crowd.now seats prices.now raise) place (set.contains allowed.now)
             (sections_of result) }
         ensures size { length self.new.known.items ≡ length self.old.known.items }
-        ensures known { AreKnown
-            (crowd_of crowd.now.menus.items crowd.now.budgets.items crowd.now.sections) prices.now
-            raise (slice_set (map sections_of held.now) place (sections_of result))
+        ensures known { AreKnown (data_of crowd.now) prices.now raise
+            (slice_set (map sections_of held.now) place (sections_of result))
             self.new.known.items }
     {
         let menu = &crowd.menus[place];

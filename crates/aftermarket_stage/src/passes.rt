@@ -4,7 +4,7 @@ ghost use Rattle.bundle_rules.specs.Bundles.{sections_of};
 ghost use Rattle.bundle_rules.specs.Demand.{price_in};
 ghost use Rattle.bundle_rules.specs.Places.{places_from};
 ghost use Rattle.demand_api.specs.Crowds.{demands, holders};
-ghost use Rattle.demand_api.specs.Made.{MakeCrowd, crowd_of};
+ghost use Rattle.demand_api.specs.Views.{data_of};
 ghost use Rattle.aftermarket_stage.specs.Turns.{after_turns};
 ghost use Rattle.held_seats.specs.Choices.{AreHeldWithin};
 ghost use Rattle.aftermarket_stage.specs.Passes.{IsAftermarket};
@@ -50,12 +50,10 @@ pub fn aftermarket(
     bundles: &[Bundle],
     raise: u8,
 ) -> Result<After, NoMemory>
-    requires crowd { MakeCrowd crowd.now.menus.items crowd.now.budgets.items crowd.now.sections }
     requires seats { length seats.now ≡ crowd.now.sections }
     requires prices { AreSectionPrices crowd.now.sections prices.now }
     requires demands { map sections_of bundles.now
-        ≡ demands (crowd_of crowd.now.menus.items crowd.now.budgets.items crowd.now.sections)
-        (price_in prices.now) }
+        ≡ demands (data_of crowd.now) (price_in prices.now) }
     requires within { AreHeldWithin crowd.now.sections seats.now (map sections_of bundles.now) }
     requires raise { raise ≤ MAX_RAISE }
     ensures turns { IfOk result
@@ -120,9 +118,8 @@ impl Stage {
             (held_on self.old.floor) }
         requires floor { IsFloor seats.now self.old.floor }
         requires size { length self.old.chooser.known.items ≡ length crowd.now.menus.items }
-        requires known { AreKnown
-            (crowd_of crowd.now.menus.items crowd.now.budgets.items crowd.now.sections) prices.now
-            raise (held_on self.old.floor) self.old.chooser.known.items }
+        requires known { AreKnown (data_of crowd.now) prices.now raise (held_on self.old.floor)
+            self.old.chooser.known.items }
         ensures turns { IfOk result
             (λ changed. HaveTurned (terms_of crowd.now seats.now prices.now raise) pass
             (map (λ student. student.0) order.now) (held_on self.old.floor)
@@ -131,9 +128,8 @@ impl Stage {
         ensures size { IfOk result
             (λ changed. length self.new.chooser.known.items ≡ length self.old.chooser.known.items) }
         ensures known { IfOk result
-            (λ changed. AreKnown
-            (crowd_of crowd.now.menus.items crowd.now.budgets.items crowd.now.sections)
-            prices.now raise (held_on self.new.floor) self.new.chooser.known.items) }
+            (λ changed. AreKnown (data_of crowd.now) prices.now raise (held_on self.new.floor)
+            self.new.chooser.known.items) }
     {
         let mut changed = false;
         for student in order {
@@ -158,9 +154,8 @@ impl Stage {
             (held_on self.old.floor) }
         requires floor { IsFloor seats.now self.old.floor }
         requires size { length self.old.chooser.known.items ≡ length crowd.now.menus.items }
-        requires known { AreKnown
-            (crowd_of crowd.now.menus.items crowd.now.budgets.items crowd.now.sections) prices.now
-            raise (held_on self.old.floor) self.old.chooser.known.items }
+        requires known { AreKnown (data_of crowd.now) prices.now raise (held_on self.old.floor)
+            self.old.chooser.known.items }
         ensures turn { IfOk result
             (λ changed. HasTurned (terms_of crowd.now seats.now prices.now raise) pass student.0
             (held_on self.old.floor) (held_on self.new.floor) self.old.turns.items
@@ -169,9 +164,8 @@ impl Stage {
         ensures size { IfOk result
             (λ changed. length self.new.chooser.known.items ≡ length self.old.chooser.known.items) }
         ensures known { IfOk result
-            (λ changed. AreKnown
-            (crowd_of crowd.now.menus.items crowd.now.budgets.items crowd.now.sections)
-            prices.now raise (held_on self.new.floor) self.new.chooser.known.items) }
+            (λ changed. AreKnown (data_of crowd.now) prices.now raise (held_on self.new.floor)
+            self.new.chooser.known.items) }
     {
         let place = usize::from(student.0);
         let allowed = self.floor.choices(place);

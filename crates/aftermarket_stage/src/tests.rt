@@ -3,7 +3,7 @@ ghost use Rattle.std.specs.Prelude.{◌≡◌, ◌≤◌, ◌<◌, IsTrue, IfOk,
 ghost use Rattle.bundle_rules.specs.Bundles.{sections_of};
 ghost use Rattle.bundle_rules.specs.Demand.{price_in};
 ghost use Rattle.demand_api.specs.Crowds.{demands, holders};
-ghost use Rattle.demand_api.specs.Made.{MakeCrowd, crowd_of};
+ghost use Rattle.demand_api.specs.Views.{data_of};
 ghost use Rattle.held_seats.specs.Choices.{AreHeldWithin};
 ghost use Rattle.demand_api.specs.Asking.{AreSectionPrices};
 
@@ -17,12 +17,10 @@ use std::test::Fail;
 
 // What each student takes, by trying every choice.
 fn taken(alloc: Global, crowd: &Crowd, prices: &[Tokens]) -> Result<Vec<Bundle>, NoMemory>
-    requires crowd { MakeCrowd crowd.now.menus.items crowd.now.budgets.items crowd.now.sections }
     requires prices { AreSectionPrices crowd.now.sections prices.now }
     ensures { IfOk result
         (λ bundles. map sections_of bundles.items
-        ≡ demands (crowd_of crowd.now.menus.items crowd.now.budgets.items crowd.now.sections)
-        (price_in prices.now)) }
+        ≡ demands (data_of crowd.now) (price_in prices.now)) }
 {
     let allowed = SectionSet::full(crowd.sections);
     let mut bundles = Vec::new(alloc);
@@ -77,7 +75,6 @@ fn held<R: Abort>(
     prices: &[Tokens],
     raise: u8,
 ) -> After {
-    assert!(rt; crowd.is_whole());
     assert!(rt; are_priced(crowd.sections, prices));
     assert_eq!(rt; seats.len(), usize::from(crowd.sections));
     assert!(rt; raise <= 50);
@@ -108,11 +105,7 @@ fn rivals<R: Abort>(rt: &R, alloc: Global, budgets: &[u32]) -> Crowd {
         menus.push(menu(rt, alloc, 50, 1)).expect(rt, "memory");
         amounts.push(Tokens(*budget)).expect(rt, "memory");
     }
-    Crowd {
-        menus,
-        budgets: amounts,
-        sections: 2,
-    }
+    Crowd::of(menus, amounts, 2).expect(rt, "a crowd")
 }
 
 // The only section of a bundle, if it has one.
@@ -187,11 +180,7 @@ fn a_seat_that_is_given_up_is_free_at_the_next_turn(rt: HostRuntime) -> Result<(
         menu(&rt, rt.alloc(), 50, 1),
     ].expect(&rt, "memory");
     let budgets = vec![in rt.alloc(); Tokens(110), Tokens(100)].expect(&rt, "memory");
-    let crowd = Crowd {
-        menus,
-        budgets,
-        sections: 2,
-    };
+    let crowd = Crowd::of(menus, budgets, 2).expect(&rt, "a crowd");
     // The first student has the first section, and with the raise the second one too is within its
     // budget.
     let prices = [Tokens(105), Tokens(115)];

@@ -63,8 +63,7 @@ module _ (terms : Terms) (publication : declared.Publication) (k : ℕ) (m : Men
   offer_read =
       ap (λ (list : List Tokens). offer_of m list b.0 all) read.prices_are
       ∙ sym
-      (offer_is terms.crowd.menus.items terms.crowd.budgets.items terms.crowd.sections k publication m b all read.can.whole.same read.student read.menu
-      read.budget read.told)
+      (offer_is terms.crowd k publication m b all read.student read.menu read.budget read.told)
 
   proved_read : proved_of item ≡ proved_in (publication_of publication) k
   proved_read = sym (proved_is publication k item low read.printed)

@@ -8,7 +8,6 @@ ghost use Rattle.market_certificate.specs.Views.{publication_of};
 ghost use Rattle.held_seats.specs.Floors.{IsFloor, held_on};
 ghost use Rattle.published_parts.specs.Holdings.{demanded};
 ghost use Rattle.published_parts.specs.Markets.{market_of};
-ghost use Rattle.demand_api.specs.Made.{MakeCrowd};
 ghost use Rattle.certificate_checker.specs.Certificates.{HoldsBy, HoldsOf, IsAccepted, IsTextOf};
 ghost use Rattle.certificate_checker.specs.Findings.{IsFirstFinding, IsFirstIn, IsFirstOf, OnFound, end_of};
 ghost use Rattle.certificate_checker.specs.Parts.{CanCheck};
@@ -116,9 +115,6 @@ pub fn accept(
         (λ accepted. HoldsBy (market_of catalog.now roll.now settings.now)
         (map (λ stream. stream.items) streams.now) (publication_of accepted.publication)
         (data_of accepted.crowd)) }
-    ensures whole { IfOk result
-        (λ accepted. MakeCrowd accepted.crowd.menus.items accepted.crowd.budgets.items
-        accepted.crowd.sections) }
     ensures first { IfErr result
         (λ end. OnFound end
         (IsFirstFinding (market_of catalog.now roll.now settings.now)
@@ -184,9 +180,6 @@ fn accept_publication(
         (λ accepted. HoldsBy (market_of catalog.now roll.now settings.now)
         (map (λ stream. stream.items) streams.now) (publication_of publication)
         (data_of accepted.crowd)) }
-    ensures whole { IfOk result
-        (λ accepted. MakeCrowd accepted.crowd.menus.items accepted.crowd.budgets.items
-        accepted.crowd.sections) }
     ensures first { IfErr result
         (λ end. OnFound end
         (IsFirstOf (market_of catalog.now roll.now settings.now)

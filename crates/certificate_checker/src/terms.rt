@@ -1,7 +1,6 @@
 // What a publication is checked by.
 ghost use Rattle.std.specs.Prelude.{◌≡◌, ◌≤◌, ◌<◌, ◌-◌, ◌^◌, IfOk, IfErr, length, map};
 ghost use Rattle.market_units.specs.declared.units.NoMemory.{NoMemory};
-ghost use Rattle.demand_api.specs.Made.{MakeCrowd};
 ghost use Rattle.published_parts.specs.Markets.{market_of};
 ghost use Rattle.published_parts.specs.Crowds.{IsCrowdAfter};
 ghost use Rattle.certificate_checker.specs.Findings.{OnFound};
@@ -49,9 +48,6 @@ pub(crate) fn terms_after(
     ensures crowd { IfOk result
         (λ terms. IsCrowdAfter (market_of catalog.now roll.now settings.now)
         (map (λ stream. stream.items) streams.now) order.now (terms_of terms).crowd) }
-    ensures whole { IfOk result
-        (λ terms. MakeCrowd terms.crowd.menus.items terms.crowd.budgets.items
-        terms.crowd.sections) }
     ensures fails { IfErr result
         (λ end. OnFound end (IsOrderFinding (map (λ stream. stream.items) streams.now) order.now)) }
 {

@@ -1,5 +1,5 @@
 pub mod Crowds
-pub mod Made
+pub mod Parts
 pub mod Choosing
 pub mod Prices
 pub mod Asking

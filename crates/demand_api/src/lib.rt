@@ -3,7 +3,7 @@
 #![tactic(auto)]
 
 ghost use Rattle.std.specs.Prelude.{◌≤◌, IsTrue, All, length};
-ghost use Rattle.demand_api.specs.Made.{MakeCrowd, crowd_of};
+ghost use Rattle.demand_api.specs.Views.{data_of};
 ghost use Rattle.demand_api.specs.Asking.{ArePricesFor};
 
 mod asking;
@@ -62,22 +62,13 @@ mod tests {
                 .expect(rt, "memory");
             budgets.push(Tokens(budget)).expect(rt, "memory");
         }
-        Crowd {
-            menus,
-            budgets,
-            sections: 1,
-        }
+        Crowd::of(menus, budgets, 1).expect(rt, "a crowd")
     }
 
     // Whether each of these vectors has prices that can be asked of the crowd.
     fn all_have_prices(crowd: &Crowd, batch: &[Vec<Tokens>]) -> bool
-        requires { MakeCrowd crowd.now.menus.items crowd.now.budgets.items crowd.now.sections }
         ensures { IsTrue result
-            → All
-            (λ prices. ArePricesFor
-            (crowd_of crowd.now.menus.items crowd.now.budgets.items crowd.now.sections)
-            prices.items)
-            batch.now }
+            → All (λ prices. ArePricesFor (data_of crowd.now) prices.items) batch.now }
     {
         match batch {
             [] => true,
@@ -96,7 +87,6 @@ mod tests {
         crowd: Crowd,
         batch: &[Vec<Tokens>],
     ) -> Vec<Vec<u32>>
-        requires crowd { MakeCrowd crowd.menus.items crowd.budgets.items crowd.sections }
         requires some { 1 ≤ length batch.now }
         requires few { length batch.now ≤ MAX_VERSIONS }
     {
@@ -110,7 +100,6 @@ mod tests {
     fn counts_of_four_students(rt: HostRuntime) -> Result<(), Fail> {
         let alloc = rt.alloc();
         let crowd = four_students(&rt, alloc);
-        assert!(rt; crowd.is_whole());
         assert_eq!(rt; crowd.top(), Tokens(104));
         let batch = [
             at(&rt, alloc, 104),
@@ -131,7 +120,6 @@ mod tests {
     fn bundles_of_four_students(rt: HostRuntime) -> Result<(), Fail> {
         let alloc = rt.alloc();
         let crowd = four_students(&rt, alloc);
-        assert!(rt; crowd.is_whole());
         let prices = [Tokens(102)];
         assert!(rt; crowd.has_prices(&prices));
         let crowd = Arc::new(alloc, crowd).expect(&rt, "memory");
@@ -159,7 +147,6 @@ mod tests {
     fn least_prices_of_four_students(rt: HostRuntime) -> Result<(), Fail> {
         let alloc = rt.alloc();
         let crowd = four_students(&rt, alloc);
-        assert!(rt; crowd.is_whole());
         let prices = [Tokens(50)];
         assert!(rt; crowd.has_prices(&prices));
         let crowd = Arc::new(alloc, crowd).expect(&rt, "memory");
@@ -183,7 +170,6 @@ mod tests {
     fn students_are_chosen_in_the_given_order(rt: HostRuntime) -> Result<(), Fail> {
         let alloc = rt.alloc();
         let crowd = four_students(&rt, alloc);
-        assert!(rt; crowd.is_whole());
         assert_eq!(rt; crowd.menus.len(), 4);
         let students = [StudentNo(2), StudentNo(0), StudentNo(2)];
         let chosen = crowd.choose(alloc, &students).expect(&rt, "memory");
@@ -210,18 +196,13 @@ mod tests {
             .push(menu(rt, alloc, &cat, &[], &[2, 1]))
             .expect(rt, "memory");
         let budgets = vec![in alloc; Tokens(104), Tokens(103), Tokens(102)].expect(rt, "memory");
-        Crowd {
-            menus,
-            budgets,
-            sections: 4,
-        }
+        Crowd::of(menus, budgets, 4).expect(rt, "a crowd")
     }
 
     #[test]
     fn the_ordinary_term_at_its_last_prices(rt: HostRuntime) -> Result<(), Fail> {
         let alloc = rt.alloc();
         let crowd = ordinary_term(&rt, alloc);
-        assert!(rt; crowd.is_whole());
         let prices = [Tokens(104), Tokens(0), Tokens(0), Tokens(0)];
         assert!(rt; crowd.has_prices(&prices));
         let crowd = Arc::new(alloc, crowd).expect(&rt, "memory");

@@ -3,10 +3,10 @@ use Rattle.std.proofs.Common.{ℕ, zero, suc, ◌≡◌, ◌≤◌, ◌<◌, ◌
 use Rattle.std.specs.List.{All, Any}
 use Rattle.market_units.specs.declared.units.Tokens.{Tokens}
 use Rattle.bundle_rules.specs.Demand.{price_in}
-use Rattle.bundle_rules.specs.Menus.{MenuData}
 use Rattle.demand_api.specs.declared.crowd.Crowd.{Crowd}
-use Rattle.demand_api.specs.Crowds.{CrowdData, IsWithin, demand_of as crowd_demand}
-use Rattle.demand_api.specs.Made.{MakeCrowd, students_of, crowd_of}
+use Rattle.demand_api.specs.Crowds.{CrowdData, demand_of as crowd_demand}
+use Rattle.demand_api.specs.Views.{data_of}
+use Rattle.demand_api.proofs.Parts.{students_length}
 use Rattle.price_board.specs.declared.round.Ask.TheVariants.{Exceeds}
 use Rattle.price_board.specs.declared.round.Round.{Round}
 use Rattle.price_board.specs.declared.shared.Terms.{Terms}
@@ -29,16 +29,6 @@ only P x here (suc k) d below = absurd (omega arith)
 -- a list of one item
 pub all_one : {X : Type 0} (P : X → Type 0) (xs : List X) (x : X) → xs ≡ x ∷ [] → P x → All P xs
 all_one P xs x is here = subst (All P) (sym is) (only P x here)
-
-pub made_crowd : (menus : List MenuData) (budgets : List Tokens) → length menus ≡ 4 → length budgets ≡ 4 → All (λ menu. IsWithin 1 menu) menus
-    → All (λ (b : Tokens). b.0 ≤ 1000000) budgets → MakeCrowd menus budgets 1
-made_crowd menus budgets four same within high = record {
-  same = same ∙ sym four;
-  few = (let n : ℕ = length menus in let h : n ≡ 4 = four in let goal : n ≤ 2000 = omega arith in goal);
-  high = high;
-  sections_few = (let goal : 1 ≤ 400 = omega arith in goal);
-  within = within;
-}
 
 abbrev pub free : List Tokens
 free = record { 0 = 0 } ∷ []
@@ -71,18 +61,8 @@ demand_there terms crowd prices v s same one low =
     ap (λ c. crowd_demand c (price_in prices) s) (sym same) ∙ ap (λ p. crowd_demand terms.crowd (price_in p) s) (sym there)
 
 -- a student for each menu
-pub students-length : (menus : List MenuData) (budgets : List Tokens) → length budgets ≡ length menus → length (students_of menus budgets) ≡ length menus
-students-length [] budgets same = refl
-students-length (menu ∷ menus) [] same = same
-students-length (menu ∷ menus) (budget ∷ budgets) same =
-    let j : ℕ = length budgets in
-    let k : ℕ = length menus in
-    let h : suc j ≡ suc k = same in
-    ap suc (students-length menus budgets (let goal : j ≡ k = omega arith in goal))
-
-pub students_are : (terms : Terms) (menus : List MenuData) (budgets : List Tokens) (sections : ℕ) → terms.crowd ≡ crowd_of menus budgets sections
-    → length budgets ≡ length menus → student_count terms ≡ length menus
-students_are terms menus budgets sections is same = ap (λ (c : CrowdData). length c.students) is ∙ students-length menus budgets same
+pub students_are : (terms : Terms) (crowd : Crowd) → terms.crowd ≡ data_of crowd → student_count terms ≡ length crowd.menus.items
+students_are terms crowd is = ap (λ (c : CrowdData). length c.students) is ∙ students_length crowd
 
 -- there is the one version
 pub one_version : (terms : Terms) (prices : List Tokens) → terms.versions ≡ prices ∷ [] → version_count terms ≡ 1
@@ -92,11 +72,11 @@ abbrev pub BoardPlace : Type 0
 BoardPlace = Standing Terms Progress BoardCall BoardReply
 
 -- the tasks of four students at one version
-pub four_tasks : (terms : Terms) (menus : List MenuData) (budgets : List Tokens) (sections : ℕ) (prices : List Tokens)
-    → terms.crowd ≡ crowd_of menus budgets sections → length budgets ≡ length menus → length menus ≡ 4 → terms.versions ≡ prices ∷ [] → task_count terms ≡ 4
-four_tasks terms menus budgets sections prices is same four one =
+pub four_tasks : (terms : Terms) (crowd : Crowd) (prices : List Tokens)
+    → terms.crowd ≡ data_of crowd → length crowd.menus.items ≡ 4 → terms.versions ≡ prices ∷ [] → task_count terms ≡ 4
+four_tasks terms crowd prices is four one =
     let n : ℕ = student_count terms in
-    let h : n ≡ 4 = students_are terms menus budgets sections is same ∙ four in
+    let h : n ≡ 4 = students_are terms crowd is ∙ four in
     ap (λ k. k * n) (one_version terms prices one) ∙ (let goal : 1 * n ≡ 4 = omega arith in goal)
 
 nothing_before : {X : Type 0} (front : List X) (x : X) (n : ℕ) → length (front ++ x ∷ []) ≡ n + 1 → length front ≡ n

@@ -3,10 +3,10 @@ ghost use Rattle.std.specs.Prelude.{◌≡◌, ◌<◌, ◌+◌, ◌∷◌, [], 
 ghost use Rattle.bundle_rules.specs.Bundles.{sections_of};
 ghost use Rattle.bundle_rules.specs.Demand.{price_in};
 ghost use Rattle.demand_api.specs.Asking.{ArePricesFor};
-ghost use Rattle.demand_api.specs.Crowds.{demand_of as crowd_demand, IsWithin};
-ghost use Rattle.demand_api.specs.Made.{crowd_of};
+ghost use Rattle.demand_api.specs.Crowds.{demand_of as crowd_demand};
+ghost use Rattle.demand_api.specs.Views.{data_of};
 ghost use Rattle.demand_api.specs.declared.crowd.Crowd.{Crowd};
-ghost use Rattle.price_board.specs.Openings.{terms_of, IsMade, IsRound};
+ghost use Rattle.price_board.specs.Openings.{terms_of, IsRound};
 ghost use Rattle.price_board.specs.Seats.{HoldsNothing, IsFinished, IsFree, IsHolding, IsSeatOf, dones, posts};
 ghost use Rattle.price_board.specs.Terms.{task_count};
 
@@ -20,9 +20,7 @@ use std::sync::{Arc, Wait};
 use std::test::Fail;
 
 // The menu of a student who wants the one section.
-fn one_section<R: Abort>(rt: &R, alloc: Global) -> Result<Menu, NoMemory>
-    ensures { IfOk result (λ menu. IsWithin 1 menu) }
-{
+fn one_section<R: Abort>(rt: &R, alloc: Global) -> Result<Menu, NoMemory> {
     let places = [Rated {
         section: SectionNo(0),
         course: 0,
@@ -36,7 +34,6 @@ fn one_section<R: Abort>(rt: &R, alloc: Global) -> Result<Menu, NoMemory>
 
 // Four such students, with budgets from 100 to 103.
 fn four_students<R: Abort>(rt: &R, alloc: Global) -> Result<Crowd, Fail>
-    ensures made { IfOk result (λ crowd. IsMade crowd) }
     ensures students { IfOk result (λ crowd. length crowd.menus.items ≡ 4) }
     ensures sections { IfOk result (λ crowd. crowd.sections ≡ 1) }
 {
@@ -47,22 +44,15 @@ fn four_students<R: Abort>(rt: &R, alloc: Global) -> Result<Crowd, Fail>
         menus.push(menu)?;
         budgets.push(Tokens(100 + more))?;
     }
-    Ok(Crowd {
-        menus,
-        budgets,
-        sections: 1,
-    })
+    Ok(Crowd::of(menus, budgets, 1).expect(rt, "a crowd"))
 }
 
 // What a student of the crowd takes.
 fn taken(crowd: &Crowd, prices: &[Tokens], student: StudentNo) -> Bundle
-    requires crowd { IsMade crowd.now }
-    requires prices { ArePricesFor
-        (crowd_of crowd.now.menus.items crowd.now.budgets.items crowd.now.sections) prices.now }
+    requires prices { ArePricesFor (data_of crowd.now) prices.now }
     requires student { student.0 < length crowd.now.menus.items }
     ensures { sections_of result
-        ≡ crowd_demand (crowd_of crowd.now.menus.items crowd.now.budgets.items crowd.now.sections)
-        (price_in prices.now) student.0 }
+        ≡ crowd_demand (data_of crowd.now) (price_in prices.now) student.0 }
 {
     let allowed = SectionSet::full(crowd.sections);
     let place = student.0 as usize;
@@ -97,11 +87,8 @@ fn post_for<R: Wait>(
     crowd: &Crowd,
     prices: &[Tokens],
 ) -> Posted
-    requires crowd { IsMade crowd.now }
-    requires prices { ArePricesFor
-        (crowd_of crowd.now.menus.items crowd.now.budgets.items crowd.now.sections) prices.now }
-    requires base { board.now.base.crowd
-        ≡ crowd_of crowd.now.menus.items crowd.now.budgets.items crowd.now.sections }
+    requires prices { ArePricesFor (data_of crowd.now) prices.now }
+    requires base { board.now.base.crowd ≡ data_of crowd.now }
     requires versions { board.now.base.versions ≡ prices.now ∷ [] }
     requires student { student.0 < length crowd.now.menus.items }
     requires seat { IsSeatOf board.now seat.old }
@@ -125,10 +112,8 @@ fn drawn_by<R: Wait>(
     seat: &mut BoardSeat,
     crowd: &Crowd,
 ) -> Result<Vec<u16>, NoMemory>
-    requires crowd { IsMade crowd.now }
     requires sections { crowd.now.sections ≡ 1 }
-    requires base { board.now.base.crowd
-        ≡ crowd_of crowd.now.menus.items crowd.now.budgets.items crowd.now.sections }
+    requires base { board.now.base.crowd ≡ data_of crowd.now }
     requires versions { board.now.base.versions ≡ (record { 0 = 0 } ∷ []) ∷ [] }
     requires free { IsFree board.now seat.old }
     ensures finished { IfOk result (λ _. IsFinished board.now seat.new) }
@@ -177,11 +162,9 @@ fn a_version_settles_early(rt: HostRuntime) -> Result<(), Fail> {
 
 // The second worker draws and posts all tasks but the first.
 fn all_but_the_first<R: Abort + Wait>(rt: &R, board: &Board, seat: &mut BoardSeat, crowd: &Crowd)
-    requires crowd { IsMade crowd.now }
     requires sections { crowd.now.sections ≡ 1 }
     requires students { length crowd.now.menus.items ≡ 4 }
-    requires base { board.now.base.crowd
-        ≡ crowd_of crowd.now.menus.items crowd.now.budgets.items crowd.now.sections }
+    requires base { board.now.base.crowd ≡ data_of crowd.now }
     requires versions { board.now.base.versions ≡ (record { 0 = 0 } ∷ []) ∷ [] }
     requires free { IsFree board.now seat.old }
     requires fresh { posts seat.old.own ≡ 0 }
@@ -205,11 +188,9 @@ fn late_and_again<R: Abort + Wait>(
     second: &mut BoardSeat,
     crowd: &Crowd,
 ) -> (Posted, Posted)
-    requires crowd { IsMade crowd.now }
     requires sections { crowd.now.sections ≡ 1 }
     requires students { length crowd.now.menus.items ≡ 4 }
-    requires base { board.now.base.crowd
-        ≡ crowd_of crowd.now.menus.items crowd.now.budgets.items crowd.now.sections }
+    requires base { board.now.base.crowd ≡ data_of crowd.now }
     requires versions { board.now.base.versions ≡ (record { 0 = 0 } ∷ []) ∷ [] }
     requires first_free { IsFree board.now first.old }
     requires second_free { IsFree board.now second.old }

@@ -1,8 +1,6 @@
 // Four students of budgets 100 to 103 who want the one section, asked by some workers.
-ghost use Rattle.std.specs.Prelude.{◌≡◌, ◌≤◌, IsTrue, IfOk, All, length};
-ghost use Rattle.std.specs.Arc.{arc_value};
+ghost use Rattle.std.specs.Prelude.{◌≤◌, IsTrue};
 ghost use Rattle.demand_api.specs.Asking.{ArePricesFor};
-ghost use Rattle.price_board.specs.Openings.{IsMade};
 ghost use Rattle.demand_api.specs.Views.{data_of};
 ghost use Rattle.demand_workers.specs.Rounds.{AreVersionsFor};
 
@@ -72,7 +70,6 @@ fn one_section<R: Abort>(rt: &R, alloc: Global) -> Result<Menu, NoMemory> {
 // So many such students, with budgets from 100 on.
 fn students_from_100<R: Abort>(rt: &R, alloc: Global, count: u32) -> Result<Arc<Crowd>, Fail>
     requires { count ≤ 100 }
-    ensures { IfOk result (λ crowd. IsMade (arc_value crowd)) }
 {
     let mut menus = Vec::new(alloc);
     let mut budgets = Vec::new(alloc);
@@ -81,25 +78,17 @@ fn students_from_100<R: Abort>(rt: &R, alloc: Global, count: u32) -> Result<Arc<
         menus.push(menu)?;
         budgets.push(Tokens(100 + more))?;
     }
-    let crowd = Crowd {
-        menus,
-        budgets,
-        sections: 1,
-    };
-    assert!(rt; crowd.is_whole());
+    let crowd = Crowd::of(menus, budgets, 1).expect(rt, "a crowd");
     Ok(Arc::new(alloc, crowd)?)
 }
 
 // Four of them, with budgets from 100 to 103.
-fn four_students<R: Abort>(rt: &R, alloc: Global) -> Result<Arc<Crowd>, Fail>
-    ensures { IfOk result (λ crowd. IsMade (arc_value crowd)) }
-{
+fn four_students<R: Abort>(rt: &R, alloc: Global) -> Result<Arc<Crowd>, Fail> {
     students_from_100(rt, alloc, 4)
 }
 
 // Whether each of these vectors has prices that can be asked of the crowd.
 fn all_have_prices(crowd: &Crowd, batch: &[Vec<Tokens>]) -> bool
-    requires { IsMade crowd.now }
     ensures { IsTrue result → AreVersionsFor (data_of crowd.now) batch.now }
 {
     match batch {

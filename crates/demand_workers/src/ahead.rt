@@ -1,7 +1,6 @@
 // Questions of walks to least prices, asked ahead by several workers.
 ghost use Rattle.std.specs.Prelude.{◌≡◌, ◌<◌, ◌≤◌, All, IfOk, length};
 ghost use Rattle.demand_api.specs.Asking.{ArePricesFor};
-ghost use Rattle.price_board.specs.Openings.{IsMade};
 ghost use Rattle.demand_workers.specs.Questions.{IsQuestion, IsAnswered, AreAnswered};
 ghost use Rattle.demand_workers.specs.Remembered.{AreRemembered};
 ghost use Rattle.demand_api.specs.Views.{data_of};
@@ -48,7 +47,6 @@ pub(crate) fn ask_ahead<R: Threads + Wait + Sync>(
     requires remembered { AreRemembered (data_of crowd.now) remembered.now.prices.items
         remembered.now.bundles.items }
     requires all { length remembered.now.bundles.items ≡ length crowd.now.menus.items }
-    requires crowd { IsMade crowd.now }
     requires prices { ArePricesFor (data_of crowd.now) remembered.now.prices.items }
     requires workers { 1 ≤ length workspaces.now }
     requires sections { All (λ pair. pair.0.0 < crowd.now.sections) pairs.now }
@@ -115,7 +113,6 @@ fn walks_of(
     requires remembered { AreRemembered (data_of crowd.now) remembered.now.prices.items
         remembered.now.bundles.items }
     requires all { length remembered.now.bundles.items ≡ length crowd.now.menus.items }
-    requires crowd { IsMade crowd.now }
     requires prices { ArePricesFor (data_of crowd.now) remembered.now.prices.items }
     requires sections { All (λ pair. pair.0.0 < crowd.now.sections) pairs.now }
     ensures { IfOk result (λ walks. All (IsForeseen crowd.now) walks.items) }
@@ -193,7 +190,6 @@ fn take_answers(
     walks: &mut [Foreseen],
     questions: &mut Vec<Question>,
 ) -> Result<(), NoMemory>
-    requires crowd { IsMade crowd.now }
     requires walks { All (IsForeseen crowd.now) walks.old }
     requires questions { All (IsQuestion crowd.now) questions.old.items }
     requires answered { AreAnswered (data_of crowd.now) questions.old.items }
@@ -212,7 +208,6 @@ fn take_own(
     walk: &mut Foreseen,
     questions: &mut Vec<Question>,
 ) -> Result<(), NoMemory>
-    requires crowd { IsMade crowd.now }
     requires walk { IsForeseen crowd.now walk.old }
     requires questions { All (IsQuestion crowd.now) questions.old.items }
     requires answered { AreAnswered (data_of crowd.now) questions.old.items }
@@ -231,7 +226,6 @@ fn take_own(
 
 // Gives a walk an answer: who still takes the section holds it up to another price.
 fn take_answer(crowd: &Crowd, walk: &mut Foreseen, question: Question) -> Result<(), NoMemory>
-    requires crowd { IsMade crowd.now }
     requires walk { IsForeseen crowd.now walk.old }
     requires question { IsQuestion crowd.now question }
     requires answered { IsAnswered (data_of crowd.now) question }

@@ -1,7 +1,6 @@
 // Inquiries of a batch: what students take at its versions.
 ghost use Rattle.std.specs.Prelude.{◌≡◌, ◌<◌, ◌≤◌, ℕ, All, IfOk, length, nat_lt, slice_index_or};
 ghost use Rattle.std.specs.FinSet as set;
-ghost use Rattle.price_board.specs.Openings.{IsMade};
 ghost use Rattle.demand_workers.specs.Batches.{AreOthersKept, IsFound, IsInquiry};
 ghost use Rattle.demand_workers.specs.Remembered.{AreRemembered, AreTaken};
 ghost use Rattle.demand_api.specs.Views.{data_of};
@@ -40,7 +39,6 @@ pub(crate) fn answer_batch<R: Threads + Wait + Sync>(
 )
     requires remembered { AreRemembered (data_of crowd.now) remembered.now.prices.items
         remembered.now.bundles.items }
-    requires crowd { IsMade crowd.now }
     requires batch { AreVersionsFor (data_of crowd.now) batch.now }
     requires workers { 1 ≤ length workspaces.now }
     requires inquiries { All (IsInquiry crowd.now batch.now) inquiries.old }
@@ -65,7 +63,7 @@ pub(crate) fn answer_batch<R: Threads + Wait + Sync>(
                 × IsInquiry crowd.now batch.now inquiry.now
                 × AreRemembered (data_of crowd.now) remembered.now.prices.items
                 remembered.now.bundles.items
-                × IsMade crowd.now × AreVersionsFor (data_of crowd.now) batch.now
+                × AreVersionsFor (data_of crowd.now) batch.now
                 × ((s : ℕ) → set.contains allowed s ≡ nat_lt s crowd.now.sections) }
             ensures { IsInquiry crowd.entry.now batch.entry.now inquiry.exit.now
                 × IsFound (data_of crowd.entry.now) batch.entry.now inquiry.exit.now
@@ -98,7 +96,6 @@ fn answer<R: Wait>(
 )
     requires remembered { AreRemembered (data_of crowd.now) remembered.now.prices.items
         remembered.now.bundles.items }
-    requires crowd { IsMade crowd.now }
     requires batch { AreVersionsFor (data_of crowd.now) batch.now }
     requires allowed { (s : ℕ) → set.contains allowed.now s ≡ nat_lt s crowd.now.sections }
     requires inquiry { IsInquiry crowd.now batch.now inquiry.old }

@@ -1,7 +1,6 @@
 // How many students have to be asked.
 ghost use Rattle.std.specs.Prelude.{◌<◌, ◌≤◌, All, length};
 ghost use Rattle.demand_api.specs.Asking.{ArePricesFor};
-ghost use Rattle.price_board.specs.Openings.{IsMade};
 ghost use Rattle.demand_workers.specs.Remembered.{AreRemembered};
 ghost use Rattle.demand_api.specs.Views.{data_of};
 
@@ -23,7 +22,6 @@ const FEW_OF_BATCH: usize = 2;
 pub(crate) fn few_at(remembered: &Remembered, crowd: &Crowd, prices: &[Tokens]) -> bool
     requires remembered { AreRemembered (data_of crowd.now) remembered.now.prices.items
         remembered.now.bundles.items }
-    requires crowd { IsMade crowd.now }
     requires prices { ArePricesFor (data_of crowd.now) prices.now }
 {
     are_few(asked_at(remembered, crowd, prices), crowd.menus.len())
@@ -38,7 +36,6 @@ pub(crate) fn few_listed(
 ) -> bool
     requires remembered { AreRemembered (data_of crowd.now) remembered.now.prices.items
         remembered.now.bundles.items }
-    requires crowd { IsMade crowd.now }
     requires prices { ArePricesFor (data_of crowd.now) prices.now }
     requires students { All (λ student. student.0 < length crowd.now.menus.items) students.now }
     requires few { length students.now ≤ MAX_STUDENTS }
@@ -65,7 +62,6 @@ pub(crate) fn are_few_of_batch(asked: usize, students: usize) -> bool {
 fn asked_at(remembered: &Remembered, crowd: &Crowd, prices: &[Tokens]) -> usize
     requires remembered { AreRemembered (data_of crowd.now) remembered.now.prices.items
         remembered.now.bundles.items }
-    requires crowd { IsMade crowd.now }
     requires prices { ArePricesFor (data_of crowd.now) prices.now }
     ensures { result ≤ MAX_STUDENTS }
 {

@@ -8,7 +8,6 @@ ghost use Rattle.market_units.specs.Members.{has};
 ghost use Rattle.demand_api.specs.Asking.{ArePricesFor};
 ghost use Rattle.demand_api.specs.Crowds.{top, demand_of};
 ghost use Rattle.demand_api.specs.Prices.{IsLeastFrom, AreLeastPrices};
-ghost use Rattle.price_board.specs.Openings.{IsMade};
 ghost use Rattle.demand_workers.specs.Leaving.{leaves, takes, AreLeft};
 ghost use Rattle.demand_workers.specs.Notes.{AreNoted};
 ghost use Rattle.demand_workers.specs.Questions.{AreAnswered};
@@ -60,7 +59,6 @@ pub(crate) fn least_for_each(
     requires remembered { AreRemembered (data_of crowd.now) remembered.now.prices.items
         remembered.now.bundles.items }
     requires all { length remembered.now.bundles.items ≡ length crowd.now.menus.items }
-    requires crowd { IsMade crowd.now }
     requires prices { ArePricesFor (data_of crowd.now) remembered.now.prices.items }
     requires walks { All (IsForeseen crowd.now) walks.now }
     requires sections { All (λ pair. pair.0.0 < crowd.now.sections) pairs.now }
@@ -98,7 +96,6 @@ pub(crate) fn least_price(
     requires remembered { AreRemembered (data_of crowd.now) remembered.now.prices.items
         remembered.now.bundles.items }
     requires all { length remembered.now.bundles.items ≡ length crowd.now.menus.items }
-    requires crowd { IsMade crowd.now }
     requires prices { ArePricesFor (data_of crowd.now) remembered.now.prices.items }
     requires answered { AreAnswered (data_of crowd.now) answered.now }
     requires section { section.0 < crowd.now.sections }
@@ -155,7 +152,6 @@ pub(crate) fn holders_of(
     requires remembered { AreRemembered (data_of crowd.now) remembered.now.prices.items
         remembered.now.bundles.items }
     requires all { length remembered.now.bundles.items ≡ length crowd.now.menus.items }
-    requires crowd { IsMade crowd.now }
     requires prices { ArePricesFor (data_of crowd.now) remembered.now.prices.items }
     requires section { section.0 < crowd.now.sections }
     ensures heap { IfOk result
@@ -187,7 +183,6 @@ pub(crate) fn holder_of(
     student: StudentNo,
     bundle: &Bundle,
 ) -> Holder
-    requires crowd { IsMade crowd.now }
     requires prices { ArePricesFor (data_of crowd.now) prices.now }
     requires section { section.0 < crowd.now.sections }
     requires student { student.0 < length crowd.now.menus.items }

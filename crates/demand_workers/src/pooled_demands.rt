@@ -5,7 +5,6 @@ ghost use Rattle.bundle_rules.specs.Demand.{price_in};
 ghost use Rattle.demand_api.specs.Asking.{ArePricesFor};
 ghost use Rattle.demand_api.specs.Crowds.{counts};
 ghost use Rattle.demand_api.specs.Prices.{AreLeastPrices};
-ghost use Rattle.price_board.specs.Openings.{IsMade};
 ghost use Rattle.demand_workers.specs.Batches.{IsFound, IsSurvey};
 ghost use Rattle.demand_workers.specs.Remembered.{AreRemembered, AreTaken};
 ghost use Rattle.demand_api.specs.Views.{data_of};
@@ -45,7 +44,6 @@ pub struct PooledDemands<G> {
     gate: G,
     asked: u64,
     remembered: Remembered,
-    ghost made: { IsMade (arc_value crowd) },
     ghost right: { AreRemembered (data_of (arc_value crowd)) remembered.prices.items remembered.bundles.items },
 }
 
@@ -57,7 +55,6 @@ impl<'g> PooledDemands<AnyGate<'g>> {
         crowd: Arc<Crowd>,
         gate: &'g (dyn Gate + Sync),
     ) -> PooledDemands<AnyGate<'g>>
-        requires { IsMade (arc_value crowd) }
         ensures crowd { ⟦<PooledDemands<AnyGate<'g>> as Demands>⟧.crowd result
             ≡ data_of (arc_value crowd) }
         ensures asked { ⟦<PooledDemands<AnyGate<'g>> as Demands>⟧.asked result ≡ 0 }

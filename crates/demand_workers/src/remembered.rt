@@ -6,7 +6,6 @@ ghost use Rattle.bundle_rules.specs.Ordinals.{ordinals};
 ghost use Rattle.market_units.specs.Totals.{total};
 ghost use Rattle.demand_api.specs.Asking.{ArePricesFor};
 ghost use Rattle.demand_api.specs.Crowds.{CrowdData, demand_of};
-ghost use Rattle.price_board.specs.Openings.{IsMade};
 ghost use Rattle.demand_workers.specs.Remembered.{AreRemembered, AreWithin, IsKept};
 ghost use Rattle.demand_api.specs.Views.{data_of};
 
@@ -55,7 +54,6 @@ impl Remembered {
     ) -> Option<Bundle>
         requires remembered { AreRemembered (data_of crowd.now) self.now.prices.items
             self.now.bundles.items }
-        requires crowd { IsMade crowd.now }
         requires prices { ArePricesFor (data_of crowd.now) prices.now }
         requires student { student.0 < length crowd.now.menus.items }
         ensures { IfSome result
@@ -84,7 +82,6 @@ impl Remembered {
     ) -> bool
         requires remembered { AreRemembered (data_of crowd.now) self.now.prices.items
             self.now.bundles.items }
-        requires crowd { IsMade crowd.now }
         requires prices { ArePricesFor (data_of crowd.now) prices.now }
         requires cheaper { AreWithin cheaper.first cheaper.past self.now.prices.items prices.now }
         requires student { place < length crowd.now.menus.items }

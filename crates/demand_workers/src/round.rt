@@ -2,7 +2,7 @@
 ghost use Rattle.std.specs.Prelude.{◌≡◌, ◌≤◌, ◌<◌, ℕ, All, IfOk, length, slice_index_or};
 ghost use Rattle.std.specs.Arc.{arc_value};
 ghost use Rattle.std.specs.Vec.{vec_len};
-ghost use Rattle.price_board.specs.Openings.{IsAskOf, IsMade};
+ghost use Rattle.price_board.specs.Openings.{IsAskOf};
 ghost use Rattle.price_board.specs.Seats.{IsFree, IsFinished};
 ghost use Rattle.demand_workers.specs.Remembered.{AreRemembered};
 ghost use Rattle.demand_api.specs.Views.{data_of};
@@ -34,7 +34,6 @@ pub(crate) fn ask_workers<R: Threads + Wait + Sync>(
 ) -> Result<Answers, NoMemory>
     requires remembered { AreRemembered (data_of (arc_value crowd.now)) remembered.now.prices.items
         remembered.now.bundles.items }
-    requires crowd { IsMade (arc_value crowd.now) }
     requires versions { AreVersionsFor (data_of (arc_value crowd.now)) versions.now }
     requires some { 1 ≤ length versions.now }
     requires few { length versions.now ≤ MAX_VERSIONS }
@@ -70,7 +69,6 @@ fn work_and_close<R: Threads + Wait + Sync>(
 ) -> Answers
     requires remembered { AreRemembered (data_of crowd.now) remembered.now.prices.items
         remembered.now.bundles.items }
-    requires crowd { IsMade crowd.now }
     requires versions { AreVersionsFor (data_of crowd.now) versions.now }
     requires board { IsBoardOf (data_of crowd.now) versions.now board }
     requires count { (vec_len seats ≡ length workspaces.now) × (1 ≤ length workspaces.now)
@@ -120,7 +118,6 @@ fn work_all<R: Threads + Wait + Sync>(
 )
     requires remembered { AreRemembered (data_of crowd.now) remembered.now.prices.items
         remembered.now.bundles.items }
-    requires crowd { IsMade crowd.now }
     requires versions { AreVersionsFor (data_of crowd.now) versions.now }
     requires board { IsBoardOf (data_of crowd.now) versions.now board.now }
     requires count { (length seats.old ≡ length workspaces.now) × (1 ≤ length workspaces.now)
@@ -143,7 +140,7 @@ fn work_all<R: Threads + Wait + Sync>(
                 × IsFree board.now seat.now
                 × AreRemembered (data_of crowd.now) remembered.now.prices.items
                 remembered.now.bundles.items
-                × IsMade crowd.now × AreVersionsFor (data_of crowd.now) versions.now
+                × AreVersionsFor (data_of crowd.now) versions.now
                 × IsBoardOf (data_of crowd.now) versions.now board.now }
             ensures { IsFinished board.entry.now seat.exit.now
                 × (seat.exit.now.number ≡ seat.entry.now.number) }

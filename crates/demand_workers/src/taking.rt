@@ -5,7 +5,6 @@ ghost use Rattle.bundle_rules.specs.Bundles.{sections_of};
 ghost use Rattle.bundle_rules.specs.Demand.{price_in};
 ghost use Rattle.demand_api.specs.Asking.{ArePricesFor};
 ghost use Rattle.demand_api.specs.Crowds.{count, counts, demand_of};
-ghost use Rattle.price_board.specs.Openings.{IsMade};
 ghost use Rattle.demand_workers.specs.Remembered.{AreRemembered, AreTaken};
 ghost use Rattle.demand_api.specs.Views.{data_of};
 
@@ -26,7 +25,6 @@ pub(crate) fn taken(
 ) -> Bundle
     requires remembered { AreRemembered (data_of crowd.now) remembered.now.prices.items
         remembered.now.bundles.items }
-    requires crowd { IsMade crowd.now }
     requires prices { ArePricesFor (data_of crowd.now) prices.now }
     requires allowed { (s : ℕ) → set.contains allowed.now s ≡ nat_lt s crowd.now.sections }
     requires student { student.0 < length crowd.now.menus.items }
@@ -48,7 +46,6 @@ pub(crate) fn asked_again(
     allowed: &SectionSet,
     student: StudentNo,
 ) -> Bundle
-    requires crowd { IsMade crowd.now }
     requires prices { ArePricesFor (data_of crowd.now) prices.now }
     requires allowed { (s : ℕ) → set.contains allowed.now s ≡ nat_lt s crowd.now.sections }
     requires student { student.0 < length crowd.now.menus.items }
@@ -76,7 +73,6 @@ pub(crate) fn asked(
     allowed: &SectionSet,
     student: StudentNo,
 ) -> Bundle
-    requires crowd { IsMade crowd.now }
     requires prices { ArePricesFor (data_of crowd.now) prices.now }
     requires allowed { (s : ℕ) → set.contains allowed.now s ≡ nat_lt s crowd.now.sections }
     requires student { student.0 < length crowd.now.menus.items }
@@ -103,7 +99,6 @@ pub(crate) fn take_listed(
 )
     requires remembered { AreRemembered (data_of crowd.now) remembered.now.prices.items
         remembered.now.bundles.items }
-    requires crowd { IsMade crowd.now }
     requires prices { ArePricesFor (data_of crowd.now) prices.now }
     requires students { All (λ student. student.0 < length crowd.now.menus.items) students.now }
     requires same { length bundles.old ≡ length students.now }
@@ -128,7 +123,6 @@ pub(crate) fn take_all(
 )
     requires remembered { AreRemembered (data_of crowd.now) remembered.now.prices.items
         remembered.now.bundles.items }
-    requires crowd { IsMade crowd.now }
     requires prices { ArePricesFor (data_of crowd.now) prices.now }
     requires same { length bundles.old ≡ length crowd.now.menus.items }
     ensures len { length bundles.new ≡ length bundles.old }
@@ -143,7 +137,6 @@ pub(crate) fn take_all(
 
 // Counts, from 0, how many students take each section, of what each takes at these prices.
 pub(crate) fn count_all(_crowd: &Crowd, _prices: &[Tokens], bundles: &[Bundle], found: &mut [u32])
-    requires crowd { IsMade _crowd.now }
     requires all { length bundles.now ≡ length _crowd.now.menus.items }
     requires taken { AreTaken (data_of _crowd.now) _prices.now bundles.now }
     requires zeros { found.old ≡ replicate _crowd.now.sections 0 }
@@ -164,7 +157,6 @@ pub(crate) fn count_takers(
 ) -> u32
     requires remembered { AreRemembered (data_of crowd.now) remembered.now.prices.items
         remembered.now.bundles.items }
-    requires crowd { IsMade crowd.now }
     requires prices { ArePricesFor (data_of crowd.now) prices.now }
     ensures { result ≡ count (data_of crowd.now) (price_in prices.now) section.0 }
 {

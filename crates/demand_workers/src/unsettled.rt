@@ -1,6 +1,5 @@
 // Students whom what is remembered does not settle, asked by several workers.
 ghost use Rattle.std.specs.Prelude.{◌≡◌, ◌<◌, ◌≤◌, All, IfOk, IfSome, length, slice_index_or};
-ghost use Rattle.price_board.specs.Openings.{IsMade};
 ghost use Rattle.demand_workers.specs.Batches.{AreOthersKept, IsFound, IsInquiry, IsSurvey};
 ghost use Rattle.demand_workers.specs.Remembered.{AreRemembered};
 ghost use Rattle.demand_api.specs.Views.{data_of};
@@ -38,7 +37,6 @@ pub(crate) fn ask_few<R: Threads + Wait + Sync>(
     requires remembered { AreRemembered (data_of crowd.now) remembered.now.prices.items
         remembered.now.bundles.items }
     requires all { length remembered.now.bundles.items ≡ length crowd.now.menus.items }
-    requires crowd { IsMade crowd.now }
     requires batch { AreVersionsFor (data_of crowd.now) batch.now }
     requires workers { 1 ≤ length workspaces.now }
     ensures survey { IfOk result
@@ -69,7 +67,6 @@ fn few_of_all(
     requires remembered { AreRemembered (data_of crowd.now) remembered.now.prices.items
         remembered.now.bundles.items }
     requires all { length remembered.now.bundles.items ≡ length crowd.now.menus.items }
-    requires crowd { IsMade crowd.now }
     requires batch { AreVersionsFor (data_of crowd.now) batch.now }
     ensures survey { IfOk result
         (λ survey. IsSurvey crowd.now remembered.now.bundles.items batch.now survey.few.items
@@ -100,7 +97,6 @@ fn few_of_one(
     requires remembered { AreRemembered (data_of crowd.now) remembered.now.prices.items
         remembered.now.bundles.items }
     requires all { length remembered.now.bundles.items ≡ length crowd.now.menus.items }
-    requires crowd { IsMade crowd.now }
     requires batch { AreVersionsFor (data_of crowd.now) batch.now }
     requires version { version < length batch.now }
     ensures inquiries { IfOk result

@@ -1,6 +1,5 @@
 // The reason of a student's published bundle.
 ghost use Rattle.std.specs.Prelude.{◌≡◌, ◌≤◌, ◌<◌, ◌^◌, ◌-◌, IfOk, IfErr, length, map};
-ghost use Rattle.demand_api.specs.Made.{MakeCrowd};
 ghost use Rattle.market_certificate.specs.Tables.{tables_of};
 ghost use Rattle.market_certificate.specs.Views.{publication_of};
 ghost use Rattle.published_parts.specs.Markets.{market_of};
@@ -76,7 +75,6 @@ fn reason_in(
 ) -> Result<Vec<u8>, NoMemory>
     requires checked { IsChecked catalog.now roll.now (publication_of publication.now)
         (data_of crowd.now) }
-    requires whole { MakeCrowd crowd.now.menus.items crowd.now.budgets.items crowd.now.sections }
     requires student { student.0 < length roll.now.students }
     requires section { section.0 < length catalog.now.sections }
     ensures { IfOk result

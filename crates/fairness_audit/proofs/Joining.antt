@@ -5,8 +5,7 @@ use Rattle.bundle_rules.specs.declared.bundle.Bundle.{Bundle}
 use Rattle.course_catalog.specs.Catalog.{CatalogData}
 use Rattle.student_roll.specs.Students.{RollData, names_of}
 use Rattle.demand_api.specs.declared.crowd.Crowd.{Crowd}
-use Rattle.demand_api.specs.Made.{MakeCrowd}
-use Rattle.demand_api.proofs.Takers.{students_length}
+use Rattle.demand_api.proofs.Parts.{students_length}
 use Rattle.fairness_audit.specs.Allocations.{IsAllocation, allocation_of}
 use Rattle.fairness_audit.specs.Rows.{RowData, rows}
 use Rattle.fairness_audit.specs.Texts.{AreRowsAmong, audit_text}
@@ -36,11 +35,11 @@ module _ (catalog : CatalogData) (roll : RollData) (publication : Publication) (
   final_may = subst IsAllocation (sym final_is) is.final
 
   -- rows of the crowd are rows of the roll and the catalogue
-  pub among_tables : MakeCrowd crowd.menus.items crowd.budgets.items crowd.sections → (found : List RowData)
+  pub among_tables : (found : List RowData)
       → AreRowsAmong (length shared.menus.items) shared.sections found → AreRowsAmong (length roll.students) (length catalog.sections) found
-  among_tables whole found are =
+  among_tables found are =
       subst (λ n. AreRowsAmong (length roll.students) n found) is.sections
-      (subst (λ n. AreRowsAmong n crowd.sections found) (sym (students_length crowd.menus.items crowd.budgets.items whole.same) ∙ is.students)
+      (subst (λ n. AreRowsAmong n crowd.sections found) (sym (students_length crowd) ∙ is.students)
       (subst (λ (c : Crowd). AreRowsAmong (length c.menus.items) c.sections found) same are))
 
   -- the text of both rows is that of what is published

@@ -2,7 +2,6 @@
 ghost use Rattle.std.specs.Prelude.{◌≡◌, ◌≤◌, ◌<◌, ℕ, All, IfOk, length, map, slice_index_or};
 ghost use Rattle.std.specs.Vec.{vec_len};
 ghost use Rattle.std.specs.Arc.{arc_value};
-ghost use Rattle.demand_api.specs.Made.{MakeCrowd};
 ghost use Rattle.fairness_audit.specs.Allocations.{IsAllocation, allocation_of, student_count};
 ghost use Rattle.fairness_audit.specs.Rows.{row, rows};
 ghost use Rattle.fairness_audit.specs.Seats.{IsFinished, IsFree};
@@ -35,8 +34,6 @@ pub fn audit<R: Threads + Wait + Sync, G: Gate + Sync>(
     workers: u16,
     gate: &G,
 ) -> Result<Vec<EnvyRow>, NoMemory>
-    requires crowd { MakeCrowd (arc_value crowd).menus.items (arc_value crowd).budgets.items
-        (arc_value crowd).sections }
     requires bundles { IsAllocation (allocation_of (arc_value crowd) (arc_value bundles).items) }
     requires workers { (1 ≤ workers) × (workers ≤ MAX_WORKERS) }
     ensures rows { IfOk result
@@ -69,7 +66,6 @@ fn work_and_write<R: Threads + Wait + Sync, G: Gate + Sync>(
     rows: &mut [EnvyRow],
     gate: &G,
 )
-    requires crowd { MakeCrowd crowd.now.menus.items crowd.now.budgets.items crowd.now.sections }
     requires bundles { IsAllocation (allocation_of crowd.now bundles.now) }
     requires chronicle { chronicle.base.allocation ≡ allocation_of crowd.now bundles.now }
     requires count { (1 ≤ vec_len seats) × (vec_len seats ≤ MAX_WORKERS)
@@ -96,7 +92,6 @@ fn work_all<R: Threads + Wait + Sync, G: Gate + Sync>(
     bundles: &[Bundle],
     gate: &G,
 )
-    requires crowd { MakeCrowd crowd.now.menus.items crowd.now.budgets.items crowd.now.sections }
     requires bundles { IsAllocation (allocation_of crowd.now bundles.now) }
     requires chronicle { chronicle.now.base.allocation ≡ allocation_of crowd.now bundles.now }
     requires count { (1 ≤ length seats.old) × (length seats.old ≤ MAX_WORKERS) }
@@ -115,7 +110,6 @@ fn work_all<R: Threads + Wait + Sync, G: Gate + Sync>(
         threads,
         &|n, seat|
             requires { (seat.now.number < MAX_WORKERS) × IsFree chronicle.now seat.now
-                × MakeCrowd crowd.now.menus.items crowd.now.budgets.items crowd.now.sections
                 × IsAllocation (allocation_of crowd.now bundles.now)
                 × (chronicle.now.base.allocation ≡ allocation_of crowd.now bundles.now) }
         { work(rt, chronicle, seat, crowd, bundles, gate) },

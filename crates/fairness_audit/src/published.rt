@@ -2,7 +2,6 @@
 ghost use Rattle.std.specs.Prelude.{◌≡◌, ◌≤◌, ◌<◌, ◌^◌, ◌-◌, IfOk, IfErr, length, map};
 ghost use Rattle.std.specs.Arc.{arc_value};
 ghost use Rattle.bundle_rules.specs.Bundles.{sections_of};
-ghost use Rattle.demand_api.specs.Made.{MakeCrowd};
 ghost use Rattle.fairness_audit.specs.Allocations.{IsAllocation, allocation_of};
 ghost use Rattle.fairness_audit.specs.Rows.{rows};
 ghost use Rattle.fairness_audit.specs.Texts.{AreRowsAmong};
@@ -88,8 +87,6 @@ fn audit_accepted<R: Threads + Wait + Sync, G: Gate + Sync>(
     requires workers { (1 ≤ workers) × (workers ≤ MAX_WORKERS) }
     requires checked { IsChecked catalog.now roll.now (publication_of accepted.publication)
         (data_of accepted.crowd) }
-    requires whole { MakeCrowd accepted.crowd.menus.items accepted.crowd.budgets.items
-        accepted.crowd.sections }
     ensures { IfOk result
         (λ audited. IsAudited catalog.now roll.now (data_of accepted.crowd)
         (publication_of accepted.publication) audited.items) }
@@ -124,8 +121,6 @@ fn rows_with<R: Threads + Wait + Sync, G: Gate + Sync>(
     gate: &G,
 ) -> Result<Vec<EnvyRow>, NoMemory>
     requires workers { (1 ≤ workers) × (workers ≤ MAX_WORKERS) }
-    requires crowd { MakeCrowd (arc_value crowd.now).menus.items (arc_value crowd.now).budgets.items
-        (arc_value crowd.now).sections }
     requires bundles { IsAllocation (allocation_of (arc_value crowd.now) bundles.items) }
     ensures rows { IfOk result
         (λ found. map row_of found.items

@@ -1,7 +1,6 @@
 // The students that are drawn, and the rows that are posted for them.
 ghost use Rattle.std.specs.Prelude.{◌≡◌, ◌≤◌, ◌<◌, ◌+◌, ◌*◌, [], ℕ, IfOk, IsTrue, true, length, map, slice_get, slice_index_or};
 ghost use Rattle.std.specs.Arc.{arc_value};
-ghost use Rattle.demand_api.specs.Made.{MakeCrowd};
 ghost use Rattle.fairness_audit.specs.Allocations.{allocation_of, student_count};
 ghost use Rattle.fairness_audit.specs.Drawing.{AreFilled, draw_answer, is_held_by, places_drawn, places_posted, post_answer, posted_in};
 ghost use Rattle.fairness_audit.specs.Rows.{row};
@@ -52,8 +51,6 @@ impl Register {
         bundles: Arc<Vec<Bundle>>,
         workers: u16,
     ) -> Result<Register, NoMemory>
-        requires crowd { MakeCrowd (arc_value crowd).menus.items (arc_value crowd).budgets.items
-            (arc_value crowd).sections }
         requires workers { (1 ≤ workers) × (workers ≤ MAX_WORKERS) }
         ensures allocation { IfOk result
             (λ register. register.allocation

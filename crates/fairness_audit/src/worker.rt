@@ -1,6 +1,5 @@
 // What one worker does in an audit.
 ghost use Rattle.std.specs.Prelude.{◌≡◌, ◌<◌};
-ghost use Rattle.demand_api.specs.Made.{MakeCrowd};
 ghost use Rattle.fairness_audit.specs.Allocations.{IsAllocation, allocation_of};
 ghost use Rattle.fairness_audit.specs.Seats.{IsFinished, IsFree};
 
@@ -24,7 +23,6 @@ pub(crate) fn work<R: Wait, G: Gate>(
     bundles: &[Bundle],
     gate: &G,
 )
-    requires crowd { MakeCrowd crowd.now.menus.items crowd.now.budgets.items crowd.now.sections }
     requires bundles { IsAllocation (allocation_of crowd.now bundles.now) }
     requires chronicle { chronicle.now.base.allocation ≡ allocation_of crowd.now bundles.now }
     requires number { seat.old.number < MAX_WORKERS }

@@ -1,6 +1,6 @@
 // A crowd from what was read and said.
 ghost use Rattle.std.specs.Prelude.{◌≡◌, ◌≤◌, All, IfOk, length};
-ghost use Rattle.demand_api.specs.Made.{MakeCrowd, crowd_of};
+ghost use Rattle.demand_api.specs.Views.{data_of};
 ghost use Rattle.market_crowd.specs.Crowds.{IsCrowdOf};
 ghost use Rattle.preference_desk.specs.PreferencesView.{preferences_of};
 ghost use Rattle.preference_desk.specs.StudentPreferences.{SectionsBelow};
@@ -29,11 +29,9 @@ pub fn make_crowd(
     requires sections { All (SectionsBelow (length catalog.now.sections))
         (preferences_of preferences.now) }
     requires spread { spread ≤ MAX_SPREAD }
-    ensures crowd { IfOk result
+    ensures { IfOk result
         (λ crowd. IsCrowdOf catalog.now.sections roll.now.students (preferences_of preferences.now)
-        seed spread (crowd_of crowd.menus.items crowd.budgets.items crowd.sections)) }
-    ensures whole { IfOk result
-        (λ crowd. MakeCrowd crowd.menus.items crowd.budgets.items crowd.sections) }
+        seed spread (data_of crowd)) }
 {
     let _few_students = roll.len();
     let menus = menus(alloc, catalog, roll, preferences)?;

@@ -1,7 +1,7 @@
 // What the students take at given prices.
 ghost use Rattle.std.specs.Prelude.{◌≡◌, ◌≤◌, List, ℕ, length, map, MatchResult, IfOk};
 ghost use Rattle.std.specs.String.{string_bytes};
-ghost use Rattle.demand_api.specs.Made.{MakeCrowd, crowd_of};
+ghost use Rattle.demand_api.specs.Views.{data_of};
 ghost use Rattle.demand_api.specs.Crowds.{CrowdData};
 ghost use Rattle.demand_text.specs.Taken.{IsTakenBy, taken_at};
 ghost use Rattle.demand_text.specs.Texts as texts;
@@ -125,17 +125,11 @@ fn taken_by<R: Threads + Wait + Sync>(
     gate: &(dyn Gate + Sync),
 ) -> Result<Taken, NoMemory>
     requires workers { AreWorkers workers }
-    requires crowd { MakeCrowd crowd.menus.items crowd.budgets.items crowd.sections }
     requires seats { length seats.now ≡ crowd.sections }
     requires prices { length prices.now ≡ crowd.sections }
-    ensures value { IfOk result
-        (λ taken. taken
-        ≡ taken_at (crowd_of crowd.menus.items crowd.budgets.items crowd.sections) seats.now
-        prices.now) }
+    ensures value { IfOk result (λ taken. taken ≡ taken_at (data_of crowd) seats.now prices.now) }
     ensures by { IfOk result
-        (λ taken. IsTakenBy
-        (length (crowd_of crowd.menus.items crowd.budgets.items crowd.sections).students)
-        crowd.sections taken) }
+        (λ taken. IsTakenBy (length (data_of crowd).students) crowd.sections taken) }
 {
     let crowd = Arc::new(alloc, crowd)?;
     let pool = Pool::reserve(alloc, workers)?;

@@ -7,7 +7,6 @@ ghost use Rattle.market_certificate.specs.Tables.{tables_of};
 ghost use Rattle.market_certificate.specs.Views.{publication_of};
 ghost use Rattle.market_settings.specs.Settings.{AreInRange};
 ghost use Rattle.preference_desk.specs.DeskView.{entries_of, names_of};
-ghost use Rattle.price_board.specs.Openings.{IsMade};
 ghost use Rattle.published_parts.specs.Crowds.{IsCrowdIn};
 ghost use Rattle.published_parts.specs.Markets.{market_of, names_in};
 ghost use Rattle.published_market.specs.Publishing.{HasNoPrices, IsPublicationOf, lengths_of};
@@ -56,17 +55,12 @@ fn share(
     ensures crowd { IfOk result
         (λ shared. IsCrowdIn (market_of catalog.now roll.now settings.now) (entries_of desk.now)
         (data_of (arc_value shared.crowd))) }
-    ensures made { IfOk result (λ shared. IsMade (arc_value shared.crowd)) }
 {
     let crowd = crowd_after(alloc, catalog, roll, settings, desk)?;
     let crowd = Arc::new(alloc, crowd)?;
     let asked = crowd.clone()?;
     let pool = Pool::reserve(alloc, workers)?;
-    Ok(Shared {
-        crowd,
-        asked,
-        pool,
-    })
+    Ok(Shared { crowd, asked, pool })
 }
 
 // Runs the market after the desk's journal: workers answer what is demanded.
@@ -87,7 +81,6 @@ pub(crate) fn run<R: Threads + Wait + Sync>(
     ensures crowd { IfOk result
         (λ ran. IsCrowdIn (market_of catalog.now roll.now settings.now) (entries_of desk.now)
         (data_of (arc_value ran.crowd))) }
-    ensures made { IfOk result (λ ran. IsMade (arc_value ran.crowd)) }
     ensures published { IfOk result (λ ran. IsPublicationOf (market_of catalog.now roll.now settings.now) (entries_of desk.now)
         (lengths_of ran.published.turns ran.published.rounds ran.published.passes) (publication_of ran.published.publication)) }
     ensures in_range { IfOk result
@@ -96,11 +89,7 @@ pub(crate) fn run<R: Threads + Wait + Sync>(
     ensures no_prices { (least : ℕ) → result ≡ Err (PublishEnd.NoPrices least)
         → HasNoPrices (market_of catalog.now roll.now settings.now) (entries_of desk.now) least }
 {
-    let Shared {
-        crowd,
-        asked,
-        pool,
-    } = share(alloc, workers, catalog, roll, settings, desk)?;
+    let Shared { crowd, asked, pool } = share(alloc, workers, catalog, roll, settings, desk)?;
     let mut demands = PooledDemands::make(pool, asked, gate);
     let published = publish(
         rt,

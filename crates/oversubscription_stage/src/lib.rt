@@ -50,7 +50,6 @@ mod tests {
         seats: &[u16],
         prices: &[Tokens],
     ) -> Settled {
-        assert!(rt; crowd.is_whole());
         assert!(rt; crowd.has_prices(prices));
         assert_eq!(rt; seats.len(), prices.len());
         let crowd = Arc::new(alloc, crowd).expect(rt, "memory");
@@ -70,11 +69,7 @@ mod tests {
                 .expect(&rt, "memory");
             budgets.push(Tokens(budget)).expect(&rt, "memory");
         }
-        let crowd = Crowd {
-            menus,
-            budgets,
-            sections: 1,
-        };
+        let crowd = Crowd::of(menus, budgets, 1).expect(&rt, "a crowd");
         // Three too many: at most two may take it, at 102. One too many: at most one, at 103.
         let settled = settled(&rt, alloc, crowd, &[1], &[Tokens(0)]);
         assert_eq!(rt; settled.prices.as_slice(), [Tokens(103)].as_slice());
@@ -104,11 +99,7 @@ mod tests {
             .push(menu(&rt, alloc, &cat, &[], &[2, 1]))
             .expect(&rt, "memory");
         let budgets = vec![in alloc; Tokens(104), Tokens(103), Tokens(102)].expect(&rt, "memory");
-        let crowd = Crowd {
-            menus,
-            budgets,
-            sections: 4,
-        };
+        let crowd = Crowd::of(menus, budgets, 4).expect(&rt, "a crowd");
         // The first section has two students and one seat; the second of them affords it up to 103.
         let settled = settled(&rt, alloc, crowd, &[1, 2, 2, 1], &[Tokens(0); 4]);
         let prices = [Tokens(104), Tokens(0), Tokens(0), Tokens(0)];

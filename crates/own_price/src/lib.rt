@@ -99,18 +99,13 @@ mod tests {
             menus.push(menu).expect(rt, "memory");
             budgets.push(Tokens(budget)).expect(rt, "memory");
         }
-        Crowd {
-            menus,
-            budgets,
-            sections: 1,
-        }
+        Crowd::of(menus, budgets, 1).expect(rt, "a crowd")
     }
 
     #[test]
     fn the_least_price_is_found_by_halving(rt: HostRuntime) -> Result<(), Fail> {
         let alloc = rt.alloc();
         let crowd = four_students(&rt, alloc);
-        assert!(rt; crowd.is_whole());
         // The present price of the section tells nothing: the least is sought from 0.
         let prices = [Tokens(103)];
         assert!(rt; crowd.has_prices(&prices));
@@ -138,7 +133,6 @@ mod tests {
     fn only_holders_are_asked_again(rt: HostRuntime) -> Result<(), Fail> {
         let alloc = rt.alloc();
         let crowd = four_students(&rt, alloc);
-        assert!(rt; crowd.is_whole());
         let prices = [Tokens(102)];
         assert!(rt; crowd.has_prices(&prices));
         assert_eq!(rt; crowd.top(), Tokens(104));

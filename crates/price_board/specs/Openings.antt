@@ -3,7 +3,6 @@ use Rattle.std.specs.Prelude.{ℕ, ◌≡◌, ◌<◌, ◌≤◌, ⊤, length, m
 use Rattle.market_units.specs.declared.limits.TheConstants.{MAX_VERSIONS}
 use Rattle.demand_api.specs.declared.crowd.Crowd.{Crowd}
 use Rattle.demand_api.specs.Asking.{AreSectionPrices}
-use Rattle.demand_api.specs.Made.{MakeCrowd}
 use Rattle.demand_api.specs.Views.{data_of}
 use Rattle.price_board.specs.declared.place.Place.TheVariants.{Open}
 use Rattle.price_board.specs.declared.round.Ask.{Ask}
@@ -21,10 +20,6 @@ terms_of crowd round =
       versions = map (λ version. version.items) round.versions.items;
       asks = round.asks.items;
     }
-
--- a crowd that can be asked
-abbrev pub IsMade : Crowd → Type 0
-IsMade crowd = MakeCrowd crowd.menus.items crowd.budgets.items crowd.sections
 
 -- what is asked is of a section of the market
 abbrev pub IsAskOf : ℕ → Ask → Type 0

@@ -6,7 +6,7 @@ ghost use Rattle.bundle_rules.specs.Bundles.{sections_of};
 ghost use Rattle.price_board.specs.BoardStep.{draw_answer, post_answer};
 ghost use Rattle.price_board.specs.Closings.{AreSettled};
 ghost use Rattle.price_board.specs.Fates.{IsWorked, IsTaken, IsTakenOrLate, calls_on};
-ghost use Rattle.price_board.specs.Openings.{terms_of, IsMade, IsRound};
+ghost use Rattle.price_board.specs.Openings.{terms_of, IsRound};
 ghost use Rattle.price_board.specs.Seats.{IsSeatOf, HoldsNothing, Holds, HoldsDrawn, IsFree, IsHolding, IsFinished, AfterDraw, rows_before_last, dones, posts};
 ghost use Rattle.price_board.specs.Settling.{ask_of};
 ghost use Rattle.price_board.specs.Shared.{is_sound, reply_to, progress_after};
@@ -61,7 +61,6 @@ impl Board {
         round: Round,
         workers: u16,
     ) -> Result<(Board, Vec<BoardSeat>), NoMemory>
-        requires crowd { IsMade (arc_value crowd) }
         requires round { IsRound (terms_of (arc_value crowd) round) }
         requires workers { (1 ≤ workers) × (workers ≤ MAX_WORKERS) }
         ensures terms { IfOk result (λ r. r.0.base ≡ terms_of (arc_value crowd) round) }

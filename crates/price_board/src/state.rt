@@ -5,7 +5,7 @@ ghost use Rattle.chronicle.specs.History.{state_after};
 ghost use Rattle.bundle_rules.specs.Bundles.{sections_of};
 ghost use Rattle.price_board.specs.BoardStep.{draw_answer, rows_drawn, post_answer, rows_posted};
 ghost use Rattle.price_board.specs.Cursors.{is_over, IsCursor};
-ghost use Rattle.price_board.specs.Openings.{terms_of, opening_of, IsMade, IsRound};
+ghost use Rattle.price_board.specs.Openings.{terms_of, opening_of, IsRound};
 ghost use Rattle.price_board.specs.Closings.{AreSettled, exceeds_in};
 ghost use Rattle.price_board.specs.Places.{row_of, place_of, bundle_in};
 ghost use Rattle.price_board.specs.Rights.{AreRows, AreRight};
@@ -72,7 +72,6 @@ impl BoardState {
         round: Round,
         workers: u16,
     ) -> Result<BoardState, NoMemory>
-        requires crowd { IsMade (arc_value crowd) }
         requires round { IsRound (terms_of (arc_value crowd) round) }
         requires workers { (1 ≤ workers) × (workers ≤ MAX_WORKERS) }
         ensures terms { IfOk result (λ board. board.terms ≡ terms_of (arc_value crowd) round) }

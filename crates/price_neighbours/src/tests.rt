@@ -33,11 +33,7 @@ fn two_students<R: Abort>(rt: &R, alloc: Global, places: &[Rated], sections: u16
         menus.push(menu).expect(rt, "memory");
         budgets.push(Tokens(budget)).expect(rt, "memory");
     }
-    Crowd {
-        menus,
-        budgets,
-        sections,
-    }
+    Crowd::of(menus, budgets, sections).expect(rt, "a crowd")
 }
 
 // The neighbours of a vector, over a crowd, where each section has one seat.
@@ -48,7 +44,6 @@ fn neighbours_of<R: Abort + Threads + Wait + Sync>(
     prices: &[Tokens],
     steps: &[u32],
 ) -> Vec<Vec<Tokens>> {
-    assert!(rt; crowd.is_whole());
     assert!(rt; crowd.has_prices(prices));
     let seats = vec![in alloc; 1u16; prices.len()].expect(rt, "memory");
     let mut demands = PlainDemands::make(Arc::new(alloc, crowd).expect(rt, "memory"));

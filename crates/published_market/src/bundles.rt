@@ -7,7 +7,7 @@ ghost use Rattle.bundle_rules.specs.Bundles.{sections_of};
 ghost use Rattle.bundle_rules.specs.Demand.{HasPrices, IsBest, price_in};
 ghost use Rattle.bundle_rules.specs.Menus.{wishes_of};
 ghost use Rattle.demand_api.specs.Asking.{ArePricesFor};
-ghost use Rattle.demand_api.specs.Made.{MakeCrowd, crowd_of};
+ghost use Rattle.demand_api.specs.Views.{data_of};
 ghost use Rattle.oversubscription_stage.specs.Rounds.{AreTaken};
 ghost use Rattle.market_certificate.specs.Views.{proved_of};
 ghost use Rattle.published_parts.specs.Offers.{IsProvedBest, IsProvedDemand};
@@ -67,13 +67,9 @@ fn fill_room(
     place: usize,
     room: &mut Room,
 )
-    requires crowd { MakeCrowd crowd.now.menus.items crowd.now.budgets.items crowd.now.sections }
-    requires prices { ArePricesFor
-        (crowd_of crowd.now.menus.items crowd.now.budgets.items crowd.now.sections) prices.now }
+    requires prices { ArePricesFor (data_of crowd.now) prices.now }
     requires allowed { (s : ℕ) → set.contains allowed.now s ≡ nat_lt s crowd.now.sections }
-    requires bundles { AreTaken
-        (crowd_of crowd.now.menus.items crowd.now.budgets.items crowd.now.sections) prices.now
-        bundles.now }
+    requires bundles { AreTaken (data_of crowd.now) prices.now bundles.now }
     requires place { place < length bundles.now }
     ensures { IsRoomOfStudent crowd.now prices.now allowed.now bundles.now place room.new }
 {
@@ -95,13 +91,9 @@ fn fill_rooms<R: Threads + Sync>(
     first: usize,
     rooms: &mut [Room],
 )
-    requires crowd { MakeCrowd crowd.now.menus.items crowd.now.budgets.items crowd.now.sections }
-    requires prices { ArePricesFor
-        (crowd_of crowd.now.menus.items crowd.now.budgets.items crowd.now.sections) prices.now }
+    requires prices { ArePricesFor (data_of crowd.now) prices.now }
     requires allowed { (s : ℕ) → set.contains allowed.now s ≡ nat_lt s crowd.now.sections }
-    requires bundles { AreTaken
-        (crowd_of crowd.now.menus.items crowd.now.budgets.items crowd.now.sections) prices.now
-        bundles.now }
+    requires bundles { AreTaken (data_of crowd.now) prices.now bundles.now }
     requires places { first + length rooms.old ≤ length bundles.now }
     ensures count { length rooms.new ≡ length rooms.old }
     ensures rooms { AreRoomsOfStudents crowd.now prices.now allowed.now bundles.now first
@@ -113,10 +105,9 @@ fn fill_rooms<R: Threads + Sync>(
         rooms,
         threads,
         &|n, room|
-            requires { (first + n < length bundles.now) × MakeCrowd crowd.now.menus.items crowd.now.budgets.items crowd.now.sections
-                × ArePricesFor (crowd_of crowd.now.menus.items crowd.now.budgets.items crowd.now.sections) prices.now
+            requires { (first + n < length bundles.now) × ArePricesFor (data_of crowd.now) prices.now
                 × ((s : ℕ) → set.contains allowed.now s ≡ nat_lt s crowd.now.sections)
-                × AreTaken (crowd_of crowd.now.menus.items crowd.now.budgets.items crowd.now.sections) prices.now bundles.now }
+                × AreTaken (data_of crowd.now) prices.now bundles.now }
             ensures { IsRoomOfStudent crowd.entry.now prices.entry.now allowed.entry.now
                 bundles.entry.now (first + n) room.exit.now }
         { fill_room(crowd, prices, allowed, bundles, first + n, room) },
@@ -133,13 +124,9 @@ fn put_bundles(
     rooms: &[Room],
     all: &mut Vec<Proved>,
 ) -> Result<(), NoMemory>
-    requires crowd { MakeCrowd crowd.now.menus.items crowd.now.budgets.items crowd.now.sections }
-    requires prices { ArePricesFor
-        (crowd_of crowd.now.menus.items crowd.now.budgets.items crowd.now.sections) prices.now }
+    requires prices { ArePricesFor (data_of crowd.now) prices.now }
     requires allowed { (s : ℕ) → set.contains allowed.now s ≡ nat_lt s crowd.now.sections }
-    requires bundles { AreTaken
-        (crowd_of crowd.now.menus.items crowd.now.budgets.items crowd.now.sections) prices.now
-        bundles.now }
+    requires bundles { AreTaken (data_of crowd.now) prices.now bundles.now }
     requires places { length all.old.items + length rooms.now ≤ length bundles.now }
     requires rooms { AreRoomsOfStudents crowd.now prices.now allowed.now bundles.now
         (length all.old.items) rooms.now }
@@ -168,15 +155,11 @@ pub(crate) fn prove_bundles<R: Threads + Sync>(
     prices: &[Tokens],
     bundles: &[Bundle],
 ) -> Result<Vec<Proved>, NoMemory>
-    requires crowd { MakeCrowd crowd.now.menus.items crowd.now.budgets.items crowd.now.sections }
-    requires prices { ArePricesFor
-        (crowd_of crowd.now.menus.items crowd.now.budgets.items crowd.now.sections) prices.now }
-    requires bundles { AreTaken
-        (crowd_of crowd.now.menus.items crowd.now.budgets.items crowd.now.sections) prices.now
-        bundles.now }
+    requires prices { ArePricesFor (data_of crowd.now) prices.now }
+    requires bundles { AreTaken (data_of crowd.now) prices.now bundles.now }
     ensures proved { IfOk result
         (λ all. AllZip (IsProvedDemand crowd.now.sections (price_in prices.now))
-        (crowd_of crowd.now.menus.items crowd.now.budgets.items crowd.now.sections).students
+        (data_of crowd.now).students
         (map proved_of all.items)) }
     ensures form { IfOk result
         (λ all. All (λ proved. HasForm proved.bundle proved.tree) (map proved_of all.items)) }

@@ -18,12 +18,17 @@ fn rated(section: u16, rating: u8) -> Rated {
     }
 }
 
-// A crowd without students.
-fn nobody(alloc: Global, sections: u16) -> Crowd {
-    Crowd {
+// Students, before they are a crowd.
+#[derive(Drop)]
+struct Students {
+    menus: Vec<Menu>,
+    budgets: Vec<Tokens>,
+}
+
+fn nobody(alloc: Global) -> Students {
+    Students {
         menus: Vec::new(alloc),
         budgets: Vec::new(alloc),
-        sections,
     }
 }
 
@@ -31,7 +36,7 @@ fn nobody(alloc: Global, sections: u16) -> Crowd {
 fn join<R: Abort>(
     rt: &R,
     alloc: Global,
-    crowd: &mut Crowd,
+    students: &mut Students,
     budget: u32,
     courses: u8,
     places: &[Rated],
@@ -40,8 +45,13 @@ fn join<R: Abort>(
     let clashes = vec![in alloc; 0u64; places.len()].expect(rt, "memory");
     assert!(rt; Menu::may_build(places, pairs, &clashes, 10, courses));
     let menu = Menu::build(alloc, places, pairs, &clashes, 10, courses).expect(rt, "memory");
-    crowd.menus.push(menu).expect(rt, "memory");
-    crowd.budgets.push(Tokens(budget)).expect(rt, "memory");
+    students.menus.push(menu).expect(rt, "memory");
+    students.budgets.push(Tokens(budget)).expect(rt, "memory");
+}
+
+// The crowd of these students, and so many sections.
+fn crowd_of<R: Abort>(rt: &R, students: Students, sections: u16) -> Crowd {
+    Crowd::of(students.menus, students.budgets, sections).expect(rt, "a crowd")
 }
 
 // Settings of a search: the seed, the accepted error, the turns, the tabu window, the patience and
@@ -76,7 +86,6 @@ fn searched<R: Abort + Threads + Wait + Sync>(
     crowd: Crowd,
     settings: &Settings,
 ) -> Result<Found, SearchEnd> {
-    assert!(rt; crowd.is_whole());
     let seats = vec![in alloc; 1u16; usize::from(crowd.sections)].expect(rt, "memory");
     let mut demands = PlainDemands::make(Arc::new(alloc, crowd).expect(rt, "memory"));
     search(rt, alloc, &mut demands, &seats, settings)
@@ -92,10 +101,10 @@ fn least_error(searched: Result<Found, SearchEnd>) -> Option<u64> {
 
 // Two students of budgets 100 and 105 who want one section of one seat.
 fn two_students<R: Abort>(rt: &R, alloc: Global) -> Crowd {
-    let mut crowd = nobody(alloc, 1);
-    join(rt, alloc, &mut crowd, 100, 1, &[rated(0, 50)], &[]);
-    join(rt, alloc, &mut crowd, 105, 1, &[rated(0, 50)], &[]);
-    crowd
+    let mut students = nobody(alloc);
+    join(rt, alloc, &mut students, 100, 1, &[rated(0, 50)], &[]);
+    join(rt, alloc, &mut students, 105, 1, &[rated(0, 50)], &[]);
+    crowd_of(rt, students, 1)
 }
 
 #[test]
@@ -133,7 +142,8 @@ fn no_turn_is_made(rt: HostRuntime) -> Result<(), Fail> {
 fn nobody_searches(rt: HostRuntime) -> Result<(), Fail> {
     let alloc = rt.alloc();
     let settings = settings_of(&rt, alloc, 0, 0, 3, 5, 3, &[1]);
-    let found = searched(&rt, alloc, nobody(alloc, 2), &settings).expect(&rt, "prices");
+    let crowd = crowd_of(&rt, nobody(alloc), 2);
+    let found = searched(&rt, alloc, crowd, &settings).expect(&rt, "prices");
     assert_eq!(rt; found.prices.as_slice(), [Tokens(0); 2].as_slice());
     assert_eq!(rt; found.error, 0);
     assert_eq!(rt; found.turns, 0);
@@ -143,15 +153,16 @@ fn nobody_searches(rt: HostRuntime) -> Result<(), Fail> {
 #[test]
 fn restarts_draw_prices(rt: HostRuntime) -> Result<(), Fail> {
     let alloc = rt.alloc();
-    let mut crowd = nobody(alloc, 3);
+    let mut students = nobody(alloc);
     let places = [rated(0, 50), rated(1, 40)];
-    join(&rt, alloc, &mut crowd, 100, 2, &places, &[]);
+    join(&rt, alloc, &mut students, 100, 2, &places, &[]);
     let places = [rated(0, 50), rated(2, 45)];
-    join(&rt, alloc, &mut crowd, 103, 2, &places, &[]);
+    join(&rt, alloc, &mut students, 103, 2, &places, &[]);
     let places = [rated(1, 50), rated(2, 20)];
-    join(&rt, alloc, &mut crowd, 103, 2, &places, &[]);
+    join(&rt, alloc, &mut students, 103, 2, &places, &[]);
     let places = [rated(0, 60), rated(1, 61)];
-    join(&rt, alloc, &mut crowd, 106, 2, &places, &[(0, 1, -30)]);
+    join(&rt, alloc, &mut students, 106, 2, &places, &[(0, 1, -30)]);
+    let crowd = crowd_of(&rt, students, 3);
     let settings = settings_of(&rt, alloc, 5, 1, 60, 2, 1, &[40]);
     let found = searched(&rt, alloc, crowd, &settings).expect(&rt, "prices");
     let wanted = [Tokens(80), Tokens(104), Tokens(40)];
@@ -163,12 +174,13 @@ fn restarts_draw_prices(rt: HostRuntime) -> Result<(), Fail> {
 #[test]
 fn no_prices_after_restarts(rt: HostRuntime) -> Result<(), Fail> {
     let alloc = rt.alloc();
-    let mut crowd = nobody(alloc, 2);
+    let mut students = nobody(alloc);
     let places = [rated(0, 50), rated(1, 2)];
-    join(&rt, alloc, &mut crowd, 100, 1, &places, &[]);
-    join(&rt, alloc, &mut crowd, 100, 1, &places, &[]);
-    join(&rt, alloc, &mut crowd, 100, 1, &[rated(0, 50)], &[]);
-    join(&rt, alloc, &mut crowd, 100, 1, &[rated(0, 50)], &[]);
+    join(&rt, alloc, &mut students, 100, 1, &places, &[]);
+    join(&rt, alloc, &mut students, 100, 1, &places, &[]);
+    join(&rt, alloc, &mut students, 100, 1, &[rated(0, 50)], &[]);
+    join(&rt, alloc, &mut students, 100, 1, &[rated(0, 50)], &[]);
+    let crowd = crowd_of(&rt, students, 2);
     let settings = settings_of(&rt, alloc, 3, 0, 30, 1, 1, &[7, 1]);
     assert_eq!(rt;
         least_error(searched(&rt, alloc, crowd, &settings)),
@@ -179,11 +191,11 @@ fn no_prices_after_restarts(rt: HostRuntime) -> Result<(), Fail> {
 
 // Two students of budget 9: one wants the second section, the other both, the first one more.
 fn two_sections<R: Abort>(rt: &R, alloc: Global) -> Crowd {
-    let mut crowd = nobody(alloc, 2);
-    join(rt, alloc, &mut crowd, 9, 1, &[rated(1, 40)], &[]);
+    let mut students = nobody(alloc);
+    join(rt, alloc, &mut students, 9, 1, &[rated(1, 40)], &[]);
     let places = [rated(0, 90), rated(1, 40)];
-    join(rt, alloc, &mut crowd, 9, 2, &places, &[]);
-    crowd
+    join(rt, alloc, &mut students, 9, 2, &places, &[]);
+    crowd_of(rt, students, 2)
 }
 
 #[test]

@@ -2,7 +2,6 @@
 // program.
 ghost use Rattle.std.specs.Prelude.{◌≡◌};
 ghost use Rattle.std.specs.Arc.{arc_value};
-ghost use Rattle.demand_api.specs.Made.{crowd_of};
 ghost use Rattle.market_settings.specs.Settings.{AreInRange};
 ghost use Rattle.preference_desk.specs.DeskView.{names_of};
 ghost use Rattle.published_parts.specs.Markets.{market_of, names_in};

@@ -2,9 +2,9 @@ use Rattle.std.proofs.Common.{◌≡◌, map, take}
 use Rattle.bundle_rules.specs.Bundles.{sections_of}
 use Rattle.bundle_rules.specs.Demand.{price_in}
 use Rattle.demand_api.specs.Crowds.{demands}
-use Rattle.demand_api.specs.Made.{crowd_of}
+use Rattle.demand_api.specs.Views.{data_of}
 use Rattle.aftermarket_stage.proofs.tests.taken.Given as goal
 
 abbrev pub invariant-loop-place : goal.invariant-loop-place
 invariant-loop-place l =
-    map sections_of l.bundles.items ≡ take l.place (demands (crowd_of l.crowd.menus.items l.crowd.budgets.items l.crowd.sections) (price_in l.prices))
+    map sections_of l.bundles.items ≡ take l.place (demands (data_of l.crowd) (price_in l.prices))

@@ -1,4 +1,5 @@
-use Rattle.std.proofs.Common.{refl}
+use Rattle.std.proofs.Common.{refl, ◌≤◌, length, rules}
+use Rattle.demand_api.proofs.Parts.{menus_few}
 use Rattle.certificate_checker.proofs.Bundling.{IsRead, infeasible, priced_bundle, right_bundle, takable, unaffordable, wrong_tree}
 use Rattle.certificate_checker.proofs.Reading.{denied}
 use Rattle.certificate_checker.proofs.bundles.check_bundle.Goals as goal
@@ -46,3 +47,6 @@ pub returns-in-Err-clause-wrong : goal.returns-in-Err-clause-wrong
 returns-in-Err-clause-wrong c =
     wrong_tree _ _ _ _ _ _ _ _ (read (goal.at.returns-in-Err-clause-wrong c).After-index-proved) c.deref.result.now c.in-Err.defect c.deref.ensures.value
     (c.is_affordable.ensures.0 c.if-not-is_affordable.false) (c.feasible.ensures.0 c.if-not-feasible.false) c.in-Err.ensures.defect
+
+pub overflow_cast-number : goal.overflow_cast-number
+overflow_cast-number c = let few : length c.args.terms.now.crowd.menus.items ≤ 2000 = menus_few c.args.terms.now.crowd in search rules

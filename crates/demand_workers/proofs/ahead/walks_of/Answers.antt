@@ -14,5 +14,5 @@ loop-section-preserved c =
     record {
       walks = subst (All (IsForeseen crowd)) (sym c.in_ok-push.ensures.items)
           (All-push (IsForeseen crowd) c.loop-section.walks.items _ c.loop-section.invariant.walks
-          (record { within = (search rules); listed = listed_left crowd _ _ _ (heap_items c.in_ok-holders.holders) c.requires.crowd.same c.in_ok-holders.ensures.left; told = told }));
+          (record { within = (search rules); listed = listed_left crowd _ _ _ (heap_items c.in_ok-holders.holders) c.in_ok-holders.ensures.left; told = told }));
     }

@@ -3,7 +3,8 @@ use Rattle.std.specs.Arc.{arc_value}
 use Rattle.std.specs.List.{range_with_len}
 use Rattle.std.proofs.lemmas.List.{get_or-replicate}
 use Rattle.chronicle.specs.Views.{sum_of}
-use Rattle.demand_api.proofs.Takers.{crowd_made, lent_back, students_length}
+use Rattle.demand_api.proofs.Parts.{students_length}
+use Rattle.demand_api.proofs.Takers.{lent_back}
 use Rattle.fairness_audit.specs.declared.shared.Terms.{Terms}
 use Rattle.fairness_audit.specs.declared.shared.Progress.{Progress}
 use Rattle.fairness_audit.specs.Allocations.{Allocation, allocation_of, student_count}
@@ -87,6 +88,6 @@ returns g c =
     record {
       rows = whole;
       among = subst (AreRowsAmong (length crowd.menus.items) crowd.sections) (sym whole)
-          (subst (λ m. AreRowsAmong m crowd.sections (rows (allocation_of crowd items))) (students_length crowd.menus.items crowd.budgets.items c.requires.crowd.same)
-          (rows_among (allocation_of crowd items) (crowd_made crowd.menus.items crowd.budgets.items crowd.sections c.requires.crowd) c.requires.bundles));
+          (subst (λ m. AreRowsAmong m crowd.sections (rows (allocation_of crowd items))) (students_length crowd)
+          (rows_among (allocation_of crowd items) crowd.whole c.requires.bundles));
     }

@@ -8,7 +8,7 @@ pub count_envy-row-requires-clause-student : goal.count_envy-row-requires-clause
 count_envy-row-requires-clause-student g c =
     subst (λ n. c.in-Some.student.0 < n)
     (ap student_count c.requires.chronicle
-    ∙ count_is c.args.crowd.now.menus.items c.args.crowd.now.budgets.items c.args.crowd.now.sections c.args.bundles.now c.requires.crowd.same)
+    ∙ count_is c.args.crowd.now c.args.bundles.now)
     c.in-Some.ensures.some.below
 
 pub post-requires-clause-row : goal.post-requires-clause-row

@@ -11,8 +11,8 @@ use Rattle.demand_workers.proofs.remembered.Remembered.stays.Goals as goal
 
 pub price_of-requires-clause-priced : goal.price_of-requires-clause-priced
 price_of-requires-clause-priced c =
-    taken_priced c.args.crowd.now.menus.items c.args.crowd.now.budgets.items c.args.crowd.now.sections c.args.prices.now (price_in c.args.self.now.prices.items)
-    c.args.place c.sections.result.now (sections_of c.index.result.now) c.requires.crowd c.requires.prices
+    taken_priced c.args.crowd.now c.args.prices.now (price_in c.args.self.now.prices.items)
+    c.args.place c.sections.result.now (sections_of c.index.result.now) c.requires.prices
     c.sections.ensures.value (ap sections_of c.index.ensures ∙ c.requires.remembered.taken c.args.place c.index.result.now c.requires.there)
 
 pub returns : goal.returns
@@ -25,7 +25,7 @@ returns c holds d =
     c.price_of.ensures.value ∙ ap (total (price_in c.args.prices.now)) c.sections.ensures.value in
     let paid = c.if-price_of-index.false in
     ap sections_of (item_there c.args.self.now.bundles.items c.args.place d c.index.result.now c.requires.there ∙ sym c.index.ensures)
-    ∙ kept_demand c.args.crowd.now.menus.items c.args.crowd.now.budgets.items c.args.crowd.now.sections (price_in c.args.self.now.prices.items)
+    ∙ kept_demand c.args.crowd.now (price_in c.args.self.now.prices.items)
     (price_in c.args.prices.now) c.args.place c.index-3.result.now c.index-2.result.now (sections_of c.index.result.now)
-    c.requires.crowd.same c.requires.student c.index-3.ensures c.index-2.ensures none (rw (← cost) paid)
+    c.requires.student c.index-3.ensures c.index-2.ensures none (rw (← cost) paid)
     (ap sections_of c.index.ensures ∙ c.requires.remembered.taken c.args.place c.index.result.now c.requires.there)

@@ -1,14 +1,14 @@
 use Rattle.std.proofs.Common.{◌≡◌, ◌≤◌, ◌∙◌, ◌*◌, ◌+◌, ℕ, length, ap, sym, subst, arith, vec_len, vec_capacity}
 use Rattle.std.specs.Arc.{arc_value}
 use Rattle.demand_api.specs.declared.crowd.Crowd.{Crowd}
-use Rattle.demand_api.proofs.Takers.{students_length}
+use Rattle.demand_api.proofs.Parts.{menus_few, students_length}
 use Rattle.fairness_audit.specs.Allocations.{allocation_of, student_count}
 use Rattle.fairness_audit.proofs.register.Register.make.Goals as goal
 
 students : (c : goal.After-from) → c.len-students.result ≡ student_count (allocation_of (arc_value c.args.crowd) (arc_value c.args.bundles).items)
 students c =
     c.len-students.ensures ∙ ap (λ (x : Crowd). vec_len x.menus) c.deref.ensures ∙ (arc_value c.args.crowd).menus.ok.0
-    ∙ sym (students_length (arc_value c.args.crowd).menus.items (arc_value c.args.crowd).budgets.items c.requires.crowd.same)
+    ∙ sym (students_length (arc_value c.args.crowd))
 
 pub invariant_of-result : goal.invariant_of-result
 invariant_of-result c = record {
@@ -16,8 +16,8 @@ invariant_of-result c = record {
   few =
       let n : ℕ = c.len-students.result in
       let m : ℕ = length (arc_value c.args.crowd).menus.items in
-      let same : n ≡ m = students c ∙ students_length (arc_value c.args.crowd).menus.items (arc_value c.args.crowd).budgets.items c.requires.crowd.same in
-      let few : m ≤ 2000 = c.requires.crowd.few in
+      let same : n ≡ m = students c ∙ students_length (arc_value c.args.crowd) in
+      let few : m ≤ 2000 = menus_few (arc_value c.args.crowd) in
       let goal : n ≤ 2000 = omega arith in goal;
   drawn =
       subst (λ l. length l ≤ c.len-students.result) (sym c.in_ok-places.ensures.items)

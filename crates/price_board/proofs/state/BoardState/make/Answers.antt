@@ -1,10 +1,8 @@
-use Rattle.std.proofs.Common.{◌≡◌, ◌≤◌, ◌∙◌, ◌*◌, ◌+◌, ℕ, suc, List, [], ◌∷◌, length, replicate, refl, ap, sym, subst, arith, vec_len}
+use Rattle.std.proofs.Common.{◌≡◌, ◌∙◌, ◌*◌, ◌+◌, replicate, ap, sym, vec_len}
 use Rattle.std.specs.Arc.{arc_value}
 use Rattle.std.proofs.lemmas.List.{length-map}
-use Rattle.market_units.specs.declared.units.Tokens.{Tokens}
-use Rattle.bundle_rules.specs.Menus.{MenuData}
 use Rattle.demand_api.specs.declared.crowd.Crowd.{Crowd}
-use Rattle.demand_api.specs.Made.{students_of}
+use Rattle.demand_api.proofs.Parts.{students_length}
 use Rattle.price_board.specs.declared.place.Place.TheVariants.{Open}
 use Rattle.price_board.specs.declared.tally.Tally.{Tally}
 use Rattle.price_board.specs.Openings.{terms_of}
@@ -12,20 +10,10 @@ use Rattle.price_board.specs.Terms.{version_count, student_count}
 use Rattle.price_board.proofs.BoardKeeping.{keeps_open}
 use Rattle.price_board.proofs.state.BoardState.make.Goals as goal
 
--- a student for each menu
-students-length : (menus : List MenuData) (budgets : List Tokens) → length budgets ≡ length menus → length (students_of menus budgets) ≡ length menus
-students-length [] budgets same = refl
-students-length (menu ∷ menus) [] same = same
-students-length (menu ∷ menus) (budget ∷ budgets) same =
-    let j : ℕ = length budgets in
-    let k : ℕ = length menus in
-    let h : suc j ≡ suc k = same in
-    ap suc (students-length menus budgets (let goal : j ≡ k = omega arith in goal))
-
 students : (c : goal.After-from) → c.len-students.result ≡ student_count (terms_of (arc_value c.args.crowd) c.args.round)
 students c =
     c.len-students.ensures ∙ ap (λ (x : Crowd). vec_len x.menus) c.deref.ensures ∙ (arc_value c.args.crowd).menus.ok.0
-    ∙ sym (students-length (arc_value c.args.crowd).menus.items (arc_value c.args.crowd).budgets.items c.requires.crowd.same)
+    ∙ sym (students_length (arc_value c.args.crowd))
 
 versions : (c : goal.After-from) → c.len-versions.result ≡ version_count (terms_of (arc_value c.args.crowd) c.args.round)
 versions c = c.len-versions.ensures ∙ c.args.round.versions.ok.0 ∙ sym (length-map c.args.round.versions.items _)
@@ -41,9 +29,7 @@ rows c =
 pub invariant_of-result : goal.invariant_of-result
 invariant_of-result c = record {
   few_versions = c.requires.round.few;
-  few_students =
-      subst (λ n. n ≤ 2000) (sym (students-length (arc_value c.args.crowd).menus.items (arc_value c.args.crowd).budgets.items c.requires.crowd.same))
-      c.requires.crowd.few;
+  few_students = (arc_value c.args.crowd).whole.few;
   asked = c.requires.round.asks;
   students = students c;
   tasks = keeps_open (terms_of (arc_value c.args.crowd) c.args.round) c.in_ok-places.places c.in_ok-tallies.tallies.items (rows c)
