@@ -62,8 +62,9 @@ abbrev pub bounds : Offer → ℕ → List ℕ → List (Leaf × ℤ)
 bounds offer k chosen =
     bounds_over offer chosen (prospects offer chosen (open_places offer k chosen))
 
--- the bound prunes the node: it is below 1000 u, u being the champion's utility; or below 1000 (u +
--- 1), where the champion has the first decided place on which it and the chosen ones differ
+-- the bound prunes the node: it is below 1000 u, u being the champion's utility; or below
+-- 1000 (u + 1), where the champion has the first decided place on which it and the chosen ones
+-- differ
 abbrev pub Prunes : Offer → ℕ → List ℕ → List ℕ → ℤ → Type 0
 Prunes offer k chosen champion bound =
     (bound <ℤ (pos 1000 *ℤ utility (by_place offer.menu) champion))
