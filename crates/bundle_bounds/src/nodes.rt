@@ -131,7 +131,9 @@ pub fn bound_prunes(
     first_below(base, limit, rests, &room[start..])
 }
 
-// The number below which a bound prunes the node.
+/// A bound below this number prunes the node: 1000 u, u being the champion's utility; or
+/// 1000 (u + 1), where the champion has the first decided place on which it and the chosen ones
+/// differ.
 pub(crate) fn limit_of(menu: &Menu, node: &Node, chosen: &[u8], champion: &Bundle) -> i64
     requires champion { IsFeasible (wishes_of menu.now) (sections_of champion.now) }
     ensures { result

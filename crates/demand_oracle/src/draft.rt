@@ -25,8 +25,8 @@ pub(crate) struct Draft {
 }
 
 impl Draft {
-    // As many places as the course cap allows, each the one that adds most to those before it, of
-    // those that fit.
+    /// As many places as the course cap allows, or fewer where no more fit: each the one that adds
+    /// most to those before it, of those that fit.
     pub(crate) fn of(
         menu: &Menu,
         prices: &[Tokens],
@@ -70,7 +70,7 @@ impl Draft {
         draft
     }
 
-    // Whether the place is chosen.
+    /// Whether the place is chosen.
     pub(crate) fn has(&self, place: u8) -> bool
         requires { place < MAX_RATINGS }
     {
