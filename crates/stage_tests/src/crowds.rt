@@ -5,7 +5,7 @@ use market_units::{SectionNo, Tokens};
 use std::alloc::Global;
 use std::process::Abort;
 
-// A section of one credit, with the number of its course and its rating.
+/// A place of a menu: a section of one credit, with the number of its course and its rating.
 pub fn rated(section: u16, course: u16, rating: u8) -> Rated {
     Rated {
         section: SectionNo(section),
@@ -15,7 +15,7 @@ pub fn rated(section: u16, course: u16, rating: u8) -> Rated {
     }
 }
 
-// A crowd without students.
+/// A crowd without students, in a market of so many sections.
 pub fn nobody(alloc: Global, sections: u16) -> Crowd {
     Crowd {
         menus: Vec::new(alloc),
@@ -24,8 +24,9 @@ pub fn nobody(alloc: Global, sections: u16) -> Crowd {
     }
 }
 
-// One student more: its budget and how many sections it may take, what it rates, its adjustments,
-// and with which of its places each place clashes.
+/// Adds a student behind the others: its budget in tokens and how many sections it may take, what
+/// it rates, its adjustments, and for each of its places the set of places that clash with it. It
+/// may take 10 credits.
 pub fn join<R: Abort>(
     rt: &R,
     alloc: Global,
@@ -41,7 +42,8 @@ pub fn join<R: Abort>(
     crowd.budgets.push(Tokens(budget)).expect(rt, "memory");
 }
 
-// Students of these budgets who want the one section.
+/// A crowd of students with these budgets, in file order, each of whom wants the one section there
+/// is.
 pub fn rivals<R: Abort>(rt: &R, alloc: Global, budgets: &[u32]) -> Crowd {
     let mut crowd = nobody(alloc, 1);
     for budget in budgets {
@@ -58,7 +60,7 @@ pub fn rivals<R: Abort>(rt: &R, alloc: Global, budgets: &[u32]) -> Crowd {
     crowd
 }
 
-// Whether these are the bundles, by the ordinals of their sections.
+/// Whether the bundles are these, each given by the ordinals of its sections, in order.
 pub fn are_bundles(bundles: &[Bundle], wanted: &[&[u16]]) -> bool {
     if bundles.len() != wanted.len() {
         return false;
