@@ -16,8 +16,8 @@ weight_at menu place =
     rating_at menu.places place
     + gains (adjustment_in menu.pairs place) (place + 1) (length menu.places - (place + 1))
 
--- of each section at least as much as its rating and its adjustments with whatever rated sections
--- above it
+-- for each rated section a number that is at least its rating plus its adjustments with any rated
+-- sections above it
 abbrev pub AreWeights : Wishes → List ℕ → Type 0
 AreWeights wishes weights =
     (s : ℕ) (later : List ℕ) → IsAscending (s ∷ later) → AllRated wishes (s ∷ later)

@@ -73,7 +73,7 @@ impl Register {
         })
     }
 
-    // How many students there are.
+    /// How many students the register gives out in all.
     pub(crate) fn student_count(&self) -> usize
         ensures value { result ≡ student_count self.now.allocation }
         ensures few { result ≤ MAX_STUDENTS }
@@ -121,7 +121,7 @@ impl Register {
         }
     }
 
-    // One call of those that the register has room for.
+    /// Counts one call off those for which the register has room.
     pub(crate) fn use_room(&mut self)
         requires { 1 ≤ self.old.room }
         ensures room { self.new.room + 1 ≡ self.old.room }
@@ -131,7 +131,7 @@ impl Register {
         self.calls -= 1;
     }
 
-    // Writes the rows of all students, each of which is posted.
+    /// Writes the row of each student to its place, in file order. All rows are posted by then.
     pub(crate) fn write_rows(&self, rows: &mut [EnvyRow])
         requires filled { AreFilled self.now.allocation self.now.places }
         requires count { length rows.old ≡ student_count self.now.allocation }

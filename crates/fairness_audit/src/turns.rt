@@ -11,8 +11,8 @@ use chronicle::{Chronicle, Seat};
 use market_units::StudentNo;
 use std::sync::Wait;
 
-// The next student that nobody drew, if there is one. It takes no memory, and may wait for its
-// turn.
+/// The next student whom nobody has drawn; `None` where all are drawn. It takes no memory, and may
+/// wait for its turn.
 pub(crate) fn draw<R: Wait>(
     rt: &R,
     chronicle: &Chronicle<Register>,
@@ -30,8 +30,8 @@ pub(crate) fn draw<R: Wait>(
     }
 }
 
-// Hands in the row of the student that the seat holds. It takes no memory, and may wait for its
-// turn.
+/// Hands in the row of the student that the seat holds; then the seat may draw again. It takes no
+/// memory, and may wait for its turn.
 pub(crate) fn post<R: Wait>(
     rt: &R,
     chronicle: &Chronicle<Register>,

@@ -13,8 +13,8 @@ use market_edge::{Gate, Stop};
 use market_units::MAX_WORKERS;
 use std::sync::Wait;
 
-// Draws one student after another, and posts its row, until no student is left. The worker passes
-// the gate before its first draw and after each of its posts.
+/// Draws one student after another, and posts its row, until no student is left. The worker passes
+/// the gate before its first draw and after each of its posts.
 pub(crate) fn work<R: Wait, G: Gate>(
     rt: &R,
     chronicle: &Chronicle<Register>,

@@ -63,7 +63,9 @@ fn share(
     Ok(Shared { crowd, asked, pool })
 }
 
-// Runs the market after the desk's journal: workers answer what is demanded.
+/// Runs the market with the preferences that the desk's journal leaves: what is published, and the
+/// crowd. So many workers, 1 to 16, answer what is demanded; each passes the gate between its
+/// calls. There are no prices where the search found none with an accepted error.
 pub(crate) fn run<R: Threads + Wait + Sync>(
     rt: &R,
     alloc: Global,
