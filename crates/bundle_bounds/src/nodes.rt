@@ -99,7 +99,7 @@ pub fn bound(
 /// The first bound of the node's menu of bounds that prunes it for this champion: one below 1000
 /// times the champion's utility, or below 1000 times one more than it where the first decided place
 /// on which they differ is the champion's. `None` exactly where none prunes it.
-pub fn bound_prunes(
+pub fn bound_closes(
     menu: &Menu,
     prices: &[Tokens],
     budget: Tokens,
