@@ -45,7 +45,7 @@ fn are_ascending(places: &[Rated]) -> bool
 }
 
 /// Whether these may be the adjustments of a menu with so many places: at most 200, each of two of
-/// its places and in range, and no two of them of the same pair.
+/// its places, the lower first, and from -200 to 200, and no two of them of the same pair.
 pub(crate) fn are_pairs(places: usize, pairs: &[(u8, u8, i16)]) -> bool
     ensures { IsTrue result ↔ ArePairs places pairs.now }
 {

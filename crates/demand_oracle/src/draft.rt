@@ -26,7 +26,8 @@ pub(crate) struct Draft {
 
 impl Draft {
     /// As many places as the course cap allows, or fewer where no more fit: each the one that adds
-    /// most to those before it, of those that fit.
+    /// most to those before it, less what its price and its credits are counted for, of those that
+    /// fit.
     pub(crate) fn of(
         menu: &Menu,
         prices: &[Tokens],

@@ -91,10 +91,10 @@ impl Reach {
         );
     }
 
-    /// Whether nothing that completes the node can be better than the champion: less can
-    /// be reached than its utility, or less than one more, and the first decided section on which
-    /// they differ is the champion's. So nothing that is wanted can, whatever bundles are wanted.
-    /// The table is one that was measured for the same menu and budget.
+    /// Whether the table shows that nothing that completes the node can be better than the
+    /// champion: less can be reached than its utility, or less than one more, and the first decided
+    /// section on which they differ is the champion's. So nothing that is wanted can, whatever
+    /// bundles are wanted. The table is one that was measured for the same menu and budget.
     #[inline(always)]
     pub fn prunes(
         &self,

@@ -34,7 +34,7 @@ pub(crate) struct Foreseen {
 }
 
 /// What those take who are surely asked on the walks to the least prices of these pairs of a
-/// section and a limit, or most of them, asked by all workers at once, as long as that is worth
+/// section and a limit, or most of them, asked by several workers at once, as long as that is worth
 /// their start: for each pair what is known of its walk, or nothing at all. Of one worker it asks
 /// nothing. The only error is that memory was not given.
 pub(crate) fn ask_ahead<R: Threads + Wait + Sync>(

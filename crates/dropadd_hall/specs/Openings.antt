@@ -47,7 +47,7 @@ TellsFault market state (Seats section used seats) =
     IsFirstOverfull market state section.0 used seats
 TellsFault market state finding = ⊥
 
--- The first finding on a text with which no hall opens: its first defect, where it is the text of
+-- The first finding on a text with which no desk opens: its first defect, where it is the text of
 -- no publication; else the first fault of the final bundles.
 abbrev pub IsOpeningFinding : Market → List ℕ → Finding → Type 0
 IsOpeningFinding market text (Text line kind) =

@@ -61,8 +61,8 @@ pub(crate) fn reason_of(
     }
 }
 
-/// Whether, for this reason, some affordable bundle has the section, so that the best such bundle
-/// is told: not where the student has it, does not rate it, or could not take it alone.
+/// Whether the best bundle with the section is told beside this reason: not where the student has
+/// the section, does not rate it, or could not take it alone. Else some choice has the section.
 pub(crate) fn tells_best(reason: Reason) -> bool
     ensures { result ≡ tells_best reason }
 {

@@ -5,7 +5,7 @@ use Rattle.bundle_rules.specs.Menus.{MenuData, adjustment_in, rating_at}
 use Rattle.bundle_rules.specs.Sets.{IsAscending}
 use Rattle.bundle_rules.specs.Wishes.{AllRated, Wishes, adjustments}
 
--- the adjustments at so many numbers from a first one on, each where it is not negative
+-- those of the adjustments at so many numbers from a first one on that are not negative, added up
 abbrev pub gains : (ℕ → ℤ) → ℕ → ℕ → ℕ
 gains f first zero = 0
 gains f first (suc count) = above_zero (f first) + gains f (first + 1) count

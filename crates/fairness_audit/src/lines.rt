@@ -14,8 +14,8 @@ use market_certificate::{put_bundle_field, put_field, put_number_field};
 use market_units::{NoMemory, SectionNo};
 use student_roll::Roll;
 
-/// Puts a line of three counts behind the text: the word of the part, whose they are, and how many
-/// are envied of lower, of higher envy, and beyond one section.
+/// Puts a line of three counts behind the text: the word of the part, whose they are, and the
+/// counts of lower envy, of higher envy, and of envy beyond one section.
 pub(crate) fn put_counts(
     text: &mut Vec<u8>,
     part: &[u8],

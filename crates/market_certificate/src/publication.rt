@@ -33,7 +33,7 @@ pub struct Publication {
     pub budgets: Vec<Tokens>,
     /// Each section's price that the search found, at most 1,000,001.
     pub start: Vec<Tokens>,
-    /// The clearing error of the search.
+    /// The clearing error at these prices.
     pub error: u64,
     /// Each section's price of the second stage, at most 1,000,001.
     pub prices: Vec<Tokens>,

@@ -104,8 +104,8 @@ pub(crate) fn clear(names: &Names, preferences: &mut Preferences, student: &Name
     Reply::Done
 }
 
-/// Carries out a command at the desk, which changes what the students want or closes the desk, and
-/// gives the reply.
+/// Carries out a command at the desk, and gives the reply. Where the reply is not `Done`, nothing
+/// changes.
 pub(crate) fn carry_out(
     names: &Names,
     preferences: &mut Preferences,

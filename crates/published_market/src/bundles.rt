@@ -29,7 +29,7 @@ const PLACES: u8 = MAX_RATINGS as u8;
 const COURSES: usize = MAX_COURSES as usize;
 
 /// The best bundle of a menu with the tree that proves it: the tree of the room, or one that is
-/// built now, where it did not fit the room. The only error is that memory was wanted.
+/// built now, where it did not fit the room. The only error is that memory was not given.
 pub(crate) fn prove_bundle(
     alloc: Global,
     menu: &Menu,

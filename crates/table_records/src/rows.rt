@@ -63,8 +63,8 @@ fn add_name(names: &mut IndexSet<Name>, name: Name) -> Result<Option<usize>, NoM
     }
 }
 
-/// Adds the row that a record makes behind the rows read so far. Where the record is refused, or
-/// memory is not given, the call tells which of the two.
+/// Adds the row that a record makes behind the rows read so far. Else the refusal of the record, or
+/// want of memory.
 pub(crate) fn take_record<T: Table>(
     table: &T,
     fields: &ByteRecord,

@@ -179,7 +179,8 @@ pub(crate) fn read_used<'t>(
     }
 }
 
-/// Reads the last line, `end`: what is left behind it, which is nothing in a text that is accepted.
+/// Reads the last line, `end`: what is left behind it, which is nothing in the text of a
+/// publication.
 #[tactic(auto, using(crate::proofs::Steps::other_line))]
 pub(crate) fn read_end<'t>(lines: Lines<'t>) -> Result<Lines<'t>, TextRefusal>
     ensures line { IfOk result
