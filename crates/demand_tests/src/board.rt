@@ -7,8 +7,9 @@ ghost use Rattle.demand_api.specs.Crowds.{demand_of as crowd_demand};
 ghost use Rattle.demand_api.specs.Views.{data_of};
 ghost use Rattle.demand_api.specs.declared.crowd.Crowd.{Crowd};
 ghost use Rattle.price_board.specs.Openings.{terms_of, IsRound};
-ghost use Rattle.price_board.specs.Seats.{HoldsNothing, IsFinished, IsFree, IsHolding, IsSeatOf, dones, posts};
+ghost use Rattle.price_board.specs.Seats.{HoldsNothing, IsFinished, IsFree, IsHolding, IsSeatOf};
 ghost use Rattle.price_board.specs.Terms.{task_count};
+ghost use Rattle.task_board.specs.Seats.{dones, posts};
 
 use bundle_rules::{Bundle, Menu, Rated, best_plain};
 use demand_api::Crowd;
