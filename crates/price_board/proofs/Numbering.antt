@@ -1,5 +1,6 @@
 -- The numbers of a round's tasks.
-use Rattle.std.proofs.Common.{ℕ, suc, ◌≡◌, ◌<◌, ◌≤◌, ◌+◌, ◌-◌, ◌*◌, ◌/◌, ◌%◌, ◌==◌, ◌&&◌, ◌∙◌, Bool, true, false, List, [], ◌∷◌, Some, length, min, refl, sym, ap, subst, arith, take, drop}
+use Rattle.std.proofs.Common.{ℕ, suc, ◌≡◌, ◌<◌, ◌≤◌, ◌+◌, ◌-◌, ◌*◌, ◌/◌, ◌%◌, ◌==◌, ◌&&◌, ◌∙◌, Bool, true, false, List, [], ◌∷◌, Option, None, Some, length, min, refl, sym, ap, subst, arith, take, drop}
+use Rattle.std.specs.Prelude.{IfSome}
 use Rattle.std.proofs.lemmas.Bool.{false≢true}
 use Rattle.std.proofs.lemmas.Bool.Decides.{nat_tests}
 use Rattle.std.proofs.lemmas.List.{length-take, length-drop}
@@ -83,3 +84,10 @@ module _ (terms : Terms) (v s : ℕ) (bundle : Bundle) (within : s < student_cou
       ap (λ w. same_sections (sections_of bundle) (demand_of terms w (student_at terms (number_of terms v s)))) (sym at_task.0)
       ∙ ap (λ t. same_sections (sections_of bundle) (demand_of terms v t)) (sym at_task.1)
       ∙ subst (λ l. same_sections (sections_of bundle) l ≡ true) is (same_sections-own (sections_of bundle))
+
+-- a posted bundle is what the student takes
+pub right_posted : (terms : Terms) (v s n : ℕ) (bundle : Option Bundle) → n ≡ number_of terms v s → s < student_count terms
+    → IfSome bundle (λ b. is_taken terms n b ≡ true) → IfSome bundle (λ b. sections_of b ≡ demand_of terms v s)
+right_posted terms v s n None is within right = right
+right_posted terms v s n (Some bundle) is within right =
+    right_bundle terms v s bundle within (subst (λ k. is_taken terms k bundle ≡ true) is right)

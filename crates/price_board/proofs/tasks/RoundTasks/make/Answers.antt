@@ -1,4 +1,4 @@
-use Rattle.std.proofs.Common.{ℕ, ◌≡◌, ◌≤◌, ◌<◌, ◌∙◌, length, replicate, arith, ap, sym, vec_len, rules}
+use Rattle.std.proofs.Common.{ℕ, ◌≡◌, ◌≤◌, ◌<◌, ◌∙◌, length, replicate, arith, ap, sym, vec_len, Fits, w32}
 use Rattle.std.specs.Arc.{arc_value}
 use Rattle.std.proofs.lemmas.List.{length-map, length-replicate}
 use Rattle.demand_api.specs.declared.crowd.Crowd.{Crowd}
@@ -20,7 +20,7 @@ overflow_cast-students c =
     let few : length (data_of (arc_value c.args.crowd)).students ≤ 2000 = students_few (arc_value c.args.crowd) in
     let is : n ≡ length (data_of (arc_value c.args.crowd)).students =
     counted c.len-students.result (arc_value c.args.crowd) c.deref.result.now c.len-students.ensures c.deref.ensures in
-    let goal : n < 4294967296 = omega arith in goal
+    let goal : Fits w32 n = omega arith in goal
 
 pub invariant_of-result : goal.invariant_of-result
 invariant_of-result c =
