@@ -19,7 +19,7 @@ invariant_of-result c =
       each = each;
       settled = all_settled end.terms end.marks each c.close-answers.ensures.settled;
       students_are = c.self.invariant.0 ∙ ap student_count (sym c.close-answers.ensures.terms);
-      few_students = c.self.invariant.1.0;
+      few_students = c.self.invariant.1;
     }
 
 pub returns-clause-settled : goal.returns-clause-settled
