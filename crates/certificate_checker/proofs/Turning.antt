@@ -21,7 +21,7 @@ use Rattle.demand_api.specs.Crowds.{CrowdData, Student}
 use Rattle.demand_api.specs.declared.crowd.Crowd.{Crowd}
 use Rattle.demand_api.specs.Parts.{students_of}
 use Rattle.demand_api.specs.Views.{data_of}
-use Rattle.demand_api.proofs.Parts.{students_length}
+use Rattle.demand_api.proofs.Parts.{menus_few, students_length}
 use Rattle.held_seats.specs.Floors.{AreBelow}
 use Rattle.market_certificate.specs.declared.publication.ProvedTurn as declared_turn
 use Rattle.market_certificate.specs.declared.publication.Publication as declared
@@ -166,6 +166,18 @@ stage_two_fits terms publication i bundles lent seats is listed same made all =
     ∙ ap (λ items. map (λ (proved : Proved). proved.bundle) (map proved_of items)) (take_all i publication.bundles.items all) in
     let size : terms.crowd.sections ≡ length seats = sym is.seats ∙ ap length (sym listed) in
     subst {A = ℕ × List (List ℕ)} (λ both. AreBelow both.0 both.1) (λ j. (size j, sym whole j)) (before_below terms publication 0 is)
+
+-- and as few as the students
+pub stage_two_few : (terms : Terms) (publication : declared.Publication) (i : ℕ) (bundles lent : List Bundle)
+    → CanCheck terms (publication_of publication) → lent ≡ bundles
+    → map sections_of bundles ≡ map (λ (proved : Proved). proved.bundle) (map proved_of (take i publication.bundles.items))
+    → length publication.bundles.items ≤ i → length lent ≤ 2000
+stage_two_few terms publication i bundles lent is same made all =
+    let whole : map sections_of lent ≡ demanded (publication_of publication) =
+    ap (map sections_of) same ∙ made
+    ∙ ap (λ items. map (λ (proved : Proved). proved.bundle) (map proved_of items)) (take_all i publication.bundles.items all) in
+    let each : length (map sections_of lent) ≡ length terms.crowd.menus.items = ap length whole ∙ after_length terms publication [] is in
+    omega (arith, length_map sections_of lent, each, menus_few terms.crowd)
 
 -- the order has every student
 placed_length : (one : ℕ × ℕ) (xs : List (ℕ × ℕ)) → length (placed one xs) ≡ length xs + 1

@@ -86,7 +86,7 @@ module _ (crowd : Crowd) (bundles : List Bundle) where
                 → budget ≡ slice_index_or crowd.budgets.items i budget → other ≡ slice_index_or crowd.budgets.items k other
                 → with_sight row seen (nat_le other.0 budget.0) ≡ row_over a i (range_with_len 0 (k + 1))
             past_envied seen budget other apart some mine_is their_is =
-                let low_menu : k < length menus = subst (λ n. k < n) as_many low_k in
+                let low_menu : k < length crowd.menus.items = subst (λ n. k < n) as_many low_k in
                 grown (with_sight row seen (nat_le other.0 budget.0))
                 (is_envied a i (range_with_len 0 k) k seen (nat_le other.0 budget.0) apart (envied_by ∙ some)
                 (ap (λ n. nat_le n budget.0) (sym (budget_is k other low_menu their_is)) ∙ ap (nat_le (budget_at a k)) (sym (budget_is i budget low mine_is)))

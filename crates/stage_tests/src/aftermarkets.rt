@@ -7,7 +7,7 @@ ghost use Rattle.demand_api.specs.Views.{data_of};
 ghost use Rattle.held_seats.specs.Choices.{AreHeldWithin};
 ghost use Rattle.demand_api.specs.Asking.{AreSectionPrices};
 
-use crate::crowds::{are_bundles, join, nobody, rated};
+use crate::crowds::{are_bundles, crowd_of, join, nobody, rated};
 use aftermarket_stage::{After, Turn, aftermarket};
 use bundle_rules::{Bundle, best_plain};
 use demand_api::Crowd;
@@ -85,23 +85,39 @@ fn held<R: Abort>(
 }
 
 // Students with these budgets and ratings of two sections, of which each may take one.
-fn choosers(rt: &impl Abort, alloc: Global, students: &[(u32, [u8; 2])]) -> Crowd {
-    let mut crowd = nobody(alloc, 2);
-    for (budget, ratings) in students {
+fn choosers(rt: &impl Abort, alloc: Global, wants: &[(u32, [u8; 2])]) -> Crowd {
+    let mut students = nobody(alloc);
+    for (budget, ratings) in wants {
         let places = [rated(0, 0, ratings[0]), rated(1, 1, ratings[1])];
-        join(rt, alloc, &mut crowd, (*budget, 1), &places, &[], &[0, 0]);
+        join(
+            rt,
+            alloc,
+            &mut students,
+            (*budget, 1),
+            &places,
+            &[],
+            &[0, 0],
+        );
     }
-    crowd
+    crowd_of(rt, students, 2)
 }
 
 // Students with these budgets, who all want the first section most.
 fn rivals(rt: &impl Abort, alloc: Global, budgets: &[u32]) -> Crowd {
-    let mut crowd = nobody(alloc, 2);
+    let mut students = nobody(alloc);
     let places = [rated(0, 0, 50), rated(1, 1, 1)];
     for budget in budgets {
-        join(rt, alloc, &mut crowd, (*budget, 1), &places, &[], &[0, 0]);
+        join(
+            rt,
+            alloc,
+            &mut students,
+            (*budget, 1),
+            &places,
+            &[],
+            &[0, 0],
+        );
     }
-    crowd
+    crowd_of(rt, students, 2)
 }
 
 // The only section of a bundle, if it has one.

@@ -15,13 +15,23 @@ pub fn rated(section: u16, course: u16, rating: u8) -> Rated {
     }
 }
 
-// A crowd without students.
-pub fn nobody(alloc: Global, sections: u16) -> Crowd {
-    Crowd {
+// Students, before they are a crowd.
+#[derive(Drop)]
+pub struct Students {
+    menus: Vec<Menu>,
+    budgets: Vec<Tokens>,
+}
+
+pub fn nobody(alloc: Global) -> Students {
+    Students {
         menus: Vec::new(alloc),
         budgets: Vec::new(alloc),
-        sections,
     }
+}
+
+// The crowd of these students, and so many sections.
+pub fn crowd_of<R: Abort>(rt: &R, students: Students, sections: u16) -> Crowd {
+    Crowd::of(students.menus, students.budgets, sections).expect(rt, "a crowd")
 }
 
 // One student more: its budget and how many sections it may take, what it rates, its adjustments,
@@ -29,7 +39,7 @@ pub fn nobody(alloc: Global, sections: u16) -> Crowd {
 pub fn join<R: Abort>(
     rt: &R,
     alloc: Global,
-    crowd: &mut Crowd,
+    students: &mut Students,
     (budget, courses): (u32, u8),
     places: &[Rated],
     pairs: &[(u8, u8, i16)],
@@ -37,25 +47,18 @@ pub fn join<R: Abort>(
 ) {
     assert!(rt; Menu::may_build(places, pairs, clashes, 10, courses));
     let menu = Menu::build(alloc, places, pairs, clashes, 10, courses).expect(rt, "memory");
-    crowd.menus.push(menu).expect(rt, "memory");
-    crowd.budgets.push(Tokens(budget)).expect(rt, "memory");
+    students.menus.push(menu).expect(rt, "memory");
+    students.budgets.push(Tokens(budget)).expect(rt, "memory");
 }
 
 // Students of these budgets who want the one section.
 pub fn rivals<R: Abort>(rt: &R, alloc: Global, budgets: &[u32]) -> Crowd {
-    let mut crowd = nobody(alloc, 1);
+    let mut students = nobody(alloc);
+    let places = [rated(0, 0, 50)];
     for budget in budgets {
-        join(
-            rt,
-            alloc,
-            &mut crowd,
-            (*budget, 1),
-            &[rated(0, 0, 50)],
-            &[],
-            &[0],
-        );
+        join(rt, alloc, &mut students, (*budget, 1), &places, &[], &[0]);
     }
-    crowd
+    crowd_of(rt, students, 1)
 }
 
 // Whether these are the bundles, by the ordinals of their sections.

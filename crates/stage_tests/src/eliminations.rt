@@ -1,5 +1,5 @@
 // Eliminations whose prices are plain to see.
-use crate::crowds::{are_bundles, join, nobody, rated, rivals};
+use crate::crowds::{are_bundles, crowd_of, join, nobody, rated, rivals};
 use demand_api::{Crowd, PlainDemands};
 use market_units::Tokens;
 use oversubscription_stage::{Settled, settle};
@@ -17,7 +17,6 @@ fn settled<R: Abort + Threads + Wait + Sync>(
     seats: &[u16],
     prices: &[Tokens],
 ) -> Settled {
-    assert!(rt; crowd.is_whole());
     assert!(rt; crowd.has_prices(prices));
     assert_eq!(rt; seats.len(), prices.len());
     let crowd = Arc::new(alloc, crowd).expect(rt, "memory");
@@ -49,22 +48,22 @@ fn four_students_of_one_seat(rt: HostRuntime) -> Result<(), Fail> {
 
 // Three students of the ordinary term, whose first section and fourth clash.
 fn ordinary_term<R: Abort>(rt: &R, alloc: Global) -> Crowd {
-    let mut crowd = nobody(alloc, 4);
+    let mut students = nobody(alloc);
     let ann = [rated(0, 0, 60), rated(1, 1, 30)];
-    join(rt, alloc, &mut crowd, (104, 2), &ann, &[], &[0, 0]);
+    join(rt, alloc, &mut students, (104, 2), &ann, &[], &[0, 0]);
     let bob = [rated(0, 0, 50), rated(2, 2, 40)];
     join(
         rt,
         alloc,
-        &mut crowd,
+        &mut students,
         (103, 2),
         &bob,
         &[(0, 1, 10)],
         &[0, 0],
     );
     let cat = [rated(0, 0, 20), rated(3, 0, 45)];
-    join(rt, alloc, &mut crowd, (102, 2), &cat, &[], &[2, 1]);
-    crowd
+    join(rt, alloc, &mut students, (102, 2), &cat, &[], &[2, 1]);
+    crowd_of(rt, students, 4)
 }
 
 #[test]

@@ -4,7 +4,7 @@ ghost use Rattle.held_seats.specs.Floors.{IsFloor};
 
 use bundle_rules::Bundle;
 use held_seats::{Floor, are_below};
-use market_units::{SectionNo, SectionSet};
+use market_units::{MAX_SECTIONS, SectionNo, SectionSet};
 use std::process::Abort;
 use std::test::Fail;
 

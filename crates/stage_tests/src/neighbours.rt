@@ -4,7 +4,7 @@ ghost use Rattle.bundle_rules.specs.Demand.{price_in};
 ghost use Rattle.demand_api.specs.Crowds.{counts};
 ghost use Rattle.demand_api.specs.Asking.{ArePricesFor};
 
-use crate::crowds::{join, nobody, rated};
+use crate::crowds::{crowd_of, join, nobody, rated};
 use bundle_rules::Rated;
 use demand_api::{Crowd, Demands, PlainDemands};
 use market_units::Tokens;
@@ -17,12 +17,12 @@ use std::thread::Threads;
 
 // Two students of budgets 100 and 105 who both want these sections, up to two of them.
 fn two_students<R: Abort>(rt: &R, alloc: Global, places: &[Rated], sections: u16) -> Crowd {
-    let mut crowd = nobody(alloc, sections);
+    let mut students = nobody(alloc);
     let clashes = vec![in alloc; 0u64; places.len()].expect(rt, "memory");
     for budget in [100, 105] {
-        join(rt, alloc, &mut crowd, (budget, 2), places, &[], &clashes);
+        join(rt, alloc, &mut students, (budget, 2), places, &[], &clashes);
     }
-    crowd
+    crowd_of(rt, students, sections)
 }
 
 // The neighbours of a vector, over a crowd, where each section has one seat.

@@ -78,7 +78,6 @@ fn assert_held(rt: &impl Abort, held: &Held, price: u32, bundles: &[&[u16]]) {
 fn the_least_price_is_found_by_halving(rt: HostRuntime) -> Result<(), Fail> {
     let alloc = rt.alloc();
     let crowd = rivals(&rt, alloc, &[100, 101, 102, 103]);
-    assert!(rt; crowd.is_whole());
     // The present price of the section tells nothing: the least is sought from 0.
     let prices = [Tokens(103)];
     assert!(rt; crowd.has_prices(&prices));
@@ -106,7 +105,6 @@ fn the_least_price_is_found_by_halving(rt: HostRuntime) -> Result<(), Fail> {
 fn only_holders_are_asked_again(rt: HostRuntime) -> Result<(), Fail> {
     let alloc = rt.alloc();
     let crowd = rivals(&rt, alloc, &[100, 101, 102, 103]);
-    assert!(rt; crowd.is_whole());
     let prices = [Tokens(102)];
     assert!(rt; crowd.has_prices(&prices));
     assert_eq!(rt; crowd.top(), Tokens(104));

@@ -1,5 +1,5 @@
 // Searches over small crowds, with one seat for each section.
-use crate::crowds::{join, nobody, rated, rivals};
+use crate::crowds::{crowd_of, join, nobody, rated, rivals};
 use demand_api::{Crowd, PlainDemands};
 use market_settings::{Settings, StepSizes, are_step_sizes};
 use std::alloc::Global;
@@ -32,7 +32,6 @@ fn searched<R: Abort + Threads + Wait + Sync>(
     crowd: Crowd,
     settings: &Settings,
 ) -> Result<Found, SearchEnd> {
-    assert!(rt; crowd.is_whole());
     let seats = vec![in alloc; 1u16; usize::from(crowd.sections)].expect(rt, "memory");
     let mut demands = PlainDemands::make(Arc::new(alloc, crowd).expect(rt, "memory"));
     search(rt, alloc, &mut demands, &seats, settings)
@@ -86,32 +85,33 @@ fn no_turn_is_made(rt: HostRuntime) -> Result<(), Fail> {
 #[test]
 fn nobody_searches(rt: HostRuntime) -> Result<(), Fail> {
     let alloc = rt.alloc();
+    let crowd = crowd_of(&rt, nobody(alloc), 2);
     let free = "[Tokens(0), Tokens(0)] 0";
-    let turns = try_search(&rt, alloc, nobody(alloc, 2), [0, 0, 3, 5, 3], &[1], free)?;
+    let turns = try_search(&rt, alloc, crowd, [0, 0, 3, 5, 3], &[1], free)?;
     assert_eq!(rt; turns, 0);
     Ok(())
 }
 
 // Four students of three sections.
 fn four_students<R: Abort>(rt: &R, alloc: Global) -> Crowd {
-    let mut crowd = nobody(alloc, 3);
+    let mut students = nobody(alloc);
     let places = [rated(0, 0, 50), rated(1, 1, 40)];
-    join(rt, alloc, &mut crowd, (100, 2), &places, &[], &[0, 0]);
+    join(rt, alloc, &mut students, (100, 2), &places, &[], &[0, 0]);
     let places = [rated(0, 0, 50), rated(2, 2, 45)];
-    join(rt, alloc, &mut crowd, (103, 2), &places, &[], &[0, 0]);
+    join(rt, alloc, &mut students, (103, 2), &places, &[], &[0, 0]);
     let places = [rated(1, 1, 50), rated(2, 2, 20)];
-    join(rt, alloc, &mut crowd, (103, 2), &places, &[], &[0, 0]);
+    join(rt, alloc, &mut students, (103, 2), &places, &[], &[0, 0]);
     let places = [rated(0, 0, 60), rated(1, 1, 61)];
     join(
         rt,
         alloc,
-        &mut crowd,
+        &mut students,
         (106, 2),
         &places,
         &[(0, 1, -30)],
         &[0, 0],
     );
-    crowd
+    crowd_of(rt, students, 3)
 }
 
 #[test]
@@ -125,13 +125,13 @@ fn restarts_draw_prices(rt: HostRuntime) -> Result<(), Fail> {
 
 // Four students of one budget who each may take one of two sections; two of them rate both.
 fn four_of_one_budget<R: Abort>(rt: &R, alloc: Global) -> Crowd {
-    let mut crowd = nobody(alloc, 2);
+    let mut students = nobody(alloc);
     let both = [rated(0, 0, 50), rated(1, 1, 2)];
-    join(rt, alloc, &mut crowd, (100, 1), &both, &[], &[0, 0]);
-    join(rt, alloc, &mut crowd, (100, 1), &both, &[], &[0, 0]);
-    join(rt, alloc, &mut crowd, (100, 1), &both[..1], &[], &[0]);
-    join(rt, alloc, &mut crowd, (100, 1), &both[..1], &[], &[0]);
-    crowd
+    join(rt, alloc, &mut students, (100, 1), &both, &[], &[0, 0]);
+    join(rt, alloc, &mut students, (100, 1), &both, &[], &[0, 0]);
+    join(rt, alloc, &mut students, (100, 1), &both[..1], &[], &[0]);
+    join(rt, alloc, &mut students, (100, 1), &both[..1], &[], &[0]);
+    crowd_of(rt, students, 2)
 }
 
 #[test]
@@ -145,11 +145,19 @@ fn no_prices_after_restarts(rt: HostRuntime) -> Result<(), Fail> {
 
 // Two students of budget 9: one wants the second section, the other both, the first one more.
 fn two_sections<R: Abort>(rt: &R, alloc: Global) -> Crowd {
-    let mut crowd = nobody(alloc, 2);
-    join(rt, alloc, &mut crowd, (9, 1), &[rated(1, 1, 40)], &[], &[0]);
+    let mut students = nobody(alloc);
+    join(
+        rt,
+        alloc,
+        &mut students,
+        (9, 1),
+        &[rated(1, 1, 40)],
+        &[],
+        &[0],
+    );
     let places = [rated(0, 0, 90), rated(1, 1, 40)];
-    join(rt, alloc, &mut crowd, (9, 2), &places, &[], &[0, 0]);
-    crowd
+    join(rt, alloc, &mut students, (9, 2), &places, &[], &[0, 0]);
+    crowd_of(rt, students, 2)
 }
 
 // A window of four counts leads out of the circle in which one alone is caught. What is wanted was

@@ -1,4 +1,4 @@
-use Rattle.std.proofs.Common.{◌<◌, ◌≤◌, ◌+◌, ◌∙◌, not, map, length, arith, ap, subst, sym, rules}
+use Rattle.std.proofs.Common.{◌≡◌, ◌<◌, ◌≤◌, ◌+◌, ◌∙◌, not, map, length, arith, ap, subst, sym, rules}
 use Rattle.std.proofs.lemmas.List.{length-map}
 use Rattle.std.proofs.lemmas.Result.{IfOk-weaker}
 use Rattle.bundle_rules.specs.Bundles.{sections_of}
@@ -57,6 +57,12 @@ loop-changed-init c =
       known_none (data_of c.args.crowd.now) c.args.prices.now c.args.raise
           (held_on c.in_ok-stage.stage.floor) c.in_ok-stage.stage.chooser.known.items c.in_ok-stage.ensures.none,
     )
+
+pub after_order-requires : goal.after_order-requires
+after_order-requires c =
+    let few : length c.args.crowd.now.menus.items ≤ 2000 = menus_few c.args.crowd.now in
+    let same : length c.args.crowd.now.budgets.items ≡ length c.args.crowd.now.menus.items = c.args.crowd.now.same in
+    search rules
 
 pub overflow_add-passes : goal.overflow_add-passes
 overflow_add-passes c =

@@ -1,4 +1,4 @@
-use Rattle.std.proofs.Common.{◌≡◌, ◌<◌, length, get_or, map, below_more, arith, sym, ◌∙◌}
+use Rattle.std.proofs.Common.{◌≡◌, ◌<◌, ◌≤◌, length, get_or, map, below_more, arith, rules, sym, ◌∙◌}
 use Rattle.market_units.specs.declared.units.Tokens.{Tokens}
 use Rattle.demand_api.specs.Views.{data_of}
 use Rattle.certificate_checker.specs.Students.{student_in}
@@ -20,6 +20,12 @@ compared c =
       printed_is c.args.publication.now.budgets.items place c.index.result.now below c.index.ensures,
       drawn_is terms.crowd place c.index-in-loop-place.result.now inside c.index-in-loop-place.ensures,
     )
+
+pub overflow_cast-result : goal.overflow_cast-result
+overflow_cast-result c =
+    let long : HasLengths c.args.terms.now c.args.publication.now = lengths c.args.terms.now c.args.publication.now c.requires in
+    let few : c.loop-place.place ≤ 2000 = omega arith in
+    search rules
 
 pub returns-then-ne-clause-first : goal.returns-then-ne-clause-first
 returns-then-ne-clause-first c =

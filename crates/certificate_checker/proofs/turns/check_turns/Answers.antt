@@ -1,11 +1,11 @@
-use Rattle.std.proofs.Common.{ℕ, ◌≡◌, ◌≢◌, ◌<◌, ◌∙◌, true, false, nat_eq, below_more, length, map, ap, sym, arith}
+use Rattle.std.proofs.Common.{ℕ, ◌≡◌, ◌≢◌, ◌<◌, ◌≤◌, ◌∙◌, true, false, nat_eq, below_more, length, map, ap, sym, arith, rules}
 use Rattle.std.specs.Vec.{vec_len}
 use Rattle.std.proofs.lemmas.Bool.Decides.{nat_tests}
 use Rattle.market_units.specs.declared.units.StudentNo.{StudentNo}
 use Rattle.budget_draw.specs.AfterOrder.{after_order_of}
 use Rattle.budget_draw.specs.Budgets.{amounts}
 use Rattle.market_certificate.specs.Views.{publication_of, turn_of}
-use Rattle.demand_api.proofs.Parts.{students_length}
+use Rattle.demand_api.proofs.Parts.{menus_few, students_length}
 use Rattle.certificate_checker.specs.Turns.{order_in}
 use Rattle.certificate_checker.specs.Views.{terms_of}
 use Rattle.certificate_checker.proofs.Reading.{fewer, length_map}
@@ -18,6 +18,12 @@ is_zero n e = grind (arith, nat_tests)
 
 not_zero : (n : ℕ) → nat_eq n 0 ≡ false → n ≢ 0
 not_zero n e = grind (arith, nat_tests)
+
+pub after_order-requires : goal.after_order-requires
+after_order-requires c =
+    let few : length c.args.terms.now.crowd.menus.items ≤ 2000 = menus_few c.args.terms.now.crowd in
+    let same : length c.args.terms.now.crowd.budgets.items ≡ length c.args.terms.now.crowd.menus.items = c.args.terms.now.crowd.same in
+    search rules
 
 pub turns-init : goal.turns-init
 turns-init c = record {

@@ -1,7 +1,9 @@
-use Rattle.std.proofs.Common.{◌<◌, [], length, map, arith}
+use Rattle.std.proofs.Common.{◌<◌, ◌≤◌, [], length, map, All, arith, rules}
 use Rattle.std.specs.FinSet as set
 use Rattle.bundle_rules.specs.Bundles.{sections_of}
+use Rattle.market_units.specs.declared.units.Tokens.{Tokens}
 use Rattle.demand_api.specs.Views.{data_of}
+use Rattle.demand_api.proofs.Parts.{budgets_high}
 use Rattle.held_seats.proofs.Holding.{there_at}
 use Rattle.aftermarket_stage.proofs.Crowding.{best_found, menu_priced}
 use Rattle.aftermarket_stage.proofs.Knowing.{known_asked, known_kept, settled_best}
@@ -25,6 +27,11 @@ returns-then-is_settled-clause-known c =
     known_kept (data_of c.args.crowd.now) c.args.prices.now c.args.raise c.args.place
     (map sections_of c.args.held.now) c.args.self.now.known.items (sections_of c.index-held-place.result) c.requires.known
     (there_at c.args.held.now c.args.place c.index-held-place.result low c.index-held-place.is)
+
+pub raised-budget-requires-clause-budget : goal.raised-budget-requires-clause-budget
+raised-budget-requires-clause-budget c =
+    let high : All (λ (budget : Tokens). budget.0 ≤ 1000000) c.args.crowd.now.budgets.items = budgets_high c.args.crowd.now in
+    search rules
 
 pub demand-bundle-requires : goal.demand-bundle-requires
 demand-bundle-requires c =
