@@ -6,16 +6,16 @@ use std::process::Abort;
 use std::test::Fail;
 
 // The settings of an ordinary text.
-const ORDINARY: [(&str, &str); 8] = [
-    ("seed", "3"),
-    ("spread", "3"),
-    ("accept", "3"),
-    ("turns", "3"),
-    ("tabu", "3"),
-    ("patience", "3"),
-    ("steps", "[1]"),
-    ("raise", "10"),
-];
+const ORDINARY: &str = "\
+seed 3
+spread 3
+accept 3
+turns 3
+tabu 3
+patience 3
+steps [1]
+raise 10
+";
 
 // A setting, another value of it in the ordinary text, and what is told then. Where it has
 // `nothing`, the setting is left out.
@@ -103,11 +103,22 @@ null => NotObject
 const REST: &str =
     "\"spread\":2,\"accept\":1,\"turns\":5,\"tabu\":5,\"patience\":3,\"steps\":[1],\"raise\":10";
 
+fn is_same(name: &str, other: &str) -> bool {
+    name == other
+}
+
 // The ordinary text, with another value of one setting, or without it.
 fn text_with(alloc: Global, changed: &str, value: &str) -> Result<String, Fail> {
     let mut text = String::from_str(alloc, "{")?;
-    for (name, ordinary) in ORDINARY {
-        let shown = if name == changed { value } else { ordinary };
+    for setting in ORDINARY.split_terminator('\n') {
+        let Some((name, ordinary)) = setting.split_once(' ') else {
+            return Err(Fail::from("a setting without a value"));
+        };
+        let shown = if is_same(name, changed) {
+            value
+        } else {
+            ordinary
+        };
         if shown == "nothing" {
             continue;
         }
