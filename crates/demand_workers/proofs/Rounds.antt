@@ -3,21 +3,17 @@ use Rattle.std.proofs.Common.{ℕ, ◌≡◌, ◌<◌, ◌≤◌, ◌+◌, ◌�
 use Rattle.std.specs.List.{Any}
 use Rattle.std.proofs.lemmas.List.{length-map}
 use Rattle.std.proofs.lemmas.List.Elements.{All-map}
-use Rattle.chronicle.specs.declared.standing.Standing.{Standing}
 use Rattle.chronicle.proofs.SeatLists.{all_at_their_numbers}
 use Rattle.market_units.specs.declared.units.Tokens.{Tokens}
 use Rattle.demand_api.specs.declared.crowd.Crowd.{Crowd}
 use Rattle.demand_api.specs.Crowds.{top}
+use Rattle.demand_api.specs.Asking.{AreSectionPrices}
 use Rattle.demand_api.specs.Views.{data_of}
 use Rattle.demand_api.proofs.Parts.{top_high}
 use Rattle.demand_api.proofs.Takers.{lent_back}
-use Rattle.price_board.specs.declared.calls.BoardCall.{BoardCall}
-use Rattle.price_board.specs.declared.calls.BoardReply.{BoardReply}
 use Rattle.price_board.specs.declared.round.Ask.{Ask}
-use Rattle.price_board.specs.declared.shared.Terms.{Terms}
-use Rattle.price_board.specs.declared.shared.Progress.{Progress}
-use Rattle.demand_api.specs.Asking.{AreSectionPrices}
 use Rattle.price_board.specs.Openings.{IsAskOf, IsRound}
+use Rattle.price_board.specs.Seats.{RoundSeat}
 use Rattle.demand_workers.specs.Rounds.{prices_of, AreVersionsFor}
 
 -- versions for a crowd, and as many asks, are a round of it
@@ -45,11 +41,11 @@ versions_are_round crowd versions copies asks are some few many among same =
     }
 
 -- each number below the count is that of a seat, of the seats that were lent whole and came back as many
-pub every_number : (count len : ℕ) (lent new old : List (Standing Terms Progress BoardCall BoardReply)) → length lent ≡ count → len ≡ length lent
+pub every_number : (count len : ℕ) (lent new old : List (RoundSeat)) → length lent ≡ count → len ≡ length lent
     → length new ≡ length lent
-    → ((n : ℕ) (d : Standing Terms Progress BoardCall BoardReply) → n < length lent → (slice_index_or new n d).number ≡ n)
-    → (n : ℕ) → n < count → Any (λ (s : Standing Terms Progress BoardCall BoardReply). s.number ≡ n) (take len (new ++ drop (length new) old))
+    → ((n : ℕ) (d : RoundSeat) → n < length lent → (slice_index_or new n d).number ≡ n)
+    → (n : ℕ) → n < count → Any (λ (s : RoundSeat). s.number ≡ n) (take len (new ++ drop (length new) old))
 every_number count len lent new old counted whole back numbers n low =
-    subst (λ seats. Any (λ (s : Standing Terms Progress BoardCall BoardReply). s.number ≡ n) seats) (sym (lent_back len new old (whole ∙ sym back)))
+    subst (λ seats. Any (λ (s : RoundSeat). s.number ≡ n) seats) (sym (lent_back len new old (whole ∙ sym back)))
     (all_at_their_numbers count new (let goal : count ≤ length new = omega arith in goal)
     (λ k d below. numbers k d (let goal : k < length lent = omega arith in goal)) n low)

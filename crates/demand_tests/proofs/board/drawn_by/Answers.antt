@@ -6,4 +6,4 @@ pub post_for-requires-clause-student : goal.post_for-requires-clause-student
 post_for-requires-clause-student g c =
     subst (λ (n : ℕ). c.in-Task.task.student.0 < n)
     (students_are c.args.board.now.base c.args.crowd.now c.requires.base)
-    (c.in-Task.ensures.turn c.loop-task.invariant.free).only.student_below
+    c.in-Task.ensures.within.1

@@ -7,4 +7,4 @@ taken-bundle-requires-clause-student g c =
     subst (λ (n : ℕ). c.in-Task.task.student.0 < n)
     (students_there c.args.crowd.now c.args.versions.now c.args.board.now
     c.requires.board)
-    (c.in-Task.ensures.turn c.loop-task.invariant.free).only.student_below
+    c.in-Task.ensures.within.1
