@@ -10,7 +10,8 @@ ghost use Rattle.price_board.specs.Openings.{terms_of, IsRound};
 ghost use Rattle.price_board.specs.Seats.{HoldsNothing, IsFinished, IsFree, IsHolding, IsSeatOf, dones, posts};
 ghost use Rattle.price_board.specs.Terms.{task_count};
 
-use bundle_rules::{Bundle, Menu, Rated, best_plain};
+use crate::rivals::rivals;
+use bundle_rules::{Bundle, best_plain};
 use demand_api::Crowd;
 use market_units::{NoMemory, SectionNo, SectionSet, StudentNo, Tokens};
 use price_board::{Ask, Board, BoardSeat, Draw, Posted, Round, Task};
@@ -18,34 +19,6 @@ use std::alloc::Global;
 use std::process::Abort;
 use std::sync::{Arc, Wait};
 use std::test::Fail;
-
-// The menu of a student who wants the one section.
-fn one_section<R: Abort>(rt: &R, alloc: Global) -> Result<Menu, NoMemory> {
-    let places = [Rated {
-        section: SectionNo(0),
-        course: 0,
-        rating: 50,
-        credits: 1,
-    }];
-    assert!(rt; Menu::may_build(&places, &[], &[0], 10, 1));
-    let menu = Menu::build(alloc, &places, &[], &[0], 10, 1)?;
-    Ok(menu)
-}
-
-// Four such students, with budgets from 100 to 103.
-fn four_students<R: Abort>(rt: &R, alloc: Global) -> Result<Crowd, Fail>
-    ensures students { IfOk result (λ crowd. length crowd.menus.items ≡ 4) }
-    ensures sections { IfOk result (λ crowd. crowd.sections ≡ 1) }
-{
-    let mut menus = Vec::new(alloc);
-    let mut budgets = Vec::new(alloc);
-    for more in 0..4u32 {
-        let menu = one_section(rt, alloc)?;
-        menus.push(menu)?;
-        budgets.push(Tokens(100 + more))?;
-    }
-    Ok(Crowd::of(menus, budgets, 1).expect(rt, "a crowd"))
-}
 
 // What a student of the crowd takes.
 fn taken(crowd: &Crowd, prices: &[Tokens], student: StudentNo) -> Bundle
@@ -133,7 +106,7 @@ fn settle<R: Abort + Wait>(
     alloc: Global,
     limit: u32,
 ) -> Result<(Vec<u16>, Option<bool>), Fail> {
-    let crowd = Arc::new(alloc, four_students(rt, alloc)?)?;
+    let crowd = Arc::new(alloc, rivals(rt, alloc, 4))?;
     let shown = Arc::try_clone(&crowd)?;
     let round = one_version(alloc, limit)?;
     let (board, mut seats) = Board::start(alloc, crowd, round, 1)?;
@@ -211,7 +184,7 @@ fn late_and_again<R: Abort + Wait>(
 
 // What they are answered, and whether more than two take the section.
 fn delay<R: Abort + Wait>(rt: &R, alloc: Global) -> Result<(Posted, Posted, Option<bool>), Fail> {
-    let crowd = Arc::new(alloc, four_students(rt, alloc)?)?;
+    let crowd = Arc::new(alloc, rivals(rt, alloc, 4))?;
     let shown = Arc::try_clone(&crowd)?;
     let round = one_version(alloc, 2)?;
     let (board, mut seats) = Board::start(alloc, crowd, round, 2)?;

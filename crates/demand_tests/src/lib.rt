@@ -14,6 +14,8 @@ mod crowds;
 #[cfg(test)]
 mod plain_demands;
 #[cfg(test)]
+mod rivals;
+#[cfg(test)]
 mod trees;
 #[cfg(test)]
 mod workers;

@@ -1,8 +1,9 @@
 // Demands that are found by trying every choice.
 ghost use Rattle.std.specs.Prelude.{◌≤◌, IsTrue, All, length};
-ghost use Rattle.demand_api.specs.Made.{MakeCrowd, crowd_of};
+ghost use Rattle.demand_api.specs.Views.{data_of};
 ghost use Rattle.demand_api.specs.Asking.{ArePricesFor};
 
+use crate::rivals::rivals;
 use bundle_rules::{Bundle, Menu, Rated};
 use demand_api::{Crowd, Demands, PlainDemands};
 use market_units::{SectionNo, StudentNo, Tokens};
@@ -33,33 +34,10 @@ fn menu<R: Abort>(
     Menu::build(alloc, places, pairs, clashes, 10, 2).expect(rt, "memory")
 }
 
-// Four students of budgets 100 to 103 who want one section.
-fn four_students<R: Abort>(rt: &R, alloc: Global) -> Crowd {
-    let mut menus = Vec::new(alloc);
-    let mut budgets = Vec::new(alloc);
-    for budget in 100..104 {
-        let places = [rated(0, 0, 50)];
-        menus
-            .push(menu(rt, alloc, &places, &[], &[0]))
-            .expect(rt, "memory");
-        budgets.push(Tokens(budget)).expect(rt, "memory");
-    }
-    Crowd {
-        menus,
-        budgets,
-        sections: 1,
-    }
-}
-
 // Whether each of these vectors has prices that can be asked of the crowd.
 fn all_have_prices(crowd: &Crowd, batch: &[Vec<Tokens>]) -> bool
-    requires { MakeCrowd crowd.now.menus.items crowd.now.budgets.items crowd.now.sections }
     ensures { IsTrue result
-        → All
-        (λ prices. ArePricesFor
-        (crowd_of crowd.now.menus.items crowd.now.budgets.items crowd.now.sections)
-        prices.items)
-        batch.now }
+        → All (λ prices. ArePricesFor (data_of crowd.now) prices.items) batch.now }
 {
     match batch {
         [] => true,
@@ -78,7 +56,6 @@ fn counts_of<R: Abort + Threads + Wait + Sync>(
     crowd: Crowd,
     batch: &[Vec<Tokens>],
 ) -> Vec<Vec<u32>>
-    requires crowd { MakeCrowd crowd.menus.items crowd.budgets.items crowd.sections }
     requires some { 1 ≤ length batch.now }
     requires few { length batch.now ≤ 16 }
 {
@@ -91,8 +68,7 @@ fn counts_of<R: Abort + Threads + Wait + Sync>(
 #[test]
 fn counts_of_four_students(rt: HostRuntime) -> Result<(), Fail> {
     let alloc = rt.alloc();
-    let crowd = four_students(&rt, alloc);
-    assert!(rt; crowd.is_whole());
+    let crowd = rivals(&rt, alloc, 4);
     assert_eq!(rt; crowd.top(), Tokens(104));
     let batch = [
         at(&rt, alloc, 104),
@@ -112,8 +88,7 @@ fn counts_of_four_students(rt: HostRuntime) -> Result<(), Fail> {
 #[test]
 fn bundles_of_four_students(rt: HostRuntime) -> Result<(), Fail> {
     let alloc = rt.alloc();
-    let crowd = four_students(&rt, alloc);
-    assert!(rt; crowd.is_whole());
+    let crowd = rivals(&rt, alloc, 4);
     let prices = [Tokens(102)];
     assert!(rt; crowd.has_prices(&prices));
     let crowd = Arc::new(alloc, crowd).expect(&rt, "memory");
@@ -140,8 +115,7 @@ fn bundles_of_four_students(rt: HostRuntime) -> Result<(), Fail> {
 #[test]
 fn least_prices_of_four_students(rt: HostRuntime) -> Result<(), Fail> {
     let alloc = rt.alloc();
-    let crowd = four_students(&rt, alloc);
-    assert!(rt; crowd.is_whole());
+    let crowd = rivals(&rt, alloc, 4);
     let prices = [Tokens(50)];
     assert!(rt; crowd.has_prices(&prices));
     let crowd = Arc::new(alloc, crowd).expect(&rt, "memory");
@@ -164,8 +138,7 @@ fn least_prices_of_four_students(rt: HostRuntime) -> Result<(), Fail> {
 #[test]
 fn students_are_chosen_in_the_given_order(rt: HostRuntime) -> Result<(), Fail> {
     let alloc = rt.alloc();
-    let crowd = four_students(&rt, alloc);
-    assert!(rt; crowd.is_whole());
+    let crowd = rivals(&rt, alloc, 4);
     assert_eq!(rt; crowd.menus.len(), 4);
     let students = [StudentNo(2), StudentNo(0), StudentNo(2)];
     let chosen = crowd.choose(alloc, &students).expect(&rt, "memory");
@@ -192,18 +165,13 @@ fn ordinary_term<R: Abort>(rt: &R, alloc: Global) -> Crowd {
         .push(menu(rt, alloc, &cat, &[], &[2, 1]))
         .expect(rt, "memory");
     let budgets = vec![in alloc; Tokens(104), Tokens(103), Tokens(102)].expect(rt, "memory");
-    Crowd {
-        menus,
-        budgets,
-        sections: 4,
-    }
+    Crowd::of(menus, budgets, 4).expect(rt, "a crowd")
 }
 
 #[test]
 fn the_ordinary_term_at_its_last_prices(rt: HostRuntime) -> Result<(), Fail> {
     let alloc = rt.alloc();
     let crowd = ordinary_term(&rt, alloc);
-    assert!(rt; crowd.is_whole());
     let prices = [Tokens(104), Tokens(0), Tokens(0), Tokens(0)];
     assert!(rt; crowd.has_prices(&prices));
     let crowd = Arc::new(alloc, crowd).expect(&rt, "memory");

@@ -4,7 +4,7 @@ ghost use Rattle.demand_api.specs.Asking.{ArePricesFor};
 ghost use Rattle.demand_api.specs.Views.{data_of};
 ghost use Rattle.demand_workers.specs.Rounds.{AreVersionsFor};
 
-use bundle_rules::{Menu, Rated};
+use crate::rivals::rivals;
 use demand_api::{Crowd, Demands};
 use demand_workers::{Pool, PooledDemands};
 use market_edge::{Gate, OpenGate, Stop};
@@ -54,37 +54,11 @@ impl Gate for CountingGate {
     }
 }
 
-// The menu of a student who wants the one section.
-fn one_section<R: Abort>(rt: &R, alloc: Global) -> Result<Menu, NoMemory> {
-    let places = [Rated {
-        section: SectionNo(0),
-        course: 0,
-        rating: 50,
-        credits: 1,
-    }];
-    assert!(rt; Menu::may_build(&places, &[], &[0], 10, 1));
-    let menu = Menu::build(alloc, &places, &[], &[0], 10, 1)?;
-    Ok(menu)
-}
-
-// So many such students, with budgets from 100 on.
-fn students_from_100<R: Abort>(rt: &R, alloc: Global, count: u32) -> Result<Arc<Crowd>, Fail>
+// So many students with budgets from 100 on, shared by workers.
+fn shared_rivals<R: Abort>(rt: &R, alloc: Global, count: u32) -> Result<Arc<Crowd>, NoMemory>
     requires { count ≤ 100 }
 {
-    let mut menus = Vec::new(alloc);
-    let mut budgets = Vec::new(alloc);
-    for more in 0..count {
-        let menu = one_section(rt, alloc)?;
-        menus.push(menu)?;
-        budgets.push(Tokens(100 + more))?;
-    }
-    let crowd = Crowd::of(menus, budgets, 1).expect(rt, "a crowd");
-    Ok(Arc::new(alloc, crowd)?)
-}
-
-// Four of them, with budgets from 100 to 103.
-fn four_students<R: Abort>(rt: &R, alloc: Global) -> Result<Arc<Crowd>, Fail> {
-    students_from_100(rt, alloc, 4)
+    Ok(Arc::new(alloc, rivals(rt, alloc, count))?)
 }
 
 // Whether each of these vectors has prices that can be asked of the crowd.
@@ -111,7 +85,7 @@ fn counts_by<R: Abort + Threads + Wait + Sync>(
 ) -> Result<[u32; 4], Fail>
     requires { (1 ≤ workers) × (workers ≤ MAX_WORKERS) }
 {
-    let crowd = four_students(rt, alloc)?;
+    let crowd = shared_rivals(rt, alloc, 4)?;
     let batch = [
         at(alloc, 104)?,
         at(alloc, 102)?,
@@ -161,7 +135,7 @@ fn counts_in_turn<R: Abort + Threads + Wait + Sync>(
     rt: &R,
     alloc: Global,
 ) -> Result<[(u32, u64); 3], Fail> {
-    let crowd = four_students(rt, alloc)?;
+    let crowd = shared_rivals(rt, alloc, 4)?;
     let first = [at(alloc, 102)?];
     let second = [at(alloc, 103)?];
     let third = [at(alloc, 0)?];
@@ -196,7 +170,7 @@ fn bundles_by<R: Abort + Threads + Wait + Sync>(
 ) -> Result<[bool; 4], Fail>
     requires { (1 ≤ workers) × (workers ≤ MAX_WORKERS) }
 {
-    let crowd = four_students(rt, alloc)?;
+    let crowd = shared_rivals(rt, alloc, 4)?;
     let prices = [Tokens(102)];
     assert!(rt; crowd.has_prices(&prices));
     let mut demands = PooledDemands::make(Pool::reserve(alloc, workers)?, crowd, &OpenGate);
@@ -229,7 +203,7 @@ fn settle<R: Abort + Threads + Wait + Sync>(
     alloc: Global,
     limit: u32,
 ) -> Result<(bool, u64), Fail> {
-    let crowd = four_students(rt, alloc)?;
+    let crowd = shared_rivals(rt, alloc, 4)?;
     let prices = [Tokens(0)];
     assert!(rt; crowd.has_prices(&prices));
     assert_eq!(rt; crowd.sections, 1);
@@ -253,7 +227,7 @@ fn a_comparison_settles_early(rt: HostRuntime) -> Result<(), Fail> {
 #[test]
 fn least_prices_of_four_students(rt: HostRuntime) -> Result<(), Fail> {
     let alloc = rt.alloc();
-    let crowd = four_students(&rt, alloc)?;
+    let crowd = shared_rivals(&rt, alloc, 4)?;
     let prices = [Tokens(50)];
     assert!(rt; crowd.has_prices(&prices));
     assert_eq!(rt; crowd.sections, 1);
@@ -271,7 +245,7 @@ fn least_prices_of_four_students(rt: HostRuntime) -> Result<(), Fail> {
 #[test]
 fn least_prices_of_many(rt: HostRuntime) -> Result<(), Fail> {
     let alloc = rt.alloc();
-    let crowd = students_from_100(&rt, alloc, 100)?;
+    let crowd = shared_rivals(&rt, alloc, 100)?;
     let prices = [Tokens(50)];
     assert!(rt; crowd.has_prices(&prices));
     assert_eq!(rt; crowd.sections, 1);
