@@ -1,7 +1,7 @@
 -- What holds in the search below a node, from place to place.
-use Rattle.std.proofs.Common.{◌≡◌, ◌<◌, ◌≤◌, ◌+◌, ◌-◌, ◌*◌, ◌%◌, ◌^◌, ◌++◌, ◌⊎◌, ℕ, Bool, true, false, Option, Some, List, [], ◌∷◌, length, drop, sym, ◌∙◌, ap, subst, inl, inr, arith, w64}
-use Rattle.std.specs.Prelude.{bit_and, IsTrue, ◌↔◌}
-use Rattle.std.specs.Int.{bit_at, bit_not, trailing_zeros}
+use Rattle.std.proofs.Common.{◌≡◌, ◌<◌, ◌≤◌, ◌+◌, ◌-◌, ◌*◌, ◌%◌, ◌^◌, ◌++◌, ◌⊎◌, ℕ, Some, List, [], ◌∷◌, length, drop, ap, inl, inr, arith, w64}
+use Rattle.std.specs.Prelude.{bit_and}
+use Rattle.std.specs.Int.{bit_not, trailing_zeros}
 use Rattle.std.proofs.lemmas.Bool.{cases_lt}
 use Rattle.std.proofs.lemmas.Nat.Bits.{bit_at-zero}
 use Rattle.bundle_rules.specs.Menus.{section_at, credits_at, wishes_of}

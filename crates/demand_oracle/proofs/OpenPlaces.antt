@@ -1,17 +1,17 @@
 -- Words of open places, and the search that passes over the others.
-use Rattle.std.proofs.Common.{◌≡◌, ◌≢◌, ◌<◌, ◌≤◌, ◌+◌, ◌-◌, ◌*◌, ◌%◌, min, ◌^◌, ◌++◌, ℕ, zero, suc, Bool, true, false, ◌&&◌, not, List, [], ◌∷◌, length, drop, map, refl, sym, ◌∙◌, ap, subst, inl, inr, arith, w64}
-use Rattle.std.specs.Prelude.{bit_and, IsTrue, ◌↔◌}
+use Rattle.std.proofs.Common.{◌≡◌, ◌≢◌, ◌<◌, ◌≤◌, ◌+◌, ◌-◌, ◌*◌, ◌%◌, min, ◌^◌, ◌++◌, ℕ, zero, suc, Bool, true, ◌&&◌, not, List, [], ◌∷◌, length, drop, refl, sym, ◌∙◌, ap, subst, inl, inr, arith, w64}
+use Rattle.std.specs.Prelude.{bit_and}
 use Rattle.std.specs.Int.{bit_at, bit_not, trailing_zeros}
 use Rattle.std.proofs.lemmas.Bool.{cases_eq, cases_lt, true≢false, cases_Bool}
 use Rattle.std.proofs.lemmas.List.{map-append}
 use Rattle.std.proofs.lemmas.Nat.{and_le_l}
 use Rattle.std.proofs.lemmas.Nat.Bits.{bit_at-lt, bit_at-trailing_zeros, bit_at_clear_same, bit_at_clear_other, bit_at_above, bit_at_and, bit_at_not}
 use Rattle.market_units.specs.Members.{has}
-use Rattle.bundle_rules.specs.Existence.Members.{has-here, has-there, has-cases}
-use Rattle.bundle_rules.specs.Menus.{IsMenu, wishes_of, section_at, place_in, clash_in, credits_at}
+use Rattle.bundle_rules.specs.Existence.Members.{has-here, has-there}
+use Rattle.bundle_rules.specs.Menus.{IsMenu, wishes_of, section_at, place_in, clash_in}
 use Rattle.bundle_rules.specs.Places.{menu_sections}
-use Rattle.bundle_rules.proofs.Parts.{IsPart, choice_part}
-use Rattle.bundle_bounds.specs.Offers.{Offer, places_of, price_at, allowed_at}
+use Rattle.bundle_rules.proofs.Parts.{choice_part}
+use Rattle.bundle_bounds.specs.Offers.{Offer, places_of, allowed_at}
 use Rattle.bundle_bounds.specs.Opens.{is_apart}
 use Rattle.bundle_bounds.specs.Laws.{IsTakable, IsNode}
 use Rattle.bundle_bounds.proofs.ByPlace.{place_in-section_at}

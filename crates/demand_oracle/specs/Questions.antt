@@ -1,6 +1,6 @@
 -- What is asked in one search, with what is looked up while it is answered.
 use Rattle.std.specs.Prelude.{ℕ, ◌<◌, Bool, List, length, IfSome}
-use Rattle.bundle_rules.specs.Menus.{MenuData, IsMenu}
+use Rattle.bundle_rules.specs.Menus.{IsMenu}
 use Rattle.bundle_rules.specs.Demand.{HasPrices}
 use Rattle.bundle_bounds.specs.Offers.{Offer, offer_of}
 use Rattle.demand_oracle.specs.declared.question.Question.{Question}

@@ -57,7 +57,10 @@ pub(crate) fn below(
     'places: while left != 0 {
         let place = left.trailing_zeros() as u8;
         opened = opened.saturating_add(1);
-        if question.reach.prunes(menu, &column, summed, place, champion) {
+        if question
+            .reach
+            .prunes(menu, &column, summed, place, champion)
+        {
             return opened;
         }
         left &= !(1u64 << place);

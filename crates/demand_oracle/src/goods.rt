@@ -30,12 +30,7 @@ impl Goods {
     ghost use Rattle.demand_oracle.specs.AtPlaces.{IsGoods};
 
     // The goods of a menu at these prices, with this budget and these allowed sections.
-    pub(crate) fn of(
-        menu: &Menu,
-        prices: &[Tokens],
-        budget: Tokens,
-        allowed: &SectionSet,
-    ) -> Goods
+    pub(crate) fn of(menu: &Menu, prices: &[Tokens], budget: Tokens, allowed: &SectionSet) -> Goods
         requires { HasPrices menu.now prices.now }
         ensures goods { IsGoods (offer_of menu.now prices.now budget.0 allowed.now) result }
         ensures menu { IsMenu menu.now }

@@ -50,8 +50,9 @@ impl Model for Workspace {
 }
 
 impl Workspace {
-    /// A workspace of which no demand was asked.
-    pub fn reserve(alloc: Global) -> Result<Workspace, NoMemory> {
+    /// A workspace of which no demand was asked. All that it holds stands in itself, so that it takes
+    /// no memory of the allocator, and this is an `Ok`.
+    pub fn reserve(_alloc: Global) -> Result<Workspace, NoMemory> {
         Ok(Workspace {
             frames: Frames {
                 opened: 0,
@@ -60,9 +61,9 @@ impl Workspace {
         })
     }
 
-    /// How many nodes the last demand opened: those of which it looked up what can be reached, and
-    /// in a search for bundles with a section those too that can not have it any more. It is there
-    /// to be measured: no clause speaks of it.
+    /// How many nodes the last demand opened: those of which it looked up what can be reached. A
+    /// place that can not be taken with the chosen ones is passed without one. It is there to be
+    /// measured: no clause speaks of it.
     pub fn opened(&self) -> u64 {
         self.frames.opened
     }
@@ -221,11 +222,9 @@ fn place_alone(
 }
 
 // The best bundle, of those with the section of a place where one is given, which may be taken
-// alone: the root is looked at first, and while nodes are left, the next one. Where a first
-// bundle is told, the search may begin with it, and where both are, it may end with it: with what
-// is as good as all bundles with the section. Each of the demands has its own copy of the machine
-// code of this and of what it calls, so that the plain one asks nothing about a given place.
-#[inline(always)]
+// alone: what the search below the root leaves. Where a first bundle is told, the search may begin
+// with it, and where both are, it may end with it: with what is as good as all bundles with the
+// section.
 fn search(
     frames: &mut Frames,
     menu: &Menu,
@@ -264,7 +263,6 @@ fn search(
 // The champion that a search begins with: where a place is given, its section alone, or the first
 // bundle where one is told; and where none is given a node that begins well, of the first bundle
 // where it is worth no less.
-#[inline(always)]
 fn first_champion(
     reach: &Reach,
     menu: &Menu,
@@ -293,7 +291,6 @@ fn first_champion(
 
 // The section of the given place alone, or what may be taken of the first bundle, where one is
 // told.
-#[inline(always)]
 fn begun_beside(
     menu: &Menu,
     prices: &[Tokens],
@@ -317,7 +314,6 @@ fn begun_beside(
 }
 
 // The node, or that of the first bundle where it is told and worth no less.
-#[inline(always)]
 fn from_first(
     menu: &Menu,
     prices: &[Tokens],

@@ -1,11 +1,9 @@
-use Rattle.std.proofs.Common.{◌≡◌, ◌<◌, ◌≤◌, ◌+◌, ◌-◌, ◌*◌, ◌%◌, ◌^◌, ◌++◌, ◌∷◌, [], ℕ, length, slice_index_or, sym, ◌∙◌, ap, subst, arith, rules, w64}
+use Rattle.std.proofs.Common.{◌≡◌, ◌≤◌, ◌+◌, ◌-◌, ◌*◌, ◌%◌, ◌^◌, ◌++◌, ◌∷◌, [], length, slice_index_or, sym, ◌∙◌, ap, arith, rules, w64}
 use Rattle.std.specs.Prelude.{bit_and}
 use Rattle.std.specs.Int.{bit_not, trailing_zeros}
 use Rattle.std.proofs.lemmas.Bool.{true≢false}
 use Rattle.std.proofs.lemmas.Nat.{and_le_l}
 use Rattle.bundle_rules.specs.Menus.{section_at}
-use Rattle.bundle_rules.specs.Demand.{price_in}
-use Rattle.bundle_bounds.specs.Laws.{IsTakable}
 use Rattle.demand_oracle.specs.Questions.{offer_asked, wanted_in}
 use Rattle.demand_oracle.specs.SummedNodes.{chosen_of}
 use Rattle.demand_oracle.proofs.OpenPlaces.{word_falls}
@@ -60,11 +58,11 @@ places-preserved-then-not-fits t c =
     record {
       goes_on =
           shut_goes_on c.args.question.now c.requires.question c.args.summed.now c.requires.summed c.requires.node c.args.champion.now c.places.left c.places.champion
-    c.places.invariant.goes_on (search rules) (omega arith)
+          c.places.invariant.goes_on (search rules) (omega arith)
           (λ takable.
           let left =
           fits_where_takable c.args.question.now c.requires.question c.args.summed.now c.requires.summed c.requires.node c.args.champion.now c.places.left c.places.champion
-    c.places.invariant.goes_on (search rules) (omega arith) takable in
+          c.places.invariant.goes_on (search rules) (omega arith) takable in
           true≢false (sym (within.1 (rw c.budget_left-budget_left.ensures left.0, rw c.credits_left-credits_left.ensures.value left.1)) ∙ c.if-not-fits.true));
       fewer =
           let before : c.places.left ≤ c.args.word = c.places.invariant.fewer in
@@ -114,20 +112,27 @@ below-requires t c =
     word_falls (offer_asked c.args.question.now) c.requires.question.menu c.places.invariant.goes_on.from (chosen_of c.args.summed.now) c.places.left
     (search rules) (omega arith) c.places.invariant.goes_on.is_word in
     let before : c.places.left ≤ c.args.word = c.places.invariant.fewer in
-    let measure = c.decreases in
-    (
+    let measure = c.decreases in (
       omega (arith, and_le_l (bit_and c.places.left (bit_not w64 (1 * 2 ^ trailing_zeros w64 c.places.left % 2 ^ 64))) (bit_not w64 (slice_index_or c.args.question.now.goods.now.clashes c.from.result 0))),
-      (c.requires.question,
-      (c.with_next-with_it.ensures.summed,
-      (rw (place_is, chosen_is)
-          (node_taken c.args.question.now c.requires.question c.args.summed.now c.requires.summed c.requires.node c.args.champion.now c.places.left c.places.champion
-    c.places.invariant.goes_on (search rules) (omega arith) takable),
-      (rw (place_is, chosen_is)
-          (word_taken c.args.question.now c.requires.question c.args.summed.now c.requires.summed c.requires.node c.args.champion.now c.places.left c.places.champion
-    c.places.invariant.goes_on (search rules) (omega arith) takable
-          (slice_index_or c.args.question.now.goods.now.clashes c.from.result 0) (search rules)
-          (rw c.from.ensures (c.requires.question.goods.clashes (trailing_zeros w64 c.places.left) on))),
-      c.places.invariant.goes_on.is_champion)))),
+      (
+        c.requires.question,
+        (
+          c.with_next-with_it.ensures.summed,
+          (
+            rw (place_is, chosen_is)
+                (node_taken c.args.question.now c.requires.question c.args.summed.now c.requires.summed c.requires.node c.args.champion.now c.places.left c.places.champion
+                c.places.invariant.goes_on (search rules) (omega arith) takable),
+            (
+              rw (place_is, chosen_is)
+                  (word_taken c.args.question.now c.requires.question c.args.summed.now c.requires.summed c.requires.node c.args.champion.now c.places.left c.places.champion
+                  c.places.invariant.goes_on (search rules) (omega arith) takable
+                  (slice_index_or c.args.question.now.goods.now.clashes c.from.result 0) (search rules)
+                  (rw c.from.ensures (c.requires.question.goods.clashes (trailing_zeros w64 c.places.left) on))),
+              c.places.invariant.goes_on.is_champion,
+            ),
+          ),
+        ),
+      ),
     )
 
 pub returns-then-is_given-clause-searched : goal.returns-then-is_given-clause-searched
@@ -178,7 +183,7 @@ places-preserved t c =
     record {
       goes_on =
           taken_goes_on c.args.question.now c.requires.question c.args.summed.now c.requires.summed c.requires.node c.args.champion.now c.places.left c.places.champion
-    c.places.invariant.goes_on (search rules) (omega arith)
+          c.places.invariant.goes_on (search rules) (omega arith)
           takable c.below.new.champion c.below.ensures.champion (rw (place_is, chosen_is) at c.below.ensures.searched);
       fewer =
           let before : c.places.left ≤ c.args.word = c.places.invariant.fewer in

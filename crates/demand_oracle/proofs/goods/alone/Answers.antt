@@ -1,10 +1,8 @@
 use Rattle.std.proofs.Common.{◌++◌, ◌∷◌, [], sym, subst}
 use Rattle.bundle_rules.specs.Demand.{price_in}
 use Rattle.bundle_rules.specs.Menus.{section_at}
-use Rattle.bundle_bounds.specs.Laws.{IsTakable, IsNode}
+use Rattle.bundle_bounds.specs.Laws.{IsTakable}
 use Rattle.bundle_bounds.specs.Offers.{offer_of}
-use Rattle.bundle_bounds.proofs.NodeFacts.{nothing_chosen}
-use Rattle.bundle_bounds.proofs.Openings.{node_same}
 use Rattle.demand_oracle.specs.OpenWords.{IsAlone}
 use Rattle.demand_oracle.proofs.Rows.{word_more}
 use Rattle.demand_oracle.proofs.goods.alone.Goals as goal

@@ -1,4 +1,4 @@
-use Rattle.std.proofs.Common.{◌≡◌, ◌<◌, refl, sym, ◌∙◌, arith, inl, inr, w64}
+use Rattle.std.proofs.Common.{sym, ◌∙◌, inl, inr, w64}
 use Rattle.std.proofs.lemmas.Bool.{cases_eq}
 use Rattle.std.proofs.lemmas.Nat.Bits.{bit_at_set_same, bit_at_set_other}
 use Rattle.demand_oracle.proofs.goods.with_bit.Goals as goal
