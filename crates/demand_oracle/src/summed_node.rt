@@ -151,9 +151,21 @@ impl SummedNode {
         ensures place { result.node.place ≡ self.node.place + 1 }
         ensures chosen { chosen_of result ≡ chosen_of self }
     {
+        self.passed_to(self.node.place + 1)
+    }
+
+    /// The node that has decided the places below this one too, without their sections.
+    #[must_use]
+    pub fn passed_to(self, place: u8) -> SummedNode
+        requires { self.node.place ≤ place }
+        ensures summed { (menu : MenuData) (price : ℕ → ℕ) → IsSummed menu price self
+            → IsSummed menu price result }
+        ensures place { result.node.place ≡ place }
+        ensures chosen { chosen_of result ≡ chosen_of self }
+    {
         SummedNode {
             node: Node {
-                place: self.node.place + 1,
+                place,
                 chosen: self.node.chosen,
             },
             ..self
@@ -194,13 +206,13 @@ impl SummedNode {
     }
 
     // Whether the champion has the first section on which it differs from all that completes the
-    // node.
-    pub(crate) fn is_behind(&self, champion: &SummedNode) -> bool
+    // node where the places below this one are decided.
+    pub(crate) fn is_behind(&self, place: u8, champion: &SummedNode) -> bool
         ensures { (menu : MenuData) (prices : List Tokens) (budget : ℕ) (allowed : set.FinSet nat_cmp) → IsMenu menu
-            → IsSummed menu (price_in prices) self.now → IsNode (offer_of menu prices budget allowed) self.now.node.place (chosen_of self.now)
+            → IsSummed menu (price_in prices) self.now → IsNode (offer_of menu prices budget allowed) place (chosen_of self.now)
             → IsSummed menu (price_in prices) champion.now → IsTakable (offer_of menu prices budget allowed) (chosen_of champion.now) → IsTrue result
-            → ComesFirst (offer_of menu prices budget allowed) self.now.node.place (chosen_of self.now) (chosen_of champion.now) }
+            → ComesFirst (offer_of menu prices budget allowed) place (chosen_of self.now) (chosen_of champion.now) }
     {
-        is_ahead(self.node.place, champion.places(), self.places())
+        is_ahead(place, champion.places(), self.places())
     }
 }
