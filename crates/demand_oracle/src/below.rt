@@ -20,9 +20,9 @@ use crate::question::Question;
 use crate::summed_node::SummedNode;
 use bundle_rules::{Bundle, Menu, prefers};
 
-// Searches what completes a node, and leaves the best of that and of the champion. The word has a
-// bit for each undecided place that may be taken alone and clashes with no chosen one. How many
-// times it was looked up what can be reached is told.
+/// Searches what completes a node, and leaves the best of that and of the champion. The word has a
+/// bit for each undecided place that may be taken alone and clashes with no chosen one. How many
+/// times it was looked up what can be reached is told.
 pub(crate) fn below(
     question: &Question,
     summed: &SummedNode,

@@ -29,7 +29,7 @@ pub(crate) struct Goods {
 impl Goods {
     ghost use Rattle.demand_oracle.specs.AtPlaces.{IsGoods};
 
-    // The goods of a menu at these prices, with this budget and these allowed sections.
+    /// The goods of a menu at these prices, with this budget and these allowed sections.
     pub(crate) fn of(menu: &Menu, prices: &[Tokens], budget: Tokens, allowed: &SectionSet) -> Goods
         requires { HasPrices menu.now prices.now }
         ensures goods { IsGoods (offer_of menu.now prices.now budget.0 allowed.now) result }
