@@ -238,26 +238,27 @@ fn envy_beyond_one_section(rt: HostRuntime) -> Result<(), Fail> {
 }
 
 const USEFUL: Case = Case {
-    catalogue: b"section,course,seats,credits,meetings\nA,AA,1,1,\nB,BB,1,1,\n",
+    catalogue: b"section,course,seats,credits,meetings\nA,AA,1,1,\nB,BB,1,1,\nC,CC,1,1,\nD,DD,1,1,\n",
     roll: TWO_NAMES,
     students: &[
-        (300, 2, &[(0, 0, 50), (1, 1, 50)], &[], &[0; 2]),
-        (100, 2, &[(1, 1, 50)], &[], &[0]),
+        (300, 3, &[(0, 0, 50), (1, 1, 50), (3, 3, 50)], &[], &[0; 3]),
+        (100, 3, &[(0, 0, 50), (1, 1, 50), (2, 2, 60)], &[], &[0; 3]),
     ],
-    settled: &[&[A, B], &[]],
-    last: &[&[A, B], &[]],
+    settled: &[&[A, B, D], &[C]],
+    last: &[&[A, B, D], &[C]],
     text: "settled u 0 0 0
 settled v 0 1 0
-sees u [B] but for B
+sees u [A,B] but for A
 settled total 0 1 0
 final u 0 0 0
 final v 0 1 0
-sees u [B] but for B
+sees u [A,B] but for A
 final total 0 1 0
 ",
 };
 
-// What a student does not rate it does not see.
+// What a student does not rate it does not see. But for either of the two sections that it sees the
+// envy ends, and the lower one is told.
 #[test]
 fn sees_only_what_is_of_use(rt: HostRuntime) -> Result<(), Fail> {
     try_case(&rt, rt.alloc(), &USEFUL)
