@@ -1,5 +1,9 @@
 // The crowd of four students.
-use course_catalog::read_catalog;
+ghost use Rattle.std.specs.Prelude.{◌≡◌};
+ghost use Rattle.preference_desk.specs.DeskView.{names_of};
+ghost use Rattle.preference_desk.specs.MarketNames.{market_names};
+
+use course_catalog::{Catalog, read_catalog};
 use demand_api::Crowd;
 use market_crowd::make_crowd;
 use market_units::Tokens;
@@ -7,7 +11,7 @@ use preference_desk::Desk;
 use std::alloc::Global;
 use std::process::Abort;
 use std::test::Fail;
-use student_roll::read_roll;
+use student_roll::{Roll, read_roll};
 use utility_language::read_line;
 
 const CATALOGUE: &[u8] = b"section,course,seats,credits,meetings\nA,AA,1,1,\nX,XX,1,1,\n";
@@ -17,6 +21,15 @@ const ROLL: &[u8] =
 
 // Seed 0 draws the ranks 2, 1, 0, 3 for four students.
 const BUDGETS: [Tokens; 4] = [Tokens(104), Tokens(103), Tokens(102), Tokens(116)];
+
+// The desk at which one line was said.
+fn desk_after(rt: &impl Abort, alloc: Global, catalog: &Catalog, roll: &Roll, line: &[u8]) -> Desk
+    ensures { names_of result ≡ market_names catalog.now.sections roll.now.students }
+{
+    let mut desk = Desk::prepare(alloc, catalog, roll, 1).expect(rt, "memory");
+    desk.post(1, read_line(line).expect(rt, "a command"));
+    desk
+}
 
 // The crowd of these students after one of them said this, with the budgets that seed 0 draws with
 // a spread of 2.
@@ -30,8 +43,7 @@ fn crowd_after(
     assert!(rt; catalogue.len() < 10_000 && students.len() < 10_000);
     let catalog = read_catalog(alloc, catalogue).expect(rt, "a catalogue");
     let roll = read_roll(alloc, students).expect(rt, "a roll");
-    let mut desk = Desk::prepare(alloc, &catalog, &roll, 1).expect(rt, "memory");
-    desk.post(1, read_line(line).expect(rt, "a command"));
+    let desk = desk_after(rt, alloc, &catalog, &roll, line);
     make_crowd(alloc, &catalog, &roll, desk.closed(), 0, 2).expect(rt, "memory")
 }
 

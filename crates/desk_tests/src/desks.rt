@@ -117,33 +117,36 @@ fn wanted(rt: &impl Abort, alloc: Global, desk: &Desk) -> Result<String, Fail> {
     Ok(format!(in alloc; "{} {last:?} {} {first:?}", ratings.len(), pairs.len())?)
 }
 
+fn assert_wanted(rt: &impl Abort, alloc: Global, desk: &Desk, told: &str) -> Result<(), Fail> {
+    let wants = wanted(rt, alloc, desk)?;
+    assert_eq!(rt; wants.as_str(), told);
+    Ok(())
+}
+
 #[test]
 fn the_eight_replies_in_their_order(rt: HostRuntime) -> Result<(), Fail> {
-    let alloc = rt.alloc();
-    let mut desk = desk(&rt, alloc, 2)?;
-    say_each(&rt, alloc, &mut desk, LINES)?;
+    let mut desk = desk(&rt, rt.alloc(), 2)?;
+    say_each(&rt, rt.alloc(), &mut desk, LINES)?;
     assert_eq!(rt; desk.journal().len(), 16);
-    assert_eq!(rt;
-        wanted(&rt, alloc, &desk)?.as_str(),
-        "1 Some((SectionNo(0), 100)) 1 Some((SectionNo(0), SectionNo(1), -200))"
-    );
+    let told = "1 Some((SectionNo(0), 100)) 1 Some((SectionNo(0), SectionNo(1), -200))";
+    assert_wanted(&rt, rt.alloc(), &desk, told)
+}
+
+// Ann rates the sections X1 to X60.
+fn rate_sixty(rt: &impl Abort, alloc: Global, desk: &mut Desk) -> Result<(), Fail> {
+    for section in 1..=60u16 {
+        let line = format!(in alloc; "rate ann X{section} 1")?;
+        say(rt, alloc, desk, line.as_str(), "Done")?;
+    }
     Ok(())
 }
 
 #[test]
 fn at_most_sixty_ratings(rt: HostRuntime) -> Result<(), Fail> {
-    let alloc = rt.alloc();
-    let mut desk = desk(&rt, alloc, 61)?;
-    for section in 1..=60u16 {
-        let line = format!(in alloc; "rate ann X{section} 1")?;
-        say(&rt, alloc, &mut desk, line.as_str(), "Done")?;
-    }
-    say_each(&rt, alloc, &mut desk, AFTER_SIXTY)?;
-    assert_eq!(rt;
-        wanted(&rt, alloc, &desk)?.as_str(),
-        "60 Some((SectionNo(60), 3)) 0 None"
-    );
-    Ok(())
+    let mut desk = desk(&rt, rt.alloc(), 61)?;
+    rate_sixty(&rt, rt.alloc(), &mut desk)?;
+    say_each(&rt, rt.alloc(), &mut desk, AFTER_SIXTY)?;
+    assert_wanted(&rt, rt.alloc(), &desk, "60 Some((SectionNo(60), 3)) 0 None")
 }
 
 // Ann adjusts the pair of the sections with these numbers by 5.
@@ -158,36 +161,38 @@ fn adjust(
     say(rt, alloc, desk, line.as_str(), "Done")
 }
 
-#[test]
-fn at_most_two_hundred_adjustments(rt: HostRuntime) -> Result<(), Fail> {
-    let alloc = rt.alloc();
-    let mut desk = desk(&rt, alloc, 21)?;
-    for second in 1..=20u16 {
-        for first in 1..second {
-            adjust(&rt, alloc, &mut desk, first, second)?;
-        }
+// Ann adjusts so many of the pairs of this section and the first ones.
+fn adjust_each(
+    rt: &impl Abort,
+    alloc: Global,
+    desk: &mut Desk,
+    second: u16,
+    count: u16,
+) -> Result<(), Fail> {
+    for first in 1..=count {
+        adjust(rt, alloc, desk, first, second)?;
     }
-    for first in 1..=10u16 {
-        adjust(&rt, alloc, &mut desk, first, 21)?;
-    }
-    say_each(&rt, alloc, &mut desk, AFTER_TWO_HUNDRED)?;
-    assert_eq!(rt;
-        wanted(&rt, alloc, &desk)?.as_str(),
-        "0 None 200 Some((SectionNo(0), SectionNo(1), 7))"
-    );
     Ok(())
 }
 
 #[test]
+fn at_most_two_hundred_adjustments(rt: HostRuntime) -> Result<(), Fail> {
+    let mut desk = desk(&rt, rt.alloc(), 21)?;
+    for (second, count) in (2..=20u16).zip(1..=19u16) {
+        adjust_each(&rt, rt.alloc(), &mut desk, second, count)?;
+    }
+    adjust_each(&rt, rt.alloc(), &mut desk, 21, 10)?;
+    say_each(&rt, rt.alloc(), &mut desk, AFTER_TWO_HUNDRED)?;
+    let told = "0 None 200 Some((SectionNo(0), SectionNo(1), 7))";
+    assert_wanted(&rt, rt.alloc(), &desk, told)
+}
+
+#[test]
 fn adjustments_stay_when_a_rating_goes(rt: HostRuntime) -> Result<(), Fail> {
-    let alloc = rt.alloc();
-    let mut desk = desk(&rt, alloc, 3)?;
-    say_each(&rt, alloc, &mut desk, STAYING)?;
-    assert_eq!(rt;
-        wanted(&rt, alloc, &desk)?.as_str(),
-        "0 None 1 Some((SectionNo(0), SectionNo(1), 9))"
-    );
-    say(&rt, alloc, &mut desk, "clear ann", "Done")?;
-    assert_eq!(rt; wanted(&rt, alloc, &desk)?.as_str(), "0 None 0 None");
-    Ok(())
+    let mut desk = desk(&rt, rt.alloc(), 3)?;
+    say_each(&rt, rt.alloc(), &mut desk, STAYING)?;
+    let told = "0 None 1 Some((SectionNo(0), SectionNo(1), 9))";
+    assert_wanted(&rt, rt.alloc(), &desk, told)?;
+    say_each(&rt, rt.alloc(), &mut desk, "clear ann => Done\n")?;
+    assert_wanted(&rt, rt.alloc(), &desk, "0 None 0 None")
 }

@@ -1,10 +1,11 @@
 // Two sessions at one desk.
 ghost use Rattle.std.specs.Prelude.{◌≤◌, length, IfOk};
+ghost use Rattle.session_hall.specs.Streams.{command_count};
 
 use crate::readers::{catalog_in, roll_in};
 use gates::HoldingGate;
 use market_edge::{Gate, MeetingGate};
-use market_units::{SectionNo, StudentNo};
+use market_units::{MAX_COMMANDS, MAX_SESSIONS, NoMemory, SectionNo, StudentNo};
 use preference_desk::{Entry, Reply};
 use session_hall::{ClosedDesk, hold};
 use std::alloc::Global;
@@ -49,17 +50,32 @@ fn stream_of(alloc: Global, lines: &[(&[u8], Reply)]) -> Result<Vec<Command>, Fa
     Ok(commands)
 }
 
+// What sessions of these streams leave.
+fn hold_streams<R: Abort + Threads + Wait + Sync, G: Gate + Sync>(
+    rt: &R,
+    alloc: Global,
+    streams: &[Vec<Command>],
+    gate: &G,
+) -> Result<ClosedDesk, NoMemory>
+    requires sessions { (1 ≤ length streams.now) × (length streams.now ≤ MAX_SESSIONS) }
+    requires commands { command_count streams.now ≤ MAX_COMMANDS }
+{
+    let catalog = catalog_in(rt, alloc, CATALOG);
+    let roll = roll_in(rt, alloc, ROLL);
+    hold(rt, alloc, &catalog, &roll, streams, gate)
+}
+
 // What two sessions with these lines leave.
 fn hold_two<R: Abort + Threads + Wait + Sync, G: Gate + Sync>(
     rt: &R,
     alloc: Global,
-    lines: [&[(&[u8], Reply)]; 2],
+    first: &[(&[u8], Reply)],
+    second: &[(&[u8], Reply)],
     gate: &G,
 ) -> Result<ClosedDesk, Fail> {
-    let catalog = catalog_in(rt, alloc, CATALOG);
-    let roll = roll_in(rt, alloc, ROLL);
-    let streams = [stream_of(alloc, lines[0])?, stream_of(alloc, lines[1])?];
-    Ok(hold(rt, alloc, &catalog, &roll, &streams, gate)?)
+    let first = stream_of(alloc, first)?;
+    let second = stream_of(alloc, second)?;
+    Ok(hold_streams(rt, alloc, &[first, second], gate)?)
 }
 
 // Whether the entries of this session are these lines with their replies, in order.
@@ -109,7 +125,7 @@ fn assert_counts(rt: &impl Abort, gate: &MeetingGate) {
 #[test]
 fn two_sessions_post_at_once(rt: HostRuntime) -> Result<(), Fail> {
     let gate = MeetingGate::new();
-    let closed = hold_two(&rt, rt.alloc(), [&FIRST, &SECOND], &gate)?;
+    let closed = hold_two(&rt, rt.alloc(), &FIRST, &SECOND, &gate)?;
     let entries = closed.desk.journal();
     assert_eq!(rt; entries.len(), 7);
     assert!(rt; is_posted(entries, 1, &FIRST));
@@ -121,27 +137,30 @@ fn two_sessions_post_at_once(rt: HostRuntime) -> Result<(), Fail> {
     Ok(())
 }
 
+// The entries are the first two lines of the first session, and then those of the second.
+fn assert_two_after_two(rt: &impl Abort, entries: &[Entry]) {
+    let [one, two, three, four] = entries else {
+        panic!(rt; "four entries")
+    };
+    let sessions = [one.session, two.session, three.session, four.session];
+    assert!(rt; sessions == [1, 1, 2, 2]);
+    assert!(rt; is_posted(entries, 1, &FIRST[..2]));
+    assert!(rt; is_posted(entries, 2, &SECOND[..2]));
+}
+
 // Each session passes its gate after its reply: the first one's last pass lets the second begin,
 // and the second one's last pass lets the first go on, so the first has posted both its lines
 // before the second posts one.
 #[test]
 fn a_session_is_held_after_its_reply(rt: HostRuntime) -> Result<(), Fail> {
     let gate = HoldingGate::new();
-    let lines = [&FIRST[..2], &SECOND[..2]];
-    let closed = hold_two(&rt, rt.alloc(), lines, &gate)?;
-    let entries = closed.desk.journal();
-    assert_eq!(rt; entries.len(), 4);
-    let sessions = [
-        entries[0].session,
-        entries[1].session,
-        entries[2].session,
-        entries[3].session,
+    let closed = hold_two(&rt, rt.alloc(), &FIRST[..2], &SECOND[..2], &gate)?;
+    assert_two_after_two(&rt, closed.desk.journal());
+    let counts = [
+        count_of(&gate.first_calls),
+        count_of(&gate.second_calls),
+        count_of(&gate.missed),
     ];
-    assert_eq!(rt; sessions, [1, 1, 2, 2]);
-    assert!(rt; is_posted(entries, 1, lines[0]));
-    assert!(rt; is_posted(entries, 2, lines[1]));
-    let calls = [count_of(&gate.first_calls), count_of(&gate.second_calls)];
-    assert_eq!(rt; calls, [2, 2]);
-    assert_eq!(rt; count_of(&gate.missed), 0);
+    assert_eq!(rt; counts, [2, 2, 0]);
     Ok(())
 }

@@ -1,4 +1,4 @@
-use Rattle.std.proofs.Common.{◌<◌, ◌≤◌, ◌∙◌, length, rules}
+use Rattle.std.proofs.Common.{◌<◌, ◌≤◌, ◌∙◌, length, arith}
 use Rattle.std.specs.FinSet as set
 use Rattle.std.proofs.lemmas.List.{take_all}
 use Rattle.bundle_rules.specs.Bundles.{sections_of}
@@ -12,11 +12,11 @@ use Rattle.stage_tests.proofs.aftermarkets.taken.Goals as goal
 pub best_plain-bundle-requires : goal.best_plain-bundle-requires
 best_plain-bundle-requires c =
     menu_priced c.args.crowd.now c.args.prices.now c.loop-place.place c.index.result.now
-    c.requires.prices (search rules) c.index.ensures
+    c.requires.prices (omega (arith, c.len-place-end.ensures, c.loop-place-test.true)) c.index.ensures
 
 pub loop-place-preserved : goal.loop-place-preserved
 loop-place-preserved c =
-    let low : c.loop-place.place < length c.args.crowd.now.menus.items = search rules in
+    let low : c.loop-place.place < length c.args.crowd.now.menus.items = omega (arith, c.len-place-end.ensures, c.loop-place-test.true) in
     let all = demands (data_of c.args.crowd.now) (price_in c.args.prices.now) in
     let long =
     demands_length c.args.crowd.now (price_in c.args.prices.now) in
@@ -27,7 +27,7 @@ loop-place-preserved c =
 
 pub returns : goal.returns
 returns c =
-    let past : length c.args.crowd.now.menus.items ≤ c.loop-place.place = search rules in
+    let past : length c.args.crowd.now.menus.items ≤ c.loop-place.place = omega (arith, c.len-place-end.ensures, c.loop-place-test.false) in
     let all = demands (data_of c.args.crowd.now) (price_in c.args.prices.now) in
     let long =
     demands_length c.args.crowd.now (price_in c.args.prices.now) in
