@@ -119,18 +119,21 @@ fn settle<R: Abort + Wait>(
     Ok((drawn, board.close(seats).exceeds(0)))
 }
 
+// A limit, the students who are drawn until it decides, and whether more take the section.
+const SETTLED: [(u32, &[u16], bool); 3] = [
+    (2, &[0, 1, 2], true),
+    (3, &[0, 1, 2, 3], true),
+    (4, &[], false),
+];
+
 // A version is settled as soon as its posted bundles decide.
 #[test]
 fn a_version_settles_early(rt: HostRuntime) -> Result<(), Fail> {
-    let (drawn, exceeds) = settle(&rt, rt.alloc(), 2)?;
-    assert_eq!(rt; drawn.as_slice(), [0, 1, 2].as_slice());
-    assert_eq!(rt; exceeds, Some(true));
-    let (drawn, exceeds) = settle(&rt, rt.alloc(), 3)?;
-    assert_eq!(rt; drawn.as_slice(), [0, 1, 2, 3].as_slice());
-    assert_eq!(rt; exceeds, Some(true));
-    let (drawn, exceeds) = settle(&rt, rt.alloc(), 4)?;
-    assert_eq!(rt; drawn.as_slice(), [].as_slice());
-    assert_eq!(rt; exceeds, Some(false));
+    for (limit, students, more) in SETTLED {
+        let (drawn, exceeds) = settle(&rt, rt.alloc(), limit)?;
+        assert_eq!(rt; drawn.as_slice(), students);
+        assert_eq!(rt; exceeds, Some(more));
+    }
     Ok(())
 }
 

@@ -106,10 +106,10 @@ fn counts_by<R: Abort + Threads + Wait + Sync>(
 
 #[test]
 fn counts_of_four_students(rt: HostRuntime) -> Result<(), Fail> {
-    let alloc = rt.alloc();
-    assert_eq!(rt; counts_by(&rt, alloc, 1, &OpenGate)?, [0, 2, 1, 4]);
-    assert_eq!(rt; counts_by(&rt, alloc, 2, &OpenGate)?, [0, 2, 1, 4]);
-    assert_eq!(rt; counts_by(&rt, alloc, 16, &OpenGate)?, [0, 2, 1, 4]);
+    for workers in [1, 2, 16] {
+        let found = counts_by(&rt, rt.alloc(), workers, &OpenGate)?;
+        assert_eq!(rt; found, [0, 2, 1, 4], "{workers} workers");
+    }
     Ok(())
 }
 
@@ -188,11 +188,10 @@ fn bundles_by<R: Abort + Threads + Wait + Sync>(
 
 #[test]
 fn bundles_of_four_students(rt: HostRuntime) -> Result<(), Fail> {
-    let alloc = rt.alloc();
-    let wanted = [true, false, true, true];
-    assert_eq!(rt; bundles_by(&rt, alloc, 1)?, wanted);
-    assert_eq!(rt; bundles_by(&rt, alloc, 2)?, wanted);
-    assert_eq!(rt; bundles_by(&rt, alloc, 16)?, wanted);
+    for workers in [1, 2, 16] {
+        let found = bundles_by(&rt, rt.alloc(), workers)?;
+        assert_eq!(rt; found, [true, false, true, true], "{workers} workers");
+    }
     Ok(())
 }
 
@@ -216,10 +215,9 @@ fn settle<R: Abort + Threads + Wait + Sync>(
 
 #[test]
 fn a_comparison_settles_early(rt: HostRuntime) -> Result<(), Fail> {
-    let alloc = rt.alloc();
-    assert_eq!(rt; settle(&rt, alloc, 2)?, (true, 3));
-    assert_eq!(rt; settle(&rt, alloc, 3)?, (true, 4));
-    assert_eq!(rt; settle(&rt, alloc, 4)?, (false, 0));
+    for (limit, wanted) in [(2, (true, 3)), (3, (true, 4)), (4, (false, 0))] {
+        assert_eq!(rt; settle(&rt, rt.alloc(), limit)?, wanted);
+    }
     Ok(())
 }
 

@@ -1,7 +1,7 @@
 // A worked term and its forged texts, each with the line of its finding.
 ghost use Rattle.market_settings.specs.Settings.{AreInRange};
 
-use crate::readers::{catalog_in, commands_in, roll_in, settings_in};
+use crate::readers::{catalog_in, roll_in, settings_in, streams_in};
 use certificate_checker::{CheckEnd, check, finding_line};
 use course_catalog::Catalog;
 use market_settings::Settings;
@@ -84,8 +84,7 @@ fn found(
     let catalog = catalog_in(rt, alloc, market.term.catalogue);
     let roll = roll_in(rt, alloc, market.term.roll);
     let settings = settings_in(rt, alloc, market.settings);
-    let mut streams = Vec::new(alloc);
-    streams.push(commands_in(rt, alloc, market.session))?;
+    let streams = streams_in(rt, alloc, market.session);
     judged(rt, alloc, &catalog, &roll, &settings, &streams, text)
 }
 

@@ -1,5 +1,6 @@
 // Made markets that are run. The summaries are worked examples that were computed apart from this
 // program.
+use crate::summaries::TWO_STUDENTS;
 use made_run::made_summary;
 use market_edge::OpenGate;
 use published_market::PublishEnd;
@@ -28,38 +29,22 @@ fn summary_by<R: Abort + Threads + Wait + Sync>(
     }
 }
 
+// Workers, the numbers of a market, and its summary.
+const SUMMARIES: [(u16, (u64, u16, u16, u64), &[u8]); 3] = [
+    (1, (7, 2, 2, 0), TWO_STUDENTS),
+    (2, (7, 2, 2, 0), TWO_STUDENTS),
+    (2, (0, 1, 1, 0), ONE_STUDENT),
+];
+
+const ONE_STUDENT: &[u8] =
+    b"students 1\nsections 1\ncommands 1\nerror 0\nturns 0\nrounds 0\npasses 1\nseats 1\nutility 54\nproof 6\n";
+
 #[test]
 fn summaries_of_made_markets(rt: HostRuntime) {
-    let alloc = rt.alloc();
-    let cases: [(u16, (u64, u16, u16, u64), Result<&str, u64>); 4] = [
-        (
-            1,
-            (7, 2, 2, 0),
-            Ok(
-                "students 2\nsections 2\ncommands 6\nerror 0\nturns 0\nrounds 0\npasses 1\nseats 2\nutility 182\nproof 17\n",
-            ),
-        ),
-        (
-            2,
-            (7, 2, 2, 0),
-            Ok(
-                "students 2\nsections 2\ncommands 6\nerror 0\nturns 0\nrounds 0\npasses 1\nseats 2\nutility 182\nproof 17\n",
-            ),
-        ),
-        (
-            2,
-            (0, 1, 1, 0),
-            Ok(
-                "students 1\nsections 1\ncommands 1\nerror 0\nturns 0\nrounds 0\npasses 1\nseats 1\nutility 54\nproof 6\n",
-            ),
-        ),
-        (16, (7, 40, 15, 0), Err(3)),
-    ];
-    for (workers, numbers, wanted) in cases {
-        match (summary_by(&rt, alloc, workers, numbers), wanted) {
-            (Ok(text), Ok(wanted)) => assert_eq!(rt; text.as_slice(), wanted.as_bytes()),
-            (Err(least), Err(wanted)) => assert_eq!(rt; least, wanted),
-            _ => panic!(rt; "a summary or an error of {workers} workers"),
-        }
+    for (workers, numbers, wanted) in SUMMARIES {
+        let summary = summary_by(&rt, rt.alloc(), workers, numbers).expect(&rt, "prices");
+        assert_eq!(rt; summary.as_slice(), wanted, "{workers} workers");
     }
+    let unpriced = summary_by(&rt, rt.alloc(), 16, (7, 40, 15, 0));
+    assert!(rt; matches!(&unpriced, Err(3)));
 }

@@ -31,3 +31,12 @@ pub fn settings_in(rt: &impl Abort, alloc: Global, text: &[u8]) -> Settings
 pub fn commands_in(rt: &impl Abort, alloc: Global, text: &[u8]) -> Vec<Command> {
     read_stream(alloc, text, 100).expect(rt, "commands")
 }
+
+// The streams of one session that says this.
+pub fn streams_in(rt: &impl Abort, alloc: Global, text: &[u8]) -> Vec<Vec<Command>> {
+    let mut streams = Vec::new(alloc);
+    streams
+        .push(commands_in(rt, alloc, text))
+        .expect(rt, "memory");
+    streams
+}
