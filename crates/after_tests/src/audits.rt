@@ -36,8 +36,8 @@ type Student = (
     &'static [u64],
 );
 
-// A market: its tables, its students, what they have after stage two and at last, and the text of
-// its audit.
+// A market: its tables, its students, what they have after the second stage and at last, and the
+// text of its audit.
 #[derive(Clone, Copy)]
 struct Case {
     catalogue: &'static [u8],

@@ -70,8 +70,8 @@ fn a_hall_passes_the_gate(rt: HostRuntime) {
     assert_eq!(rt; watch.counts(), (5, 0, 0));
 }
 
-// An audit by so many workers, each of which starts with the rows of stage two and with the final
-// ones.
+// An audit by so many workers, each of which starts with the rows of the second stage and with the
+// final ones.
 fn try_audit<R: Abort + Threads + Wait + Sync>(rt: &R, alloc: Global, workers: u16)
     requires { (1 ≤ workers) × (workers ≤ MAX_WORKERS) }
 {

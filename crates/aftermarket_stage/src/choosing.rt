@@ -25,7 +25,8 @@ pub(crate) struct Chooser {
 }
 
 impl Chooser {
-    // A chooser for so many students, of whom nothing is known.
+    /// A chooser for so many students: its memory is taken, and of no student a best bundle is
+    /// known yet.
     pub(crate) fn reserve(alloc: Global, students: usize) -> Result<Chooser, NoMemory>
         ensures size { IfOk result (λ chooser. length chooser.known.items ≡ students) }
         ensures none { IfOk result (λ chooser. All (λ known. known ≡ None) chooser.known.items) }
@@ -40,9 +41,9 @@ impl Chooser {
         })
     }
 
-    // The best bundle of allowed sections of the student at this place, within its raised budget.
-    // What the student holds is allowed: where nothing else on its menu is new since its bundle was
-    // found, the bundle is still the best.
+    /// The best bundle of allowed sections for the student at this place of the crowd, bought with
+    /// its raised budget. What the student holds is allowed: where nothing else on its menu is new
+    /// since its bundle was found, the bundle is still the best, and no search is made.
     pub(crate) fn best_at(
         &mut self,
         crowd: &Crowd,

@@ -17,8 +17,8 @@ MayPrune offer wanted k chosen champion =
     (bundle : List ℕ) → IsTakable offer bundle → wanted bundle ≡ true
     → Completes offer k chosen bundle → IsAsGood offer champion bundle
 
--- the champion has the first section on which it differs from every takable bundle that completes
--- the node
+-- for every takable bundle that completes the node: the first section that only one of it and the
+-- champion has is the champion's
 abbrev pub ComesFirst : Offer → ℕ → List ℕ → List ℕ → Type 0
 ComesFirst offer k chosen champion =
     (bundle : List ℕ) → IsTakable offer bundle → Completes offer k chosen bundle

@@ -14,6 +14,6 @@ mod sifting;
 mod stems;
 mod tangents;
 
-pub use nodes::{Leaf, Node, bound, bound_prunes, is_open};
+pub use nodes::{Leaf, Node, bound, bound_closes, is_open};
 pub use places::{adjustments_with, is_apart, price_of_place};
 pub use stems::Stem;

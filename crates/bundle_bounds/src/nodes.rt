@@ -99,7 +99,7 @@ pub fn bound(
 /// The first bound of the node's menu of bounds that prunes it for this champion: one below 1000
 /// times the champion's utility, or below 1000 times one more than it where the first decided place
 /// on which they differ is the champion's. `None` exactly where none prunes it.
-pub fn bound_prunes(
+pub fn bound_closes(
     menu: &Menu,
     prices: &[Tokens],
     budget: Tokens,
@@ -131,7 +131,9 @@ pub fn bound_prunes(
     first_below(base, limit, rests, &room[start..])
 }
 
-// The number below which a bound prunes the node.
+/// A bound below this number prunes the node: 1000 u, u being the champion's utility; or
+/// 1000 (u + 1), where the champion has the first decided place on which it and the chosen ones
+/// differ.
 pub(crate) fn limit_of(menu: &Menu, node: &Node, chosen: &[u8], champion: &Bundle) -> i64
     requires champion { IsFeasible (wishes_of menu.now) (sections_of champion.now) }
     ensures { result

@@ -27,6 +27,8 @@ pub(crate) struct Rests {
     pub(crate) courses: u32,
 }
 
+/// What the chosen places leave of the budget in tokens, of the credit cap and of the course cap; 0
+/// where they take more.
 pub(crate) fn rests_of(menu: &Menu, prices: &[Tokens], budget: Tokens, chosen: &[u8]) -> Rests
     requires prices { HasPrices menu.now prices.now }
     requires on_menu { AreOnMenu menu.now chosen.now }
@@ -71,7 +73,8 @@ fn credits_of(menu: &Menu, chosen: &[u8]) -> u32
     }
 }
 
-// The positive adjustments of a place with later open ones.
+/// The most that a place's adjustments with later open places can add to the utility: the positive
+/// ones, added up.
 pub(crate) fn hopes(menu: &Menu, place: u8, later: &[Prospect]) -> u32
     requires on_menu { All (λ other. other.place < length menu.now.places) later.now }
     requires place { place < length menu.now.places }
@@ -88,7 +91,8 @@ pub(crate) fn hopes(menu: &Menu, place: u8, later: &[Prospect]) -> u32
     }
 }
 
-// Whether an undecided place is open.
+/// Whether an undecided place is open: it is allowed, clashes with no chosen place, and fits what
+/// is left of the budget and of both caps.
 pub(crate) fn is_open_at(
     menu: &Menu,
     prices: &[Tokens],
@@ -135,7 +139,8 @@ fn first_of_course(places: &[Rated], course: u16) -> usize
     }
 }
 
-// A rating and adjustments added up, or 0 where the sum is negative.
+/// The most that a place can add to the utility: its rating, its adjustments with the chosen
+/// places, and what those with later places can add; 0 where the sum is negative.
 pub(crate) fn worth_of(rating: u8, adjustments: i32, hopes: u32) -> u32
     requires rating { rating ≤ MAX_RATING }
     requires low { neg_ℤ (pos 1600) ≤ℤ adjustments }
@@ -189,8 +194,8 @@ fn prospect_at(
     }
 }
 
-// Writes what is known of the open places from a place on to the end of the room, and gives where
-// it begins.
+/// Writes the prospects of the open places from a place on to the end of the room, in the menu's
+/// order, and gives where they begin.
 pub(crate) fn collect(
     menu: &Menu,
     prices: &[Tokens],

@@ -38,7 +38,7 @@ pub(crate) const NO_PROSPECTS: [Prospect; COURSES] = [Prospect {
     credits: 0,
 }; COURSES];
 
-// What a prospect takes of a resource.
+/// How much the place takes of a resource: its price in tokens, its credits, or 1 section.
 pub(crate) fn takes(prospect: &Prospect, resource: Resource) -> u64
     requires { IsModest prospect.now }
     ensures value { result ≡ takes_of resource prospect.now }
@@ -51,7 +51,8 @@ pub(crate) fn takes(prospect: &Prospect, resource: Resource) -> u64
     }
 }
 
-// What is left of 1000 times the worth at this price of what is taken.
+/// 1000 times the worth of a place, less this price times what the place takes of the resource; 0
+/// where that is negative.
 pub(crate) fn over_price(prospect: &Prospect, resource: Resource, price: u64) -> u64
     requires modest { IsModest prospect.now }
     requires price { price ≤ 20000001 }
@@ -61,7 +62,8 @@ pub(crate) fn over_price(prospect: &Prospect, resource: Resource, price: u64) ->
     (1000 * u64::from(prospect.worth)).saturating_sub(price * takes(prospect, resource))
 }
 
-// The price of the rest of a resource, and of each course the most that is left over the price.
+/// The price times what is left of the resource, and for each course the greatest `over_price` of
+/// its open places, added up.
 pub(crate) fn at_price(prospects: &[Prospect], resource: Resource, rest: u32, price: u64) -> u64
     requires modest { All IsModest prospects.now }
     requires few { length prospects.now ≤ MAX_RATINGS }
@@ -92,7 +94,7 @@ fn add_up(prospects: &[Prospect], resource: Resource, price: u64) -> u64
     sum
 }
 
-// What `at_price` is at this price, and what it is at the next.
+/// What `at_price` gives at this price, and what it gives at the price that is greater by 1.
 #[inline(always)]
 pub(crate) fn at_two_prices(
     prospects: &[Prospect],
@@ -139,8 +141,9 @@ fn add_up_twice(prospects: &[Prospect], resource: Resource, price: u64) -> (u64,
     (sum, next)
 }
 
-// How much a prospect in front of others adds to the greatest of each course. One that is alone is
-// the only one of its course.
+/// How much a prospect in front of others adds to the sum of each course's greatest `over_price`:
+/// what it has more than the greatest of its course behind it, or 0. One that is alone has none of
+/// its course behind it.
 pub(crate) fn added(
     prospect: &Prospect,
     more: &[Prospect],

@@ -159,7 +159,7 @@ fn first_of_resource(
     None
 }
 
-// Whether the plain bound, of so much above the base, is below the limit.
+/// Whether the plain bound, which is so much above the base, is below the limit.
 pub(crate) fn is_plain_below(base: i64, limit: i64, plain: u64) -> bool
     requires low { neg_ℤ (pos 3000000000000) ≤ℤ base }
     requires high { base ≤ℤ pos 3000000000000 }
@@ -170,7 +170,7 @@ pub(crate) fn is_plain_below(base: i64, limit: i64, plain: u64) -> bool
     least < limit
 }
 
-// The leaf of the first bound below the limit, of all bounds in their order.
+/// The leaf of the first bound below the limit, of all bounds in their order; `None` where none is.
 pub(crate) fn first_below(base: i64, limit: i64, rests: Rests, all: &[Prospect]) -> Option<Leaf>
     requires low { neg_ℤ (pos 3000000000000) ≤ℤ base }
     requires high { base ≤ℤ pos 3000000000000 }
@@ -185,7 +185,8 @@ pub(crate) fn first_below(base: i64, limit: i64, rests: Rests, all: &[Prospect])
     first_with(base, limit, rests, all, plain_sum(all), &mut tangents)
 }
 
-// The same where the sum of the plain bound is at hand, and some tangents are.
+/// The same as `first_below`, where the sum of the plain bound and some tangents are at hand.
+/// Tangents that are computed on the way are kept.
 #[inline(always)]
 pub(crate) fn first_with(
     base: i64,
@@ -319,7 +320,8 @@ fn resource_bound(
     }
 }
 
-// The bound of a leaf that is on the menu of bounds.
+/// The bound of a leaf, where the open places have a bound with that leaf; else the number means
+/// nothing.
 pub(crate) fn bound_of(base: i64, rests: Rests, all: &[Prospect], leaf: Leaf) -> i64
     requires low { neg_ℤ (pos 3000000000000) ≤ℤ base }
     requires high { base ≤ℤ pos 3000000000000 }

@@ -15,7 +15,8 @@ use crate::prospects::Prospect;
 use bundle_rules::Menu;
 use market_units::{MAX_COURSES, MAX_RATINGS};
 
-// What one more place leaves of the rests.
+/// What is left of the budget, the credits and the courses once one more place is chosen; 0 where
+/// it takes more than is left.
 pub(crate) fn rests_after(rests: Rests, one: &Prospect) -> Rests
     ensures budget { result.budget ≡ rests.budget - one.now.price }
     ensures credits { result.credits ≡ rests.credits - one.now.credits }
@@ -113,8 +114,8 @@ fn put_open(
     start - 1
 }
 
-// Writes those of the open places that stay open to the end of the room, and gives where they
-// begin.
+/// Writes the prospects of those open places that stay open beside one more chosen place to the end
+/// of the room, and gives where they begin.
 pub(crate) fn sift(
     menu: &Menu,
     chosen: &[u8],

@@ -110,7 +110,7 @@ impl Stem {
         }
     }
 
-    /// The first bound that prunes its node for the champion, as `bound_prunes` tells it.
+    /// The first bound that prunes its node for the champion, as `bound_closes` tells it.
     #[inline(always)]
     pub fn pruning(
         &mut self,

@@ -9,7 +9,7 @@ ghost use Rattle.bundle_rules.specs.Bundles.{sections_of};
 ghost use Rattle.bundle_rules.specs.Menus.{by_place, wishes_of, place_in, IsMenu};
 
 use crate::{Bundle, Menu, Places, is_ahead};
-use market_units::{MAX_ADJUSTMENT, MAX_COURSES, MAX_RATING};
+use market_units::{MAX_ADJUSTMENT, MAX_COURSES, MAX_SECTION_CREDITS};
 
 /// The sum of the bundle's ratings and of the adjustments of its unordered pairs. All its sections
 /// are on the menu.
@@ -142,7 +142,7 @@ fn credits_of(menu: &Menu, places: &[u8]) -> u32
     requires on_menu { All (λ place. place < length menu.now.places) places.now }
     requires few { length places.now ≤ MAX_COURSES }
     ensures value { result ≡ total (by_place menu.now).credits places.now }
-    ensures high { result ≤ MAX_RATING * length places.now }
+    ensures high { result ≤ MAX_SECTION_CREDITS * length places.now }
 {
     match places {
         [] => 0,

@@ -104,7 +104,7 @@ pub proved_is : (publication : declared.Publication) (k : ℕ) (item : declared_
     → item ≡ get_or publication.bundles.items k item → proved_in (publication_of publication) k ≡ proved_of item
 proved_is publication k item low is = get_or-map proved_of publication.bundles.items k item _ low ∙ ap proved_of (sym is)
 
--- what is offered in stage two
+-- what is offered in the second stage
 pub offer_is : (crowd : Crowd) (k : ℕ) (publication : declared.Publication) (m : MenuData) (b : Tokens)
     (all : set.FinSet nat_cmp)
     → k < length crowd.menus.items → m ≡ get_or crowd.menus.items k m → b ≡ get_or crowd.budgets.items k b
@@ -128,7 +128,7 @@ so_of_has P (x ∷ xs) all s is = elim (has-cases x xs s is) [
   | inr there ↦ so_of_has P xs (λ k d low. all (suc k) d (omega arith)) s there
 ]
 
--- the sections of a bundle of stage two are the catalogue's
+-- the sections of a bundle of the second stage are the catalogue's
 pub stage_two_below : (terms : Terms) (publication : declared.Publication) (k : ℕ) (item : declared_proved.Proved) → CanCheck terms (publication_of publication)
     → k < length publication.bundles.items → item ≡ get_or publication.bundles.items k item
     → All (λ s. s < terms.crowd.sections) (sections_of item.bundle)

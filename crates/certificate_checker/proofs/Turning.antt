@@ -155,7 +155,7 @@ pub before_length : (terms : Terms) (publication : declared.Publication) (k : �
     → length (held_before (publication_of publication) k) ≡ length terms.crowd.menus.items
 before_length terms publication k is = after_length terms publication (take k (publication_of publication).turns) is
 
--- the bundles of stage two are within the catalogue
+-- the bundles of the second stage are within the catalogue
 pub stage_two_fits : (terms : Terms) (publication : declared.Publication) (i : ℕ) (bundles lent : List Bundle) (seats : List ℕ)
     → CanCheck terms (publication_of publication) → seats ≡ terms.seats.items → lent ≡ bundles
     → map sections_of bundles ≡ map (λ (proved : Proved). proved.bundle) (map proved_of (take i publication.bundles.items))

@@ -223,7 +223,7 @@ fn check_printed(alloc: Global, terms: &Terms, publication: &Publication) -> Res
     Ok(())
 }
 
-// What is held in stage two.
+// What is held in the second stage.
 fn stage_two(alloc: Global, terms: &Terms, publication: &Publication) -> Result<Floor, NoMemory>
     requires { CanCheck terms.now (publication_of publication.now) }
     ensures held { IfOk result

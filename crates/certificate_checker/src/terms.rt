@@ -30,8 +30,8 @@ pub(crate) struct Terms {
     pub raise: u8,
 }
 
-// The terms of a market after the commands of an order, or the first entry at which it does not
-// merge the streams.
+/// What a check goes by in a market whose sessions' commands were taken in this order. Else a
+/// finding on the first entry at which the order does not merge the streams, or want of memory.
 pub(crate) fn terms_after(
     alloc: Global,
     catalog: &Catalog,

@@ -26,8 +26,10 @@ pub struct Crowd {
 impl Crowd {
     ghost use Rattle.demand_api.specs.Views.{data_of};
 
-    /// The crowd of these menus and budgets and so many sections, or `None` exactly where they are
-    /// not what a crowd may have.
+    /// The crowd of these menus and budgets and so many sections. `None` exactly where there are
+    /// not as many budgets as menus, or more than 2,000 of them, a budget above 1,000,000, more
+    /// than 400 sections, or a menu with a section that is none of these; the parts are dropped
+    /// then.
     pub fn of(menus: Vec<Menu>, budgets: Vec<Tokens>, sections: u16) -> Option<Crowd>
         ensures some { IsSome result ↔ ((length budgets.items ≡ length menus.items)
             × IsCrowd (of_parts menus.items budgets.items sections)) }

@@ -24,7 +24,8 @@ fn demand(crowd: &Crowd, prices: &[Tokens], allowed: &SectionSet, place: usize) 
     best_plain(&crowd.menus[place], prices, crowd.budgets[place], allowed)
 }
 
-// What the listed students take.
+/// The bundle that each listed student takes at these prices, in the order of the list. The only
+/// error is that memory was not given.
 pub(crate) fn bundles(
     alloc: Global,
     crowd: &Crowd,
@@ -47,7 +48,8 @@ pub(crate) fn bundles(
     Ok(bundles)
 }
 
-// How many students take each section.
+/// For each section, how many students take it at these prices. The only error is that memory was
+/// not given.
 pub(crate) fn counts_at(
     alloc: Global,
     crowd: &Crowd,
@@ -66,7 +68,7 @@ pub(crate) fn counts_at(
     Ok(counts)
 }
 
-// How many students take the section.
+/// How many students take the section at these prices.
 pub(crate) fn count_of(crowd: &Crowd, prices: &[Tokens], section: SectionNo) -> u32
     requires prices { ArePricesFor (data_of crowd.now) prices.now }
     ensures { result ≡ count (data_of crowd.now) (price_in prices.now) section.0 }

@@ -3,11 +3,13 @@ pub mod Beside
 pub mod SummedNodes
 pub mod Pruning
 pub mod Covering
+pub mod Descending
 pub mod Goodness
 pub mod Growing
 pub mod Hoping
 pub mod Openings
+pub mod Rows
 pub mod Searching
 pub mod Sound
-pub mod Stepping
+pub mod OpenPlaces
 pub mod Wanting

@@ -20,10 +20,10 @@ pub record IsOpenAt (offer : Offer) (summed : SummedNode) (place : ℕ) : Type 0
   pub apart : is_apart offer (places_of offer.menu (chosen_of summed)) place ≡ true
 
 module _ (offer : Offer) (menu : IsMenu offer.menu) (summed : SummedNode) (is : IsSummed offer.menu offer.price summed)
-    (node : IsNode offer summed.node.place (chosen_of summed)) where
+    (may : IsTakable offer (chosen_of summed)) where
   -- what its sums leave is what the node leaves
   pub budget_kept : offer.budget - summed.paid ≡ budget_left offer (places_of offer.menu (chosen_of summed))
-  budget_kept = ap (λ n. offer.budget - n) (is.paid ∙ sym (prices_by_place offer (chosen_of summed) (on_menu offer (chosen_of summed) node.takable)))
+  budget_kept = ap (λ n. offer.budget - n) (is.paid ∙ sym (prices_by_place offer (chosen_of summed) (on_menu offer (chosen_of summed) may)))
 
   pub credits_kept : offer.menu.credits - summed.credits ≡ credits_left offer (places_of offer.menu (chosen_of summed))
   unfolding by_place
@@ -32,23 +32,24 @@ module _ (offer : Offer) (menu : IsMenu offer.menu) (summed : SummedNode) (is : 
   pub courses_kept : offer.menu.courses - length (chosen_of summed) ≡ courses_left offer (places_of offer.menu (chosen_of summed))
   courses_kept = ap (λ n. offer.menu.courses - n) (sym (length-map (chosen_of summed) (place_in offer.menu.places)))
 
-  module _ (place : ℕ) (later : summed.node.place ≤ place) (low : place < length offer.menu.places) where
-    pub takable_where_open_at : IsOpenAt offer summed place → IsTakable offer (chosen_of summed ++ section_at offer.menu.places place ∷ [])
-    takable_where_open_at may =
-        takable_where_open offer menu place (chosen_of summed) (node_later offer summed.node.place place (chosen_of summed) later node) low record {
-          allowed = may.allowed;
-          apart = may.apart;
-          price = subst (λ n. price_at offer place ≤ n) budget_kept may.price;
-          credits = subst (λ n. credits_at offer.menu.places place ≤ n) credits_kept may.credits;
-          courses = subst (λ n. 1 ≤ n) courses_kept may.courses;
-        }
+module _ (offer : Offer) (menu : IsMenu offer.menu) (summed : SummedNode) (is : IsSummed offer.menu offer.price summed) (k : ℕ)
+    (node : IsNode offer k (chosen_of summed)) (place : ℕ) (later : k ≤ place) (low : place < length offer.menu.places) where
+  pub takable_where_open_at : IsOpenAt offer summed place → IsTakable offer (chosen_of summed ++ section_at offer.menu.places place ∷ [])
+  takable_where_open_at may =
+      takable_where_open offer menu place (chosen_of summed) (node_later offer k place (chosen_of summed) later node) low record {
+        allowed = may.allowed;
+        apart = may.apart;
+        price = subst (λ n. price_at offer place ≤ n) (budget_kept offer menu summed is node.takable) may.price;
+        credits = subst (λ n. credits_at offer.menu.places place ≤ n) (credits_kept offer menu summed is node.takable) may.credits;
+        courses = subst (λ n. 1 ≤ n) (courses_kept offer menu summed is node.takable) may.courses;
+      }
 
-    pub open_at_where_takable : IsTakable offer (chosen_of summed ++ section_at offer.menu.places place ∷ []) → IsOpenAt offer summed place
-    open_at_where_takable takable =
-        let at = open_where_takable offer menu place (chosen_of summed) (node_later offer summed.node.place place (chosen_of summed) later node) low takable in record {
-          allowed = at.allowed;
-          apart = at.apart;
-          price = subst (λ n. price_at offer place ≤ n) (sym budget_kept) at.price;
-          credits = subst (λ n. credits_at offer.menu.places place ≤ n) (sym credits_kept) at.credits;
-          courses = subst (λ n. 1 ≤ n) (sym courses_kept) at.courses;
-        }
+  pub open_at_where_takable : IsTakable offer (chosen_of summed ++ section_at offer.menu.places place ∷ []) → IsOpenAt offer summed place
+  open_at_where_takable takable =
+      let at = open_where_takable offer menu place (chosen_of summed) (node_later offer k place (chosen_of summed) later node) low takable in record {
+        allowed = at.allowed;
+        apart = at.apart;
+        price = subst (λ n. price_at offer place ≤ n) (sym (budget_kept offer menu summed is node.takable)) at.price;
+        credits = subst (λ n. credits_at offer.menu.places place ≤ n) (sym (credits_kept offer menu summed is node.takable)) at.credits;
+        courses = subst (λ n. 1 ≤ n) (sym (courses_kept offer menu summed is node.takable)) at.courses;
+      }

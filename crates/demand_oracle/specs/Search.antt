@@ -18,10 +18,10 @@ wanted_by menu (Some place) bundle = has bundle (section_at menu.places place)
 abbrev pub IsBetter : Wishes → (List ℕ → Bool) → List ℕ → List ℕ → Type 0
 IsBetter wishes wanted chosen champion = (wanted chosen ≡ true) × IsPreferred wishes chosen champion
 
--- the champion after the node that has decided the places below k, where these sections are
--- undecided: a node is pruned where it may be, else it is tried with the next section, where that
--- may be taken, and then without it; at the end the better one of the chosen sections and the
--- champion stays
+-- The result is the champion after a search below this node, where these sections are undecided.
+-- Where none is, it is the better of the chosen sections and the champion. Where the node may be
+-- pruned, the champion may stay as it is; else the search goes on with the next section, if it may
+-- be taken, and then without it.
 abbrev pub IsSearched : Offer → (List ℕ → Bool) → ℕ → List ℕ → List ℕ → List ℕ → List ℕ → Type 0
 IsSearched offer wanted k chosen [] champion result =
     (IsBetter (wishes_of offer.menu) wanted chosen champion × (result ≡ chosen))

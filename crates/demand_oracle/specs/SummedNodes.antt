@@ -25,10 +25,10 @@ pub record AreSmallSums (count paid credits : ℕ) (utility : ℤ) : Type 0 wher
   pub utility_low : neg_ℤ (pos (1700 * count)) ≤ℤ utility
   pub utility_high : utility ≤ℤ pos (1700 * count)
 
--- a node with its sums is one of this menu at these prices: its sections are rated and decided, and
--- their places, prices, credits and utility are kept; that the sums are small is kept too, though
--- it follows, so that callers need not say it. Callers take it as a word: `root`, `with_next` and
--- `without_next` give it
+-- The chosen sections of the node are rated and decided; it keeps their places, and their price,
+-- credits and utility at these prices. It also keeps that these sums are small, which follows from
+-- the rest, so that callers need not prove it. Callers need not look inside: `root`, `with_next`
+-- and `without_next` give it.
 pub record IsSummed (menu : MenuData) (price : ℕ → ℕ) (summed : SummedNode) : Type 0 where
   pub rated : AllRated (wishes_of menu) (chosen_of summed)
   pub decided : (s : ℕ) → has (chosen_of summed) s ≡ true

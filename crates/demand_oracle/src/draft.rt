@@ -25,8 +25,9 @@ pub(crate) struct Draft {
 }
 
 impl Draft {
-    // As many places as the course cap allows, each the one that adds most to those before it, of
-    // those that fit.
+    /// As many places as the course cap allows, or fewer where no more fit: each the one that adds
+    /// most to those before it, less what its price and its credits are counted for, of those that
+    /// fit.
     pub(crate) fn of(
         menu: &Menu,
         prices: &[Tokens],
@@ -70,7 +71,7 @@ impl Draft {
         draft
     }
 
-    // Whether the place is chosen.
+    /// Whether the place is chosen.
     pub(crate) fn has(&self, place: u8) -> bool
         requires { place < MAX_RATINGS }
     {

@@ -5,12 +5,14 @@
 // table that says everywhere that enough can be reached would keep every clause.
 #![tactic(auto)]
 
+mod below;
 mod draft;
+mod goods;
 pub mod laws;
 mod multipliers;
 mod oracle;
-mod pending;
 mod places;
+mod question;
 mod reach;
 mod summed_node;
 mod tables;

@@ -68,7 +68,8 @@ struct Line {
     taken: u64,
 }
 
-// Multipliers of both resources at which little can be reached.
+/// What a token and a credit are counted for, in the tables of what can be reached. Any multipliers
+/// are right; with these the tables have small numbers, so that much is pruned.
 pub(crate) fn multipliers_at(
     menu: &Menu,
     prices: &[Tokens],

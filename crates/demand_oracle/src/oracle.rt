@@ -1,23 +1,22 @@
 // The best bundle, by a depth-first search that prunes nodes by what can still be reached from
 // them.
-ghost use Rattle.std.specs.Prelude.{◌≡◌, ◌<◌, ◌≤◌, ◌⊎◌, ◌↔◌, [], ◌∷◌, ℕ, List, true, Some, IfSome, IfNone, IsTrue, length};
+ghost use Rattle.std.specs.Prelude.{◌≡◌, ◌<◌, [], ◌∷◌, ℕ, true, IfSome, IfNone, length};
 ghost use Rattle.std.specs.FinSet as set;
 ghost use Rattle.bundle_rules.specs.Bundles.{sections_of};
 ghost use Rattle.market_units.specs.Members.{has};
 ghost use Rattle.bundle_rules.specs.Demand.{price_in, HasPrices, IsBest};
 ghost use Rattle.bundle_rules.specs.Given.{IsBestWith, SomeHas};
-ghost use Rattle.bundle_rules.specs.Menus.{wishes_of, section_at, IsMenu};
-ghost use Rattle.bundle_rules.specs.Wishes.{IsFeasible};
-ghost use Rattle.bundle_bounds.specs.Prunings.{MayPrune};
-ghost use Rattle.bundle_bounds.specs.Laws.{IsNode, IsTakable};
+ghost use Rattle.bundle_rules.specs.Menus.{wishes_of, section_at};
+ghost use Rattle.bundle_bounds.specs.Laws.{IsTakable};
 ghost use Rattle.bundle_bounds.specs.Offers.{offer_of};
 ghost use Rattle.demand_oracle.specs.SummedNodes.{chosen_of, IsSummed};
-ghost use Rattle.demand_oracle.specs.Reaches.{IsReach};
 ghost use Rattle.demand_oracle.specs.Beside.{LeadsThoseWithout};
-ghost use Rattle.demand_oracle.specs.Search.{wanted_by, IsBetter, LeadsWanted};
-ghost use Rattle.demand_oracle.specs.Waiting.{IsChampion, MayWait, before_waiting, HasStepped};
+ghost use Rattle.demand_oracle.specs.Champions.{IsChampion};
+ghost use Rattle.demand_oracle.specs.Search.{wanted_by, LeadsWanted};
 
-use crate::pending::Pending;
+use crate::below::below;
+use crate::goods::Goods;
+use crate::question::Question;
 use crate::reach::{Reach, begun_with};
 use crate::summed_node::SummedNode;
 use bundle_rules::{Bundle, Menu, prefers};
@@ -32,12 +31,11 @@ pub struct Workspace {
     frames: Frames,
 }
 
-// The nodes that wait in a search, how many were opened, and what more each can reach. The table
-// stands last: its end is seldom written, so that what a search writes at each node shares no line
-// of the cache with the workspace of another thread that stands next to it.
+// How many nodes the last search opened, and what more each can reach. The table stands last: its
+// end is seldom written, so that what a search writes shares no line of the cache with the workspace
+// of another thread that stands next to it.
 #[derive(Drop)]
 struct Frames {
-    pending: Pending,
     opened: u64,
     reach: Reach,
 }
@@ -49,27 +47,23 @@ impl Model for Workspace {
     ghost Value = { ⊤ };
 
     ghost view = { λ _. tt };
-
-    // Between two demands no node waits.
-    ghost invariant = { λ workspace. workspace.frames.pending ≡ [] };
 }
 
 impl Workspace {
-    /// A workspace of which no demand was asked.
-    pub fn reserve(alloc: Global) -> Result<Workspace, NoMemory> {
-        let pending = Pending::reserve(alloc)?;
+    /// A workspace of which no demand was asked. All that it holds stands in itself, so that it takes
+    /// no memory of the allocator, and this is an `Ok`.
+    pub fn reserve(_alloc: Global) -> Result<Workspace, NoMemory> {
         Ok(Workspace {
             frames: Frames {
-                pending,
-                reach: Reach::empty(),
                 opened: 0,
+                reach: Reach::empty(),
             },
         })
     }
 
-    /// How many nodes the last demand opened: those of which it looked up what can be reached, and
-    /// in a search for bundles with a section those too that can not have it any more. It is there
-    /// to be measured: no clause speaks of it.
+    /// How many nodes the last demand opened: those of which it looked up what can be reached. A
+    /// place that can not be taken with the chosen ones is passed without one. It is there to be
+    /// measured: no clause speaks of it.
     pub fn opened(&self) -> u64 {
         self.frames.opened
     }
@@ -228,11 +222,9 @@ fn place_alone(
 }
 
 // The best bundle, of those with the section of a place where one is given, which may be taken
-// alone: the root is looked at first, and while nodes are left, the next one. Where a first
-// bundle is told, the search may begin with it, and where both are, it may end with it: with what
-// is as good as all bundles with the section. Each of the demands has its own copy of the machine
-// code of this and of what it calls, so that the plain one asks nothing about a given place.
-#[inline(always)]
+// alone: what the search below the root leaves. Where a first bundle is told, the search may begin
+// with it, and where both are, it may end with it: with what is as good as all bundles with the
+// section.
 fn search(
     frames: &mut Frames,
     menu: &Menu,
@@ -243,7 +235,6 @@ fn search(
     first: Option<&Bundle>,
 ) -> Bundle
     requires prices { HasPrices menu.now prices.now }
-    requires none { frames.old.pending ≡ [] }
     requires given { IfSome given (λ place. place < length menu.now.places) }
     requires alone { IfSome given
         (λ place. IsTakable (offer_of menu.now prices.now budget.0 allowed.now)
@@ -251,32 +242,27 @@ fn search(
     ensures leads { LeadsWanted (offer_of menu.now prices.now budget.0 allowed.now)
         (wanted_by menu.now given) (sections_of result) }
     ensures wanted { IfNone first.entry (wanted_by menu.now given (sections_of result) ≡ true) }
-    ensures none { frames.new.pending ≡ [] }
 {
-    frames.opened = 0;
     frames.reach.measure(menu, prices, budget, allowed);
+    let goods = Goods::of(menu, prices, budget, allowed);
     let reach = &frames.reach;
     let mut champion = first_champion(reach, menu, prices, budget, allowed, given, first);
-    let mut next = Some(SummedNode::root());
-    while let Some(summed) = next {
-        next = step(
-            frames,
-            menu,
-            prices,
-            budget,
-            allowed,
-            given,
-            summed,
-            &mut champion,
-        );
-    }
+    let question = Question {
+        menu,
+        prices,
+        budget,
+        allowed,
+        given,
+        reach,
+        goods: &goods,
+    };
+    frames.opened = below(&question, &SummedNode::root(), goods.alone, &mut champion);
     champion.node.chosen
 }
 
 // The champion that a search begins with: where a place is given, its section alone, or the first
 // bundle where one is told; and where none is given a node that begins well, of the first bundle
 // where it is worth no less.
-#[inline(always)]
 fn first_champion(
     reach: &Reach,
     menu: &Menu,
@@ -305,7 +291,6 @@ fn first_champion(
 
 // The section of the given place alone, or what may be taken of the first bundle, where one is
 // told.
-#[inline(always)]
 fn begun_beside(
     menu: &Menu,
     prices: &[Tokens],
@@ -329,7 +314,6 @@ fn begun_beside(
 }
 
 // The node, or that of the first bundle where it is told and worth no less.
-#[inline(always)]
 fn from_first(
     menu: &Menu,
     prices: &[Tokens],
@@ -352,152 +336,6 @@ fn from_first(
     let begun = begun_with(menu, prices, budget, allowed, bundle);
     if begun.utility() >= summed.utility() {
         return begun;
-    }
-    summed
-}
-
-// Looks at a node, and tells which to look at after it, or `None` where none is left. The
-// chosen sections are compared with the champion, or the node is pruned, or it is tried with its
-// next section, where that may be taken, while it waits without it. Without the given section
-// nothing is looked at.
-#[inline(always)]
-fn step(
-    frames: &mut Frames,
-    menu: &Menu,
-    prices: &[Tokens],
-    budget: Tokens,
-    allowed: &SectionSet,
-    given: Option<u8>,
-    summed: SummedNode,
-    champion: &mut SummedNode,
-) -> Option<SummedNode>
-    requires prices { HasPrices menu.now prices.now }
-    requires given { IfSome given (λ place. place < length menu.now.places) }
-    requires reach { IsReach (offer_of menu.now prices.now budget.0 allowed.now) frames.old.reach }
-    requires summed { MayWait (offer_of menu.now prices.now budget.0 allowed.now)
-        (summed ∷ frames.old.pending) }
-    requires champion { IsChampion (offer_of menu.now prices.now budget.0 allowed.now)
-        champion.old }
-    ensures menu { IsMenu menu.now }
-    ensures reach { frames.new.reach ≡ frames.old.reach }
-    ensures champion { IsChampion (offer_of menu.now prices.now budget.0 allowed.now) champion.new }
-    ensures last { IfNone result (frames.new.pending ≡ []) }
-    ensures stepped { HasStepped (offer_of menu.now prices.now budget.0 allowed.now)
-        (wanted_by menu.now given) (summed ∷ frames.old.pending) (chosen_of champion.old)
-        (before_waiting result frames.new.pending) (chosen_of champion.new) }
-{
-    if is_whole(menu, &summed) {
-        *champion = better(menu, given, summed, *champion);
-        return frames.pending.take();
-    }
-    frames.opened = frames.opened.saturating_add(1);
-    if is_lost(menu, prices, budget, allowed, given, &summed) {
-        return frames.pending.take();
-    }
-    let reach = &frames.reach;
-    if reach.prunes(menu, budget, &summed, champion) {
-        return frames.pending.take();
-    }
-    let without = summed.without_next();
-    if !summed.may_take(menu, prices, budget, allowed, summed.node.place) {
-        return Some(without);
-    }
-    let with_it = summed.with_next(menu, prices);
-    if is_given(given, summed.node.place) {
-        return Some(with_it);
-    }
-    frames.pending.put(without);
-    Some(with_it)
-}
-
-// Whether nothing more can be taken: all places are decided, or as many sections are chosen as the
-// course cap allows. Such a node stands for its chosen sections alone.
-#[inline(always)]
-fn is_whole(menu: &Menu, summed: &SummedNode) -> bool
-    ensures menu { IsMenu menu.now }
-    ensures whole { IsTrue result
-        ↔ ((length menu.now.places ≤ summed.now.node.place)
-        ⊎ (menu.now.courses ≤ length (chosen_of summed.now))) }
-{
-    if summed.node.place >= menu.len() {
-        return true;
-    }
-    summed.node.chosen.sections().len() >= usize::from(menu.courses())
-}
-
-// Whether the given place is undecided, and its section may no more be taken with the chosen ones.
-#[inline(always)]
-fn is_lost(
-    menu: &Menu,
-    prices: &[Tokens],
-    budget: Tokens,
-    allowed: &SectionSet,
-    given: Option<u8>,
-    summed: &SummedNode,
-) -> bool
-    requires prices { HasPrices menu.now prices.now }
-    requires given { IfSome given (λ place. place < length menu.now.places) }
-    requires summed { IsSummed menu.now (price_in prices.now) summed.now }
-    requires node { IsNode (offer_of menu.now prices.now budget.0 allowed.now) summed.now.node.place
-        (chosen_of summed.now) }
-    ensures { (champion : List ℕ) → IsMenu menu.now → IsTrue result
-        → MayPrune (offer_of menu.now prices.now budget.0 allowed.now) (wanted_by menu.now given)
-        summed.now.node.place (chosen_of summed.now) champion }
-{
-    match given {
-        Some(place) => {
-            if place < summed.node.place {
-                return false;
-            }
-            !summed.may_take(menu, prices, budget, allowed, place)
-        }
-        None => false,
-    }
-}
-
-// Whether the place is the given one.
-#[inline(always)]
-fn is_given(given: Option<u8>, place: u8) -> bool
-    ensures { IsTrue result ↔ (given ≡ Some place) }
-{
-    match given {
-        Some(other) => other == place,
-        None => false,
-    }
-}
-
-// Whether the bundle has the section of the given place, where one is given.
-#[inline(always)]
-fn is_wanted(menu: &Menu, given: Option<u8>, bundle: &Bundle) -> bool
-    requires { IfSome given (λ place. place < length menu.now.places) }
-    ensures { result ≡ wanted_by menu.now given (sections_of bundle.now) }
-{
-    match given {
-        Some(place) => bundle.has(menu.rated(place).section),
-        None => true,
-    }
-}
-
-// The node, where its sections are wanted and preferred to those of the champion, and else the
-// champion.
-#[inline(always)]
-fn better(menu: &Menu, given: Option<u8>, summed: SummedNode, champion: SummedNode) -> SummedNode
-    requires given { IfSome given (λ place. place < length menu.now.places) }
-    requires summed { (price : ℕ → ℕ) × IsSummed menu.now price summed }
-    requires champion { (price : ℕ → ℕ) × IsSummed menu.now price champion }
-    requires chosen { IsFeasible (wishes_of menu.now) (chosen_of summed) }
-    requires held { IsFeasible (wishes_of menu.now) (chosen_of champion) }
-    ensures { (IsBetter (wishes_of menu.now) (wanted_by menu.now given) (chosen_of summed) (chosen_of champion) × (result ≡ summed))
-        ⊎ ((¬ IsBetter (wishes_of menu.now) (wanted_by menu.now given) (chosen_of summed) (chosen_of champion)) × (result ≡ champion)) }
-{
-    if !is_wanted(menu, given, &summed.node.chosen) {
-        return champion;
-    }
-    if summed.utility() < champion.utility() {
-        return champion;
-    }
-    if !prefers(menu, &summed.node.chosen, &champion.node.chosen) {
-        return champion;
     }
     summed
 }

@@ -2,10 +2,10 @@
 ghost use Rattle.std.specs.Prelude.{◌≡◌, ◌↔◌, ◌<◌, ◌≤◌, ◌+◌, ◌*◌, ◌-◌, ◌^◌, ◌-ℤ◌, ◌*ℤ◌, ◌≤ℤ◌, ◌<ℤ◌, pos, neg_ℤ, ℕ, Bool, List, IsTrue, length};
 ghost use Rattle.std.specs.Ordering.{nat_cmp};
 ghost use Rattle.std.specs.FinSet as set;
-ghost use Rattle.market_units.specs.declared.limits.TheConstants.{MAX_SECTION_CREDITS};
+ghost use Rattle.market_units.specs.declared.limits.TheConstants.{MAX_COURSES, MAX_RATINGS, MAX_SECTION_CREDITS};
 ghost use Rattle.market_units.specs.declared.units.Tokens.{Tokens};
 ghost use Rattle.bundle_rules.specs.Demand.{price_in, HasPrices};
-ghost use Rattle.bundle_rules.specs.Menus.{IsMenu};
+ghost use Rattle.bundle_rules.specs.Menus.{IsMenu, MenuData};
 ghost use Rattle.bundle_bounds.specs.Offers.{offer_of};
 ghost use Rattle.bundle_bounds.specs.Laws.{IsTakable, IsNode};
 ghost use Rattle.demand_oracle.specs.SummedNodes.{chosen_of, IsSummed};
@@ -40,8 +40,20 @@ pub struct Reach {
     ghost short: { shift < 32 },
 }
 
+/// What is looked up at each place where the same sections are chosen: how many more fit, how many
+/// units are left of the budget, and what is paid at the multipliers for what is left.
+#[derive(Clone, Copy)]
+pub struct Column {
+    count: usize,
+    units: usize,
+    paid: u64,
+    ghost few: { count ≤ MAX_COURSES },
+    ghost low: { units < 64 },
+}
+
 impl Reach {
     ghost use Rattle.demand_oracle.specs.Reaches.{IsReach};
+    ghost use Rattle.demand_oracle.specs.Columns.{IsColumn};
 
     /// A table that was measured for no demand yet: `prunes` promises nothing before `measure`.
     pub fn empty() -> Reach {
@@ -91,33 +103,68 @@ impl Reach {
         );
     }
 
-    /// Whether nothing that completes the node can be better than the champion: less can
-    /// be reached than its utility, or less than one more, and the first decided section on which
-    /// they differ is the champion's. So nothing that is wanted can, whatever bundles are wanted.
-    /// The table is one that was measured for the same menu and budget.
+    /// What is looked up in all places for the sections that a node has chosen. The table is one that
+    /// was measured for the same menu and budget.
+    #[inline(always)]
+    pub fn column(&self, menu: &Menu, budget: Tokens, summed: &SummedNode) -> Column
+        requires { IsMenu menu.now }
+        ensures { IsColumn menu.now budget.0 self.now summed.now result }
+    {
+        let count = self.fitting(menu, summed);
+        let budget_left = summed.budget_left(budget);
+        let units = in_units(budget_left, self.shift);
+        if units >= UNITS as u32 {
+            return Column {
+                count,
+                units: 0,
+                paid: ENOUGH,
+            };
+        }
+        let credits_left = summed.credits_left(menu);
+        let paid = self.credits.money * u64::from(budget_left)
+            + self.credits.credits * u64::from(credits_left);
+        Column {
+            count,
+            units: units as usize,
+            paid,
+        }
+    }
+
+    /// Whether nothing that completes the node where the places below this one are decided can be
+    /// better than the champion: less can be reached than its utility, or less than one more, and
+    /// the first decided section on which they differ is the champion's. So nothing that is wanted
+    /// can, whatever bundles are wanted. The table is one that was measured for the same menu and
+    /// budget, and the column is that of the node's sections.
     #[inline(always)]
     pub fn prunes(
         &self,
         menu: &Menu,
-        budget: Tokens,
+        column: &Column,
         summed: &SummedNode,
+        place: u8,
         champion: &SummedNode,
     ) -> bool
         requires summed { (price : ℕ → ℕ) × IsSummed menu.now price summed.now }
-        requires place { summed.now.node.place ≤ length menu.now.places }
-        ensures { (wanted : List ℕ → Bool) (prices : List Tokens) (allowed : set.FinSet nat_cmp) → IsReach (offer_of menu.now prices budget.0 allowed) self.now
-            → IsSummed menu.now (price_in prices) summed.now → IsNode (offer_of menu.now prices budget.0 allowed) summed.now.node.place (chosen_of summed.now)
-            → IsSummed menu.now (price_in prices) champion.now → IsTakable (offer_of menu.now prices budget.0 allowed) (chosen_of champion.now)
-            → IsTrue result → MayPrune (offer_of menu.now prices budget.0 allowed) wanted summed.now.node.place (chosen_of summed.now) (chosen_of champion.now) }
+        requires place { place ≤ length menu.now.places }
+        ensures { (wanted : List ℕ → Bool) (prices : List Tokens) (budget : ℕ) (allowed : set.FinSet nat_cmp) → IsReach (offer_of menu.now prices budget allowed) self.now
+            → IsColumn menu.now budget self.now summed.now column.now
+            → IsSummed menu.now (price_in prices) summed.now → IsNode (offer_of menu.now prices budget allowed) place (chosen_of summed.now)
+            → IsSummed menu.now (price_in prices) champion.now → IsTakable (offer_of menu.now prices budget allowed) (chosen_of champion.now)
+            → IsTrue result → MayPrune (offer_of menu.now prices budget allowed) wanted place (chosen_of summed.now) (chosen_of champion.now) }
     {
-        prove!(summed.node.place <= menu.len());
-        let added = self.added(menu, budget, summed);
-        let hoped = hopes_of(&self.hopes[usize::from(summed.node.place)], summed.places());
+        prove!(place <= menu.len());
+        let added = self.added(column, place);
+        let short = lacking(champion.utility(), summed.utility(), 0);
+        // Adjustments can only add, so they are looked up where the rest is too little.
+        if !is_below(added, short + 1) {
+            return false;
+        }
+        let hoped = hopes_of(&self.hopes[usize::from(place)], summed.places());
         let lacking = lacking(champion.utility(), summed.utility(), hoped);
         if is_below(added, lacking) {
             return true;
         }
-        is_below(added, lacking + 1) && summed.is_behind(champion)
+        is_below(added, lacking + 1) && summed.is_behind(place, champion)
     }
 
     /// A node that begins well: its sections are chosen one after another, each the one that adds
@@ -160,27 +207,20 @@ impl Reach {
         ) as usize
     }
 
-    // A million times the most that can be added to what is hoped for at the node.
+    // A million times the most that can be added to what is hoped for at the node where the places
+    // below this one are decided.
     #[inline(always)]
-    fn added(&self, menu: &Menu, budget: Tokens, summed: &SummedNode) -> i64
-        requires menu { IsMenu menu.now }
-        requires place { summed.now.node.place ≤ length menu.now.places }
-        ensures value { (prices : List Tokens) (allowed : set.FinSet nat_cmp) → IsReach (offer_of menu.now prices budget.0 allowed) self.now
-            → IsSummed menu.now (price_in prices) summed.now → IsNode (offer_of menu.now prices budget.0 allowed) summed.now.node.place (chosen_of summed.now)
-            → IsAdded (offer_of menu.now prices budget.0 allowed) summed.now.node.place (chosen_of summed.now) result }
+    fn added(&self, column: &Column, place: u8) -> i64
+        requires { place ≤ MAX_RATINGS }
+        ensures value { (menu : MenuData) (prices : List Tokens) (budget : ℕ) (allowed : set.FinSet nat_cmp) (summed : SummedNode) → IsMenu menu
+            → place ≤ length menu.places → IsReach (offer_of menu prices budget allowed) self.now → IsColumn menu budget self.now summed column.now
+            → IsSummed menu (price_in prices) summed → IsNode (offer_of menu prices budget allowed) place (chosen_of summed)
+            → IsAdded (offer_of menu prices budget allowed) place (chosen_of summed) result }
         ensures low { pos 0 ≤ℤ result }
     {
-        let budget_left = summed.budget_left(budget);
-        let units = in_units(budget_left, self.shift);
-        if units >= UNITS as u32 {
-            return ENOUGH as i64;
-        }
-        let credits_left = summed.credits_left(menu);
-        let count = self.fitting(menu, summed);
-        let paid = self.credits.money * u64::from(budget_left)
-            + self.credits.credits * u64::from(credits_left);
-        let most = self.most[usize::from(summed.node.place) * COUNTS + count][units as usize];
-        paid.saturating_add(THOUSAND * u64::from(most)).min(ENOUGH) as i64
+        let most = self.most[usize::from(place) * COUNTS + column.count][column.units];
+        let added = column.paid.saturating_add(THOUSAND * u64::from(most));
+        added.min(ENOUGH) as i64
     }
 }
 

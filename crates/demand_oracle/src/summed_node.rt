@@ -151,16 +151,28 @@ impl SummedNode {
         ensures place { result.node.place ≡ self.node.place + 1 }
         ensures chosen { chosen_of result ≡ chosen_of self }
     {
+        self.passed_to(self.node.place + 1)
+    }
+
+    /// The node that has decided the places below this one too, without their sections.
+    #[must_use]
+    pub fn passed_to(self, place: u8) -> SummedNode
+        requires { self.node.place ≤ place }
+        ensures summed { (menu : MenuData) (price : ℕ → ℕ) → IsSummed menu price self
+            → IsSummed menu price result }
+        ensures place { result.node.place ≡ place }
+        ensures chosen { chosen_of result ≡ chosen_of self }
+    {
         SummedNode {
             node: Node {
-                place: self.node.place + 1,
+                place,
                 chosen: self.node.chosen,
             },
             ..self
         }
     }
 
-    // The places of the chosen sections.
+    /// The places of the chosen sections.
     pub(crate) fn places(&self) -> &[u8]
         ensures value { (menu : MenuData) (price : ℕ → ℕ) → IsSummed menu price self.now
             → result.now ≡ places_of menu (chosen_of self.now) }
@@ -169,14 +181,14 @@ impl SummedNode {
         &self.places[..self.node.chosen.sections().len()]
     }
 
-    // What the chosen sections leave of the budget.
+    /// What the chosen sections leave of the budget.
     pub(crate) fn budget_left(&self, budget: Tokens) -> u32
         ensures { result ≡ budget.0 - self.now.paid }
     {
         budget.0.saturating_sub(self.paid)
     }
 
-    // What they leave of the credit cap.
+    /// What they leave of the credit cap.
     pub(crate) fn credits_left(&self, menu: &Menu) -> u32
         ensures value { result ≡ menu.now.credits - self.now.credits }
         ensures high { result ≤ 65535 }
@@ -184,7 +196,7 @@ impl SummedNode {
         u32::from(menu.credits()).saturating_sub(self.credits)
     }
 
-    // What they leave of the course cap.
+    /// What they leave of the course cap.
     pub(crate) fn courses_left(&self, menu: &Menu) -> u32
         requires { IsMenu menu.now }
         ensures value { result ≡ menu.now.courses - length (chosen_of self.now) }
@@ -193,14 +205,14 @@ impl SummedNode {
         u32::from(menu.courses()).saturating_sub(self.node.chosen.sections().len() as u32)
     }
 
-    // Whether the champion has the first section on which it differs from all that completes the
-    // node.
-    pub(crate) fn is_behind(&self, champion: &SummedNode) -> bool
+    /// Whether the champion has the first section on which it differs from all that completes the
+    /// node where the places below this one are decided.
+    pub(crate) fn is_behind(&self, place: u8, champion: &SummedNode) -> bool
         ensures { (menu : MenuData) (prices : List Tokens) (budget : ℕ) (allowed : set.FinSet nat_cmp) → IsMenu menu
-            → IsSummed menu (price_in prices) self.now → IsNode (offer_of menu prices budget allowed) self.now.node.place (chosen_of self.now)
+            → IsSummed menu (price_in prices) self.now → IsNode (offer_of menu prices budget allowed) place (chosen_of self.now)
             → IsSummed menu (price_in prices) champion.now → IsTakable (offer_of menu prices budget allowed) (chosen_of champion.now) → IsTrue result
-            → ComesFirst (offer_of menu prices budget allowed) self.now.node.place (chosen_of self.now) (chosen_of champion.now) }
+            → ComesFirst (offer_of menu prices budget allowed) place (chosen_of self.now) (chosen_of champion.now) }
     {
-        is_ahead(self.node.place, champion.places(), self.places())
+        is_ahead(place, champion.places(), self.places())
     }
 }

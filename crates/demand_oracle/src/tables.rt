@@ -34,8 +34,8 @@ pub(crate) const THOUSAND: u64 = 1_000;
 // in thousandths of a point of utility: a row for each place and count.
 pub(crate) type Table = [[u32; UNITS]; ROWS * COUNTS];
 
-// So many tokens in whole units, each of which is a power of two of tokens, so that a node divides
-// by a shift. Prices and what is left are both rounded down, so nothing affordable is left out.
+/// So many tokens in whole units, each of which is a power of two of tokens, so that a node divides
+/// by a shift. Prices and what is left are both rounded down, so nothing affordable is left out.
 #[inline(always)]
 pub(crate) fn in_units(tokens: u32, shift: u32) -> u32
     requires { shift < 32 }
@@ -44,7 +44,7 @@ pub(crate) fn in_units(tokens: u32, shift: u32) -> u32
     tokens >> shift
 }
 
-// A shift at which a budget has fewer units than the table has, the least one.
+/// The least shift at which a budget has fewer units than the table has columns.
 pub(crate) fn shift_for(budget: Tokens) -> u32
     ensures { result < 32 }
 {
@@ -56,7 +56,8 @@ pub(crate) fn shift_for(budget: Tokens) -> u32
     31
 }
 
-// The least credits of an allowed place.
+/// The least credits of an allowed place of the menu; the most that any section may have, where
+/// none is allowed.
 pub(crate) fn lightest(menu: &Menu, allowed: &SectionSet) -> u32
     ensures lightest { (prices : List Tokens) (budget : ℕ)
         → IsLightest (offer_of menu.now prices budget allowed.now) result }
@@ -84,7 +85,8 @@ fn lighter(menu: &Menu, allowed: &SectionSet, place: u8, lightest: u16) -> u16
     lightest.min(rated.credits)
 }
 
-// Fills the table of what adjustments can add.
+/// Fills the table of hopes: what a place's positive adjustments with the allowed places from
+/// another one on can add to the utility.
 pub(crate) fn put_hopes(menu: &Menu, allowed: &SectionSet, hopes: &mut [[u16; PLACES]; ROWS])
     ensures { (prices : List Tokens) (budget : ℕ)
         → HoldsHopes (offer_of menu.now prices budget allowed.now) hopes.new 0 }
@@ -131,7 +133,8 @@ fn hope_of(menu: &Menu, earlier: u8, place: u8) -> u16
     menu.adjustment(earlier, place).max(0) as u16
 }
 
-// Fills the table of the most that so many places can add which cost so many units.
+/// Fills the table of the most that the places from each one on can add, so many of them at most,
+/// which cost so many units at most.
 pub(crate) fn put_most(
     menu: &Menu,
     prices: &[Tokens],

@@ -1,5 +1,5 @@
 // Bounds of two small menus, worked by hand.
-use bundle_bounds::{Leaf, Node, bound, bound_prunes};
+use bundle_bounds::{Leaf, Node, bound, bound_closes};
 use bundle_rules::{Bundle, Menu, Rated, feasible, has_prices};
 use market_units::{SectionNo, SectionSet, Tokens};
 use std::alloc::Global;
@@ -32,7 +32,7 @@ fn pruning<R: Abort>(
         chosen: Bundle::empty(),
     };
     let allowed = SectionSet::full(400);
-    let leaf = bound_prunes(menu, prices, Tokens(budget), &allowed, &node, &champion)?;
+    let leaf = bound_closes(menu, prices, Tokens(budget), &allowed, &node, &champion)?;
     Some((
         leaf,
         bound(menu, prices, Tokens(budget), &allowed, &node, leaf),

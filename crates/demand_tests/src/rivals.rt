@@ -19,7 +19,7 @@ fn one_section<R: Abort>(rt: &R, alloc: Global) -> Menu {
     Menu::build(alloc, &places, &[], &[0], 10, 1).expect(rt, "memory")
 }
 
-// So many of them, with budgets from 100 on.
+/// So many of them, with budgets from 100 on.
 pub fn rivals<R: Abort>(rt: &R, alloc: Global, count: u32) -> Crowd
     requires few { count ≤ 100 }
     ensures students { length result.menus.items ≡ count }

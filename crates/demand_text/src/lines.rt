@@ -40,7 +40,7 @@ fn put_sessions(text: &mut Vec<u8>, journal: &[Entry]) -> Result<(), NoMemory>
     Ok(())
 }
 
-// Puts the line of what a student takes behind the text.
+/// Puts the line of what a student takes behind the text: its name and its bundle.
 pub(crate) fn put_taken(
     text: &mut Vec<u8>,
     catalog: &Catalog,
@@ -62,7 +62,7 @@ pub(crate) fn put_taken(
     Ok(())
 }
 
-// Puts the line of a section's count behind the text.
+/// Puts the line of a section behind the text: its name, and how many students take it.
 pub(crate) fn put_count(text: &mut Vec<u8>, section: &Name, count: u32) -> Result<(), NoMemory>
     ensures { OnOk result
         (text.new.items ≡ text.old.items ++ count_line (name_bytes section.now) count ++ 10 ∷ []) }

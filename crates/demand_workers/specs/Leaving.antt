@@ -10,8 +10,8 @@ use Rattle.demand_api.specs.Prices.{with_price}
 abbrev pub takes : CrowdData → (ℕ → ℕ) → ℕ → ℕ → ℕ → Bool
 takes crowd price s p student = has (demand_of crowd (with_price price s p) student) s
 
--- A holder is listed by how far below 1,000,001 the price is from which it does not keep what it
--- holds, and by its number: that price
+-- the price from which a listed holder does not keep what it holds; the list has 1,000,001 less
+-- that price, and the holder's number
 abbrev pub leaves : ℕ × ℕ → ℕ
 leaves holder = MAX_PRICE - holder.0
 

@@ -33,9 +33,10 @@ pub(crate) struct Foreseen {
     answered: Vec<Question>,
 }
 
-// What those take who are surely asked on the walks to the least prices of these pairs of a section
-// and a limit, or most of them, asked by all workers at once, as long as that is worth their start:
-// for each pair what is known of its walk, or nothing at all. Of one worker it asks nothing.
+/// What those take who are surely asked on the walks to the least prices of these pairs of a
+/// section and a limit, or most of them, asked by several workers at once, as long as that is worth
+/// their start: for each pair what is known of its walk, or nothing at all. Of one worker it asks
+/// nothing. The only error is that memory was not given.
 pub(crate) fn ask_ahead<R: Threads + Wait + Sync>(
     rt: &R,
     alloc: Global,
@@ -70,7 +71,7 @@ pub(crate) fn ask_ahead<R: Threads + Wait + Sync>(
     Ok(walks)
 }
 
-// What was answered on the walk at this place, or nothing.
+/// What was answered on the walk at this place, from 0; nothing where there is no such walk.
 pub(crate) fn answers_at<'w>(_crowd: &Crowd, walks: &'w [Foreseen], place: usize) -> &'w [Question]
     requires { All (IsForeseen _crowd.now) walks.now }
     ensures { AreAnswered (data_of _crowd.now) result.now }

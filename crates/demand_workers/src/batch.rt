@@ -27,8 +27,8 @@ pub(crate) struct Inquiry {
     pub bundle: Bundle,
 }
 
-// Answers the inquiries of a batch, by so many workers as they are worth, of as many as there are
-// workspaces. It takes no memory.
+/// Answers the inquiries of a batch, by so many workers as they are worth, of as many as there are
+/// workspaces. It takes no memory.
 pub(crate) fn answer_batch<R: Threads + Wait + Sync>(
     rt: &R,
     workspaces: &[Mutex<Workspace>],
@@ -115,7 +115,8 @@ fn answer<R: Wait>(
     );
 }
 
-// What each student takes at a version of the batch: what was found for it, or what is remembered.
+/// What each student takes at a version of the batch: what was found for it, or what is remembered.
+/// The only error is that memory was not given.
 pub(crate) fn bundles_at(
     alloc: Global,
     remembered: &Remembered,

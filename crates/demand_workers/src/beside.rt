@@ -16,9 +16,9 @@ use demand_api::Crowd;
 use demand_oracle::{Workspace, demand_beside};
 use market_units::{SectionSet, StudentNo, Tokens};
 
-// What a student takes at these prices, of all sections, asked. Where one section alone is cheaper
-// than remembered, and what is remembered of the student is still affordable, it is preferred to
-// all that lacks the section, so only bundles with it are searched.
+/// What a student takes at these prices, of all sections, asked. Where one section alone is cheaper
+/// than remembered, and what is remembered of the student is still affordable, it is preferred to
+/// all that lacks the section, so only bundles with it are searched.
 pub(crate) fn asked_beside(
     workspace: &mut Workspace,
     remembered: &Remembered,

@@ -18,7 +18,8 @@ const FEW: usize = 16;
 // other student too, and so is worth it only where most are asked.
 const FEW_OF_BATCH: usize = 2;
 
-// Whether few of the students have to be asked.
+/// Whether few of the students have to be asked at these prices, so that the caller's own thread
+/// asks them all.
 pub(crate) fn few_at(remembered: &Remembered, crowd: &Crowd, prices: &[Tokens]) -> bool
     requires remembered { AreRemembered (data_of crowd.now) remembered.now.prices.items
         remembered.now.bundles.items }
@@ -27,7 +28,8 @@ pub(crate) fn few_at(remembered: &Remembered, crowd: &Crowd, prices: &[Tokens]) 
     are_few(asked_at(remembered, crowd, prices), crowd.menus.len())
 }
 
-// Whether few of the listed students have to be asked, of all in the crowd.
+/// Whether few have to be asked of the listed students at these prices, measured by all in the
+/// crowd.
 pub(crate) fn few_listed(
     remembered: &Remembered,
     crowd: &Crowd,
@@ -47,13 +49,13 @@ pub(crate) fn few_listed(
     are_few(asked, crowd.menus.len())
 }
 
-// Whether so many are few of so many students. One alone needs no worker beside the caller, unless
-// nobody else is there.
+/// Whether so many are few of so many students. One alone needs no worker beside the caller, unless
+/// nobody else is there.
 pub(crate) fn are_few(asked: usize, students: usize) -> bool {
     asked <= students / FEW || (asked == 1 && students > 1)
 }
 
-// Whether so many are few of so many students, at a version of a batch.
+/// Whether so many are few of so many students at a version of a batch: at most half.
 pub(crate) fn are_few_of_batch(asked: usize, students: usize) -> bool {
     asked <= students / FEW_OF_BATCH
 }

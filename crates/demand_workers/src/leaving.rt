@@ -45,9 +45,10 @@ pub(crate) struct Walk {
 // and its number. So the greatest is the first to leave.
 pub(crate) type Holder = (u32, u16);
 
-// For each pair of a section and a limit the least price of the section from its remembered one up
-// at which at most so many students take it, the other prices as remembered. What each student
-// takes at the remembered prices is remembered, and of some walks something is known.
+/// For each pair of a section and a limit the least price of the section from its remembered one up
+/// at which at most so many students take it, the other prices as remembered. What each student
+/// takes at the remembered prices is remembered, and of some walks something is known. The only
+/// error is that memory was not given.
 pub(crate) fn least_for_each(
     alloc: Global,
     workspace: &mut Workspace,
@@ -79,10 +80,10 @@ pub(crate) fn least_for_each(
     Ok(found)
 }
 
-// The least price of the section for one limit. The trial has the remembered prices, also
-// afterwards. As long as there are too many holders, the first of them to leave is asked at the
-// price from which it does not keep what it holds: it holds the section from then on up to another
-// price, or leaves.
+/// The least price of the section for one limit. The trial has the remembered prices, also
+/// afterwards. As long as there are too many holders, the first of them to leave is asked at the
+/// price from which it does not keep what it holds: it holds the section from then on up to another
+/// price, or leaves.
 pub(crate) fn least_price(
     alloc: Global,
     workspace: &mut Workspace,
@@ -142,7 +143,8 @@ pub(crate) fn least_price(
     Ok(Walk { least, notes })
 }
 
-// All who hold the section at the remembered prices.
+/// All who hold the section at the remembered prices, the first to leave on top. The only error is
+/// that memory was not given.
 pub(crate) fn holders_of(
     alloc: Global,
     remembered: &Remembered,
@@ -174,8 +176,8 @@ pub(crate) fn holders_of(
     Ok(holders)
 }
 
-// The holder with its bundle at these prices: it keeps the bundle as long as the section costs no
-// more than what is left of the budget besides.
+/// The holder with its bundle at these prices: it keeps the bundle as long as the section costs no
+/// more than what is left of the budget besides.
 pub(crate) fn holder_of(
     crowd: &Crowd,
     prices: &[Tokens],

@@ -40,7 +40,7 @@ impl Pool {
         })
     }
 
-    // The workspaces.
+    /// The workspaces, one for each worker.
     pub(crate) fn workspaces(&self) -> &[Mutex<Workspace>]
         ensures some { 1 ≤ length result.now }
         ensures few { length result.now ≤ MAX_WORKERS }

@@ -33,7 +33,7 @@ pub(crate) struct Question {
     pub bundle: Bundle,
 }
 
-// What was answered of the student at these prices.
+/// What was answered of the student at just these prices; `None` where that was not asked.
 pub(crate) fn answer_of(
     _crowd: &Crowd,
     answered: &[Question],
@@ -57,7 +57,7 @@ pub(crate) fn answer_of(
     None
 }
 
-// What a student takes at these prices, of all sections: answered, or asked.
+/// What a student takes at these prices, of all sections: answered, or asked.
 pub(crate) fn answered_or_asked(
     workspace: &mut Workspace,
     remembered: &Remembered,
@@ -79,8 +79,8 @@ pub(crate) fn answered_or_asked(
     }
 }
 
-// Answers the questions, by so many workers as they are worth, of as many as there are workspaces.
-// It takes no memory.
+/// Answers the questions, by so many workers as they are worth, of as many as there are workspaces.
+/// It takes no memory.
 pub(crate) fn answer_all<R: Threads + Wait + Sync>(
     rt: &R,
     workspaces: &[Mutex<Workspace>],

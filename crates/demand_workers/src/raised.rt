@@ -18,9 +18,9 @@ use demand_oracle::Workspace;
 use market_units::{NoMemory, SectionNo, SectionSet, StudentNo, Tokens};
 use std::alloc::Global;
 
-// What each student takes at the remembered prices with the section at the least price of a walk.
-// Who does not hold the section keeps what it takes. Who was asked on the way there keeps what it
-// took then, as long as that is affordable.
+/// What each student takes at the remembered prices with the section at the least price of a walk.
+/// Who does not hold the section keeps what it takes. Who was asked on the way there keeps what it
+/// took then, as long as that is affordable. The only error is that memory was not given.
 pub(crate) fn raised_memory(
     alloc: Global,
     workspace: &mut Workspace,

@@ -23,7 +23,7 @@ pub(crate) struct Remembered {
 }
 
 impl Remembered {
-    // Nothing. It takes no memory.
+    /// Nothing is remembered of any student. It takes no memory.
     pub(crate) fn nothing(alloc: Global) -> Remembered
         ensures { (crowd : CrowdData)
             → AreRemembered crowd result.prices.items result.bundles.items }
@@ -34,7 +34,7 @@ impl Remembered {
         }
     }
 
-    // Whether what each of so many students takes at just these prices is remembered.
+    /// Whether what each of so many students takes at just these prices is remembered.
     pub(crate) fn is_of(&self, students: usize, prices: &[Tokens]) -> bool
         ensures all { IsTrue result → length self.now.bundles.items ≡ students }
         ensures same { IsTrue result → self.now.prices.items ≡ prices.now }
@@ -45,7 +45,8 @@ impl Remembered {
         are_same(&self.prices, prices)
     }
 
-    // What is remembered of the student, where the student takes the same at these prices.
+    /// What is remembered of the student, where the student surely takes the same at these prices;
+    /// else `None`, and the student has to be asked.
     pub(crate) fn kept(
         &self,
         crowd: &Crowd,
@@ -71,8 +72,8 @@ impl Remembered {
         Some(self.bundles[place])
     }
 
-    // Whether the student at a place takes what is remembered of it at these prices too: the bundle
-    // is still affordable, and no section of the menu became cheaper.
+    /// Whether the student at a place surely takes what is remembered of it at these prices too:
+    /// the bundle is still affordable, and no section of the menu became cheaper.
     pub(crate) fn stays(
         &self,
         crowd: &Crowd,
@@ -97,7 +98,7 @@ impl Remembered {
     }
 }
 
-// Whether these are the same prices.
+/// Whether these are the same prices.
 pub(crate) fn are_same(one: &[Tokens], other: &[Tokens]) -> bool
     ensures { IsTrue result → one.now ≡ other.now }
 {

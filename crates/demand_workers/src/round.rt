@@ -20,8 +20,8 @@ use std::sync::{Arc, Mutex, Wait};
 use std::thread;
 use std::thread::Threads;
 
-// What all workers find for these versions and what is asked of each. All memory is taken before
-// the first worker starts, and the only error is that it was not given.
+/// What all workers find for these versions and what is asked of each. All memory is taken before
+/// the first worker starts, and the only error is that it was not given.
 pub(crate) fn ask_workers<R: Threads + Wait + Sync>(
     rt: &R,
     alloc: Global,

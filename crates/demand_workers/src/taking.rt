@@ -14,7 +14,7 @@ use demand_api::{Crowd, count_bundle};
 use demand_oracle::{Workspace, demand, demand_from};
 use market_units::{SectionNo, SectionSet, StudentNo, Tokens};
 
-// What a student takes at these prices, of all sections.
+/// What a student takes at these prices, of all sections: remembered, or asked.
 pub(crate) fn taken(
     workspace: &mut Workspace,
     remembered: &Remembered,
@@ -36,8 +36,8 @@ pub(crate) fn taken(
     }
 }
 
-// The same, asked. The search begins with what is remembered of the student, which is often still
-// nearly the best.
+/// What a student takes at these prices, of all sections, asked. The search begins with what is
+/// remembered of the student, which is often still nearly the best.
 pub(crate) fn asked_again(
     workspace: &mut Workspace,
     remembered: &Remembered,
@@ -65,7 +65,8 @@ pub(crate) fn asked_again(
     )
 }
 
-// The same, asked.
+/// What a student takes at these prices, of all sections, asked. The search begins with nothing
+/// that is remembered.
 pub(crate) fn asked(
     workspace: &mut Workspace,
     crowd: &Crowd,
@@ -88,7 +89,7 @@ pub(crate) fn asked(
     )
 }
 
-// Writes what each listed student takes.
+/// Writes what each listed student takes at these prices, in the order of the list.
 pub(crate) fn take_listed(
     workspace: &mut Workspace,
     remembered: &Remembered,
@@ -113,7 +114,7 @@ pub(crate) fn take_listed(
     }
 }
 
-// Writes what each student takes.
+/// Writes what each student takes at these prices, in the crowd's order.
 pub(crate) fn take_all(
     workspace: &mut Workspace,
     remembered: &Remembered,
@@ -135,7 +136,7 @@ pub(crate) fn take_all(
     }
 }
 
-// Counts, from 0, how many students take each section, of what each takes at these prices.
+/// Counts, from 0, how many students take each section, of what each takes at these prices.
 pub(crate) fn count_all(_crowd: &Crowd, _prices: &[Tokens], bundles: &[Bundle], found: &mut [u32])
     requires all { length bundles.now ≡ length _crowd.now.menus.items }
     requires taken { AreTaken (data_of _crowd.now) _prices.now bundles.now }
@@ -147,7 +148,7 @@ pub(crate) fn count_all(_crowd: &Crowd, _prices: &[Tokens], bundles: &[Bundle], 
     }
 }
 
-// How many students take the section.
+/// How many students take the section at these prices.
 pub(crate) fn count_takers(
     workspace: &mut Workspace,
     remembered: &Remembered,

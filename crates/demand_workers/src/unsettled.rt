@@ -24,8 +24,9 @@ pub(crate) struct Survey {
     pub inquiries: Vec<Inquiry>,
 }
 
-// What those take who have to be asked at the versions of a batch, asked by all workers at once,
-// but for versions at which they are not few. What each student takes at some prices is remembered.
+/// What those take who have to be asked at the versions of a batch, asked by so many workers as
+/// they are worth, but for versions at which they are not few. What each student takes at some
+/// prices is remembered. The only error is that memory was not given.
 pub(crate) fn ask_few<R: Threads + Wait + Sync>(
     rt: &R,
     alloc: Global,

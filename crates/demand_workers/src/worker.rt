@@ -14,8 +14,8 @@ use market_units::{MAX_WORKERS, SectionSet, Tokens};
 use price_board::{Board, BoardSeat, Draw};
 use std::sync::{Mutex, Wait};
 
-// Draws one task after another, and posts what its student takes, until no task is left. The worker
-// passes the gate before its first draw and after each of its posts.
+/// Draws one task after another, and posts what its student takes, until no task is left. The
+/// worker passes the gate before its first draw and after each of its posts.
 pub(crate) fn work<R: Wait>(
     rt: &R,
     board: &Board,

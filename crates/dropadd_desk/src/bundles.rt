@@ -10,7 +10,7 @@ ghost use Rattle.dropadd_desk.specs.Sets.{place_in, with_section};
 use bundle_rules::Bundle;
 use market_units::{MAX_COURSES, SectionNo};
 
-// The bundle with the section too.
+/// The bundle with one section more, put at its place in the order.
 pub(crate) fn with_section(bundle: &Bundle, section: SectionNo) -> Bundle
     requires room { length (sections_of bundle.now) < MAX_COURSES }
     requires new { has (sections_of bundle.now) section.0 ≡ false }
@@ -23,7 +23,7 @@ pub(crate) fn with_section(bundle: &Bundle, section: SectionNo) -> Bundle
     put_all(below.with(section), higher)
 }
 
-// The bundle without the section.
+/// The bundle without this section, which it has.
 pub(crate) fn without_section(bundle: &Bundle, section: SectionNo) -> Bundle
     requires { has (sections_of bundle.now) section.0 ≡ true }
     ensures { sections_of result ≡ without_section section.0 (sections_of bundle.now) }

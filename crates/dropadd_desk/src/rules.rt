@@ -62,7 +62,8 @@ impl MarketRules {
     ghost use Rattle.dropadd_desk.specs.Fits.{credits_of, fits, lowest_clash, exceeds_credits, exceeds_courses};
     ghost use Rattle.dropadd_desk.specs.Kept.{IsMarket};
 
-    // Of this catalogue and this roll.
+    /// What a desk keeps of this catalogue and this roll. The only error is that memory was wanted
+    /// and not given.
     pub(crate) fn copy(
         alloc: Global,
         catalog: &Catalog,
@@ -110,7 +111,7 @@ impl MarketRules {
         &self.seats
     }
 
-    // The lowest section of the bundle with which the section clashes.
+    /// The lowest section of the bundle that clashes with the section; `None` where none does.
     pub(crate) fn lowest_clash(&self, section: SectionNo, held: &Bundle) -> Option<SectionNo>
         requires section { section.0 < section_count self.now }
         requires within { (s : ℕ) → has (sections_of held.now) s ≡ true
@@ -122,7 +123,7 @@ impl MarketRules {
         first_in(&clashes, held.sections())
     }
 
-    // Whether the credits exceed the student's cap with the section.
+    /// Whether the credits of the bundle and the section together exceed the student's cap.
     pub(crate) fn exceeds_credits(
         &self,
         student: StudentNo,
@@ -139,7 +140,7 @@ impl MarketRules {
         credits > self.caps[usize::from(student.0)].credits
     }
 
-    // Whether one section more is one too many for the student.
+    /// Whether one section more than the bundle has is one too many for the student's cap.
     pub(crate) fn exceeds_courses(&self, student: StudentNo, held: &Bundle) -> bool
         requires { student.0 < student_count self.now }
         ensures exceeds { result ≡ exceeds_courses self.now student.0 (sections_of held.now) }
@@ -148,7 +149,8 @@ impl MarketRules {
         held.sections().len() + 1 > usize::from(self.caps[usize::from(student.0)].courses)
     }
 
-    // Whether the section fits the student, who holds this bundle.
+    /// Whether the student, who holds this bundle, could take the section too: there is no clash,
+    /// and the caps are kept. Seats are not looked at.
     pub(crate) fn fits(&self, student: StudentNo, section: SectionNo, held: &Bundle) -> bool
         requires student { student.0 < student_count self.now }
         requires section { section.0 < section_count self.now }

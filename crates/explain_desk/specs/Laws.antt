@@ -21,8 +21,8 @@ OneReason =
     → IsReason wishes price budget bundle section one
     → IsReason wishes price budget bundle section other → one ≡ other
 
--- some choice has a section that the bundle does not have exactly where the reason leaves one, for
--- every section that is offered
+-- for every offered section that the bundle lacks: some choice has it exactly where the reason is
+-- one that leaves a bundle with it (`tells_best`)
 abbrev pub ReasonsLeaveABundle : Type 0
 ReasonsLeaveABundle =
     (menu : MenuData) (price : ℕ → ℕ) (budget : ℕ) (allowed : ℕ → Bool) (bundle : List ℕ)

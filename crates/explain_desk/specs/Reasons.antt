@@ -43,7 +43,7 @@ pub record IsReason (wishes : Wishes) (price : ℕ → ℕ) (budget : ℕ) (bund
   pub first : (earlier : Reason) → stage earlier < stage reason
       → ¬ Applies wishes price budget bundle section earlier
 
--- the reasons for which some bundle with the section can be had
+-- the reasons of a student who lacks the section, though some bundle with it can be had
 abbrev pub tells_best : Reason → Bool
 tells_best (Clash other) = true
 tells_best (Beside limit) = true

@@ -13,9 +13,10 @@ use Rattle.published_parts.specs.Markets.{Market}
 use Rattle.student_roll.specs.Students.{RollData, names_of}
 use Rattle.utility_language.specs.declared.commands.Command.{Command}
 
--- The text tells why the student does not have the section: at the printed prices of stage two,
--- within the budget that it draws, beside its printed bundle of stage two; and where some bundle
--- with the section can be had and the student does not have it, the best one, with its tree.
+-- The text tells why the student does not have the section: at the printed prices of the second
+-- stage, within the budget that it draws, beside its printed bundle of the second stage; and where
+-- some bundle with the section can be had and the student does not have it, the best one, with its
+-- tree.
 abbrev pub IsTold : CatalogData → RollData → CrowdData → Publication → ℕ → ℕ → List ℕ → Type 0
 IsTold catalog roll crowd p student section text =
     (explained : ExplainedData)

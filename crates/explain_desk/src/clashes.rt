@@ -9,7 +9,8 @@ ghost use Rattle.explain_desk.specs.Reasons.{ClashesFirst};
 use bundle_rules::Menu;
 use market_units::SectionNo;
 
-// The lowest of these sections of the menu, which ascend, that clashes with the section.
+/// The lowest of these sections that clashes with the given one; `None` where none does. All are on
+/// the menu, and the list ascends.
 pub(crate) fn first_clash(
     menu: &Menu,
     sections: &[SectionNo],

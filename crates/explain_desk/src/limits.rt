@@ -24,8 +24,8 @@ pub enum Limit {
     Courses,
 }
 
-// The first limit that the section and those of the bundle pass together: the budget, the credit
-// cap, the course cap.
+/// The first limit that the section passes together with those of the bundle: the budget, the cap
+/// on credits, the cap on sections, in this order. `None` where they keep all three.
 pub(crate) fn first_passed(
     menu: &Menu,
     prices: &[Tokens],

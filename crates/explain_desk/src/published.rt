@@ -22,10 +22,10 @@ use student_roll::Roll;
 use utility_language::Command;
 
 /// The text that tells why a student does not have a section, at the prices and beside the bundle
-/// of stage two that a text publishes which is accepted for this market and these streams, one for
-/// each session; and the first finding where it is not accepted. Whom a finding names is on the
-/// roll, or in the catalogue. The text has fewer than 4,294,967,295 bytes. `NoMemory` comes where
-/// memory is wanted, and has no other cause.
+/// of the second stage that a text publishes which is accepted for this market and these streams,
+/// one for each session; and the first finding where it is not accepted. Whom a finding names is on
+/// the roll, or in the catalogue. The text has fewer than 4,294,967,295 bytes. `NoMemory` comes
+/// where memory is wanted, and has no other cause.
 pub fn published_reason(
     alloc: Global,
     catalog: &Catalog,

@@ -17,7 +17,7 @@ pub struct Counts {
 }
 
 impl Counts {
-    // The counts of one row.
+    /// The three counts of one student's row.
     pub(crate) fn of(row: &EnvyRow) -> Counts
         ensures value { result
             ≡ record { lower = row.now.lower; higher = row.now.higher; beyond = row.now.beyond } }
@@ -31,7 +31,7 @@ impl Counts {
     }
 }
 
-// The counts of all rows, of which there are at most 2,000.
+/// The counts of all rows, added up. There are at most 2,000 rows.
 pub(crate) fn sum_up(rows: &[EnvyRow]) -> Counts
     requires { length rows.now ≤ MAX_STUDENTS }
     ensures lower { result.lower ≡ total (λ (row : RowData). row.lower) (map row_of rows.now) }

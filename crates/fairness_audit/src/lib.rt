@@ -1,6 +1,6 @@
 //! Envy between students: what each sees in the bundles of the others, and whom it envies; the
-//! audit of an accepted text; and the law that in stage two nobody envies one whose budget is no
-//! greater.
+//! audit of an accepted text; and the law that in the second stage nobody envies one whose budget
+//! is no greater.
 // Neither: how long it takes.
 #![tactic(auto)]
 

@@ -14,8 +14,8 @@ use market_certificate::{put_bundle_field, put_field, put_number_field};
 use market_units::{NoMemory, SectionNo};
 use student_roll::Roll;
 
-// Puts the line of three counts behind the text: the word of the part, whose they are, and the
-// counts.
+/// Puts a line of three counts behind the text: the word of the part, whose they are, and the
+/// counts of lower envy, of higher envy, and of envy beyond one section.
 pub(crate) fn put_counts(
     text: &mut Vec<u8>,
     part: &[u8],
@@ -37,7 +37,8 @@ pub(crate) fn put_counts(
     Ok(())
 }
 
-// Puts the line of the first envied student behind the text, if there is one.
+/// Puts the line of the first student who is envied behind the text. Where nobody is, nothing is
+/// put.
 pub(crate) fn put_first(
     text: &mut Vec<u8>,
     catalog: &Catalog,

@@ -33,12 +33,12 @@ use student_roll::Roll;
 use utility_language::Command;
 
 /// The text of an audit of what a text publishes that is accepted for this market and these
-/// streams, one for each session: whom each student envies at the bundles of stage two, and whom at
-/// the final ones; and the first finding where the text is not accepted. 1 to 16 workers look for
-/// both, and no number of workers occurs in what is told. For each of the two each worker passes
-/// the gate before its first student and after each of its students. Whom a finding names is on the
-/// roll, or in the catalogue. The text has fewer than 4,294,967,295 bytes. `NoMemory` comes where
-/// memory is wanted, and has no other cause.
+/// streams, one for each session: whom each student envies at the bundles of the second stage, and
+/// whom at the final ones; and the first finding where the text is not accepted. 1 to 16 workers
+/// look for both, and no number of workers occurs in what is told. For each of the two each worker
+/// passes the gate before its first student and after each of its students. Whom a finding names is
+/// on the roll, or in the catalogue. The text has fewer than 4,294,967,295 bytes. `NoMemory` comes
+/// where memory is wanted, and has no other cause.
 pub fn published_audit<R: Threads + Wait + Sync, G: Gate + Sync>(
     rt: &R,
     alloc: Global,
@@ -99,7 +99,7 @@ fn audit_accepted<R: Threads + Wait + Sync, G: Gate + Sync>(
     put_rows(alloc, catalog, roll, &first, &last)
 }
 
-// Each student's bundle of stage two.
+// Each student's bundle of the second stage.
 fn settled_bundles(alloc: Global, publication: &Publication) -> Result<Vec<Bundle>, NoMemory>
     ensures { IfOk result
         (λ bundles. map sections_of bundles.items ≡ demanded (publication_of publication.now)) }

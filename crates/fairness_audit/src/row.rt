@@ -32,7 +32,7 @@ pub struct EnvyRow {
 }
 
 impl EnvyRow {
-    // The row of a student who envies nobody.
+    /// The row of a student who envies nobody.
     pub(crate) fn empty() -> EnvyRow
         ensures { row_of result ≡ no_envy }
     {
@@ -44,7 +44,8 @@ impl EnvyRow {
         }
     }
 
-    // The row with one more envied student, behind those that it counts.
+    /// The row with one more envied student, behind those that it counts. `is_lower` tells whether
+    /// the envy is lower: the budget of the other is at most the own one.
     pub(crate) fn with(self, seen: Seen, is_lower: bool) -> EnvyRow
         requires few { (self.lower ≤ MAX_STUDENTS) × (self.higher ≤ MAX_STUDENTS)
             × (self.beyond ≤ MAX_STUDENTS) }

@@ -17,8 +17,9 @@ use crate::weights::{Weights, may_be_more};
 use bundle_rules::{Bundle, Menu, feasible, prefers, utility};
 use market_units::{MAX_COURSES, SectionNo, StudentNo};
 
-// What a student with this menu, whose own bundle is worth so much to it, sees in the bundle of
-// another, if that is worth more. Most bundles need no search, by their weights.
+/// What a student with this menu, whose own bundle has this utility for it, sees in the bundle of
+/// another; `None` where it has no more utility than its own. Most bundles need no search, by their
+/// weights.
 pub(crate) fn sight(
     menu: &Menu,
     weights: &Weights,

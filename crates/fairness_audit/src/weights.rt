@@ -17,8 +17,9 @@ pub(crate) type Weights = [u32; SECTIONS];
 
 const SECTIONS: usize = MAX_SECTIONS as usize;
 
-// The weights of the sections of a menu: the rating, and all adjustments with later sections that
-// are not negative.
+/// For each section of the menu its rating and all its adjustments with later sections that are not
+/// negative, at most 20,000: no more than this does it add to a bundle with later sections.
+/// Sections that are not on the menu have 0.
 pub(crate) fn weights_of(menu: &Menu) -> Weights
     ensures weights { AreWeights (wishes_of menu.now) result }
     ensures few { All (λ weight. weight ≤ 20000) result }
@@ -55,7 +56,8 @@ fn gain(adjustment: i16) -> u32
     if adjustment > 0 { adjustment as u32 } else { 0 }
 }
 
-// Whether what is seen in the bundle may be worth more than this: the weights of its sections are.
+/// Whether the bundle may bring the student more utility than its own: the weights of its sections
+/// sum to more. Where not, nothing that it sees there is worth more.
 pub(crate) fn may_be_more(menu: &Menu, weights: &Weights, own: i32, bundle: &Bundle) -> bool
     requires weights { AreWeights (wishes_of menu.now) weights.now }
     requires few { All (λ weight. weight ≤ 20000) weights.now }

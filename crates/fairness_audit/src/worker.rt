@@ -13,8 +13,8 @@ use market_units::{MAX_WORKERS, StudentNo};
 use std::sync::Wait;
 use task_board::{Board, BoardSeat};
 
-// Draws one student after another, and posts its row, until no student is left. The worker passes
-// the gate before its first draw and after each of its posts.
+/// Draws one student after another, and posts its row, until no student is left. The worker passes
+/// the gate before its first draw and after each of its posts.
 pub(crate) fn work<R: Wait, G: Gate>(
     rt: &R,
     board: &Board<AuditTasks>,

@@ -21,6 +21,7 @@ fn each_is_below(sections: usize, bundles: &[Bundle]) -> bool
     bundles.iter().all(|bundle| is_below(sections, bundle))
 }
 
+/// Whether each section of the bundle has an ordinal below this number of sections.
 pub(crate) fn is_below(sections: usize, bundle: &Bundle) -> bool
     ensures { IsTrue result ↔ ((s : ℕ) → has (sections_of bundle.now) s ≡ true → s < sections) }
 {

@@ -12,7 +12,8 @@ use demand_api::count_bundle;
 use market_units::{MAX_SECTIONS, MAX_STUDENTS, NoMemory, SectionNo, SectionSet};
 use std::alloc::Global;
 
-// How many of these bundles have each section.
+/// How many of these bundles have each section, by ordinal. The only error is that memory was
+/// wanted and not given.
 pub(crate) fn count_all(
     alloc: Global,
     sections: usize,
@@ -30,7 +31,7 @@ pub(crate) fn count_all(
     Ok(counts)
 }
 
-// The free sections: those with fewer holders than seats.
+/// The sections that have a free seat: fewer students hold them than they have seats.
 pub(crate) fn free_sections(counts: &[u32], seats: &[u16]) -> SectionSet
     requires few { length seats.now ≤ MAX_SECTIONS }
     requires same { length counts.now ≡ length seats.now }
@@ -46,7 +47,8 @@ pub(crate) fn free_sections(counts: &[u32], seats: &[u16]) -> SectionSet
     free
 }
 
-// The free sections, where the counts of these sections have changed.
+/// The sections with a free seat, where only the counts of the listed sections have changed since
+/// the given set was right. The other sections are taken over from the set.
 pub(crate) fn freed(
     free: SectionSet,
     counts: &[u32],
@@ -76,7 +78,7 @@ pub(crate) fn freed(
     }
 }
 
-// The set with these sections too.
+/// The set with each listed section put in. One that is in it already changes nothing.
 pub(crate) fn with_all(free: SectionSet, sections: &[SectionNo]) -> SectionSet
     requires { All (λ section. section.0 < MAX_SECTIONS) sections.now }
     ensures { (s : ℕ)

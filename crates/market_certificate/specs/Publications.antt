@@ -18,10 +18,10 @@ pub record ProvedTurn : Type 0 where
   pub bundle : List ℕ
   pub tree : List ℕ
 
--- the session of each journal entry; each student's budget; each section's price in stage one; the
--- clearing error; each section's price in stage two; each student's bundle at these prices; the
--- turns of the aftermarket; each student's bundle after them; of each section how many seats are
--- used, and how many there are
+-- the session of each journal entry; each student's budget; each section's price that the search
+-- found, and the clearing error; each section's price in the second stage; each student's bundle at
+-- these prices; the turns of the aftermarket; each student's bundle after them; of each section how
+-- many seats are used, and how many there are
 pub record Publication : Type 0 where
   pub order : List ℕ
   pub budgets : List ℕ

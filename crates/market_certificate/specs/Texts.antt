@@ -45,7 +45,7 @@ amount_line kind name tokens = spaced (word_of kind ∷ name ∷ decimal tokens 
 abbrev pub error_line : ℕ → List ℕ
 error_line error = spaced (codes "error" ∷ decimal error ∷ [])
 
--- the line of a student's bundle at the prices of stage two, with its tree
+-- the line of a student's bundle at the prices of the second stage, with its tree
 abbrev pub bundle_line : List (List ℕ) → List ℕ → Proved → List ℕ
 bundle_line sections name proved = spaced (codes "bundle" ∷ name ∷ bundle_text sections proved.bundle ∷ proved.tree ∷ [])
 

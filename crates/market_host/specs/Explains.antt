@@ -48,10 +48,10 @@ IsFirstUnknown market student section word =
     ⊎ ((word ≡ 7) × IsEnrolled market student × ¬ IsListed market section)
 
 -- The published text is that of a publication of which the certificate holds, and the text tells
--- why the student does not have the section: at the published prices of stage two, within the
--- budget that the student draws, beside the published bundle of stage two, the first reason that
--- applies. The best bundle with the section, with its forced tree, is told exactly where the
--- student does not have the section and some bundle with it can be had.
+-- why the student does not have the section: at the published prices of the second stage, within
+-- the budget that the student draws, beside the published bundle of the second stage, the first
+-- reason that applies. The best bundle with the section, with its forced tree, is told exactly
+-- where the student does not have the section and some bundle with it can be had.
 pub record IsReasonOf (market : Market) (streams : List (List Command))
     (published student section text : List ℕ) : Type 0 where
   pub publication : Publication

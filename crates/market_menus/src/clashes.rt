@@ -7,9 +7,9 @@ use course_catalog::Catalog;
 use market_units::{MAX_RATINGS, NoMemory, SectionNo};
 use std::alloc::Global;
 
-// The word of each place: its bit t tells whether the catalogue lets the place's section clash with
-// that of place t. Bits above the last place are not set, so that a student has one menu, and an
-// order one publication.
+/// The word of each place: its bit t tells whether the catalogue lets the place's section clash
+/// with that of place t. Bits above the last place are not set, so that a student has one menu, and
+/// an order one publication.
 pub(crate) fn clashes_of(
     alloc: Global,
     catalog: &Catalog,

@@ -8,7 +8,8 @@ use bundle_rules::{Rated, place_among};
 use market_units::{MAX_RATINGS, NoMemory, SectionNo};
 use std::alloc::Global;
 
-// The pairs whose sections both have places, by these places.
+/// The adjustments of those pairs whose two sections both have places, in their order; each names
+/// the two places instead of the sections. The only error is that memory was not given.
 pub(crate) fn pairs_of(
     alloc: Global,
     places: &[Rated],

@@ -63,7 +63,11 @@ fn share(
     Ok(Shared { crowd, asked, pool })
 }
 
-// Runs the market after the desk's journal: workers answer what is demanded.
+/// Runs the market with the preferences that the desk's journal leaves: what is published, and the
+/// crowd. So many workers, 1 to 16, answer what is demanded; one that draws from a board passes the
+/// gate before its first draw and after each of its posts. `NoPrices`, with the least error, where
+/// the search found no prices of an accepted error; else the only error is that memory was not
+/// given.
 pub(crate) fn run<R: Threads + Wait + Sync>(
     rt: &R,
     alloc: Global,

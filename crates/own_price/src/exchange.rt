@@ -10,7 +10,8 @@ use demand_api::{count_bundle, uncount_bundle};
 use market_units::{MAX_STUDENTS, NoMemory, StudentNo};
 use std::alloc::Global;
 
-// How many of the bundles have each section.
+/// How many of these bundles have each section, by ordinal. The bundles have no sections beyond the
+/// given number of sections.
 pub(crate) fn tally(
     alloc: Global,
     sections: usize,
@@ -27,7 +28,8 @@ pub(crate) fn tally(
     Ok(counts)
 }
 
-// Gives each listed student another bundle.
+/// Gives each listed student the bundle at the same place of the other list, and keeps the counts
+/// of the sections in step. A student who is listed twice has the later bundle.
 pub(crate) fn exchange_all(
     bundles: &mut [Bundle],
     counts: &mut [u32],

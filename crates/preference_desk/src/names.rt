@@ -20,7 +20,7 @@ impl Names {
     ghost use Rattle.preference_desk.specs.DeskNames.{has_name, ordinal_of};
     ghost use Rattle.preference_desk.specs.NamesView.{names_in};
 
-    // The names of these sets.
+    /// The names of a market with these students and sections, each numbered from 0 in this order.
     pub(crate) fn of(students: IndexSet<Name>, sections: IndexSet<Name>) -> Names
         requires students { length students.keys ≤ MAX_STUDENTS }
         requires sections { length sections.keys ≤ MAX_SECTIONS }
@@ -30,7 +30,7 @@ impl Names {
         Names { students, sections }
     }
 
-    // The student of this name.
+    /// The number of the student with this name; `None` where no student has it.
     pub(crate) fn student(&self, name: &Name) -> Option<StudentNo>
         ensures has { IfSome result
             (λ student. has_name (names_in self.now).students name.now ≡ true) }
@@ -44,7 +44,7 @@ impl Names {
         Some(StudentNo(place as u16))
     }
 
-    // The section of this name.
+    /// The number of the section with this name; `None` where no section has it.
     pub(crate) fn section(&self, name: &Name) -> Option<SectionNo>
         ensures has { IfSome result
             (λ section. has_name (names_in self.now).sections name.now ≡ true) }

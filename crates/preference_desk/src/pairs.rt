@@ -25,7 +25,8 @@ impl Pairs {
     ghost use Rattle.preference_desk.specs.StudentPreferences.{with_pair};
     ghost use Rattle.preference_desk.specs.PairsView.{pairs_in};
 
-    // No adjustments, with room for 200.
+    /// No adjustments, with room for as many as a student may have. The only error is that memory
+    /// was not given.
     pub(crate) fn new(alloc: Global) -> Result<Pairs, NoMemory>
         ensures { IfOk result (λ pairs. pairs_in pairs ≡ empty) }
     {
@@ -34,7 +35,8 @@ impl Pairs {
         })
     }
 
-    // The pairs and their adjustments, pairs ascending.
+    /// The pairs of sections and their adjustments, ascending by the first section and then by the
+    /// second.
     pub(crate) fn as_slice(&self) -> &[(SectionNo, SectionNo, i16)]
         ensures entries { map pair_entry result.now ≡ entries (pairs_in self.now) }
         ensures kept { ArePairs result.now }
@@ -42,8 +44,8 @@ impl Pairs {
         &self.items
     }
 
-    // The pair's adjustment becomes this, and 0 takes it out; `false`, and nothing changes, where
-    // there is no room for one more.
+    /// The pair's adjustment becomes this, and 0 takes it out; `false`, and nothing changes, where
+    /// there is no room for one more.
     pub(crate) fn set(&mut self, first: SectionNo, second: SectionNo, n: i16) -> bool
         requires order { first.0 < second.0 }
         requires small { unsigned_abs n ≤ unsigned_abs MAX_ADJUSTMENT }
@@ -62,6 +64,7 @@ impl Pairs {
         rows::write(&mut self.items, MAX_PAIRS, place, stands, entry)
     }
 
+    /// Takes out all adjustments; the room stays.
     pub(crate) fn clear(&mut self)
         ensures { pairs_in self.new ≡ empty }
     {

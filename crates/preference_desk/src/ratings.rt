@@ -24,7 +24,8 @@ impl Ratings {
     ghost use Rattle.preference_desk.specs.StudentPreferences.{with_rating};
     ghost use Rattle.preference_desk.specs.RatingsView.{ratings_in};
 
-    // No ratings, with room for 60.
+    /// No ratings, with room for as many as a student may give. The only error is that memory was
+    /// not given.
     pub(crate) fn new(alloc: Global) -> Result<Ratings, NoMemory>
         ensures { IfOk result (λ ratings. ratings_in ratings ≡ empty) }
     {
@@ -33,7 +34,7 @@ impl Ratings {
         })
     }
 
-    // The sections and their ratings, sections ascending.
+    /// The rated sections and their ratings, ascending by section.
     pub(crate) fn as_slice(&self) -> &[(SectionNo, u8)]
         ensures entries { map rating_entry result.now ≡ entries (ratings_in self.now) }
         ensures kept { AreRatings result.now }
@@ -41,8 +42,8 @@ impl Ratings {
         &self.items
     }
 
-    // The section's rating becomes this, and 0 takes it out; `false`, and nothing changes, where
-    // there is no room for one more.
+    /// The section's rating becomes this, and 0 takes it out; `false`, and nothing changes, where
+    /// there is no room for one more.
     pub(crate) fn set(&mut self, section: SectionNo, rating: u8) -> bool
         requires { rating ≤ MAX_RATING }
         ensures room { result
@@ -59,6 +60,7 @@ impl Ratings {
         rows::write(&mut self.items, MAX_RATINGS, place, stands, entry)
     }
 
+    /// Takes out all ratings; the room stays.
     pub(crate) fn clear(&mut self)
         ensures { ratings_in self.new ≡ empty }
     {

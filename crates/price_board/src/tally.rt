@@ -15,7 +15,7 @@ pub struct Tally {
     pub count: u32,
 }
 
-// Whether the version of this tally is settled.
+/// Whether the version of this tally is settled.
 pub(crate) fn settles(ask: Ask, tally: Tally) -> bool
     requires { (tally.unfilled ≤ MAX_STUDENTS) × (tally.count ≤ MAX_STUDENTS) }
     ensures { result ≡ is_decided ask tally.unfilled tally.count }
@@ -28,7 +28,7 @@ pub(crate) fn settles(ask: Ask, tally: Tally) -> bool
     }
 }
 
-// The tally after one more bundle.
+/// The tally after one more bundle.
 pub(crate) fn with_bundle(ask: Ask, tally: Tally, bundle: &Bundle) -> Tally
     requires { (1 ≤ tally.unfilled) × (tally.count ≤ MAX_STUDENTS) }
     ensures { result
@@ -47,7 +47,7 @@ pub(crate) fn with_bundle(ask: Ask, tally: Tally, bundle: &Bundle) -> Tally
     }
 }
 
-// Whether more of the posted bundles than the limit have the section, where that is asked.
+/// Whether more of the posted bundles than the limit have the section, where that is asked.
 pub(crate) fn exceeds_by(ask: Ask, tally: Tally) -> Option<bool>
     ensures { result ≡ exceeds_by ask tally }
 {

@@ -34,8 +34,8 @@ pub struct RoundTasks {
 }
 
 impl RoundTasks {
-    // The tasks of this round of the crowd, of which nothing was posted. The only error is that
-    // memory was wanted and not given.
+    /// The tasks of this round of the crowd, of which nothing was posted. The only error is that
+    /// memory was wanted and not given.
     pub(crate) fn make(
         alloc: Global,
         crowd: Arc<Crowd>,
@@ -63,7 +63,7 @@ impl RoundTasks {
         })
     }
 
-    // How many students there are.
+    /// How many students there are.
     pub(crate) fn students(&self) -> u32
         ensures { result ≡ self.now.students }
     {
@@ -80,7 +80,7 @@ impl RoundTasks {
         (task / self.students) as usize
     }
 
-    // Of an `Exceeds` version, whether more of its posted bundles than the limit have the section.
+    /// Of an `Exceeds` version, whether more of its posted bundles than the limit have the section.
     pub(crate) fn exceeds(&self, version: usize) -> Option<bool>
         ensures none { length self.now.tallies.items ≤ version → result ≡ None }
         ensures some { (d : Tally) → version < length self.now.tallies.items

@@ -53,8 +53,10 @@ fn with_alone(
     Ok(vector)
 }
 
-// By ordinal, the vectors in which one section alone has another price. All least prices are asked
-// for at once.
+/// Puts behind the vectors those in which one section alone has another price, by its ordinal. One
+/// with too many students gets the least price at which fewer take it; one with free seats and a
+/// price above 0 gets price 0; for any other there is no vector. All least prices are asked for at
+/// once.
 pub(crate) fn push_alone<R: Threads + Wait + Sync, D: Demands>(
     rt: &R,
     alloc: Global,

@@ -48,7 +48,9 @@ fn stepped(
     Ok(moved)
 }
 
-// For each step, in order, the vector in which every price makes it.
+/// Puts one vector behind the others for each step, in order: every price is raised by so many
+/// tokens for each student too many, or lowered by so many for each free seat. What would leave the
+/// range from 0 to the top is cut to it.
 pub(crate) fn push_stepped(
     alloc: Global,
     vectors: &mut Vec<Vec<Tokens>>,

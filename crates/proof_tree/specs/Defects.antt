@@ -38,16 +38,18 @@ FailsAt offer champion text at fault =
     × ((rest : List ℕ) × HasCome offer None champion text ((k, chosen) ∷ nodes) rest
     × (at ≡ offset text rest) × fault k chosen rest)))
 
--- another symbol stands first than that of the canonical sign, and the two are so
+-- the sign whose symbol stands first is not the canonical one, and this relation holds of the two
 abbrev pub Differs : Offer → List ℕ → (Sign → Sign → Type 0) → ℕ → List ℕ → List ℕ → Type 0
 Differs offer champion are k chosen rest =
     (read : Sign) × Reads rest read
     × ((canonical : Sign) × IsSign offer None (places_of offer.menu champion) k chosen canonical
     × (read ≢ canonical) × are read canonical)
 
--- the first defect of a text: no symbol stands; the node has no canonical sign, or a leaf stands
--- and the canonical sign is none; none stands and it is one; another leaf; another of *, +, -; or
--- the walk ends and bytes are left
+-- The first defect of a text, at the node where the walk fails. `Syntax`: no symbol stands there.
+-- `NotClosed`: one stands and the node has no canonical sign, or a leaf stands and the canonical
+-- sign is no leaf. `Redundant`: the canonical sign is a leaf and what stands is none. `WrongLeaf`,
+-- `WrongBranch`: another leaf, another of *, +, -. `Rest`: the walk is at its end, and bytes are
+-- left.
 abbrev pub IsDefect : Offer → List ℕ → List ℕ → TreeDefect → Type 0
 IsDefect offer champion text (Syntax at) =
     FailsAt offer champion text at (λ k chosen rest. (read : Sign) → ¬ Reads rest read)

@@ -98,8 +98,8 @@ fn is_place(required: Option<u8>, place: u8) -> bool
     }
 }
 
-// The canonical sign of a node, or `None` where it has none: all places are decided, the chosen
-// sections are not the champion, and no bound prunes it.
+/// The canonical sign of a node, or `None` where it has none: all places are decided, the chosen
+/// sections are not the champion, and no bound prunes it.
 #[inline(always)]
 pub(crate) fn sign_at(
     menu: &Menu,

@@ -14,7 +14,8 @@ use bundle_bounds::{Leaf, Node, Stem};
 use bundle_rules::{Bundle, Menu};
 use market_units::{SectionSet, Tokens};
 
-// The first bound that prunes the node.
+/// The leaf of the first bound that prunes the node; `None` where none does. The stem at this place
+/// is that of the node, and keeps what is computed.
 #[inline(always)]
 pub(crate) fn pruning_at(
     stems: &mut [Stem],
@@ -45,7 +46,7 @@ pub(crate) fn pruning_at(
     stems[at].pruning(menu, prices, budget, allowed, champion, node)
 }
 
-// The stem goes on without the next place.
+/// The stem at this place becomes that of the node without the next place.
 #[inline(always)]
 pub(crate) fn pass_at(
     stems: &mut [Stem],
@@ -70,7 +71,7 @@ pub(crate) fn pass_at(
     stems[at].pass(menu, prices, budget, allowed, champion, node);
 }
 
-// The stem with the next place, which is open, is written behind the stem.
+/// Writes the stem of the node with the next place, which is open, behind the node's own stem.
 #[inline(always)]
 pub(crate) fn take_at(
     stems: &mut [Stem],
@@ -102,7 +103,7 @@ pub(crate) fn take_at(
     front[at].take(menu, prices, budget, allowed, champion, node, &mut back[0]);
 }
 
-// The stem behind it takes its place.
+/// The stem behind this place is copied to it.
 pub(crate) fn put_back(stems: &mut [Stem], at: usize)
     requires { at + 1 < length stems.old }
     ensures size { length stems.new ≡ length stems.old }
@@ -114,7 +115,7 @@ pub(crate) fn put_back(stems: &mut [Stem], at: usize)
     stems[at] = stems[at + 1];
 }
 
-// Whether the next place of the node is open.
+/// Whether the next place of the node is open. The stem at this place is that of the node.
 pub(crate) fn is_open_at(
     stems: &[Stem],
     at: usize,

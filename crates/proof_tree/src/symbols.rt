@@ -111,7 +111,8 @@ fn numbered_leaf(letter: u8, place: u8) -> Option<Leaf>
     }
 }
 
-// The sign whose symbol stands first in the text, and what is left of the text.
+/// The sign whose symbol stands first in the text, and what is left of the text behind it; `None`
+/// where no symbol stands first.
 pub(crate) fn read_symbol(text: &[u8]) -> Option<(Sign, &[u8])>
     ensures some { IfSome result (λ read. Stands read.0 text.now read.1.now) }
     ensures none { IfNone result ((sign : Sign) (rest : List ℕ) → ¬ Stands sign text.now rest) }
@@ -140,7 +141,7 @@ impl Symbol {
     ghost use Rattle.std.specs.Prelude.{◌≡◌, ◌≤◌};
     ghost use Rattle.proof_tree.specs.Spellings.{bytes_of};
 
-    // Its bytes.
+    /// The bytes of the symbol, 1 to 3.
     pub(crate) fn as_slice(&self) -> &[u8]
         requires { self.now.len ≤ 3 }
         ensures { result.now ≡ bytes_of self.now }
@@ -192,7 +193,7 @@ fn spell_leaf(leaf: Leaf) -> Symbol
     }
 }
 
-// The symbol of a sign.
+/// The symbol of a sign, as it stands in the text of a tree.
 pub(crate) fn spell(sign: Sign) -> Symbol
     requires { IsShort sign }
     ensures len { result.len ≤ 3 }

@@ -49,7 +49,7 @@ pub(crate) struct Walk {
 impl Walk {
     ghost use Rattle.proof_tree.specs.Steps.{waiting_of, spots_of};
 
-    // The walk that begins at the root.
+    /// The walk that begins at the root: no place is decided, and no section is chosen.
     pub(crate) fn start(
         menu: &Menu,
         prices: &[Tokens],
@@ -76,8 +76,8 @@ impl Walk {
         }
     }
 
-    // Visits the next node, where one is left: its canonical sign, where it has one, and then the
-    // nodes below it wait.
+    /// Visits the next node: `Signed` with its canonical sign, and then the nodes below it wait;
+    /// `Unsigned` where it has no such sign; `Ended` where no node is left.
     #[inline(always)]
     pub(crate) fn step(
         &mut self,
@@ -286,7 +286,7 @@ impl Walk {
     }
 }
 
-// The node with the section of the next place, where that is open.
+/// The node with the section of the next place, which is open.
 pub(crate) fn with_next(menu: &Menu, node: &Node) -> Node
     requires left { node.now.place < length menu.now.places }
     requires open { (prices : List Tokens) × (budget : ℕ) × (allowed : set.FinSet nat_cmp)

@@ -49,7 +49,7 @@ proved_form n sections price student proved same is form = record {
   tree = form.bytes;
 }
 
--- the bundles of stage two are in range
+-- the bundles of the second stage are in range
 pub bundles_in_range : (n : ℕ) (sections : List (List ℕ)) (price : ℕ → ℕ) (students : List Student) (bundles : List Proved) → n ≡ length sections
     → AllZip (IsProvedDemand n price) students bundles → All (λ (proved : Proved). HasForm proved.bundle proved.tree) bundles
     → All (IsProved sections) bundles

@@ -34,9 +34,9 @@ BudgetsAreDrawn =
     → IsPublished market streams order p
     → p.budgets ≡ budgets_of market.roll.students market.settings.seed market.settings.spread
 
--- each student's bundle of stage two is the best that its budget buys at the published prices: the
--- student may take it, its prices sum to at most the budget, and the student prefers it to every
--- other such bundle of the catalogue's sections
+-- each student's bundle of the second stage is the best that its budget buys at the published
+-- prices: the student may take it, its prices sum to at most the budget, and the student prefers it
+-- to every other such bundle of the catalogue's sections
 abbrev pub BestWithinBudget : Type 0
 BestWithinBudget =
     (market : Market) (streams : List (List Command)) (order : List ℕ) (p : Publication)
@@ -66,13 +66,13 @@ AllocatedInPasses =
     → IsPublished market streams order p → IsJournalOf (names_in market) streams order journal
     → IsAllocation market journal p
 
--- no section is above its seats in the bundles of stage two
+-- no section is above its seats in the bundles of the second stage
 abbrev pub StageTwoWithinSeats : Type 0
 StageTwoWithinSeats =
     (market : Market) (streams : List (List Command)) (order : List ℕ) (p : Publication)
     → IsPublished market streams order p → AreWithinSeats market (demanded p)
 
--- nor after any turn
+-- no section is above its seats after any turn
 abbrev pub TurnsWithinSeats : Type 0
 TurnsWithinSeats =
     (market : Market) (streams : List (List Command)) (order : List ℕ) (p : Publication)
@@ -80,7 +80,7 @@ TurnsWithinSeats =
     → (earlier later : List ProvedTurn) → p.turns ≡ earlier ++ later
     → AreWithinSeats market (held_after (demanded p) earlier)
 
--- nor at the end
+-- no section is above its seats in the final bundles
 abbrev pub AllocationWithinSeats : Type 0
 AllocationWithinSeats =
     (market : Market) (streams : List (List Command)) (order : List ℕ) (p : Publication)

@@ -28,7 +28,8 @@ const PLACES: u8 = MAX_RATINGS as u8;
 
 const COURSES: usize = MAX_COURSES as usize;
 
-// The best bundle of a menu with its tree, which is in the room where it fits.
+/// The best bundle of a menu with the tree that proves it: the tree of the room, or one that is
+/// built now, where it did not fit the room. The only error is that memory was not given.
 pub(crate) fn prove_bundle(
     alloc: Global,
     menu: &Menu,
@@ -144,8 +145,9 @@ fn put_bundles(
     Ok(())
 }
 
-// What each student of the crowd takes at the prices, with its tree. So many workers write the
-// trees to rooms of this size, group after group; one that does not fit is built afterwards.
+/// What each student of the crowd takes at the prices, with its tree, in file order. At most so
+/// many workers write the trees to rooms of this many bytes, group after group; a tree that does
+/// not fit is built afterwards.
 pub(crate) fn prove_bundles<R: Threads + Sync>(
     rt: &R,
     alloc: Global,

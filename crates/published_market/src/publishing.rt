@@ -111,7 +111,9 @@ pub fn publish<R: Threads + Wait + Sync, D: Demands>(
     )
 }
 
-// Publishes the market, where the threads that write trees have rooms of this size.
+/// Publishes the market. Trees are written to rooms of this many bytes by at most so many workers;
+/// neither number changes what is published. There are no prices where the search found none with
+/// an accepted error: then the least error that it found is told.
 pub(crate) fn publish_by<R: Threads + Wait + Sync, D: Demands>(
     rt: &R,
     alloc: Global,

@@ -156,8 +156,9 @@ fn put_turns(
     Ok(())
 }
 
-// The turns, each with the tree of its bundle. So many workers write the trees to rooms of this
-// size, group after group; one that does not fit is built afterwards.
+/// The turns in their order, each with the tree of its bundle. At most so many workers write the
+/// trees to rooms of this many bytes, group after group; a tree that does not fit is built
+/// afterwards.
 pub(crate) fn prove_turns<R: Threads + Sync>(
     rt: &R,
     alloc: Global,

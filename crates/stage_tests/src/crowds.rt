@@ -5,7 +5,7 @@ use market_units::{SectionNo, Tokens};
 use std::alloc::Global;
 use std::process::Abort;
 
-// A section of one credit, with the number of its course and its rating.
+/// A section of one credit, with the number of its course and its rating.
 pub fn rated(section: u16, course: u16, rating: u8) -> Rated {
     Rated {
         section: SectionNo(section),
@@ -15,13 +15,14 @@ pub fn rated(section: u16, course: u16, rating: u8) -> Rated {
     }
 }
 
-// Students, before they are a crowd.
+/// Students, before they are a crowd: a menu and a budget each.
 #[derive(Drop)]
 pub struct Students {
     menus: Vec<Menu>,
     budgets: Vec<Tokens>,
 }
 
+/// No students yet.
 pub fn nobody(alloc: Global) -> Students {
     Students {
         menus: Vec::new(alloc),
@@ -29,13 +30,13 @@ pub fn nobody(alloc: Global) -> Students {
     }
 }
 
-// The crowd of these students, and so many sections.
+/// The crowd of these students, and so many sections.
 pub fn crowd_of<R: Abort>(rt: &R, students: Students, sections: u16) -> Crowd {
     Crowd::of(students.menus, students.budgets, sections).expect(rt, "a crowd")
 }
 
-// One student more: its budget and how many sections it may take, what it rates, its adjustments,
-// and with which of its places each place clashes.
+/// One student more: its budget and how many sections it may take, what it rates, its adjustments,
+/// and with which of its places each place clashes.
 pub fn join<R: Abort>(
     rt: &R,
     alloc: Global,
@@ -51,7 +52,7 @@ pub fn join<R: Abort>(
     students.budgets.push(Tokens(budget)).expect(rt, "memory");
 }
 
-// Students of these budgets who want the one section.
+/// Students of these budgets who want the one section.
 pub fn rivals<R: Abort>(rt: &R, alloc: Global, budgets: &[u32]) -> Crowd {
     let mut students = nobody(alloc);
     let places = [rated(0, 0, 50)];
@@ -61,7 +62,7 @@ pub fn rivals<R: Abort>(rt: &R, alloc: Global, budgets: &[u32]) -> Crowd {
     crowd_of(rt, students, 1)
 }
 
-// Whether these are the bundles, by the ordinals of their sections.
+/// Whether these are the bundles, by the ordinals of their sections.
 pub fn are_bundles(bundles: &[Bundle], wanted: &[&[u16]]) -> bool {
     if bundles.len() != wanted.len() {
         return false;

@@ -9,7 +9,8 @@ use std::sync::Wait;
 use std::thread;
 use std::thread::Threads;
 
-// Each session makes its requests, from a thread of its own where one can be started.
+/// Each session makes the requests of its stream in their order, from a thread of its own where one
+/// can be started. The call does not return before all are made.
 pub(crate) fn post_all<R: Threads + Wait + Sync, O: Object + Send, G: Gate + Sync>(
     rt: &R,
     chronicle: &Chronicle<O>,

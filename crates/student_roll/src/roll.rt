@@ -58,7 +58,7 @@ impl Roll {
         })
     }
 
-    // The roll of the rows that were read.
+    /// The roll of these rows of a table: its version, and the students in file order.
     pub(crate) fn of_rows(rows: Rows<Entry>) -> Roll
         requires { KeepsStudents rows.names.keys
             (record { version = rows.version; students = rows.rows.items }) }

@@ -24,7 +24,8 @@ pub enum Table {
 const THREE_SECTIONS: &[u8] =
     b"section,course,seats,credits,meetings\nA,AA,2,1,\nB,BB,2,1,\nC,CC,2,1,\n";
 
-// Of each case is told what stands there.
+/// Tries cases, one in each line: a table of this kind is read with the case's records behind the
+/// header, and what it says, or its refusal, must be what the case tells.
 pub fn try_cases(
     rt: &impl Abort,
     alloc: Global,
@@ -62,7 +63,7 @@ fn text_of(alloc: Global, header: &str, written: &str) -> Result<String, Fail> {
     Ok(text)
 }
 
-// The header, and so many rows: a number each, and what stands behind it.
+/// The header, and so many rows below it: each is its number, from 0, and what stands behind it.
 pub fn long_table(alloc: Global, header: &str, rows: u16, behind: &str) -> Result<String, Fail> {
     let mut text = String::from_str(alloc, header)?;
     for row in 0..rows {
@@ -72,7 +73,8 @@ pub fn long_table(alloc: Global, header: &str, rows: u16, behind: &str) -> Resul
     Ok(text)
 }
 
-// What the text says as such a table, or its refusal.
+/// What the text says when it is read as a table of this kind, or the refusal's words. Prices are
+/// read for the sections A, B and C.
 pub fn told(rt: &impl Abort, alloc: Global, table: Table, text: &[u8]) -> Result<String, Fail> {
     assert!(rt; text.len() < 100_000);
     match table {
@@ -82,13 +84,13 @@ pub fn told(rt: &impl Abort, alloc: Global, table: Table, text: &[u8]) -> Result
     }
 }
 
-// The catalogue that this text is.
+/// The catalogue that this text is; the test ends where it is none.
 pub fn catalog_in(rt: &impl Abort, alloc: Global, text: &[u8]) -> Catalog {
     assert!(rt; text.len() < 100_000);
     read_catalog(alloc, text).expect(rt, "a catalogue")
 }
 
-// The roll that this text is.
+/// The roll that this text is; the test ends where it is none.
 pub fn roll_in(rt: &impl Abort, alloc: Global, text: &[u8]) -> Roll {
     assert!(rt; text.len() < 100_000);
     read_roll(alloc, text).expect(rt, "a roll")
@@ -182,8 +184,8 @@ fn put_clashes(
     Ok(())
 }
 
-// What a roll says: its version, and of each student the name, the base, the two caps and what is
-// carried over.
+/// What a roll says: its version, and for each student the name, the base budget, the two caps and
+/// the tokens carried over.
 pub fn said_by_roll(alloc: Global, roll: &Roll) -> Result<String, Fail> {
     let mut said = format!(in alloc; "version {}", roll.version())?;
     if roll.is_empty() {

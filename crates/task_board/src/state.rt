@@ -58,7 +58,7 @@ impl<T: Tasks> BoardState<T> {
         })
     }
 
-    // How many tasks there are.
+    /// How many tasks there are.
     pub(crate) fn count(&self) -> u32
         ensures { result ≡ T.rules.count self.now.terms }
     {
@@ -149,7 +149,7 @@ impl<T: Tasks> BoardState<T> {
         }
     }
 
-    // The answer that was posted for the task.
+    /// The answer that was posted for the task.
     pub(crate) fn answer(&self, task: u32) -> Option<T::Answer>
         ensures posted { result ≡ answer_in (mark_at self.now.marks task) }
         ensures right { AreRight T.rules self.now.terms self.now.marks }
@@ -160,7 +160,7 @@ impl<T: Tasks> BoardState<T> {
         }
     }
 
-    // The tasks, which noted the answers in the marks.
+    /// The tasks, which noted the answers in the marks.
     pub(crate) fn tasks(&self) -> &T
         ensures terms { T.terms result.now ≡ self.now.terms }
         ensures noted { T.noted result.now (answers_in self.now.marks) }
@@ -170,7 +170,7 @@ impl<T: Tasks> BoardState<T> {
         &self.tasks
     }
 
-    // One call of those that the board has room for.
+    /// One call of those that the board has room for.
     pub(crate) fn use_room(&mut self)
         requires { 1 ≤ self.old.room }
         ensures room { self.new.room + 1 ≡ self.old.room }

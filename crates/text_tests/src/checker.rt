@@ -130,7 +130,7 @@ fn forged_texts_have_their_findings(rt: HostRuntime) -> Result<(), Fail> {
     try_forged(&rt, alloc, 29, "end\n", "line 29 rest")
 }
 
-// Two students have the one seat in stage two, which is told before any turn.
+// Two students have the one seat in the second stage, which is told before any turn.
 #[test]
 fn seats_are_looked_at_before_turns(rt: HostRuntime) -> Result<(), Fail> {
     let alloc = rt.alloc();

@@ -1,5 +1,5 @@
 // Tables of small menus, and which nodes they prune, worked by hand.
-ghost use Rattle.std.specs.Prelude.{◌≤◌, length};
+ghost use Rattle.std.specs.Prelude.{◌≤◌, ℕ, length};
 ghost use Rattle.bundle_rules.specs.Demand.{price_in, HasPrices};
 ghost use Rattle.demand_oracle.specs.SummedNodes.{IsSummed};
 
@@ -66,6 +66,22 @@ fn champion_of(menu: &Menu, prices: &[Tokens], first: bool, second: bool) -> Sum
     }
 }
 
+// Whether a node is pruned.
+fn is_pruned(
+    reach: &Reach,
+    menu: &Menu,
+    budget: Tokens,
+    summed: &SummedNode,
+    champion: &SummedNode,
+) -> bool
+    requires summed { (price : ℕ → ℕ) × IsSummed menu.now price summed.now }
+    requires place { summed.now.node.place ≤ length menu.now.places }
+{
+    prove!(summed.node.place <= menu.len());
+    let column = reach.column(menu, budget, summed);
+    reach.prunes(menu, &column, summed, summed.node.place, champion)
+}
+
 // Whether the nodes at the first place, at the second with the first section, and at the second
 // without it are pruned for the champion that has the first two sections as told.
 fn prunings<R: Abort>(
@@ -85,9 +101,9 @@ fn prunings<R: Abort>(
     let with_it = root.with_next(menu, prices);
     let without = root.without_next();
     [
-        reach.prunes(menu, budget, &root, &champion),
-        reach.prunes(menu, budget, &with_it, &champion),
-        reach.prunes(menu, budget, &without, &champion),
+        is_pruned(&reach, menu, budget, &root, &champion),
+        is_pruned(&reach, menu, budget, &with_it, &champion),
+        is_pruned(&reach, menu, budget, &without, &champion),
     ]
 }
 

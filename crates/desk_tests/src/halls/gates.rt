@@ -15,6 +15,7 @@ pub struct HoldingGate {
 }
 
 impl HoldingGate {
+    /// The gate before a hall opens: no session has called, and none has passed on alone.
     pub fn new() -> Self {
         HoldingGate {
             first_calls: AtomicU64::new(0),

@@ -4,7 +4,7 @@ use Rattle.std.specs.Prelude.{codes}
 use Rattle.std.specs.Fmt.{decimal, signed_decimal}
 use Rattle.bundle_rules.specs.Bundles.{sections_of}
 use Rattle.demand_api.specs.Views.{data_of}
-use Rattle.demand_api.proofs.Parts.{students_length}
+use Rattle.demand_api.proofs.Parts.{menus_few, students_length}
 use Rattle.market_certificate.specs.Publications.{Proved, ProvedTurn}
 use Rattle.market_certificate.specs.Views.{proved_of, publication_of, turn_of}
 use Rattle.market_units.specs.Totals.{total}
@@ -19,6 +19,9 @@ worth-utility-requires-clause-rated c =
     rw (c.deref-2.ensures.value, c.deref-3.ensures.value)
     (rated_last c.args.crowd.now c.requires.0 c.requires.1
     (lengths_of c.args.published.now.turns c.args.published.now.rounds c.args.published.now.passes) (publication_of c.args.published.now.publication) c.requires.2)
+
+pub worth-utility-requires-clause-few : goal.worth-utility-requires-clause-few
+worth-utility-requires-clause-few c = omega (arith, ap length c.deref-2.ensures.value, menus_few c.args.crowd.now)
 
 pub returns : goal.returns
 returns c =

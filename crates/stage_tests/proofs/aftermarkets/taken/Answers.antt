@@ -1,4 +1,4 @@
-use Rattle.std.proofs.Common.{◌≡◌, ◌<◌, ◌≤◌, ◌∙◌, length, arith, rules}
+use Rattle.std.proofs.Common.{◌<◌, ◌≤◌, ◌∙◌, length, rules}
 use Rattle.std.specs.FinSet as set
 use Rattle.std.proofs.lemmas.List.{take_all}
 use Rattle.bundle_rules.specs.Bundles.{sections_of}

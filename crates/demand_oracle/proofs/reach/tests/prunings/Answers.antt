@@ -4,11 +4,11 @@ use Rattle.demand_oracle.proofs.reach.tests.prunings.Goals as goal
 pub with_next-with_it-requires-clause-summed : goal.with_next-with_it-requires-clause-summed
 with_next-with_it-requires-clause-summed g c = c.root-root.ensures.summed c.args.menu.now (price_in c.args.prices.now)
 
-pub prunes-requires-clause-summed : goal.prunes-requires-clause-summed
-prunes-requires-clause-summed g c = (price_in c.args.prices.now, c.root-root.ensures.summed c.args.menu.now (price_in c.args.prices.now))
+pub is_pruned-requires-clause-summed : goal.is_pruned-requires-clause-summed
+is_pruned-requires-clause-summed g c = (price_in c.args.prices.now, c.root-root.ensures.summed c.args.menu.now (price_in c.args.prices.now))
 
-pub prunes-requires-3-clause-summed : goal.prunes-requires-3-clause-summed
-prunes-requires-3-clause-summed g c = (
+pub is_pruned-requires-3-clause-summed : goal.is_pruned-requires-3-clause-summed
+is_pruned-requires-3-clause-summed g c = (
   price_in c.args.prices.now,
   c.without_next-without.ensures.summed c.args.menu.now (price_in c.args.prices.now)
       (c.root-root.ensures.summed c.args.menu.now (price_in c.args.prices.now)),

@@ -12,7 +12,7 @@ use Rattle.demand_oracle.proofs.summed_node.SummedNode.is_behind.Goals as goal
 pub returns : goal.returns
 returns c menu prices budget allowed is_menu is node champion_is takable behind bundle may completes =
     let offer = offer_of menu prices budget allowed in
-    let k : ℕ = c.args.self.now.node.place in
+    let k : ℕ = c.args.place in
     let chosen = chosen_of c.args.self.now in
     let champion = chosen_of c.args.champion.now in
     let ps = places_of menu champion in

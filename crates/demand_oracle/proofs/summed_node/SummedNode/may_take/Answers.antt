@@ -17,7 +17,7 @@ returns-then-not-has-clause-takable c = (
   λ takable.
       let menu = c.args.menu.now in
       let at =
-      open_at_where_takable (offer_of menu c.args.prices.now c.args.budget.0 c.args.allowed.now) c.len.ensures.menu c.args.self.now c.requires.summed
+      open_at_where_takable (offer_of menu c.args.prices.now c.args.budget.0 c.args.allowed.now) c.len.ensures.menu c.args.self.now c.requires.summed _
       c.requires.node c.args.place c.requires.undecided c.requires.on_menu takable in
       sym
       (allowed_read menu c.args.prices.now c.args.budget.0 c.args.allowed.now c.args.place c.rated-rated.result.now c.rated-rated.ensures.value
@@ -31,7 +31,7 @@ returns-then-price_of_place-budget_left-clause-takable c = (
   λ takable.
       let offer = offer_of c.args.menu.now c.args.prices.now c.args.budget.0 c.args.allowed.now in
       let at =
-      open_at_where_takable offer c.len.ensures.menu c.args.self.now c.requires.summed c.requires.node c.args.place c.requires.undecided c.requires.on_menu
+      open_at_where_takable offer c.len.ensures.menu c.args.self.now c.requires.summed _ c.requires.node c.args.place c.requires.undecided c.requires.on_menu
       takable in
       let price : price_at offer c.args.place ≤ c.args.budget.0 - c.args.self.now.paid = at.price in
       let read : c.price_of_place.result ≡ price_at offer c.args.place = c.price_of_place.ensures.value in absurd (omega arith),
@@ -44,7 +44,7 @@ returns-then-from-credits_left-clause-takable c = (
       let menu = c.args.menu.now in
       let k = c.args.place in
       let at =
-      open_at_where_takable (offer_of menu c.args.prices.now c.args.budget.0 c.args.allowed.now) c.len.ensures.menu c.args.self.now c.requires.summed
+      open_at_where_takable (offer_of menu c.args.prices.now c.args.budget.0 c.args.allowed.now) c.len.ensures.menu c.args.self.now c.requires.summed _
       c.requires.node c.args.place c.requires.undecided c.requires.on_menu takable in
       let credits : credits_at menu.places k ≤ menu.credits - c.args.self.now.credits = at.credits in
       let read : credits_at menu.places k ≡ c.rated-rated.result.now.credits =
@@ -58,7 +58,7 @@ returns-then-courses_left-eq0-clause-takable c = (
   λ takable.
       let menu = c.args.menu.now in
       let at =
-      open_at_where_takable (offer_of menu c.args.prices.now c.args.budget.0 c.args.allowed.now) c.len.ensures.menu c.args.self.now c.requires.summed
+      open_at_where_takable (offer_of menu c.args.prices.now c.args.budget.0 c.args.allowed.now) c.len.ensures.menu c.args.self.now c.requires.summed _
       c.requires.node c.args.place c.requires.undecided c.requires.on_menu takable in
       let courses : 1 ≤ menu.courses - length (chosen_of c.args.self.now) = at.courses in absurd (omega arith),
 )
@@ -78,7 +78,7 @@ returns-clause-takable c =
     let credits : credits_at menu.places k ≡ c.rated-rated.result.now.credits =
     credits_at-is menu.places k c.rated-rated.result.now c.rated-rated.ensures.value in
     let price : c.price_of_place.result ≡ price_at offer k = c.price_of_place.ensures.value in (
-      λ is. takable_where_open_at offer c.len.ensures.menu c.args.self.now c.requires.summed c.requires.node c.args.place c.requires.undecided c.requires.on_menu record {
+      λ is. takable_where_open_at offer c.len.ensures.menu c.args.self.now c.requires.summed _ c.requires.node c.args.place c.requires.undecided c.requires.on_menu record {
         allowed =
             allowed_read menu c.args.prices.now c.args.budget.0 c.args.allowed.now k c.rated-rated.result.now c.rated-rated.ensures.value ∙ sym c.has.ensures
             ∙ c.if-not-has.false;
@@ -88,7 +88,7 @@ returns-clause-takable c =
         apart = sym same ∙ is;
       },
       λ takable. same
-          ∙ (open_at_where_takable offer c.len.ensures.menu c.args.self.now c.requires.summed c.requires.node c.args.place c.requires.undecided
+          ∙ (open_at_where_takable offer c.len.ensures.menu c.args.self.now c.requires.summed _ c.requires.node c.args.place c.requires.undecided
           c.requires.on_menu takable).apart,
     )
 

@@ -16,7 +16,7 @@ use Rattle.bundle_bounds.specs.Modest.{IsModest}
 use Rattle.bundle_bounds.proofs.BelowLimit.{collected, rest_of_room, some_prunes, none_prunes}
 use Rattle.bundle_bounds.proofs.FirstPruning.{first_pruning_is_the_first, found_pruning}
 use Rattle.bundle_bounds.proofs.ByPlace.{ascending_places, has-places}
-use Rattle.bundle_bounds.proofs.nodes.bound_prunes.Goals as goal
+use Rattle.bundle_bounds.proofs.nodes.bound_closes.Goals as goal
 
 pub rests_of-rests-requires-clause-on_menu : goal.rests_of-rests-requires-clause-on_menu
 rests_of-rests-requires-clause-on_menu c =
