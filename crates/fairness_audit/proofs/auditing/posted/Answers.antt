@@ -11,7 +11,7 @@ use Rattle.fairness_audit.proofs.auditing.posted.Goals as goal
 pub unreachable-requires : goal.unreachable-requires
 unreachable-requires c = elim (c.requires.settled c.args.student c.requires.student) [
   | inl some ↦
-      let none : IsSome None = subst (λ (o : Option EnvyRow). IsSome o) (sym c.answer.ensures.posted ∙ c.in-None.is) some in
+      let none : IsSome {T = EnvyRow} None = subst (λ (o : Option EnvyRow). IsSome o) (sym c.answer.ensures.posted ∙ c.in-None.is) some in
       absurd (false≢true none)
   | inr over ↦ absurd (false≢true over)
 ]

@@ -1,5 +1,4 @@
-use Rattle.std.proofs.Common.{ℕ, ◌≡◌, ◌<◌, ◌≤◌, ◌∙◌, Fits, w16, true, ap, arith, length, subst, sym}
-use Rattle.demand_api.proofs.Parts.{menus_few}
+use Rattle.std.proofs.Common.{◌≡◌, ◌<◌, ◌∙◌, true, ap, subst, sym}
 use Rattle.fairness_audit.specs.Allocations.{Allocation, student_count}
 use Rattle.fairness_audit.specs.Rows.{row}
 use Rattle.fairness_audit.specs.SameRows.{same_row}
@@ -7,14 +6,6 @@ use Rattle.fairness_audit.specs.Views.{row_of}
 use Rattle.fairness_audit.proofs.Allocated.{count_is}
 use Rattle.fairness_audit.proofs.SameRows.{row_own}
 use Rattle.fairness_audit.proofs.worker.work.Goals as goal
-
-pub overflow_cast-row : goal.overflow_cast-row
-overflow_cast-row g c =
-    let s : ℕ = c.in-Some.student in
-    let low : s < length c.args.crowd.now.menus.items =
-    subst (λ n. s < n) (ap student_count c.requires.board ∙ count_is c.args.crowd.now c.args.bundles.now) c.in-Some.ensures.holds.0.below in
-    let few : length c.args.crowd.now.menus.items ≤ 2000 = menus_few c.args.crowd.now in
-    let goal : Fits w16 s = omega arith in goal
 
 pub count_envy-row-requires-clause-student : goal.count_envy-row-requires-clause-student
 count_envy-row-requires-clause-student g c =
