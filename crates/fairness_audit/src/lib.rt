@@ -6,29 +6,24 @@
 
 mod allocation;
 mod auditing;
-mod calls;
 mod counting;
 mod counts;
 pub mod laws;
 mod lines;
-mod place;
 mod published;
-mod register;
 mod row;
-mod shared;
 mod sight;
+mod tasks;
+mod terms;
 mod text;
-mod turns;
 mod weights;
 mod worker;
 
 pub use allocation::is_allocation;
 pub use auditing::audit;
-pub use calls::{AuditCall, AuditReply};
 pub use counting::count_envy;
-pub use place::Place;
 pub use published::published_audit;
-pub use register::Register;
 pub use row::{EnvyRow, Seen};
-pub use shared::{Progress, Terms};
+pub use tasks::AuditTasks;
+pub use terms::Terms;
 pub use text::put_rows;
