@@ -2,7 +2,6 @@
 // tables and bundles.
 ghost use Rattle.std.specs.Prelude.{◌≡◌, ◌≤◌, IfOk, length, map};
 ghost use Rattle.std.specs.Arc.{arc_value};
-ghost use Rattle.demand_api.specs.Made.{MakeCrowd};
 ghost use Rattle.fairness_audit.specs.Texts.{AreRowsAmong};
 ghost use Rattle.fairness_audit.specs.Views.{row_of};
 
@@ -12,7 +11,7 @@ use course_catalog::Catalog;
 use demand_api::Crowd;
 use fairness_audit::{EnvyRow, Seen, audit, is_allocation, put_rows};
 use market_edge::{Gate, MeetingGate, OpenGate};
-use market_units::{SectionNo, StudentNo, Tokens};
+use market_units::{MAX_WORKERS, SectionNo, StudentNo, Tokens};
 use std::alloc::Global;
 use std::process::Abort;
 use std::sync::{Arc, Wait};
@@ -37,8 +36,8 @@ type Student = (
     &'static [u64],
 );
 
-// A market: its tables, its students, what they have after stage two and at last, and the text of
-// its audit.
+// A market: its tables, its students, what they have after the second stage and at last, and the
+// text of its audit.
 #[derive(Clone, Copy)]
 struct Case {
     catalogue: &'static [u8],
@@ -85,23 +84,14 @@ fn crowd_of<R: Abort>(
     alloc: Global,
     students: &[Student],
     sections: u16,
-) -> Result<Arc<Crowd>, Fail>
-    ensures { IfOk result
-        (λ crowd. MakeCrowd (arc_value crowd).menus.items (arc_value crowd).budgets.items
-        (arc_value crowd).sections) }
-{
+) -> Result<Arc<Crowd>, Fail> {
     let mut menus = Vec::new(alloc);
     let mut budgets = Vec::new(alloc);
     for student in students {
         menus.push(menu_of(rt, alloc, student)?)?;
         budgets.push(Tokens(student.0))?;
     }
-    let crowd = Crowd {
-        menus,
-        budgets,
-        sections,
-    };
-    assert!(rt; crowd.is_whole());
+    let crowd = Crowd::of(menus, budgets, sections).expect(rt, "a crowd");
     Ok(Arc::new(alloc, crowd)?)
 }
 
@@ -123,9 +113,7 @@ fn rows_of<R: Abort + Threads + Wait + Sync, G: Gate + Sync>(
     workers: u16,
     gate: &G,
 ) -> Result<Vec<EnvyRow>, Fail>
-    requires crowd { MakeCrowd (arc_value crowd.now).menus.items (arc_value crowd.now).budgets.items
-        (arc_value crowd.now).sections }
-    requires workers { (1 ≤ workers) × (workers ≤ 16) }
+    requires workers { (1 ≤ workers) × (workers ≤ MAX_WORKERS) }
     ensures { IfOk result
         (λ rows. AreRowsAmong (length (arc_value crowd.now).menus.items)
         (arc_value crowd.now).sections (map row_of rows.items)) }
@@ -147,9 +135,7 @@ fn text_of<R: Abort + Threads + Wait + Sync>(
     crowd: &Arc<Crowd>,
     workers: u16,
 ) -> Result<Vec<u8>, Fail>
-    requires crowd { MakeCrowd (arc_value crowd.now).menus.items (arc_value crowd.now).budgets.items
-        (arc_value crowd.now).sections }
-    requires workers { (1 ≤ workers) × (workers ≤ 16) }
+    requires workers { (1 ≤ workers) × (workers ≤ MAX_WORKERS) }
 {
     assert_eq!(rt; catalog.len(), crowd.sections);
     assert_eq!(rt; usize::from(roll.len()), crowd.menus.len());
@@ -252,26 +238,27 @@ fn envy_beyond_one_section(rt: HostRuntime) -> Result<(), Fail> {
 }
 
 const USEFUL: Case = Case {
-    catalogue: b"section,course,seats,credits,meetings\nA,AA,1,1,\nB,BB,1,1,\n",
+    catalogue: b"section,course,seats,credits,meetings\nA,AA,1,1,\nB,BB,1,1,\nC,CC,1,1,\nD,DD,1,1,\n",
     roll: TWO_NAMES,
     students: &[
-        (300, 2, &[(0, 0, 50), (1, 1, 50)], &[], &[0; 2]),
-        (100, 2, &[(1, 1, 50)], &[], &[0]),
+        (300, 3, &[(0, 0, 50), (1, 1, 50), (3, 3, 50)], &[], &[0; 3]),
+        (100, 3, &[(0, 0, 50), (1, 1, 50), (2, 2, 60)], &[], &[0; 3]),
     ],
-    settled: &[&[A, B], &[]],
-    last: &[&[A, B], &[]],
+    settled: &[&[A, B, D], &[C]],
+    last: &[&[A, B, D], &[C]],
     text: "settled u 0 0 0
 settled v 0 1 0
-sees u [B] but for B
+sees u [A,B] but for A
 settled total 0 1 0
 final u 0 0 0
 final v 0 1 0
-sees u [B] but for B
+sees u [A,B] but for A
 final total 0 1 0
 ",
 };
 
-// What a student does not rate it does not see.
+// What a student does not rate it does not see. But for either of the two sections that it sees the
+// envy ends, and the lower one is told.
 #[test]
 fn sees_only_what_is_of_use(rt: HostRuntime) -> Result<(), Fail> {
     try_case(&rt, rt.alloc(), &USEFUL)

@@ -250,6 +250,8 @@ fn limits_beside_the_bundle(rt: HostRuntime) {
     }
 }
 
+// The section that is not rated, and the one that clashes, pass the cap on courses too: the first
+// reason that applies is told.
 const OTHERS: [Case; 4] = [
     Case {
         places: &[(0, 50, 1), (1, 50, 1)],
@@ -266,7 +268,7 @@ const OTHERS: [Case; 4] = [
         places: &[(0, 50, 1), (1, 50, 1)],
         pairs: &[],
         clashes: &[0, 0],
-        caps: (10, 1),
+        caps: (10, 0),
         prices: FREE,
         budget: 0,
         student: b"ann",
@@ -277,7 +279,7 @@ const OTHERS: [Case; 4] = [
         places: &[(0, 20, 1), (3, 45, 1)],
         pairs: &[],
         clashes: &[2, 1],
-        caps: (10, 2),
+        caps: (10, 1),
         prices: FREE,
         budget: 102,
         student: b"cat",

@@ -5,6 +5,7 @@ use crate::opened_halls::hall_of;
 use crate::told_audits::audited;
 use made_run::made_summary;
 use market_edge::{Gate, Stop};
+use market_units::MAX_WORKERS;
 use std::alloc::Global;
 use std::process::Abort;
 use std::sync::Wait;
@@ -69,10 +70,10 @@ fn a_hall_passes_the_gate(rt: HostRuntime) {
     assert_eq!(rt; watch.counts(), (5, 0, 0));
 }
 
-// An audit by so many workers, each of which starts with the rows of stage two and with the final
-// ones.
+// An audit by so many workers, each of which starts with the rows of the second stage and with the
+// final ones.
 fn try_audit<R: Abort + Threads + Wait + Sync>(rt: &R, alloc: Global, workers: u16)
-    requires { (1 ≤ workers) × (workers ≤ 16) }
+    requires { (1 ≤ workers) × (workers ≤ MAX_WORKERS) }
 {
     let watch = Watch::of(workers);
     let text = EQUAL_MARKET.term.text.as_bytes();
@@ -91,7 +92,7 @@ fn an_audit_passes_the_gate(rt: HostRuntime) {
 
 // A made market of two students, each of whom gives three commands, by so many workers.
 fn try_made<R: Abort + Threads + Wait + Sync>(rt: &R, alloc: Global, workers: u16)
-    requires { (1 ≤ workers) × (workers ≤ 16) }
+    requires { (1 ≤ workers) × (workers ≤ MAX_WORKERS) }
 {
     let watch = Watch::of(workers);
     let made = made_summary(rt, alloc, workers, 7, 2, 2, 0, &watch);

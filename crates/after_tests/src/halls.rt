@@ -8,6 +8,7 @@ use chronicle::Step;
 use dropadd_desk::{HallCommand, HallDesk, HallReply};
 use dropadd_hall::{ClosedHall, open_hall, put_hall, read_request, read_requests};
 use market_edge::{Gate, MeetingGate, OpenGate};
+use market_units::MAX_SESSIONS;
 use std::alloc::Global;
 use std::process::Abort;
 use std::sync::Wait;
@@ -140,7 +141,7 @@ fn tell<R: Abort + Threads + Wait + Sync, G: Gate + Sync>(
     streams: &[Vec<HallCommand>],
     gate: &G,
 ) -> Result<Told, Fail>
-    requires sessions { (1 ≤ length streams.now) × (length streams.now ≤ 64) }
+    requires sessions { (1 ≤ length streams.now) × (length streams.now ≤ MAX_SESSIONS) }
     requires few { request_count streams.now ≤ 200 }
 {
     let term = FIVE_SECTIONS_TERM;

@@ -3,6 +3,7 @@ ghost use Rattle.std.specs.Prelude.{◌≤◌};
 
 use course_catalog::{Catalog, read_catalog};
 use market_settings::{Settings, read_settings};
+use market_units::{MAX_RAISE, MAX_SPREAD};
 use std::alloc::Global;
 use std::process::Abort;
 use student_roll::{Roll, read_roll};
@@ -30,7 +31,7 @@ fn roll_of<R: Abort>(rt: &R, alloc: Global, text: &[u8]) -> Roll {
 
 /// The settings of a market, within their limits.
 pub(crate) fn settings_of<R: Abort>(rt: &R, alloc: Global, text: &[u8]) -> Settings
-    ensures { (result.spread ≤ 49) × (result.raise ≤ 50) }
+    ensures { (result.spread ≤ MAX_SPREAD) × (result.raise ≤ MAX_RAISE) }
 {
     let settings = read_settings(alloc, text).expect(rt, "settings");
     assert!(rt; settings.spread <= 49 && settings.raise <= 50);

@@ -6,7 +6,7 @@ use crate::tables::{settings_of, streams_of, tables_of};
 use certificate_checker::{CheckEnd, Finding};
 use fairness_audit::published_audit;
 use market_edge::{Gate, OpenGate};
-use market_units::SectionNo;
+use market_units::{MAX_WORKERS, SectionNo};
 use std::alloc::Global;
 use std::process::Abort;
 use std::sync::Wait;
@@ -26,7 +26,7 @@ pub(crate) fn audited<R: Abort + Threads + Wait + Sync, G: Gate + Sync>(
     workers: u16,
     gate: &G,
 ) -> Result<Vec<u8>, CheckEnd>
-    requires { (1 ≤ workers) × (workers ≤ 16) }
+    requires { (1 ≤ workers) × (workers ≤ MAX_WORKERS) }
 {
     assert!(rt; text.len() < 1000);
     let (catalog, roll) = tables_of(rt, alloc, market.term.catalogue, market.term.roll);

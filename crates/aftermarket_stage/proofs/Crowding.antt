@@ -9,21 +9,23 @@ use Rattle.market_units.specs.declared.units.Tokens.{Tokens}
 use Rattle.market_units.specs.declared.units.StudentNo.{StudentNo}
 use Rattle.bundle_rules.specs.declared.bundle.Bundle.{Bundle}
 use Rattle.bundle_rules.specs.Bundles.{sections_of}
-use Rattle.bundle_rules.specs.Sets.{has}
+use Rattle.market_units.specs.Members.{has}
 use Rattle.bundle_rules.specs.Menus.{MenuData, wishes_of}
 use Rattle.bundle_rules.specs.Demand.{price_in, IsBest, HasPrices}
 use Rattle.budget_draw.specs.AfterOrder.{after_order_of}
 use Rattle.budget_draw.specs.Budgets.{amounts, raised_by}
 use Rattle.demand_api.specs.Crowds.{Student, IsCrowd}
-use Rattle.demand_api.specs.Made.{MakeCrowd, students_of, crowd_of}
+use Rattle.demand_api.specs.Parts.{students_of}
+use Rattle.demand_api.specs.Views.{data_of}
 use Rattle.demand_api.specs.declared.crowd.Crowd.{Crowd}
-use Rattle.demand_api.proofs.Takers.{crowd_made, students_length}
+use Rattle.demand_api.proofs.Parts.{menus_within, students_length}
 use Rattle.demand_api.proofs.Halving.{price_at}
 use Rattle.aftermarket_stage.specs.declared.turns.Turn.{Turn}
 use Rattle.held_seats.specs.Choices.{AreHeldWithin, may_choose}
 use Rattle.aftermarket_stage.specs.Turns.{Terms, TurnData, IsTurn, after_turn, after_turns, EachTurn, IsQuiet}
 use Rattle.aftermarket_stage.specs.Passes.{due_of, IsPass, IsAftermarket}
-use Rattle.aftermarket_stage.specs.After.{terms_of, turn_of, turns_of, AreSectionPrices}
+use Rattle.demand_api.specs.Asking.{AreSectionPrices}
+use Rattle.aftermarket_stage.specs.After.{terms_of, turn_of, turns_of}
 use Rattle.held_seats.specs.Floors.{AreBelow}
 use Rattle.aftermarket_stage.specs.HeldChoices.{AreChoices, AreTerms}
 use Rattle.aftermarket_stage.specs.Runs.{IsBestAt, HasTurned, HaveTurned}
@@ -44,13 +46,13 @@ student_here (m ∷ ms) (b ∷ bs) zero menu budget same low is has_it =
 student_here (m ∷ ms) (b ∷ bs) (suc i) menu budget same low is has_it = student_here ms bs i menu budget (omega arith) (omega arith) is has_it
 
 -- each section of a menu has a price
-pub menu_priced : (menus : List MenuData) (budgets : List Tokens) (sections : ℕ) (prices : List Tokens) (i : ℕ) (menu : MenuData)
-    → MakeCrowd menus budgets sections → AreSectionPrices sections prices → i < length menus → menu ≡ slice_index_or menus i menu → HasPrices menu prices
-menu_priced menus budgets sections prices i menu make are low is =
+pub menu_priced : (crowd : Crowd) (prices : List Tokens) (i : ℕ) (menu : MenuData)
+    → AreSectionPrices crowd.sections prices → i < length crowd.menus.items → menu ≡ slice_index_or crowd.menus.items i menu → HasPrices menu prices
+menu_priced crowd prices i menu are low is =
     rw is λ k d inside.
-    let below : (slice_index_or (slice_index_or menus i menu).places k d).section.0 < sections = make.within i menu low k d inside in
-    let size : length prices ≡ sections = are.same in
-    let s : ℕ = (slice_index_or (slice_index_or menus i menu).places k d).section.0 in
+    let below : (slice_index_or (slice_index_or crowd.menus.items i menu).places k d).section.0 < crowd.sections = menus_within crowd i menu low k d inside in
+    let size : length prices ≡ crowd.sections = are.same in
+    let s : ℕ = (slice_index_or (slice_index_or crowd.menus.items i menu).places k d).section.0 in
     let none : Tokens = record { 0 = 0 } in
     let high : (slice_index_or prices s none).0 ≤ 1000001 = are.high s none (omega arith) in
     let same = price_at prices s none (omega arith) in
@@ -59,12 +61,12 @@ menu_priced menus budgets sections prices i menu make are low is =
 -- a found bundle is the best at its place
 pub best_found : (crowd : Crowd) (seats : List ℕ) (prices : List Tokens) (raise i raised : ℕ) (menu : MenuData) (budget : Tokens) (allowed : ℕ → Bool)
     (bundle : List ℕ)
-    → MakeCrowd crowd.menus.items crowd.budgets.items crowd.sections → i < length crowd.menus.items
+    → i < length crowd.menus.items
     → menu ≡ slice_index_or crowd.menus.items i menu → budget ≡ slice_index_or crowd.budgets.items i budget → raised ≡ raised_by raise budget.0
     → IsBest (wishes_of menu) (price_in prices) raised allowed bundle → IsBestAt (terms_of crowd seats prices raise) i allowed bundle
-best_found crowd seats prices raise i raised menu budget allowed bundle make low is has_it by best = record {
+best_found crowd seats prices raise i raised menu budget allowed bundle low is has_it by best = record {
   who = record { menu = menu; budget = budget.0 };
-  listed = student_here crowd.menus.items crowd.budgets.items i menu budget make.same low is has_it;
+  listed = student_here crowd.menus.items crowd.budgets.items i menu budget crowd.same low is has_it;
   best = subst (λ b. IsBest (wishes_of menu) (price_in prices) b allowed bundle) by best;
 }
 
@@ -72,21 +74,21 @@ best_found crowd seats prices raise i raised menu budget allowed bundle make low
 pub choices_low : (crowd : Crowd) (seats : List ℕ) (prices : List Tokens) (raise : ℕ) (held : List (List ℕ)) → AreTerms crowd seats prices raise
     → AreChoices (terms_of crowd seats prices raise) held → AreBelow (length seats) held
 choices_low crowd seats prices raise held are choices k d low s in_it =
-    let known = crowd_made crowd.menus.items crowd.budgets.items crowd.sections are.whole in
+    let known = crowd.whole in
     let size = choices.each in
     let nobody : Student = record { menu = record { places = []; pairs = []; clashes = []; credits = 0; courses = 0 }; budget = 0 } in
     let listed = slice_get-get_or (students_of crowd.menus.items crowd.budgets.items) k nobody (omega (arith, low, size)) in
     let holds = choices.choices k (slice_index_or (students_of crowd.menus.items crowd.budgets.items) k nobody) listed in
     let here : slice_index_or held k d ≡ holds.bundle = get_or_from_slice_get held k holds.bundle d holds.there in
     let below =
-    choice_below (crowd_of crowd.menus.items crowd.budgets.items crowd.sections) (price_in prices) _ k _ (λ t. true) holds.bundle known listed holds.choice s
+    choice_below (data_of crowd) (price_in prices) _ k _ (λ t. true) holds.bundle known listed holds.choice s
     (ap (λ b. has b s) (sym here) ∙ in_it) in
     let seats_each = are.seats_each in
     omega (arith, below, seats_each)
 
-pub choices_length : (crowd : Crowd) (seats : List ℕ) (prices : List Tokens) (raise : ℕ) (held : List (List ℕ)) → AreTerms crowd seats prices raise
+pub choices_length : (crowd : Crowd) (seats : List ℕ) (prices : List Tokens) (raise : ℕ) (held : List (List ℕ))
     → AreChoices (terms_of crowd seats prices raise) held → length held ≡ length crowd.menus.items
-choices_length crowd seats prices raise held are choices = choices.each ∙ students_length crowd.menus.items crowd.budgets.items are.whole.same
+choices_length crowd seats prices raise held choices = choices.each ∙ students_length crowd
 
 -- a turn that was made
 pub turned : (terms : Terms) (pass : ℕ) (held later : List (List ℕ)) (before after : List Turn) (changed : Bool) (turn : Turn) → after ≡ before ++ turn ∷ []
@@ -315,9 +317,9 @@ passes_few terms start held turns number is =
 pub best_low : (crowd : Crowd) (seats : List ℕ) (prices : List Tokens) (raise i : ℕ) (allowed : ℕ → Bool) (bundle : List ℕ) → AreTerms crowd seats prices raise
     → IsBestAt (terms_of crowd seats prices raise) i allowed bundle → (s : ℕ) → has bundle s ≡ true → s < length seats
 best_low crowd seats prices raise i allowed bundle are is s in_it =
-    let known = crowd_made crowd.menus.items crowd.budgets.items crowd.sections are.whole in
+    let known = crowd.whole in
     let below =
-    choice_below (crowd_of crowd.menus.items crowd.budgets.items crowd.sections) (price_in prices) (raised_by raise is.who.budget) i is.who allowed bundle
+    choice_below (data_of crowd) (price_in prices) (raised_by raise is.who.budget) i is.who allowed bundle
     known is.listed is.best.choice s in_it in
     let seats_each = are.seats_each in
     omega (arith, below, seats_each)

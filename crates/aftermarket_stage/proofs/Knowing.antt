@@ -8,12 +8,12 @@ use Rattle.std.proofs.lemmas.List.{length-set, get_or_default}
 use Rattle.std.proofs.lemmas.Option.{slice_get_within, get_or_from_slice_get}
 use Rattle.market_units.specs.declared.units.Tokens.{Tokens}
 use Rattle.bundle_rules.specs.declared.menu.Rated.{Rated}
-use Rattle.bundle_rules.specs.Sets.{has}
+use Rattle.market_units.specs.Members.{has}
 use Rattle.bundle_rules.specs.Menus.{MenuData, wishes_of}
 use Rattle.bundle_rules.specs.Demand.{price_in, IsBest}
 use Rattle.budget_draw.specs.Budgets.{raised_by}
 use Rattle.demand_api.specs.Crowds.{Student, CrowdData}
-use Rattle.demand_api.specs.Made.{MakeCrowd, crowd_of}
+use Rattle.demand_api.specs.Views.{data_of}
 use Rattle.demand_api.specs.declared.crowd.Crowd.{Crowd}
 use Rattle.held_seats.specs.Choices.{is_free, may_choose}
 use Rattle.held_seats.proofs.Gets.{get-set_same, get-set_other, set_again}
@@ -46,25 +46,24 @@ still_best menu price budget known allowed bundle none_new within best = record 
 }
 
 -- the student at a place, with its budget as it stands there
-listed_student : (menus : List MenuData) (budgets : List Tokens) (sections i : ℕ) (menu : MenuData) → length budgets ≡ length menus → i < length menus
-    → menu ≡ slice_index_or menus i menu
-    → slice_get (crowd_of menus budgets sections).students i ≡ Some (record { menu = menu; budget = (slice_index_or budgets i (record { 0 = 0 })).0 })
-listed_student menus budgets sections i menu same low is =
-    student_here menus budgets i menu (slice_index_or budgets i (record { 0 = 0 })) same low is
-    (get_or_default budgets i (record { 0 = 0 }) (slice_index_or budgets i (record { 0 = 0 })) (omega arith))
+listed_student : (crowd : Crowd) (i : ℕ) (menu : MenuData) → i < length crowd.menus.items → menu ≡ slice_index_or crowd.menus.items i menu
+    → slice_get (data_of crowd).students i ≡ Some (record { menu = menu; budget = (slice_index_or crowd.budgets.items i (record { 0 = 0 })).0 })
+listed_student crowd i menu low is =
+    let budget : Tokens = slice_index_or crowd.budgets.items i (record { 0 = 0 }) in
+    student_here crowd.menus.items crowd.budgets.items i menu budget crowd.same low is
+    (get_or_default crowd.budgets.items i (record { 0 = 0 }) budget (omega (arith, crowd.same, low)))
 
 -- a settled bundle is the best
 pub settled_best : (crowd : Crowd) (seats : List ℕ) (prices : List Tokens) (raise i : ℕ) (held : List (List ℕ)) (known : List (Option (set.FinSet nat_cmp)))
     (menu : MenuData) (places : List Rated) (allowed : set.FinSet nat_cmp) (bundle : List ℕ)
-    → MakeCrowd crowd.menus.items crowd.budgets.items crowd.sections
     → i < length crowd.menus.items → menu ≡ slice_index_or crowd.menus.items i menu → places ≡ menu.places → slice_get held i ≡ Some bundle
     → ((s : ℕ) → has (slice_index_or held i []) s ≡ true → set.contains allowed s ≡ true)
-    → AreKnown (crowd_of crowd.menus.items crowd.budgets.items crowd.sections) prices raise held known → IsSettled known i places allowed
+    → AreKnown (data_of crowd) prices raise held known → IsSettled known i places allowed
     → IsBestAt (terms_of crowd seats prices raise) i (set.contains allowed) bundle
-settled_best crowd seats prices raise i held known menu places allowed bundle make low is all there own are settled =
+settled_best crowd seats prices raise i held known menu places allowed bundle low is all there own are settled =
     let budget : ℕ = (slice_index_or crowd.budgets.items i (record { 0 = 0 })).0 in
     let who : Student = record { menu = menu; budget = budget } in
-    let listed = listed_student crowd.menus.items crowd.budgets.items crowd.sections i menu make.same low is in
+    let listed = listed_student crowd i menu low is in
     let here : slice_index_or held i [] ≡ bundle = get_or_from_slice_get held i bundle [] there in
     record {
       who = who;

@@ -6,7 +6,8 @@ use Rattle.std.proofs.lemmas.Bool.{cases_Bool, cases_order}
 use Rattle.std.proofs.lemmas.Bool.Decides.{nat_tests}
 use Rattle.std.proofs.lemmas.Int.{ints}
 use Rattle.bundle_rules.specs.declared.menu.Rated.{Rated}
-use Rattle.bundle_rules.specs.Sets.{has, DiffersFirstIn}
+use Rattle.market_units.specs.Members.{has}
+use Rattle.bundle_rules.specs.Sets.{DiffersFirstIn}
 use Rattle.bundle_rules.specs.Wishes.{IsFeasible, utility}
 use Rattle.bundle_rules.specs.Menus.{MenuData, wishes_of, rating_at, place_in}
 use Rattle.bundle_rules.specs.Preferences.{IsPreferred}

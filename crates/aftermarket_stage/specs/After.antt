@@ -1,10 +1,10 @@
 -- What an aftermarket is asked of, and the turns that were made, as plain data.
-use Rattle.std.specs.Prelude.{ℕ, ◌≤◌, ◌≡◌, List, All, length, map}
+use Rattle.std.specs.Prelude.{ℕ, List, map}
 use Rattle.std.specs.FinSet as set
 use Rattle.market_units.specs.declared.units.Tokens.{Tokens}
 use Rattle.bundle_rules.specs.Bundles.{sections_of}
 use Rattle.demand_api.specs.declared.crowd.Crowd.{Crowd}
-use Rattle.demand_api.specs.Made.{crowd_of}
+use Rattle.demand_api.specs.Views.{data_of}
 use Rattle.aftermarket_stage.specs.declared.turns.Turn.{Turn}
 use Rattle.aftermarket_stage.specs.Turns.{Terms, TurnData}
 
@@ -12,16 +12,11 @@ use Rattle.aftermarket_stage.specs.Turns.{Terms, TurnData}
 abbrev pub terms_of : Crowd → List ℕ → List Tokens → ℕ → Terms
 terms_of crowd seats prices raise =
     record {
-      crowd = crowd_of crowd.menus.items crowd.budgets.items crowd.sections;
+      crowd = data_of crowd;
       seats = seats;
       prices = prices;
       raise = raise;
     }
-
--- one price for each section, each at most 1,000,001
-pub record AreSectionPrices (sections : ℕ) (prices : List Tokens) : Type 0 where
-  pub same : length prices ≡ sections
-  pub high : All (λ price. price.0 ≤ 1000001) prices
 
 -- a turn as plain data
 abbrev pub turn_of : Turn → TurnData

@@ -2,16 +2,16 @@
 use Rattle.std.specs.Prelude.{ℕ, ◌≤◌, ◌≡◌, ◌||◌, true, not, List, All, IsTrue, length, Option, Some, slice_get}
 use Rattle.std.specs.Ordering.{nat_cmp}
 use Rattle.std.specs.FinSet as set
+use Rattle.market_units.specs.declared.limits.TheConstants.{MAX_RAISE}
 use Rattle.bundle_rules.specs.declared.menu.Rated.{Rated}
 use Rattle.market_units.specs.declared.units.Tokens.{Tokens}
 use Rattle.bundle_rules.specs.Menus.{wishes_of}
 use Rattle.bundle_rules.specs.Demand.{price_in, IsChoice, IsBest}
 use Rattle.budget_draw.specs.Budgets.{raised_by}
 use Rattle.demand_api.specs.Crowds.{Student, CrowdData}
-use Rattle.demand_api.specs.Made.{MakeCrowd}
 use Rattle.demand_api.specs.declared.crowd.Crowd.{Crowd}
 use Rattle.aftermarket_stage.specs.Turns.{Terms}
-use Rattle.aftermarket_stage.specs.After.{AreSectionPrices}
+use Rattle.demand_api.specs.Asking.{AreSectionPrices}
 
 -- a student and what it holds: a bundle that it may take and afford with the raise
 pub record HoldsChoice (terms : Terms) (held : List (List ℕ)) (who : Student)
@@ -27,14 +27,13 @@ pub record AreChoices (terms : Terms) (held : List (List ℕ)) : Type 0 where
   pub choices : (place : ℕ) (who : Student) → slice_get terms.crowd.students place ≡ Some who
       → HoldsChoice terms held who place
 
--- what a stage may be held with: a whole crowd, a seat number and a price for each section, and a
--- raise of at most 50 percent
+-- what a stage of a crowd may be held with: a seat number and a price for each section, and a raise
+-- of at most 50 percent
 pub record AreTerms (crowd : Crowd) (seats : List ℕ) (prices : List Tokens)
     (raise : ℕ) : Type 0 where
-  pub whole : MakeCrowd crowd.menus.items crowd.budgets.items crowd.sections
   pub seats_each : length seats ≡ crowd.sections
   pub prices_each : AreSectionPrices crowd.sections prices
-  pub raise_low : raise ≤ 50
+  pub raise_low : raise ≤ MAX_RAISE
 
 -- where sections are known of a student, the bundle that it holds is the best of these within its
 -- raised budget

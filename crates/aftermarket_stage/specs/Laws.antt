@@ -35,7 +35,7 @@ AftermarketEnds =
     (terms : Terms) → IsCrowd terms.crowd
     → (turns : List TurnData) × (passes : ℕ) × IsAftermarket terms (start_of terms) turns passes
 
--- and it is one
+-- from one start there is one aftermarket alone, with one number of passes
 abbrev pub OneAftermarket : Type 0
 OneAftermarket =
     (terms : Terms) (start : List (List ℕ)) (one other : List TurnData) (m n : ℕ)

@@ -1,10 +1,11 @@
 // The best bundles of students, sought only where something new may be chosen.
 ghost use Rattle.std.specs.Prelude.{◌≡◌, ◌<◌, ◌≤◌, ◌||◌, ℕ, [], List, Option, None, Some, IfOk, IsTrue, All, true, not, length, map, slice_get, slice_index_or, slice_set};
 ghost use Rattle.std.specs.FinSet as set;
-ghost use Rattle.bundle_rules.specs.Sets.{has};
+ghost use Rattle.market_units.specs.Members.{has};
 ghost use Rattle.bundle_rules.specs.Bundles.{sections_of};
-ghost use Rattle.demand_api.specs.Made.{MakeCrowd, crowd_of};
-ghost use Rattle.aftermarket_stage.specs.After.{AreSectionPrices, terms_of};
+ghost use Rattle.demand_api.specs.Views.{data_of};
+ghost use Rattle.demand_api.specs.Asking.{AreSectionPrices};
+ghost use Rattle.aftermarket_stage.specs.After.{terms_of};
 ghost use Rattle.aftermarket_stage.specs.HeldChoices.{AreKnown, IsSettled};
 ghost use Rattle.aftermarket_stage.specs.Runs.{IsBestAt};
 
@@ -12,7 +13,7 @@ use budget_draw::raised;
 use bundle_rules::{Bundle, Rated};
 use demand_api::Crowd;
 use demand_oracle::{Workspace, demand};
-use market_units::{NoMemory, SectionNo, SectionSet, Tokens};
+use market_units::{MAX_RAISE, MAX_SECTIONS, NoMemory, SectionNo, SectionSet, Tokens};
 use std::alloc::Global;
 
 // Room for demands, and for each student the sections of which the bundle that it holds is known to
@@ -24,7 +25,8 @@ pub(crate) struct Chooser {
 }
 
 impl Chooser {
-    // A chooser for so many students, of whom nothing is known.
+    /// A chooser for so many students: its memory is taken, and of no student a best bundle is
+    /// known yet.
     pub(crate) fn reserve(alloc: Global, students: usize) -> Result<Chooser, NoMemory>
         ensures size { IfOk result (λ chooser. length chooser.known.items ≡ students) }
         ensures none { IfOk result (λ chooser. All (λ known. known ≡ None) chooser.known.items) }
@@ -39,9 +41,9 @@ impl Chooser {
         })
     }
 
-    // The best bundle of allowed sections of the student at this place, within its raised budget.
-    // What the student holds is allowed: where nothing else on its menu is new since its bundle was
-    // found, the bundle is still the best.
+    /// The best bundle of allowed sections for the student at this place of the crowd, bought with
+    /// its raised budget. What the student holds is allowed: where nothing else on its menu is new
+    /// since its bundle was found, the bundle is still the best, and no search is made.
     pub(crate) fn best_at(
         &mut self,
         crowd: &Crowd,
@@ -51,25 +53,21 @@ impl Chooser {
         held: &[Bundle],
         place: usize,
     ) -> Bundle
-        requires crowd { MakeCrowd crowd.now.menus.items crowd.now.budgets.items
-            crowd.now.sections }
         requires prices { AreSectionPrices crowd.now.sections prices.now }
-        requires raise { raise ≤ 50 }
+        requires raise { raise ≤ MAX_RAISE }
         requires place { place < length crowd.now.menus.items }
         requires students { length held.now ≡ length crowd.now.menus.items }
         requires size { length self.old.known.items ≡ length crowd.now.menus.items }
         requires held { (s : ℕ) → has (slice_index_or (map sections_of held.now) place []) s ≡ true
             → set.contains allowed.now s ≡ true }
-        requires known { AreKnown
-            (crowd_of crowd.now.menus.items crowd.now.budgets.items crowd.now.sections) prices.now
-            raise (map sections_of held.now) self.old.known.items }
+        requires known { AreKnown (data_of crowd.now) prices.now raise (map sections_of held.now)
+            self.old.known.items }
         ensures best { (seats : List ℕ)
             → IsBestAt (terms_of crowd.now seats prices.now raise) place (set.contains allowed.now)
             (sections_of result) }
         ensures size { length self.new.known.items ≡ length self.old.known.items }
-        ensures known { AreKnown
-            (crowd_of crowd.now.menus.items crowd.now.budgets.items crowd.now.sections) prices.now
-            raise (slice_set (map sections_of held.now) place (sections_of result))
+        ensures known { AreKnown (data_of crowd.now) prices.now raise
+            (slice_set (map sections_of held.now) place (sections_of result))
             self.new.known.items }
     {
         let menu = &crowd.menus[place];
@@ -86,7 +84,7 @@ impl Chooser {
     // among which are all of these that are on its menu.
     fn is_settled(&self, places: &[Rated], allowed: &SectionSet, place: usize) -> bool
         requires place { place < length self.now.known.items }
-        requires low { All (λ rated. rated.section.0 < 400) places.now }
+        requires low { All (λ rated. rated.section.0 < MAX_SECTIONS) places.now }
         ensures { IsTrue result → IsSettled self.now.known.items place places.now allowed.now }
     {
         match self.known[place] {
@@ -98,7 +96,7 @@ impl Chooser {
 
 // Whether each of these sections that is allowed is among the known ones.
 fn none_new(places: &[Rated], known: &SectionSet, allowed: &SectionSet) -> bool
-    requires { All (λ rated. rated.section.0 < 400) places.now }
+    requires { All (λ rated. rated.section.0 < MAX_SECTIONS) places.now }
     ensures { IsTrue result
         → All
         (λ rated. IsTrue
@@ -112,7 +110,7 @@ fn none_new(places: &[Rated], known: &SectionSet, allowed: &SectionSet) -> bool
 }
 
 fn is_old(section: SectionNo, known: &SectionSet, allowed: &SectionSet) -> bool
-    requires { section.0 < 400 }
+    requires { section.0 < MAX_SECTIONS }
     ensures { result
         ≡ (set.contains known.now section.0 || not (set.contains allowed.now section.0)) }
 {

@@ -12,6 +12,3 @@ mod turns;
 
 pub use passes::aftermarket;
 pub use turns::{After, Turn};
-
-#[cfg(test)]
-mod tests;

@@ -4,11 +4,12 @@ ghost use Rattle.bundle_rules.specs.Bundles.{sections_of};
 ghost use Rattle.bundle_rules.specs.Demand.{price_in};
 ghost use Rattle.bundle_rules.specs.Places.{places_from};
 ghost use Rattle.demand_api.specs.Crowds.{demands, holders};
-ghost use Rattle.demand_api.specs.Made.{MakeCrowd, crowd_of};
+ghost use Rattle.demand_api.specs.Views.{data_of};
 ghost use Rattle.aftermarket_stage.specs.Turns.{after_turns};
 ghost use Rattle.held_seats.specs.Choices.{AreHeldWithin};
 ghost use Rattle.aftermarket_stage.specs.Passes.{IsAftermarket};
-ghost use Rattle.aftermarket_stage.specs.After.{AreSectionPrices, terms_of, turns_of};
+ghost use Rattle.demand_api.specs.Asking.{AreSectionPrices};
+ghost use Rattle.aftermarket_stage.specs.After.{terms_of, turns_of};
 ghost use Rattle.held_seats.specs.Floors.{AreBelow, IsFloor, held_on};
 ghost use Rattle.aftermarket_stage.specs.HeldChoices.{AreChoices, AreKnown, AreTerms};
 ghost use Rattle.aftermarket_stage.specs.Runs.{HasTurned, HaveTurned};
@@ -20,7 +21,7 @@ use budget_draw::after_order;
 use bundle_rules::Bundle;
 use demand_api::Crowd;
 use held_seats::Floor;
-use market_units::{NoMemory, StudentNo, Tokens};
+use market_units::{MAX_RAISE, MAX_SECTIONS, MAX_STUDENTS, NoMemory, StudentNo, Tokens};
 use std::alloc::Global;
 
 // What the aftermarket works in: who seeks the best bundles, what is held, and the turns so far.
@@ -49,14 +50,12 @@ pub fn aftermarket(
     bundles: &[Bundle],
     raise: u8,
 ) -> Result<After, NoMemory>
-    requires crowd { MakeCrowd crowd.now.menus.items crowd.now.budgets.items crowd.now.sections }
     requires seats { length seats.now ≡ crowd.now.sections }
     requires prices { AreSectionPrices crowd.now.sections prices.now }
     requires demands { map sections_of bundles.now
-        ≡ demands (crowd_of crowd.now.menus.items crowd.now.budgets.items crowd.now.sections)
-        (price_in prices.now) }
+        ≡ demands (data_of crowd.now) (price_in prices.now) }
     requires within { AreHeldWithin crowd.now.sections seats.now (map sections_of bundles.now) }
-    requires raise { raise ≤ 50 }
+    requires raise { raise ≤ MAX_RAISE }
     ensures turns { IfOk result
         (λ after. IsAftermarket (terms_of crowd.now seats.now prices.now raise)
         (map sections_of bundles.now) (turns_of after.turns.items) after.passes) }
@@ -85,8 +84,8 @@ pub fn aftermarket(
 impl Stage {
     // The stage on which these bundles are held, before any turn.
     fn open(alloc: Global, seats: &[u16], bundles: &[Bundle]) -> Result<Stage, NoMemory>
-        requires sections { length seats.now ≤ 400 }
-        requires few { length bundles.now ≤ 2000 }
+        requires sections { length seats.now ≤ MAX_SECTIONS }
+        requires few { length bundles.now ≤ MAX_STUDENTS }
         requires below { AreBelow (length seats.now) (map sections_of bundles.now) }
         ensures turns { IfOk result (λ stage. stage.turns.items ≡ []) }
         ensures held { IfOk result (λ stage. held_on stage.floor ≡ map sections_of bundles.now) }
@@ -119,9 +118,8 @@ impl Stage {
             (held_on self.old.floor) }
         requires floor { IsFloor seats.now self.old.floor }
         requires size { length self.old.chooser.known.items ≡ length crowd.now.menus.items }
-        requires known { AreKnown
-            (crowd_of crowd.now.menus.items crowd.now.budgets.items crowd.now.sections) prices.now
-            raise (held_on self.old.floor) self.old.chooser.known.items }
+        requires known { AreKnown (data_of crowd.now) prices.now raise (held_on self.old.floor)
+            self.old.chooser.known.items }
         ensures turns { IfOk result
             (λ changed. HaveTurned (terms_of crowd.now seats.now prices.now raise) pass
             (map (λ student. student.0) order.now) (held_on self.old.floor)
@@ -130,9 +128,8 @@ impl Stage {
         ensures size { IfOk result
             (λ changed. length self.new.chooser.known.items ≡ length self.old.chooser.known.items) }
         ensures known { IfOk result
-            (λ changed. AreKnown
-            (crowd_of crowd.now.menus.items crowd.now.budgets.items crowd.now.sections)
-            prices.now raise (held_on self.new.floor) self.new.chooser.known.items) }
+            (λ changed. AreKnown (data_of crowd.now) prices.now raise (held_on self.new.floor)
+            self.new.chooser.known.items) }
     {
         let mut changed = false;
         for student in order {
@@ -157,9 +154,8 @@ impl Stage {
             (held_on self.old.floor) }
         requires floor { IsFloor seats.now self.old.floor }
         requires size { length self.old.chooser.known.items ≡ length crowd.now.menus.items }
-        requires known { AreKnown
-            (crowd_of crowd.now.menus.items crowd.now.budgets.items crowd.now.sections) prices.now
-            raise (held_on self.old.floor) self.old.chooser.known.items }
+        requires known { AreKnown (data_of crowd.now) prices.now raise (held_on self.old.floor)
+            self.old.chooser.known.items }
         ensures turn { IfOk result
             (λ changed. HasTurned (terms_of crowd.now seats.now prices.now raise) pass student.0
             (held_on self.old.floor) (held_on self.new.floor) self.old.turns.items
@@ -168,9 +164,8 @@ impl Stage {
         ensures size { IfOk result
             (λ changed. length self.new.chooser.known.items ≡ length self.old.chooser.known.items) }
         ensures known { IfOk result
-            (λ changed. AreKnown
-            (crowd_of crowd.now.menus.items crowd.now.budgets.items crowd.now.sections)
-            prices.now raise (held_on self.new.floor) self.new.chooser.known.items) }
+            (λ changed. AreKnown (data_of crowd.now) prices.now raise (held_on self.new.floor)
+            self.new.chooser.known.items) }
     {
         let place = usize::from(student.0);
         let allowed = self.floor.choices(place);
@@ -189,7 +184,7 @@ impl Stage {
 
     // What the turns come to.
     fn close(self, alloc: Global, passes: u64) -> Result<After, NoMemory>
-        requires { All (λ count. count ≤ 2000) self.floor.used.items }
+        requires { All (λ count. count ≤ MAX_STUDENTS) self.floor.used.items }
         ensures turns { IfOk result (λ after. after.turns.items ≡ self.turns.items) }
         ensures passes { IfOk result (λ after. after.passes ≡ passes) }
         ensures bundles { IfOk result (λ after. after.bundles.items ≡ self.floor.held.items) }

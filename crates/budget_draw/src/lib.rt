@@ -9,6 +9,3 @@ mod ranks;
 
 pub use after::after_order;
 pub use budgets::{draw, raised};
-
-#[cfg(test)]
-mod tests;

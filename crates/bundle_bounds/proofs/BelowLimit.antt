@@ -1,16 +1,17 @@
--- A bound closes a node exactly where it is below the limit.
+-- A bound prunes a node exactly where it is below the limit.
 use Rattle.std.proofs.Common.{◌≡◌, ℕ, ◌-◌, ◌<◌, true, List, [], ◌∷◌, Option, Some, None, length, take, drop, min, sym, ap, ◌∙◌, subst, arith, inl, inr}
 use Rattle.std.specs.Prelude.{ℤ, pos, ◌+ℤ◌, ◌*ℤ◌, ◌<ℤ◌, IfSome, IfNone}
 use Rattle.std.proofs.lemmas.Int.{ints}
 use Rattle.std.proofs.lemmas.Bool.{cases_Bool}
-use Rattle.bundle_rules.specs.Sets.{has, IsAscending}
+use Rattle.market_units.specs.Members.{has}
+use Rattle.bundle_rules.specs.Sets.{IsAscending}
 use Rattle.bundle_rules.specs.Wishes.{utility}
 use Rattle.bundle_rules.specs.Menus.{by_place}
 use Rattle.bundle_bounds.specs.declared.nodes.Leaf.{Leaf}
 use Rattle.bundle_bounds.specs.declared.prospects.Prospect.{Prospect}
 use Rattle.bundle_bounds.specs.Offers.{Offer}
 use Rattle.bundle_bounds.specs.Opens.{budget_left, credits_left, courses_left, open_places, opens_from, prospects}
-use Rattle.bundle_bounds.specs.Bounds.{base_of, all_bounds, bounds, Closes, NoneCloses, IsFirstClosing}
+use Rattle.bundle_bounds.specs.Bounds.{base_of, all_bounds, bounds, Prunes, NonePrunes, IsFirstPruning}
 use Rattle.bundle_bounds.specs.Limits.{NoneBelow, IsFirstBelow}
 use Rattle.bundle_rules.specs.Ahead.{is_ahead}
 use Rattle.bundle_rules.proofs.FirstDifference.{ahead_to, ahead_from}
@@ -42,31 +43,31 @@ module _ (offer : Offer) (k : ℕ) (cs ch : List ℕ) (up : IsAscending ch) (up'
   abbrev pub limit : ℤ
   limit = limit_of (utility (by_place offer.menu) ch) (is_ahead k ch cs)
 
-  pub below_closes : (b : ℤ) → b <ℤ limit → Closes offer k cs ch b
-  below_closes b below =
+  pub below_prunes : (b : ℤ) → b <ℤ limit → Prunes offer k cs ch b
+  below_prunes b below =
       elim (cases_Bool (is_ahead k ch cs)) [
         | inl ahead ↦ inr (rw ahead at below, ahead_to k ch cs up up' low ahead)
         | inr behind ↦ inl (rw behind at below)
       ]
 
-  pub closes_below : (b : ℤ) → Closes offer k cs ch b → b <ℤ limit
-  closes_below b (inl low_) =
+  pub prunes_below : (b : ℤ) → Prunes offer k cs ch b → b <ℤ limit
+  prunes_below b (inl low_) =
       let u : ℤ = utility (by_place offer.menu) ch in
       let low' : b <ℤ (pos 1000 *ℤ u) = low_ in
       elim (cases_Bool (is_ahead k ch cs)) [
         | inl ahead ↦ rw ahead (let goal : b <ℤ (pos 1000 *ℤ (u +ℤ pos 1)) = omega (arith, ints) in goal)
         | inr behind ↦ rw behind low'
       ]
-  closes_below b (inr both) = rw (ahead_from k ch cs up up' low both.1) both.0
+  prunes_below b (inr both) = rw (ahead_from k ch cs up up' low both.1) both.0
 
-  pub first_to : (bs : List (Leaf × ℤ)) (leaf : Leaf) → IsFirstBelow limit bs leaf → IsFirstClosing offer k cs ch bs leaf
+  pub first_to : (bs : List (Leaf × ℤ)) (leaf : Leaf) → IsFirstBelow limit bs leaf → IsFirstPruning offer k cs ch bs leaf
   first_to [] leaf first = first
-  first_to (b ∷ bs) leaf (inl here) = inl (below_closes b.1 here.0, here.1)
-  first_to (b ∷ bs) leaf (inr later) = inr ((λ closes. later.0 (closes_below b.1 closes)), first_to bs leaf later.1)
+  first_to (b ∷ bs) leaf (inl here) = inl (below_prunes b.1 here.0, here.1)
+  first_to (b ∷ bs) leaf (inr later) = inr ((λ prunes. later.0 (prunes_below b.1 prunes)), first_to bs leaf later.1)
 
-  pub none_to : (bs : List (Leaf × ℤ)) → NoneBelow limit bs → NoneCloses offer k cs ch bs
+  pub none_to : (bs : List (Leaf × ℤ)) → NoneBelow limit bs → NonePrunes offer k cs ch bs
   none_to [] none = tt
-  none_to (b ∷ bs) none = ((λ closes. none.0 (closes_below b.1 closes)), none_to bs none.1)
+  none_to (b ∷ bs) none = ((λ prunes. none.0 (prunes_below b.1 prunes)), none_to bs none.1)
 
   module _ (base most : ℤ) (budget credits courses : ℕ) (ps : List Prospect) (base_is : base ≡ base_of offer cs) (most_is : most ≡ limit)
       (budget_is : budget ≡ budget_left offer cs) (credits_is : credits ≡ credits_left offer cs)
@@ -74,13 +75,13 @@ module _ (offer : Offer) (k : ℕ) (cs ch : List ℕ) (up : IsAscending ch) (up'
     same_bounds : all_bounds base budget credits courses ps ≡ bounds offer k cs
     same_bounds = λ i. all_bounds (base_is i) (budget_is i) (credits_is i) (courses_is i) (ps_is i)
 
-    pub some_closes : (r : Option Leaf) → IfSome r (IsFirstBelow most (all_bounds base budget credits courses ps))
-        → IfSome r (IsFirstClosing offer k cs ch (bounds offer k cs))
-    some_closes None h = h
-    some_closes (Some leaf) h =
+    pub some_prunes : (r : Option Leaf) → IfSome r (IsFirstBelow most (all_bounds base budget credits courses ps))
+        → IfSome r (IsFirstPruning offer k cs ch (bounds offer k cs))
+    some_prunes None h = h
+    some_prunes (Some leaf) h =
         first_to (bounds offer k cs) leaf (subst (λ l. IsFirstBelow l (bounds offer k cs) leaf) most_is (subst (λ bs. IsFirstBelow most bs leaf) same_bounds h))
 
-    pub none_closes : (r : Option Leaf) → IfNone r (NoneBelow most (all_bounds base budget credits courses ps))
-        → IfNone r (NoneCloses offer k cs ch (bounds offer k cs))
-    none_closes None h = none_to (bounds offer k cs) (subst (λ l. NoneBelow l (bounds offer k cs)) most_is (subst (NoneBelow most) same_bounds h))
-    none_closes (Some leaf) h = h
+    pub none_prunes : (r : Option Leaf) → IfNone r (NoneBelow most (all_bounds base budget credits courses ps))
+        → IfNone r (NonePrunes offer k cs ch (bounds offer k cs))
+    none_prunes None h = none_to (bounds offer k cs) (subst (λ l. NoneBelow l (bounds offer k cs)) most_is (subst (NoneBelow most) same_bounds h))
+    none_prunes (Some leaf) h = h

@@ -11,7 +11,7 @@ use Rattle.bundle_bounds.specs.declared.prospects.Resource.TheVariants as resour
 use Rattle.bundle_bounds.specs.Offers.{Offer}
 use Rattle.bundle_bounds.specs.Courses.{takes_of}
 use Rattle.bundle_bounds.specs.Opens.{is_open, opens_from, open_places, prospects, left_of}
-use Rattle.bundle_bounds.specs.Bounds.{leaf_of, resource_bounds, base_of, bounds, IsFirstClosing}
+use Rattle.bundle_bounds.specs.Bounds.{leaf_of, resource_bounds, base_of, bounds, IsFirstPruning}
 
 -- a leaf's place, where it has one, is below this number
 abbrev pub IsLow : ℕ → Leaf → Type 0
@@ -76,13 +76,13 @@ all_low offer k cs n few within =
           (low_bounds base (left_of offer cs resources.Credits) resources.Credits ps ps n at) (low_bounds base (left_of offer cs Count) Count ps ps n at)),
     )
 
-low_first : (offer : Offer) (k : ℕ) (cs ch : List ℕ) (n : ℕ) (bs : List (Leaf × ℤ)) (leaf : Leaf) → AreLow n bs → IsFirstClosing offer k cs ch bs leaf
+low_first : (offer : Offer) (k : ℕ) (cs ch : List ℕ) (n : ℕ) (bs : List (Leaf × ℤ)) (leaf : Leaf) → AreLow n bs → IsFirstPruning offer k cs ch bs leaf
     → IsLow n leaf
 low_first offer k cs ch n [] leaf low first = absurd first
 low_first offer k cs ch n (b ∷ bs) leaf low (inl here) = subst (IsLow n) here.1 low.0
 low_first offer k cs ch n (b ∷ bs) leaf low (inr later) = low_first offer k cs ch n bs leaf low.1 later.1
 
-pub closing_low : (offer : Offer) (k : ℕ) (cs ch : List ℕ) (leaf : Leaf) → k ≤ length offer.menu.places → IsFirstClosing offer k cs ch (bounds offer k cs) leaf
+pub pruning_low : (offer : Offer) (k : ℕ) (cs ch : List ℕ) (leaf : Leaf) → k ≤ length offer.menu.places → IsFirstPruning offer k cs ch (bounds offer k cs) leaf
     → IsLow (length offer.menu.places) leaf
-closing_low offer k cs ch leaf within first =
+pruning_low offer k cs ch leaf within first =
     low_first offer k cs ch (length offer.menu.places) (bounds offer k cs) leaf (all_low offer k cs (length offer.menu.places) (omega arith) within) first

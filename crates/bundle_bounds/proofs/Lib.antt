@@ -10,8 +10,8 @@ pub mod Limits
 pub mod BelowLimit
 pub mod LeafBounds
 pub mod NodeFacts
-pub mod ClosesSoundly
-pub mod FirstClosing
+pub mod PrunesSoundly
+pub mod FirstPruning
 pub mod Openings
 pub mod Lines
 pub mod LeafPlaces

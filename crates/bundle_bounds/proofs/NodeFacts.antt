@@ -6,7 +6,7 @@ use Rattle.bundle_rules.specs.Menus.{wishes_of}
 use Rattle.bundle_bounds.specs.declared.nodes.Leaf.{Leaf}
 use Rattle.bundle_bounds.specs.Offers.{Offer}
 use Rattle.bundle_bounds.specs.Laws.{IsNode}
-use Rattle.bundle_bounds.specs.Bounds.{HasBound, IsFirstClosing}
+use Rattle.bundle_bounds.specs.Bounds.{HasBound, IsFirstPruning}
 
 -- with nothing chosen, every place is one of a node
 pub nothing_chosen : (offer : Offer) (k : ℕ) → IsNode offer k []
@@ -27,8 +27,8 @@ nothing_chosen offer k = record {
   decided = λ s is. absurd (false≢true is);
 }
 
--- the first closing leaf is on the menu of bounds
-pub first_has : (offer : Offer) (k : ℕ) (cs ch : List ℕ) (bs : List (Leaf × ℤ)) (leaf : Leaf) → IsFirstClosing offer k cs ch bs leaf
+-- the first pruning leaf is on the menu of bounds
+pub first_has : (offer : Offer) (k : ℕ) (cs ch : List ℕ) (bs : List (Leaf × ℤ)) (leaf : Leaf) → IsFirstPruning offer k cs ch bs leaf
     → (number : ℤ) × HasBound bs leaf number
 first_has offer k cs ch [] leaf first = absurd first
 first_has offer k cs ch (b ∷ bs) leaf (inl here) = (b.1, inl (here.1, refl))

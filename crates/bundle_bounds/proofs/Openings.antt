@@ -6,7 +6,8 @@ use Rattle.std.proofs.lemmas.Bool.Decides.{nat_tests}
 use Rattle.std.proofs.lemmas.List.{map-append, length-map}
 use Rattle.market_units.specs.Totals.{total}
 use Rattle.market_units.proofs.Sums.{total-append}
-use Rattle.bundle_rules.specs.Sets.{has, IsAscending}
+use Rattle.market_units.specs.Members.{has}
+use Rattle.bundle_rules.specs.Sets.{IsAscending}
 use Rattle.bundle_rules.specs.Menus.{IsMenu, wishes_of, by_place, clash_in, credits_at, section_at, place_in}
 use Rattle.bundle_rules.specs.Existence.Members.{has-here, has-there, has-cases, AllAbove-more}
 use Rattle.bundle_rules.specs.Existence.Places.{section_at-place_in, on_menu_rated}
@@ -17,7 +18,7 @@ use Rattle.bundle_bounds.specs.Opens.{budget_left, credits_left, courses_left, i
 use Rattle.bundle_bounds.specs.Laws.{IsTakable, IsNode}
 use Rattle.bundle_bounds.proofs.Openness.{MayBeTaken, is_open-more}
 use Rattle.bundle_bounds.proofs.ByPlace.{place_in-section_at, places-has, has-places, on_menu, taken_places, prices_by_place}
-use Rattle.bundle_bounds.specs.ClosingLaws.{OpensWhereTakable}
+use Rattle.bundle_bounds.specs.PruningLaws.{OpensWhereTakable}
 
 -- a member of a list with one more at its end
 pub has-last : (xs : List ℕ) (s t : ℕ) → has (xs ++ s ∷ []) t ≡ true → (has xs t ≡ true) ⊎ (s ≡ t)

@@ -6,7 +6,8 @@ use Rattle.std.proofs.lemmas.Bool.Decides.{nat_tests}
 use Rattle.market_units.specs.Totals.{total}
 use Rattle.market_units.specs.Subsets.{chosen}
 use Rattle.market_units.proofs.Sums.{total-append}
-use Rattle.bundle_rules.specs.Sets.{has, AllAbove, IsAscending}
+use Rattle.market_units.specs.Members.{has}
+use Rattle.bundle_rules.specs.Sets.{AllAbove, IsAscending}
 use Rattle.bundle_rules.specs.Existence.Members.{has-here, has-there, has-cases, has-above}
 use Rattle.bundle_rules.specs.declared.menu.Rated.{Rated}
 use Rattle.bundle_rules.specs.Menus.{course_at, IsMenu, clash_in, credits_at}

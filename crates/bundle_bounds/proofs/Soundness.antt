@@ -6,7 +6,8 @@ use Rattle.std.proofs.lemmas.Int.{ints}
 use Rattle.market_units.specs.Totals.{total}
 use Rattle.market_units.specs.Subsets.{chosen}
 use Rattle.market_units.proofs.Sums.{total-append}
-use Rattle.bundle_rules.specs.Sets.{has, IsAscending}
+use Rattle.market_units.specs.Members.{has}
+use Rattle.bundle_rules.specs.Sets.{IsAscending}
 use Rattle.bundle_rules.specs.Wishes.{utility}
 use Rattle.bundle_rules.specs.Menus.{IsMenu, wishes_of, by_place, credits_at}
 use Rattle.bundle_rules.proofs.Feasibility.{utility_by_place}

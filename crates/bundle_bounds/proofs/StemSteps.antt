@@ -6,7 +6,8 @@ use Rattle.std.proofs.lemmas.Bool.{false≢true, true≢false}
 use Rattle.std.proofs.lemmas.Bool.Decides.{nat_tests}
 use Rattle.std.proofs.lemmas.List.{drop-drop, length-drop}
 use Rattle.bundle_rules.specs.Ahead.{is_ahead}
-use Rattle.bundle_rules.specs.Sets.{has, IsAscending}
+use Rattle.market_units.specs.Members.{has}
+use Rattle.bundle_rules.specs.Sets.{IsAscending}
 use Rattle.bundle_rules.specs.Wishes.{IsFeasible, utility}
 use Rattle.bundle_rules.specs.Menus.{by_place, wishes_of, IsMenu}
 use Rattle.bundle_rules.specs.PlaceLists.{listed}
@@ -17,7 +18,7 @@ use Rattle.bundle_bounds.specs.declared.prospects.Resource.TheVariants.{Count}
 use Rattle.bundle_bounds.specs.declared.stems.Stem.{Stem}
 use Rattle.bundle_bounds.specs.declared.tangents.Tangents.{Tangents}
 use Rattle.bundle_bounds.specs.Ahead.{limit_of}
-use Rattle.bundle_bounds.specs.Bounds.{at_price, over_price, bounds, all_bounds, IsFirstClosing, NoneCloses}
+use Rattle.bundle_bounds.specs.Bounds.{at_price, over_price, bounds, all_bounds, IsFirstPruning, NonePrunes}
 use Rattle.bundle_bounds.specs.Courses.{by_course}
 use Rattle.bundle_bounds.specs.Laws.{IsNode}
 use Rattle.bundle_bounds.specs.Limits.{NoneBelow, IsFirstBelow}
@@ -27,7 +28,7 @@ use Rattle.bundle_bounds.specs.Opens.{is_open, open_places, prospect}
 use Rattle.bundle_bounds.specs.Stems.{IsStem, IsQuiet, open_ones_at}
 use Rattle.bundle_bounds.specs.Tangents.{AreTangents}
 use Rattle.bundle_bounds.proofs.Adding.{plain_over}
-use Rattle.bundle_bounds.proofs.BelowLimit.{rest_of_room, some_closes, none_closes}
+use Rattle.bundle_bounds.proofs.BelowLimit.{rest_of_room, some_prunes, none_prunes}
 use Rattle.bundle_bounds.proofs.ByPlace.{ascending_places, has-places}
 use Rattle.bundle_bounds.proofs.Steps.{no_prospect}
 use Rattle.bundle_bounds.proofs.Stemming.{after_open, after_shut}
@@ -91,18 +92,18 @@ module _ (offer : Offer) (champion : List ℕ) (k : ℕ) (chosen : List ℕ) (st
         → IfSome r
         (IsFirstBelow stem.limit
         (all_bounds (pos 1000 *ℤ stem.utility) stem.rests.budget stem.rests.credits stem.rests.courses (drop stem.start stem.room)))
-        → IfSome r (IsFirstClosing offer k (places_of offer.menu chosen) (places_of offer.menu champion) (bounds offer k (places_of offer.menu chosen)))
+        → IfSome r (IsFirstPruning offer k (places_of offer.menu chosen) (places_of offer.menu champion) (bounds offer k (places_of offer.menu chosen)))
     stem_first r h =
-        some_closes offer k (places_of offer.menu chosen) (places_of offer.menu champion) champion_up chosen_up decided _ _ _ _ _ _
+        some_prunes offer k (places_of offer.menu chosen) (places_of offer.menu champion) champion_up chosen_up decided _ _ _ _ _ _
         (ap (λ z. pos 1000 *ℤ z) is.has_chosen.utility_is) limit_here
         is.has_chosen.budget_is is.has_chosen.credits_is is.has_chosen.courses_is is.keeps.kept_is r h
 
     pub stem_none : (r : Option Leaf)
         → IfNone r
         (NoneBelow stem.limit (all_bounds (pos 1000 *ℤ stem.utility) stem.rests.budget stem.rests.credits stem.rests.courses (drop stem.start stem.room)))
-        → IfNone r (NoneCloses offer k (places_of offer.menu chosen) (places_of offer.menu champion) (bounds offer k (places_of offer.menu chosen)))
+        → IfNone r (NonePrunes offer k (places_of offer.menu chosen) (places_of offer.menu champion) (bounds offer k (places_of offer.menu chosen)))
     stem_none r h =
-        none_closes offer k (places_of offer.menu chosen) (places_of offer.menu champion) champion_up chosen_up decided _ _ _ _ _ _
+        none_prunes offer k (places_of offer.menu chosen) (places_of offer.menu champion) champion_up chosen_up decided _ _ _ _ _ _
         (ap (λ z. pos 1000 *ℤ z) is.has_chosen.utility_is) limit_here
         is.has_chosen.budget_is is.has_chosen.credits_is is.has_chosen.courses_is is.keeps.kept_is r h
 

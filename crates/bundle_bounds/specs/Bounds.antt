@@ -14,15 +14,17 @@ use Rattle.bundle_bounds.specs.declared.prospects.Resource.TheVariants.{Money, C
 use Rattle.bundle_bounds.specs.declared.prospects.Resource.TheVariants as resources
 use Rattle.bundle_bounds.specs.Opens.{left_of, open_places, prospects}
 
--- what is left of 1000 times the worth at this price of what is taken of a resource
+-- 1000 times the worth of a place, less this price times what the place takes of the resource; 0
+-- where that is negative
 abbrev pub over_price : Resource → ℕ → Prospect → ℕ
 over_price resource price p = 1000 * p.worth - price * takes_of resource p
 
--- what a resource's price makes of a rest of the resource, and of one open place of each course
+-- the price times what is left of the resource, and for each course the greatest `over_price` of
+-- its open places, added up
 abbrev pub at_price : Resource → ℕ → ℕ → List Prospect → ℕ
 at_price resource rest price ps = price * rest + by_course (over_price resource price) ps
 
--- the bound of a resource by the place whose worth for what it takes is the price
+-- the leaf of a resource's bound by this place
 abbrev pub leaf_of : Resource → ℕ → Leaf
 leaf_of Money place = Budget place
 leaf_of resources.Credits place = Credits place
@@ -60,28 +62,28 @@ abbrev pub bounds : Offer → ℕ → List ℕ → List (Leaf × ℤ)
 bounds offer k chosen =
     bounds_over offer chosen (prospects offer chosen (open_places offer k chosen))
 
--- the bound closes the node: nothing that can still be reached has the champion's utility, or more
--- than it where the first decided place on which the champion and the chosen ones differ is the
--- champion's
-abbrev pub Closes : Offer → ℕ → List ℕ → List ℕ → ℤ → Type 0
-Closes offer k chosen champion bound =
+-- the bound prunes the node: it is below 1000 u, u being the champion's utility; or below
+-- 1000 (u + 1), where the champion has the first decided place on which it and the chosen ones
+-- differ
+abbrev pub Prunes : Offer → ℕ → List ℕ → List ℕ → ℤ → Type 0
+Prunes offer k chosen champion bound =
     (bound <ℤ (pos 1000 *ℤ utility (by_place offer.menu) champion))
     ⊎
     ((bound <ℤ (pos 1000 *ℤ (utility (by_place offer.menu) champion +ℤ pos 1)))
     × IsAhead k champion chosen)
 
--- none of these bounds closes the node
-abbrev pub NoneCloses : Offer → ℕ → List ℕ → List ℕ → List (Leaf × ℤ) → Type 0
-NoneCloses offer k chosen champion [] = ⊤
-NoneCloses offer k chosen champion (b ∷ bs) =
-    (¬ Closes offer k chosen champion b.1) × NoneCloses offer k chosen champion bs
+-- none of these bounds prunes the node
+abbrev pub NonePrunes : Offer → ℕ → List ℕ → List ℕ → List (Leaf × ℤ) → Type 0
+NonePrunes offer k chosen champion [] = ⊤
+NonePrunes offer k chosen champion (b ∷ bs) =
+    (¬ Prunes offer k chosen champion b.1) × NonePrunes offer k chosen champion bs
 
--- the leaf of the first of these bounds that closes the node
-abbrev pub IsFirstClosing : Offer → ℕ → List ℕ → List ℕ → List (Leaf × ℤ) → Leaf → Type 0
-IsFirstClosing offer k chosen champion [] leaf = ⊥
-IsFirstClosing offer k chosen champion (b ∷ bs) leaf =
-    (Closes offer k chosen champion b.1 × (b.0 ≡ leaf))
-    ⊎ ((¬ Closes offer k chosen champion b.1) × IsFirstClosing offer k chosen champion bs leaf)
+-- the leaf of the first of these bounds that prunes the node
+abbrev pub IsFirstPruning : Offer → ℕ → List ℕ → List ℕ → List (Leaf × ℤ) → Leaf → Type 0
+IsFirstPruning offer k chosen champion [] leaf = ⊥
+IsFirstPruning offer k chosen champion (b ∷ bs) leaf =
+    (Prunes offer k chosen champion b.1 × (b.0 ≡ leaf))
+    ⊎ ((¬ Prunes offer k chosen champion b.1) × IsFirstPruning offer k chosen champion bs leaf)
 
 -- the leaf is on this menu of bounds, with this number
 abbrev pub HasBound : List (Leaf × ℤ) → Leaf → ℤ → Type 0

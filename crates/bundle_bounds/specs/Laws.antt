@@ -1,6 +1,6 @@
 -- Nodes, and the soundness of their bounds.
 use Rattle.std.specs.Prelude.{ℕ, ◌<◌, ℤ, pos, ◌*ℤ◌, ◌≤ℤ◌, ◌≡◌, true, ⊤, List, [], ◌∷◌, length}
-use Rattle.bundle_rules.specs.Sets.{has}
+use Rattle.market_units.specs.Members.{has}
 use Rattle.bundle_rules.specs.Wishes.{utility}
 use Rattle.bundle_rules.specs.Menus.{IsMenu, section_at, place_in, wishes_of}
 use Rattle.bundle_rules.specs.Demand.{IsChoice}

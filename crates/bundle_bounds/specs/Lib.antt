@@ -6,8 +6,9 @@ pub mod Laws
 pub mod Modest
 pub mod Limits
 pub mod Ahead
-pub mod Closings
-pub mod ClosingLaws
+pub mod Below
+pub mod Prunings
+pub mod PruningLaws
 pub mod Lines
 pub mod Known
 pub mod Tangents

@@ -1,8 +1,9 @@
 -- How great the numbers of a prospect are at most.
 use Rattle.std.specs.Prelude.{◌<◌, ◌≤◌}
+use Rattle.market_units.specs.declared.limits.TheConstants.{MAX_PRICE, MAX_RATINGS}
 use Rattle.bundle_bounds.specs.declared.prospects.Prospect.{Prospect}
 
 pub record IsModest (p : Prospect) : Type 0 where
-  pub course_low : p.course < 60
+  pub course_low : p.course < MAX_RATINGS
   pub worth_low : p.worth ≤ 20000
-  pub price_low : p.price ≤ 1000001
+  pub price_low : p.price ≤ MAX_PRICE

@@ -1,5 +1,6 @@
 -- Nodes that have chosen the same sections: what is kept of them.
 use Rattle.std.specs.Prelude.{ℕ, ◌<◌, ◌≤◌, ◌*◌, ℤ, pos, neg_ℤ, ◌*ℤ◌, ◌≤ℤ◌, ◌≡◌, true, List, length, take, drop, All}
+use Rattle.market_units.specs.declared.limits.TheConstants.{MAX_COURSES, MAX_RATINGS}
 use Rattle.bundle_rules.specs.Ahead.{is_ahead}
 use Rattle.bundle_rules.specs.Wishes.{utility}
 use Rattle.bundle_rules.specs.Menus.{by_place, wishes_of}
@@ -24,8 +25,8 @@ pub record HasChosen (offer : Offer) (champion chosen : List ℕ) (champions : P
     (places : List ℕ) (count : ℕ) (so_far : ℤ) (rests : Rests) : Type 0 where
   pub champion_is : listed champions ≡ places_of offer.menu champion
   pub most_is : most ≡ utility (wishes_of offer.menu) champion
-  pub whole : length places ≡ 8
-  pub few : count ≤ 8
+  pub whole : length places ≡ MAX_COURSES
+  pub few : count ≤ MAX_COURSES
   pub chosen_is : take count places ≡ places_of offer.menu chosen
   pub utility_is : so_far ≡ utility (by_place offer.menu) (places_of offer.menu chosen)
   pub low : neg_ℤ (pos (2000 * count)) ≤ℤ so_far
@@ -37,8 +38,8 @@ pub record HasChosen (offer : Offer) (champion chosen : List ℕ) (champions : P
 -- the room keeps these open places from here on, with what the bounds are made of
 pub record Keeps (offer : Offer) (open_ones : List Prospect) (rests : Rests) (room : List Prospect)
     (start plain : ℕ) (tangents : Tangents) : Type 0 where
-  pub whole : length room ≡ 60
-  pub within : start ≤ 60
+  pub whole : length room ≡ MAX_RATINGS
+  pub within : start ≤ MAX_RATINGS
   pub kept_is : drop start room ≡ open_ones
   pub modest : All IsModest (drop start room)
   pub on_menu : All (λ p. p.place < length offer.menu.places) (drop start room)
@@ -46,7 +47,7 @@ pub record Keeps (offer : Offer) (open_ones : List Prospect) (rests : Rests) (ro
   pub small : plain ≤ 1200000000
   pub tangents_are : AreTangents rests.budget rests.credits rests.courses (drop start room) tangents
 
--- no bound closes where these are the open places
+-- no bound prunes where these are the open places
 abbrev pub IsQuiet : ℤ → ℤ → Rests → List Prospect → Type 0
 IsQuiet limit so_far rests open_ones =
     NoneBelow limit
@@ -57,7 +58,7 @@ abbrev pub open_ones_at : Offer → ℕ → List ℕ → List Prospect
 open_ones_at offer k places = prospects offer places (open_places offer k places)
 
 -- it is at the node with these decided places and these chosen sections, for this champion; where
--- it is quiet no bound closes that
+-- it is quiet no bound prunes that
 pub record IsStem (offer : Offer) (champion : List ℕ) (k : ℕ) (chosen : List ℕ)
     (stem : Stem) : Type 0 where
   pub has_chosen : HasChosen offer champion chosen stem.champion stem.most stem.chosen stem.count

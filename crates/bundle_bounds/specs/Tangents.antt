@@ -7,8 +7,8 @@ use Rattle.bundle_bounds.specs.declared.tangents.Tangent.{Tangent}
 use Rattle.bundle_bounds.specs.declared.tangents.Tangents.{Tangents}
 use Rattle.bundle_bounds.specs.Bounds.{at_price}
 
--- it tells what its price makes of these open places and this rest of the resource, and what the
--- next price makes of them
+-- the tangent has the bound (`at_price`) of these open places and this rest at its price, and at
+-- the price that is greater by 1
 pub record IsTangent (rest : ℕ) (resource : Resource) (all : List Prospect)
     (tangent : Tangent) : Type 0 where
   pub low : tangent.price < 20000000

@@ -5,6 +5,8 @@ ghost use Rattle.bundle_bounds.specs.declared.prospects.Prospect.{Prospect};
 ghost use Rattle.bundle_bounds.specs.declared.prospects.Resource.{Resource};
 ghost use Rattle.bundle_bounds.specs.Bounds.{at_price};
 
+use market_units::MAX_PRICE;
+
 // More than any price of a bound.
 const HIGHEST: u64 = 20_000_001;
 
@@ -18,7 +20,7 @@ pub(crate) struct Known {
 impl Known {
     ghost use Rattle.bundle_bounds.specs.Known.{IsKnown};
 
-    // Nothing is known.
+    /// Nothing is known of any price.
     pub(crate) fn nothing() -> Known
         ensures { (base limit : ℤ) (rest : ℕ) (resource : Resource) (all : List Prospect)
             → IsKnown base limit rest resource all result }
@@ -29,11 +31,11 @@ impl Known {
         }
     }
 
-    // Whether it is known that the bound at the price of so much worth for so much that is taken is
-    // not below the limit.
+    /// Whether it is known that the bound at the price of so much worth for so much that is taken
+    /// is not below the limit. The price is the quotient, rounded down.
     pub(crate) fn has_ratio(&self, worth: u64, taken: u64) -> bool
         requires worth { worth ≤ 20000000 }
-        requires taken { taken ≤ 1000001 }
+        requires taken { taken ≤ MAX_PRICE }
         requires low { self.now.low ≤ 20000002 }
         requires high { self.now.high ≤ 20000001 }
         ensures { IsTrue result → 0 < taken → (base limit : ℤ) (rest : ℕ) (resource : Resource) (all : List Prospect) → IsKnown base limit rest resource all self.now
@@ -46,16 +48,16 @@ impl Known {
         worth >= self.high * taken
     }
 
-    // Whether it is known that no bound is below the limit.
+    /// Whether it is known that no bound is below the limit, at whatever price.
     pub(crate) fn is_all(&self) -> bool
         ensures { IsTrue result → self.now.high ≤ self.now.low }
     {
         self.high <= self.low
     }
 
-    // Takes in what a price and the next one make, where the bound at the first is above the limit
-    // by at least the margin. The bound does not fall on the side on which it rises here; on the
-    // other side it falls by no more at a step than here.
+    /// Takes in what a price and the next one make, where the bound at the first is above the limit
+    /// by at least the margin. The bound does not fall on the side on which it rises here; on the
+    /// other side it falls by no more at a step than here.
     pub(crate) fn learn(&mut self, price: u64, sum: u64, next: u64, margin: u64)
         requires price { price < 20000000 }
         requires high { self.old.high ≤ 20000001 }

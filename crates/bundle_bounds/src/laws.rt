@@ -1,6 +1,6 @@
-//! What holds of bounds, of closing and of open places: each call here does nothing, and its
+//! What holds of bounds, of pruning and of open places: each call here does nothing, and its
 //! contract is a law.
-ghost use Rattle.bundle_bounds.specs.ClosingLaws.{BoundsCloseSoundly, FirstClosingIsTheFirst, OpensWhereTakable};
+ghost use Rattle.bundle_bounds.specs.PruningLaws.{BoundsPruneSoundly, FirstPruningIsTheFirst, OpensWhereTakable};
 ghost use Rattle.bundle_bounds.specs.Laws.{BoundSoundness};
 ghost use Rattle.bundle_bounds.specs.Lines.{BoundsAreConvex};
 
@@ -10,16 +10,16 @@ pub fn bounds_are_sound()
     ensures { BoundSoundness }
 {}
 
-/// Where a bound closes a node for a champion, no takable bundle that completes the node is better
+/// Where a bound prunes a node for a champion, no takable bundle that completes the node is better
 /// than it; so no wanted one is, whatever bundles are wanted.
-pub fn bounds_close_soundly()
-    ensures { BoundsCloseSoundly }
+pub fn bounds_prune_soundly()
+    ensures { BoundsPruneSoundly }
 {}
 
-/// The first closing bound as a value is the first of the menu of bounds that closes the node, and
+/// The first pruning bound as a value is the first of the menu of bounds that prunes the node, and
 /// `None` exactly where none does.
-pub fn first_closing_is_the_first()
-    ensures { FirstClosingIsTheFirst }
+pub fn first_pruning_is_the_first()
+    ensures { FirstPruningIsTheFirst }
 {}
 
 /// An undecided place is open exactly where its section may be taken with the chosen ones.

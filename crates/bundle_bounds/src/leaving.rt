@@ -19,7 +19,8 @@ fn is_alone(more: &[Prospect], course: u8) -> bool
     true
 }
 
-// The sum of the plain bound without the first open place.
+/// The plain sum of the open places behind the first, from that of all: of each course 1000 times
+/// the greatest worth, added up.
 #[inline(always)]
 pub(crate) fn plain_after(all: &[Prospect], plain: u64) -> u64
     requires some { 1 ≤ length all.now }
@@ -37,7 +38,8 @@ pub(crate) fn plain_after(all: &[Prospect], plain: u64) -> u64
     }
 }
 
-// The tangents without the first open place.
+/// The tangents of the open places behind the first, from those of all, at the same prices and with
+/// the same rests.
 #[inline(always)]
 pub(crate) fn tangents_after(all: &[Prospect], tangents: Tangents) -> Tangents
     requires some { 1 ≤ length all.now }

@@ -2,7 +2,6 @@
 // Neither: how long it takes.
 #![tactic(auto)]
 
-mod closing;
 mod known;
 pub mod laws;
 mod leaving;
@@ -10,6 +9,7 @@ mod nodes;
 mod opens;
 mod places;
 mod prospects;
+mod pruning;
 mod sifting;
 mod stems;
 mod tangents;

@@ -1,4 +1,4 @@
-// Nodes of the search: what is open there, and which bound closes them.
+// Nodes of the search: what is open there, and which bound prunes them.
 ghost use Rattle.std.specs.Prelude.{◌≡◌, ◌<◌, ◌&&◌, ℤ, nat_le, IfSome, IfNone, length};
 ghost use Rattle.std.specs.FinSet as set;
 ghost use Rattle.bundle_rules.specs.Demand.{HasPrices};
@@ -7,14 +7,14 @@ ghost use Rattle.bundle_rules.specs.Menus.{wishes_of};
 ghost use Rattle.bundle_rules.specs.Bundles.{sections_of};
 ghost use Rattle.bundle_bounds.specs.Offers.{offer_of, places_of};
 ghost use Rattle.bundle_bounds.specs.Opens.{is_open};
-ghost use Rattle.bundle_bounds.specs.Bounds.{bounds, HasBound, IsFirstClosing, NoneCloses};
+ghost use Rattle.bundle_bounds.specs.Bounds.{bounds, HasBound, IsFirstPruning, NonePrunes};
 ghost use Rattle.bundle_rules.specs.Ahead.{is_ahead};
-ghost use Rattle.bundle_bounds.specs.Ahead.{limit_of, first_closing};
+ghost use Rattle.bundle_bounds.specs.Ahead.{limit_of, first_pruning};
 ghost use Rattle.bundle_bounds.specs.Laws.{IsNode};
 
-use crate::closing::{bound_of, first_below};
 use crate::opens::{collect, is_open_at, rests_of};
 use crate::prospects::NO_PROSPECTS;
+use crate::pruning::{bound_of, first_below};
 use bundle_rules::{Bundle, Menu, Places, is_ahead, utility};
 use market_units::{SectionSet, Tokens};
 
@@ -96,9 +96,9 @@ pub fn bound(
     bound_of(base, rests, &room[start..], leaf)
 }
 
-/// The first bound of the node's menu of bounds that closes it for this champion: one below 1000
+/// The first bound of the node's menu of bounds that prunes it for this champion: one below 1000
 /// times the champion's utility, or below 1000 times one more than it where the first decided place
-/// on which they differ is the champion's. `None` exactly where none closes it.
+/// on which they differ is the champion's. `None` exactly where none prunes it.
 pub fn bound_closes(
     menu: &Menu,
     prices: &[Tokens],
@@ -111,13 +111,13 @@ pub fn bound_closes(
     requires node { IsNode (offer_of menu.now prices.now budget.0 allowed.now) node.now.place
         (sections_of node.now.chosen) }
     requires champion { IsFeasible (wishes_of menu.now) (sections_of champion.now) }
-    ensures first { IfSome result (IsFirstClosing (offer_of menu.now prices.now budget.0 allowed.now) node.now.place (places_of menu.now (sections_of node.now.chosen)) (places_of menu.now (sections_of champion.now))
+    ensures first { IfSome result (IsFirstPruning (offer_of menu.now prices.now budget.0 allowed.now) node.now.place (places_of menu.now (sections_of node.now.chosen)) (places_of menu.now (sections_of champion.now))
         (bounds (offer_of menu.now prices.now budget.0 allowed.now) node.now.place (places_of menu.now (sections_of node.now.chosen)))) }
     ensures value { result
-        ≡ first_closing (offer_of menu.now prices.now budget.0 allowed.now) node.now.place
+        ≡ first_pruning (offer_of menu.now prices.now budget.0 allowed.now) node.now.place
         (places_of menu.now (sections_of node.now.chosen))
         (places_of menu.now (sections_of champion.now)) }
-    ensures none { IfNone result (NoneCloses (offer_of menu.now prices.now budget.0 allowed.now) node.now.place (places_of menu.now (sections_of node.now.chosen)) (places_of menu.now (sections_of champion.now))
+    ensures none { IfNone result (NonePrunes (offer_of menu.now prices.now budget.0 allowed.now) node.now.place (places_of menu.now (sections_of node.now.chosen)) (places_of menu.now (sections_of champion.now))
         (bounds (offer_of menu.now prices.now budget.0 allowed.now) node.now.place (places_of menu.now (sections_of node.now.chosen)))) }
 {
     let chosen = Places::of(menu, &node.chosen);
@@ -131,7 +131,9 @@ pub fn bound_closes(
     first_below(base, limit, rests, &room[start..])
 }
 
-// The number below which a bound closes the node.
+/// A bound below this number prunes the node: 1000 u, u being the champion's utility; or
+/// 1000 (u + 1), where the champion has the first decided place on which it and the chosen ones
+/// differ.
 pub(crate) fn limit_of(menu: &Menu, node: &Node, chosen: &[u8], champion: &Bundle) -> i64
     requires champion { IsFeasible (wishes_of menu.now) (sections_of champion.now) }
     ensures { result

@@ -1,5 +1,5 @@
 // Which places are open at a node, and the most that each can add.
-ghost use Rattle.std.specs.Prelude.{◌≡◌, ◌<◌, ◌≤◌, ◌-◌, ◌+◌, ◌*◌, ◌≤ℤ◌, ◌+ℤ◌, neg_ℤ, pos, not, nat_le, ◌&&◌, ℕ, length, map, take, drop, All};
+ghost use Rattle.std.specs.Prelude.{◌≡◌, ◌<◌, ◌≤◌, ◌-◌, ◌+◌, ◌*◌, ◌≤ℤ◌, ◌+ℤ◌, neg_ℤ, pos, unsigned_abs, not, nat_le, ◌&&◌, ℕ, length, map, take, drop, All};
 ghost use Rattle.std.specs.List.{list_all};
 ghost use Rattle.std.specs.Ordering.{nat_cmp};
 ghost use Rattle.std.specs.FinSet as set;
@@ -14,7 +14,10 @@ ghost use Rattle.bundle_bounds.specs.Modest.{IsModest};
 use crate::places::{adjustments_with, is_apart, price_of_place};
 use crate::prospects::Prospect;
 use bundle_rules::{Menu, Rated};
-use market_units::{SectionSet, Tokens};
+use market_units::{
+    MAX_ADJUSTMENT, MAX_COURSES, MAX_PRICE, MAX_RATING, MAX_RATINGS, MAX_SECTION_CREDITS,
+    SectionSet, Tokens,
+};
 
 /// What the chosen places leave of each resource.
 #[derive(Clone, Copy)]
@@ -24,10 +27,12 @@ pub(crate) struct Rests {
     pub(crate) courses: u32,
 }
 
+/// What the chosen places leave of the budget in tokens, of the credit cap and of the course cap; 0
+/// where they take more.
 pub(crate) fn rests_of(menu: &Menu, prices: &[Tokens], budget: Tokens, chosen: &[u8]) -> Rests
     requires prices { HasPrices menu.now prices.now }
     requires on_menu { AreOnMenu menu.now chosen.now }
-    requires few { length chosen.now ≤ 8 }
+    requires few { length chosen.now ≤ MAX_COURSES }
     ensures budget { (allowed : set.FinSet nat_cmp)
         → result.budget ≡ budget_left (offer_of menu.now prices.now budget.0 allowed) chosen.now }
     ensures credits { (allowed : set.FinSet nat_cmp)
@@ -45,10 +50,10 @@ pub(crate) fn rests_of(menu: &Menu, prices: &[Tokens], budget: Tokens, chosen: &
 fn price_of(menu: &Menu, prices: &[Tokens], chosen: &[u8]) -> u32
     requires prices { HasPrices menu.now prices.now }
     requires on_menu { AreOnMenu menu.now chosen.now }
-    requires few { length chosen.now ≤ 8 }
+    requires few { length chosen.now ≤ MAX_COURSES }
     ensures value { result
         ≡ total (λ place. price_in prices.now (section_at menu.now.places place)) chosen.now }
-    ensures high { result ≤ 1000001 * length chosen.now }
+    ensures high { result ≤ MAX_PRICE * length chosen.now }
 {
     match chosen {
         [] => 0,
@@ -58,9 +63,9 @@ fn price_of(menu: &Menu, prices: &[Tokens], chosen: &[u8]) -> u32
 
 fn credits_of(menu: &Menu, chosen: &[u8]) -> u32
     requires on_menu { AreOnMenu menu.now chosen.now }
-    requires few { length chosen.now ≤ 8 }
+    requires few { length chosen.now ≤ MAX_COURSES }
     ensures value { result ≡ total (credits_at menu.now.places) chosen.now }
-    ensures high { result ≤ 100 * length chosen.now }
+    ensures high { result ≤ MAX_SECTION_CREDITS * length chosen.now }
 {
     match chosen {
         [] => 0,
@@ -68,14 +73,15 @@ fn credits_of(menu: &Menu, chosen: &[u8]) -> u32
     }
 }
 
-// The positive adjustments of a place with later open ones.
+/// The most that a place's adjustments with later open places can add to the utility: the positive
+/// ones, added up.
 pub(crate) fn hopes(menu: &Menu, place: u8, later: &[Prospect]) -> u32
     requires on_menu { All (λ other. other.place < length menu.now.places) later.now }
     requires place { place < length menu.now.places }
-    requires few { length later.now ≤ 60 }
+    requires few { length later.now ≤ MAX_RATINGS }
     ensures value { result
         ≡ total (λ other. above_zero (adjustment_in menu.now.pairs place other.place)) later.now }
-    ensures high { result ≤ 200 * length later.now }
+    ensures high { result ≤ unsigned_abs MAX_ADJUSTMENT * length later.now }
 {
     match later {
         [] => 0,
@@ -85,7 +91,8 @@ pub(crate) fn hopes(menu: &Menu, place: u8, later: &[Prospect]) -> u32
     }
 }
 
-// Whether an undecided place is open.
+/// Whether an undecided place is open: it is allowed, clashes with no chosen place, and fits what
+/// is left of the budget and of both caps.
 pub(crate) fn is_open_at(
     menu: &Menu,
     prices: &[Tokens],
@@ -132,9 +139,10 @@ fn first_of_course(places: &[Rated], course: u16) -> usize
     }
 }
 
-// A rating and adjustments added up, or 0 where the sum is negative.
+/// The most that a place can add to the utility: its rating, its adjustments with the chosen
+/// places, and what those with later places can add; 0 where the sum is negative.
 pub(crate) fn worth_of(rating: u8, adjustments: i32, hopes: u32) -> u32
-    requires rating { rating ≤ 100 }
+    requires rating { rating ≤ MAX_RATING }
     requires low { neg_ℤ (pos 1600) ≤ℤ adjustments }
     requires high { adjustments ≤ℤ pos 1600 }
     requires hopes { hopes ≤ 12000 }
@@ -163,10 +171,10 @@ fn prospect_at(
 ) -> Prospect
     requires prices { HasPrices menu.now prices.now }
     requires on_menu { AreOnMenu menu.now chosen.now }
-    requires few { length chosen.now ≤ 8 }
+    requires few { length chosen.now ≤ MAX_COURSES }
     requires place { place < length menu.now.places }
     requires later_on_menu { All (λ other. other.place < length menu.now.places) later.now }
-    requires later_few { length later.now ≤ 60 }
+    requires later_few { length later.now ≤ MAX_RATINGS }
     ensures value { (budget : ℕ) (allowed : set.FinSet nat_cmp)
         → result
         ≡ prospect (offer_of menu.now prices.now budget allowed) chosen.now place
@@ -186,8 +194,8 @@ fn prospect_at(
     }
 }
 
-// Writes what is known of the open places from a place on to the end of the room, and gives where
-// it begins.
+/// Writes the prospects of the open places from a place on to the end of the room, in the menu's
+/// order, and gives where they begin.
 pub(crate) fn collect(
     menu: &Menu,
     prices: &[Tokens],
@@ -199,15 +207,15 @@ pub(crate) fn collect(
 ) -> usize
     requires prices { HasPrices menu.now prices.now }
     requires on_menu { AreOnMenu menu.now chosen.now }
-    requires few { length chosen.now ≤ 8 }
+    requires few { length chosen.now ≤ MAX_COURSES }
     requires place { place ≤ length menu.now.places }
-    requires room { length room.old ≡ 60 }
+    requires room { length room.old ≡ MAX_RATINGS }
     ensures value { (budget : ℕ) → rests.budget ≡ budget_left (offer_of menu.now prices.now budget allowed.now) chosen.now
         → rests.credits ≡ credits_left (offer_of menu.now prices.now budget allowed.now) chosen.now
         → rests.courses ≡ courses_left (offer_of menu.now prices.now budget allowed.now) chosen.now
         → drop result room.new ≡ prospects (offer_of menu.now prices.now budget allowed.now) chosen.now (opens_from (offer_of menu.now prices.now budget allowed.now) chosen.now place (length menu.now.places - place)) }
-    ensures within { result ≤ 60 }
-    ensures space { 60 ≤ result + (length menu.now.places - place) }
+    ensures within { result ≤ MAX_RATINGS }
+    ensures space { MAX_RATINGS ≤ result + (length menu.now.places - place) }
     ensures modest { All IsModest (drop result room.new) }
     ensures on_menu { All (λ other. other.place < length menu.now.places) (drop result room.new) }
 {

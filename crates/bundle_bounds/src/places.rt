@@ -1,5 +1,5 @@
 // What a place costs, and how it goes with chosen ones.
-ghost use Rattle.std.specs.Prelude.{◌≡◌, ◌<◌, ◌≤◌, ◌*◌, ◌≤ℤ◌, neg_ℤ, pos, not, length};
+ghost use Rattle.std.specs.Prelude.{◌≡◌, ◌<◌, ◌≤◌, ◌*ℤ◌, ◌≤ℤ◌, neg_ℤ, pos, not, length};
 ghost use Rattle.std.specs.List.{list_all};
 ghost use Rattle.market_units.specs.Totals.{signed_total};
 ghost use Rattle.bundle_rules.specs.Demand.{price_in, HasPrices};
@@ -7,7 +7,7 @@ ghost use Rattle.bundle_rules.specs.Menus.{section_at, adjustment_in, clash_in};
 ghost use Rattle.bundle_bounds.specs.Offers.{AreOnMenu};
 
 use bundle_rules::Menu;
-use market_units::Tokens;
+use market_units::{MAX_ADJUSTMENT, MAX_COURSES, MAX_PRICE, Tokens};
 
 /// The price of the section at a place of the menu, in tokens. There is a price for each section of
 /// the menu, each at most 1,000,001.
@@ -15,7 +15,7 @@ pub fn price_of_place(menu: &Menu, prices: &[Tokens], place: u8) -> u32
     requires prices { HasPrices menu.now prices.now }
     requires on_menu { place < length menu.now.places }
     ensures value { result ≡ price_in prices.now (section_at menu.now.places place) }
-    ensures high { result ≤ 1000001 }
+    ensures high { result ≤ MAX_PRICE }
 {
     prices[usize::from(menu.rated(place).section.0)].0
 }
@@ -33,11 +33,11 @@ pub fn is_apart(menu: &Menu, chosen: &[u8], place: u8) -> bool
 pub fn adjustments_with(menu: &Menu, chosen: &[u8], place: u8) -> i32
     requires on_menu { AreOnMenu menu.now chosen.now }
     requires place { place < length menu.now.places }
-    requires few { length chosen.now ≤ 8 }
+    requires few { length chosen.now ≤ MAX_COURSES }
     ensures value { result
         ≡ signed_total (λ other. adjustment_in menu.now.pairs other place) chosen.now }
-    ensures low { neg_ℤ (pos (200 * length chosen.now)) ≤ℤ result }
-    ensures high { result ≤ℤ pos (200 * length chosen.now) }
+    ensures low { neg_ℤ (MAX_ADJUSTMENT *ℤ pos (length chosen.now)) ≤ℤ result }
+    ensures high { result ≤ℤ (MAX_ADJUSTMENT *ℤ pos (length chosen.now)) }
 {
     match chosen {
         [] => 0,

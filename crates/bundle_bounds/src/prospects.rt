@@ -4,6 +4,8 @@ ghost use Rattle.bundle_bounds.specs.Courses.{takes_of, has_course, greatest, by
 ghost use Rattle.bundle_bounds.specs.Bounds.{over_price, at_price};
 ghost use Rattle.bundle_bounds.specs.Modest.{IsModest};
 
+use market_units::{MAX_PRICE, MAX_RATINGS};
+
 /// What a bundle takes of: the budget, the credits, the number of sections.
 #[derive(Clone, Copy, Debug, PartialEq, Eq)]
 pub(crate) enum Resource {
@@ -25,7 +27,7 @@ pub(crate) struct Prospect {
 
 // Courses are told apart by a place of the menu. These are at most 60, so that a small array has a
 // mark for each course; course numbers have no such bound.
-const COURSES: usize = 60;
+const COURSES: usize = MAX_RATINGS;
 
 // Room for what is known of the open places of a menu.
 pub(crate) const NO_PROSPECTS: [Prospect; COURSES] = [Prospect {
@@ -36,11 +38,11 @@ pub(crate) const NO_PROSPECTS: [Prospect; COURSES] = [Prospect {
     credits: 0,
 }; COURSES];
 
-// What a prospect takes of a resource.
+/// How much the place takes of a resource: its price in tokens, its credits, or 1 section.
 pub(crate) fn takes(prospect: &Prospect, resource: Resource) -> u64
     requires { IsModest prospect.now }
     ensures value { result ≡ takes_of resource prospect.now }
-    ensures high { result ≤ 1000001 }
+    ensures high { result ≤ MAX_PRICE }
 {
     match resource {
         Resource::Money => u64::from(prospect.price),
@@ -49,7 +51,8 @@ pub(crate) fn takes(prospect: &Prospect, resource: Resource) -> u64
     }
 }
 
-// What is left of 1000 times the worth at this price of what is taken.
+/// 1000 times the worth of a place, less this price times what the place takes of the resource; 0
+/// where that is negative.
 pub(crate) fn over_price(prospect: &Prospect, resource: Resource, price: u64) -> u64
     requires modest { IsModest prospect.now }
     requires price { price ≤ 20000001 }
@@ -59,13 +62,14 @@ pub(crate) fn over_price(prospect: &Prospect, resource: Resource, price: u64) ->
     (1000 * u64::from(prospect.worth)).saturating_sub(price * takes(prospect, resource))
 }
 
-// The price of the rest of a resource, and of each course the most that is left over the price.
+/// The price times what is left of the resource, and for each course the greatest `over_price` of
+/// its open places, added up.
 pub(crate) fn at_price(prospects: &[Prospect], resource: Resource, rest: u32, price: u64) -> u64
     requires modest { All IsModest prospects.now }
-    requires few { length prospects.now ≤ 60 }
+    requires few { length prospects.now ≤ MAX_RATINGS }
     requires price { price ≤ 20000000 }
     ensures value { result ≡ at_price resource rest price prospects.now }
-    ensures high { result ≤ 20000000 * rest + 20000000 * 60 }
+    ensures high { result ≤ 20000000 * rest + 20000000 * MAX_RATINGS }
 {
     price * u64::from(rest) + add_up(prospects, resource, price)
 }
@@ -73,7 +77,7 @@ pub(crate) fn at_price(prospects: &[Prospect], resource: Resource, rest: u32, pr
 // For each course the most that is left over the price, added up.
 fn add_up(prospects: &[Prospect], resource: Resource, price: u64) -> u64
     requires modest { All IsModest prospects.now }
-    requires few { length prospects.now ≤ 60 }
+    requires few { length prospects.now ≤ MAX_RATINGS }
     requires price { price ≤ 20000000 }
     ensures value { result ≡ by_course (over_price resource price) prospects.now }
     ensures high { result ≤ 20000000 * length prospects.now }
@@ -90,7 +94,7 @@ fn add_up(prospects: &[Prospect], resource: Resource, price: u64) -> u64
     sum
 }
 
-// What `at_price` is at this price, and what it is at the next.
+/// What `at_price` gives at this price, and what it gives at the price that is greater by 1.
 #[inline(always)]
 pub(crate) fn at_two_prices(
     prospects: &[Prospect],
@@ -99,11 +103,11 @@ pub(crate) fn at_two_prices(
     price: u64,
 ) -> (u64, u64)
     requires modest { All IsModest prospects.now }
-    requires few { length prospects.now ≤ 60 }
+    requires few { length prospects.now ≤ MAX_RATINGS }
     requires price { price ≤ 20000000 }
     ensures here { result.0 ≡ at_price resource rest price prospects.now }
     ensures after { result.1 ≡ at_price resource rest (price + 1) prospects.now }
-    ensures high { result.0 ≤ 20000000 * rest + 20000000 * 60 }
+    ensures high { result.0 ≤ 20000000 * rest + 20000000 * MAX_RATINGS }
 {
     let (here, after) = add_up_twice(prospects, resource, price);
     let rest = u64::from(rest);
@@ -114,7 +118,7 @@ pub(crate) fn at_two_prices(
 #[inline(always)]
 fn add_up_twice(prospects: &[Prospect], resource: Resource, price: u64) -> (u64, u64)
     requires modest { All IsModest prospects.now }
-    requires few { length prospects.now ≤ 60 }
+    requires few { length prospects.now ≤ MAX_RATINGS }
     requires price { price ≤ 20000000 }
     ensures here { result.0 ≡ by_course (over_price resource price) prospects.now }
     ensures after { result.1 ≡ by_course (over_price resource (price + 1)) prospects.now }
@@ -137,8 +141,9 @@ fn add_up_twice(prospects: &[Prospect], resource: Resource, price: u64) -> (u64,
     (sum, next)
 }
 
-// How much a prospect in front of others adds to the greatest of each course. One that is alone is
-// the only one of its course.
+/// How much a prospect in front of others adds to the sum of each course's greatest `over_price`:
+/// what it has more than the greatest of its course behind it, or 0. One that is alone has none of
+/// its course behind it.
 pub(crate) fn added(
     prospect: &Prospect,
     more: &[Prospect],

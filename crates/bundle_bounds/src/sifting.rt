@@ -13,8 +13,10 @@ use crate::opens::{Rests, hopes, worth_of};
 use crate::places::adjustments_with;
 use crate::prospects::Prospect;
 use bundle_rules::Menu;
+use market_units::{MAX_COURSES, MAX_RATINGS};
 
-// What one more place leaves of the rests.
+/// What is left of the budget, the credits and the courses once one more place is chosen; 0 where
+/// it takes more than is left.
 pub(crate) fn rests_after(rests: Rests, one: &Prospect) -> Rests
     ensures budget { result.budget ≡ rests.budget - one.now.price }
     ensures credits { result.credits ≡ rests.credits - one.now.credits }
@@ -50,11 +52,11 @@ fn stays_open(menu: &Menu, rests: Rests, place: u8, one: &Prospect) -> bool
 #[inline(always)]
 fn beside(menu: &Menu, chosen: &[u8], one: &Prospect, later: &[Prospect]) -> Prospect
     requires on_menu { AreOnMenu menu.now chosen.now }
-    requires few { length chosen.now ≤ 8 }
+    requires few { length chosen.now ≤ MAX_COURSES }
     requires modest { IsModest one.now }
     requires place { one.now.place < length menu.now.places }
     requires later_on_menu { All (λ other. other.place < length menu.now.places) later.now }
-    requires later_few { length later.now ≤ 60 }
+    requires later_few { length later.now ≤ MAX_RATINGS }
     ensures value { (prices : List Tokens) (budget : ℕ) (allowed : set.FinSet nat_cmp) (before : List ℕ) (others : List ℕ) → one.now ≡ prospect (offer_of menu.now prices budget allowed) before one.now.place others
         → result ≡ prospect (offer_of menu.now prices budget allowed) chosen.now one.now.place (map (λ other. other.place) later.now) }
     ensures modest { IsModest result }
@@ -84,13 +86,13 @@ fn put_open(
     room: &mut [Prospect],
 ) -> usize
     requires on_menu { AreOnMenu menu.now chosen.now }
-    requires few { length chosen.now ≤ 8 }
+    requires few { length chosen.now ≤ MAX_COURSES }
     requires place { place < length menu.now.places }
     requires modest { IsModest one.now }
     requires one_on_menu { one.now.place < length menu.now.places }
-    requires room { length room.old ≡ 60 }
+    requires room { length room.old ≡ MAX_RATINGS }
     requires some { 1 ≤ start }
-    requires within { start ≤ 60 }
+    requires within { start ≤ MAX_RATINGS }
     requires later_modest { All IsModest (drop start room.old) }
     requires later_on_menu { All (λ other. other.place < length menu.now.places)
         (drop start room.old) }
@@ -112,8 +114,8 @@ fn put_open(
     start - 1
 }
 
-// Writes those of the open places that stay open to the end of the room, and gives where they
-// begin.
+/// Writes the prospects of those open places that stay open beside one more chosen place to the end
+/// of the room, and gives where they begin.
 pub(crate) fn sift(
     menu: &Menu,
     chosen: &[u8],
@@ -123,17 +125,17 @@ pub(crate) fn sift(
     room: &mut [Prospect],
 ) -> usize
     requires on_menu { AreOnMenu menu.now chosen.now }
-    requires few { length chosen.now ≤ 8 }
+    requires few { length chosen.now ≤ MAX_COURSES }
     requires place { place < length menu.now.places }
     requires modest { All IsModest all.now }
     requires all_on_menu { All (λ other. other.place < length menu.now.places) all.now }
-    requires all_few { length all.now ≤ 60 }
-    requires room { length room.old ≡ 60 }
+    requires all_few { length all.now ≤ MAX_RATINGS }
+    requires room { length room.old ≡ MAX_RATINGS }
     ensures value { (prices : List Tokens) (budget : ℕ) (allowed : set.FinSet nat_cmp) (before others : List ℕ) → chosen.now ≡ before ++ place ∷ []
         → rests.budget ≡ budget_left (offer_of menu.now prices budget allowed) chosen.now → rests.credits ≡ credits_left (offer_of menu.now prices budget allowed) chosen.now → rests.courses ≡ courses_left (offer_of menu.now prices budget allowed) chosen.now
         → AllByRecursion (λ other. is_open (offer_of menu.now prices budget allowed) before other ≡ true) others → all.now ≡ prospects (offer_of menu.now prices budget allowed) before others
         → drop result room.new ≡ prospects (offer_of menu.now prices budget allowed) chosen.now (filter (is_open (offer_of menu.now prices budget allowed) chosen.now) others) }
-    ensures within { result ≤ 60 }
+    ensures within { result ≤ MAX_RATINGS }
     ensures modest { All IsModest (drop result room.new) }
     ensures on_menu { All (λ other. other.place < length menu.now.places) (drop result room.new) }
 {

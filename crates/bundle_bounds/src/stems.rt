@@ -7,25 +7,28 @@ ghost use Rattle.bundle_rules.specs.Menus.{wishes_of, section_at};
 ghost use Rattle.bundle_rules.specs.Bundles.{sections_of};
 ghost use Rattle.bundle_bounds.specs.Offers.{offer_of, places_of};
 ghost use Rattle.bundle_bounds.specs.Opens.{is_open};
-ghost use Rattle.bundle_bounds.specs.Bounds.{bounds, IsFirstClosing, NoneCloses};
+ghost use Rattle.bundle_bounds.specs.Bounds.{bounds, IsFirstPruning, NonePrunes};
 ghost use Rattle.bundle_bounds.specs.Ahead.{limit_of};
 ghost use Rattle.bundle_bounds.specs.Laws.{IsNode};
 
-use crate::closing::{first_with, is_plain_below};
 use crate::leaving::{plain_after, tangents_after};
 use crate::nodes::{Leaf, Node};
 use crate::opens::{Rests, collect, rests_of};
 use crate::places::adjustments_with;
 use crate::prospects::{NO_PROSPECTS, Prospect, Resource, at_price};
+use crate::pruning::{first_with, is_plain_below};
 use crate::sifting::{rests_after, sift};
 use crate::tangents::Tangents;
 use bundle_rules::{Bundle, Menu, Places, is_ahead, utility};
-use market_units::{SectionSet, Tokens};
+use market_units::{MAX_COURSES, MAX_RATINGS, SectionSet, Tokens};
 
 // The places of a menu, and the sections of a bundle.
-const ROOM: usize = 60;
+const ROOM: usize = MAX_RATINGS;
 
-const MOST: usize = 8;
+const MOST: usize = MAX_COURSES as usize;
+
+// At most this many places are on a menu.
+const PLACES: u8 = MAX_RATINGS as u8;
 
 /// Nodes that have chosen the same sections, one after another: each has one more place decided
 /// than the one before it. What they share is kept: the open places with their worth, what the
@@ -107,9 +110,9 @@ impl Stem {
         }
     }
 
-    /// The first bound that closes its node for the champion, as `bound_closes` tells it.
+    /// The first bound that prunes its node for the champion, as `bound_closes` tells it.
     #[inline(always)]
-    pub fn closing(
+    pub fn pruning(
         &mut self,
         menu: &Menu,
         prices: &[Tokens],
@@ -123,18 +126,18 @@ impl Stem {
         requires champion { IsFeasible (wishes_of menu.now) (sections_of champion.now) }
         requires stem { IsStem (offer_of menu.now prices.now budget.0 allowed.now)
             (sections_of champion.now) node.now.place (sections_of node.now.chosen) self.old }
-        ensures first { IfSome result (IsFirstClosing (offer_of menu.now prices.now budget.0 allowed.now) node.now.place (places_of menu.now (sections_of node.now.chosen)) (places_of menu.now (sections_of champion.now))
+        ensures first { IfSome result (IsFirstPruning (offer_of menu.now prices.now budget.0 allowed.now) node.now.place (places_of menu.now (sections_of node.now.chosen)) (places_of menu.now (sections_of champion.now))
             (bounds (offer_of menu.now prices.now budget.0 allowed.now) node.now.place (places_of menu.now (sections_of node.now.chosen)))) }
-        ensures none { IfNone result (NoneCloses (offer_of menu.now prices.now budget.0 allowed.now) node.now.place (places_of menu.now (sections_of node.now.chosen)) (places_of menu.now (sections_of champion.now))
+        ensures none { IfNone result (NonePrunes (offer_of menu.now prices.now budget.0 allowed.now) node.now.place (places_of menu.now (sections_of node.now.chosen)) (places_of menu.now (sections_of champion.now))
             (bounds (offer_of menu.now prices.now budget.0 allowed.now) node.now.place (places_of menu.now (sections_of node.now.chosen)))) }
         ensures stem { IsStem (offer_of menu.now prices.now budget.0 allowed.now)
             (sections_of champion.now) node.now.place (sections_of node.now.chosen) self.new }
     {
-        prove!(menu.len() <= 60);
+        prove!(menu.len() <= PLACES);
         if self.is_quiet {
             return None;
         }
-        // A bound is sought on the champion's own path too, though none closes there: a law for
+        // A bound is sought on the champion's own path too, though none prunes there: a law for
         // that would spare 2 ns a node.
         let base = 1000 * i64::from(self.utility);
         // Most nodes end here, before the tangents are copied.
@@ -249,7 +252,7 @@ fn is_still_quiet(is_quiet: bool, limit: i64, next: i64) -> bool
     is_quiet && limit == next
 }
 
-// The number below which a bound closes the node with this place decided too.
+// The number below which a bound prunes the node with this place decided too.
 fn limit_after(most: i32, champion: &[u8], chosen: &[u8], place: u8) -> i64
     requires { place < 255 }
     ensures { result ≡ limit_of most (is_ahead (place + 1) champion.now chosen.now) }

@@ -19,7 +19,7 @@ pub(crate) struct Tangents {
 impl Tangents {
     ghost use Rattle.std.specs.Prelude.{◌≡◌, None};
 
-    // None is computed yet.
+    /// No tangent is computed yet.
     pub(crate) fn none() -> Tangents
         ensures money { result.money ≡ None }
         ensures credits { result.credits ≡ None }

@@ -2,7 +2,8 @@
 use Rattle.std.proofs.Common.{◌≡◌, ◌<◌, ◌==◌, ℕ, Bool, true, false, true≢false, List, [], ◌∷◌, length, arith, refl, ap, sym, subst, ◌∙◌, inl, inr}
 use Rattle.std.proofs.lemmas.Bool.{cases_Bool, ne_eqb}
 use Rattle.market_units.specs.Subsets.{earlier, chosen}
-use Rattle.bundle_rules.specs.Sets.{has, AllAbove, IsAscending, DiffersFirstIn}
+use Rattle.market_units.specs.Members.{has}
+use Rattle.bundle_rules.specs.Sets.{AllAbove, IsAscending, DiffersFirstIn}
 use Rattle.bundle_rules.specs.Places.{bits_of}
 use Rattle.bundle_rules.specs.Existence.Members.{has-here, has-there, has-cases, has-above}
 use Rattle.bundle_rules.specs.Existence.Orders.{none_below, same_head, head_first, not_both_first}

@@ -2,7 +2,7 @@
 use Rattle.std.proofs.Common.{◌≡◌, ◌<◌, ℕ, zero, suc, true, List, [], ◌∷◌, length, arith, subst}
 use Rattle.market_units.specs.declared.units.Tokens.{Tokens}
 use Rattle.bundle_rules.specs.declared.menu.Rated.{Rated}
-use Rattle.bundle_rules.specs.Sets.{has}
+use Rattle.market_units.specs.Members.{has}
 use Rattle.bundle_rules.specs.Wishes.{AllRated}
 use Rattle.bundle_rules.specs.Menus.{MenuData, wishes_of, place_in, section_at, IsMenu}
 use Rattle.bundle_rules.specs.Demand.{IsPriced, ArePriced, HasPrices}

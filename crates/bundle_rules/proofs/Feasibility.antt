@@ -3,7 +3,8 @@ use Rattle.std.proofs.Common.{◌≡◌, ◌≢◌, ◌<◌, ◌+◌, ◌+ℤ◌
 use Rattle.std.proofs.lemmas.List.{length-map}
 use Rattle.market_units.specs.Totals.{total}
 use Rattle.bundle_rules.specs.declared.menu.Rated.{Rated}
-use Rattle.bundle_rules.specs.Sets.{has, IsAscending}
+use Rattle.market_units.specs.Members.{has}
+use Rattle.bundle_rules.specs.Sets.{IsAscending}
 use Rattle.bundle_rules.specs.Wishes.{Wishes, adjustments, utility, AllRated, IsFeasible}
 use Rattle.bundle_rules.specs.Apart.{ClashesWithNone, AreApart, MayTake}
 use Rattle.bundle_rules.specs.Menus.{MenuData, by_place, wishes_of, place_in, section_at, credits_at, adjustment_in, IsMenu}

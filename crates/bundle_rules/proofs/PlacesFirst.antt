@@ -3,7 +3,8 @@ use Rattle.std.proofs.Common.{◌≡◌, ◌≢◌, ◌↔◌, ◌<◌, ℕ, zer
 use Rattle.std.proofs.lemmas.Bool.{cases_Bool, cases_order, false≢true, true≢false}
 use Rattle.std.proofs.lemmas.Bool.Decides.{nat_tests}
 use Rattle.bundle_rules.specs.declared.menu.Rated.{Rated}
-use Rattle.bundle_rules.specs.Sets.{has, AllAbove, IsAscending, DiffersFirstIn}
+use Rattle.market_units.specs.Members.{has}
+use Rattle.bundle_rules.specs.Sets.{AllAbove, IsAscending, DiffersFirstIn}
 use Rattle.bundle_rules.specs.Ahead.{is_ahead}
 use Rattle.bundle_rules.specs.Menus.{section_at, place_in}
 use Rattle.bundle_rules.specs.Existence.Members.{has-here, has-there, has-above}

@@ -1,6 +1,6 @@
 -- Which of two sets has the lowest place on which they differ.
 use Rattle.std.specs.Prelude.{ℕ, ◌<◌, ◌≡◌, ◌==◌, nat_lt, if◌then◌else◌, Bool, true, false, List, [], ◌∷◌}
-use Rattle.bundle_rules.specs.Sets.{has}
+use Rattle.market_units.specs.Members.{has}
 
 -- the lowest place on which they differ is in the first, and below this limit
 abbrev pub IsAhead : ℕ → List ℕ → List ℕ → Type 0

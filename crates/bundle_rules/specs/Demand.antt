@@ -1,9 +1,10 @@
 -- What a student takes at given prices.
 use Rattle.std.specs.Prelude.{ℕ, ◌<◌, ◌≤◌, ◌≡◌, ◌≢◌, Bool, true, List, All, length, slice_index, map}
+use Rattle.market_units.specs.declared.limits.TheConstants.{MAX_PRICE}
 use Rattle.market_units.specs.declared.units.Tokens.{Tokens}
 use Rattle.bundle_rules.specs.declared.menu.Rated.{Rated}
 use Rattle.market_units.specs.Totals.{total}
-use Rattle.bundle_rules.specs.Sets.{has}
+use Rattle.market_units.specs.Members.{has}
 use Rattle.bundle_rules.specs.Wishes.{Wishes, IsFeasible}
 use Rattle.bundle_rules.specs.Menus.{MenuData}
 use Rattle.bundle_rules.specs.Preferences.{IsPreferred}
@@ -15,7 +16,7 @@ price_in prices = slice_index (map (λ price. price.0) prices)
 -- a section has a price, of at most 1,000,001
 pub record IsPriced (prices : List Tokens) (s : ℕ) : Type 0 where
   pub listed : s < length prices
-  pub high : price_in prices s ≤ 1000001
+  pub high : price_in prices s ≤ MAX_PRICE
 
 -- each section at these places has a price
 abbrev pub ArePriced : List Rated → List Tokens → Type 0

@@ -1,7 +1,7 @@
 -- Choices that are some sections and some of the later ones: what is tried below a node of an
 -- enumeration.
 use Rattle.std.specs.Prelude.{ℕ, ◌≡◌, ◌≢◌, Bool, true, List, ◌++◌}
-use Rattle.bundle_rules.specs.Sets.{has}
+use Rattle.market_units.specs.Members.{has}
 use Rattle.bundle_rules.specs.Wishes.{Wishes}
 use Rattle.bundle_rules.specs.Preferences.{IsPreferred}
 use Rattle.bundle_rules.specs.Demand.{IsChoice}

@@ -3,7 +3,8 @@ use Rattle.std.specs.Prelude.{ℕ, ◌<◌, ◌≡◌, ◌≢◌, ◌↔◌, ◌
 use Rattle.market_units.specs.Subsets.{chosen}
 use Rattle.bundle_rules.specs.declared.bundle.Bundle.{Bundle}
 use Rattle.bundle_rules.specs.Bundles.{sections_of}
-use Rattle.bundle_rules.specs.Sets.{has, IsAscending}
+use Rattle.market_units.specs.Members.{has}
+use Rattle.bundle_rules.specs.Sets.{IsAscending}
 use Rattle.bundle_rules.specs.Ahead.{IsAhead, is_ahead}
 use Rattle.bundle_rules.specs.Wishes.{Wishes, AllRated, utility}
 use Rattle.bundle_rules.specs.Agreement.{Agrees}
@@ -70,7 +71,7 @@ BestByBits =
     → AreBestBits (wishes_of menu) (menu_sections menu) price budget allowed bits
     ↔ IsBest (wishes_of menu) price budget allowed (chosen bits (menu_sections menu))
 
--- where wishes agree on what is rated, the best bundle of the ones is that of the others
+-- wishes that agree on what is rated have the same best bundle
 abbrev pub BestByAgreement : Type 0
 BestByAgreement =
     (a b : Wishes) → Agrees a b
@@ -84,8 +85,8 @@ BestOfAll =
     → IsBestOf (wishes_of menu) price budget allowed (λ b. true) bundle
     ↔ IsBest (wishes_of menu) price budget allowed bundle
 
--- one bundle is the best with the section where some choice has it, and none but that one; some
--- choice has it exactly where the section alone is a choice
+-- where some choice has the section, exactly one bundle is the best with it; and some choice has it
+-- exactly where the section alone is a choice
 pub record HasBestWith (menu : MenuData) (price : ℕ → ℕ) (budget : ℕ) (allowed : ℕ → Bool)
     (section : ℕ) : Type 0 where
   pub one : SomeHas (wishes_of menu) price budget allowed section

@@ -1,9 +1,10 @@
 -- A menu as the data that it is built of, and the wishes that it says.
-use Rattle.std.specs.Prelude.{ℕ, zero, suc, ℤ, pos, negsuc, ◌≤ℤ◌, ◌<◌, ◌≤◌, ◌≡◌, ◌≢◌, ◌&&◌, ◌||◌, ◌==◌, if◌then◌else◌, Bool, true, false, List, [], ◌∷◌, map, length, slice_index, All, ⊤}
+use Rattle.std.specs.Prelude.{ℕ, zero, suc, ℤ, pos, neg_ℤ, ◌≤ℤ◌, ◌<◌, ◌≤◌, ◌≡◌, ◌≢◌, ◌&&◌, ◌||◌, ◌==◌, if◌then◌else◌, Bool, true, false, List, [], ◌∷◌, map, length, slice_index, All, ⊤}
 use Rattle.std.specs.Int.{bit_at}
+use Rattle.market_units.specs.declared.limits.TheConstants.{MAX_ADJUSTMENT, MAX_COURSES, MAX_CREDITS, MAX_PAIRS, MAX_RATING, MAX_RATINGS, MAX_SECTION_CREDITS, MAX_SECTIONS}
 use Rattle.bundle_rules.specs.declared.menu.Rated.{Rated}
 use Rattle.bundle_rules.specs.Sets.{IsAscending}
-use Rattle.bundle_rules.specs.Wishes.{Wishes}
+use Rattle.bundle_rules.specs.Wishes.{Wishes, utility}
 
 -- the rated sections, the adjustments of pairs of places, a word of clashes for each place, and the
 -- two caps
@@ -73,16 +74,20 @@ wishes_of menu = record {
   course_cap = menu.courses;
 }
 
+-- what a bundle is worth to the student of the menu: its utility
+abbrev pub worth : MenuData → List ℕ → ℤ
+worth menu bundle = utility (wishes_of menu) bundle
+
 -- what each place holds: a section below 400, a rating from 1 to 100, credits of at most 100
 pub record IsRated (rated : Rated) : Type 0 where
-  pub section : rated.section.0 < 400
+  pub section : rated.section.0 < MAX_SECTIONS
   pub rating_low : 1 ≤ rated.rating
-  pub rating_high : rated.rating ≤ 100
-  pub credits : rated.credits ≤ 100
+  pub rating_high : rated.rating ≤ MAX_RATING
+  pub credits : rated.credits ≤ MAX_SECTION_CREDITS
 
 -- at most 60 places, ascending by section
 pub record ArePlaces (places : List Rated) : Type 0 where
-  pub few : length places ≤ 60
+  pub few : length places ≤ MAX_RATINGS
   pub ascending : IsAscending (map (λ rated. rated.section.0) places)
   pub each : All IsRated places
 
@@ -90,8 +95,8 @@ pub record ArePlaces (places : List Rated) : Type 0 where
 pub record IsPair (places : ℕ) (pair : ℕ × ℕ × ℤ) : Type 0 where
   pub ordered : pair.0 < pair.1
   pub on_menu : pair.1 < places
-  pub low : negsuc 199 ≤ℤ pair.2
-  pub high : pair.2 ≤ℤ pos 200
+  pub low : neg_ℤ MAX_ADJUSTMENT ≤ℤ pair.2
+  pub high : pair.2 ≤ℤ MAX_ADJUSTMENT
 
 -- each pair names other places than all later ones
 abbrev pub AreDifferent : List (ℕ × ℕ × ℤ) → Type 0
@@ -101,7 +106,7 @@ AreDifferent (pair ∷ pairs) =
 
 -- at most 200 pairs, no two of which name the same two places
 pub record ArePairs (places : ℕ) (pairs : List (ℕ × ℕ × ℤ)) : Type 0 where
-  pub few : length pairs ≤ 200
+  pub few : length pairs ≤ MAX_PAIRS
   pub each : All (IsPair places) pairs
   pub different : AreDifferent pairs
 
@@ -118,8 +123,8 @@ pub record AreClashes (places : List Rated) (clashes : List ℕ) : Type 0 where
 
 -- the credit cap is at most 800, and the course cap at most 8
 pub record AreCaps (credits courses : ℕ) : Type 0 where
-  pub credits_cap : credits ≤ 800
-  pub courses_cap : courses ≤ 8
+  pub credits_cap : credits ≤ MAX_CREDITS
+  pub courses_cap : courses ≤ MAX_COURSES
 
 -- what every menu keeps
 pub record IsMenu (menu : MenuData) : Type 0 where

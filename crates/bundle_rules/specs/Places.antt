@@ -1,7 +1,7 @@
 -- Sets of a menu's sections as bits, one for each place of the menu.
 use Rattle.std.specs.Prelude.{ℕ, zero, suc, ◌<ℤ◌, ◌≡◌, ◌≢◌, ◌⊎◌, Bool, true, List, [], ◌∷◌, map, length}
 use Rattle.market_units.specs.Subsets.{earlier, chosen}
-use Rattle.bundle_rules.specs.Sets.{has}
+use Rattle.market_units.specs.Members.{has}
 use Rattle.bundle_rules.specs.Wishes.{Wishes, utility}
 use Rattle.bundle_rules.specs.Demand.{IsChoice}
 use Rattle.bundle_rules.specs.Menus.{MenuData}

@@ -1,12 +1,9 @@
 -- Sets of sections. A set is written as its ordinals in ascending order, so that equal sets are
 -- equal lists.
-use Rattle.std.specs.Prelude.{ℕ, ◌<◌, ◌≡◌, ◌==◌, ◌||◌, Bool, true, false, ⊤, List, [], ◌∷◌}
+use Rattle.std.specs.Prelude.{ℕ, ◌<◌, ◌≡◌, ◌==◌, not, true, false, ⊤, List, [], ◌∷◌}
+use Rattle.std.specs.List.{filter}
 use Rattle.std.specs.Coded.{×_prop, Unit-prop, le_prop}
-
--- whether a section is in the set
-abbrev pub has : List ℕ → ℕ → Bool
-has [] s = false
-has (t ∷ ts) s = t == s || has ts s
+use Rattle.market_units.specs.Members.{has}
 
 -- each section of the set is above this one
 abbrev pub AllAbove : ℕ → List ℕ → Type 0
@@ -17,6 +14,10 @@ AllAbove s (t ∷ ts) = (s < t) × AllAbove s ts
 abbrev pub IsAscending : List ℕ → Type 0
 IsAscending [] = ⊤
 IsAscending (s ∷ ss) = AllAbove s ss × IsAscending ss
+
+-- the set without the section
+abbrev pub without_section : ℕ → List ℕ → List ℕ
+without_section s set = filter (λ t. not (t == s)) set
 
 -- the lowest section on which they differ is in the first
 abbrev pub DiffersFirstIn : List ℕ → List ℕ → Type 0

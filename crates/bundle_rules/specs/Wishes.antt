@@ -1,7 +1,8 @@
 -- What a student wants and may take.
 use Rattle.std.specs.Prelude.{ℕ, ℤ, pos, ◌+ℤ◌, ◌<◌, ◌≤◌, ◌≡◌, ◌≢◌, Bool, true, false, List, [], ◌∷◌, length}
 use Rattle.market_units.specs.Totals.{total, signed_total}
-use Rattle.bundle_rules.specs.Sets.{has, IsAscending}
+use Rattle.market_units.specs.Members.{has}
+use Rattle.bundle_rules.specs.Sets.{IsAscending}
 
 -- by ordinals of sections; a section that is not rated has the rating 0
 pub record Wishes : Type 0 where

@@ -1,15 +1,17 @@
 // Bundles of sections.
 ghost use Rattle.std.specs.Prelude.{◌≡◌, ◌↔◌, ◌<◌, ◌≤◌, ◌-◌, ◌++◌, ◌∷◌, [], IsTrue, IsSome, IfSome, length, take, drop, replicate};
-ghost use Rattle.bundle_rules.specs.Sets.{has, IsAscending, IsAscending-prop};
+ghost use Rattle.market_units.specs.Members.{has};
+ghost use Rattle.bundle_rules.specs.Sets.{IsAscending, IsAscending-prop};
 ghost use Rattle.bundle_rules.specs.Ordinals.{ordinals, IsBundle};
 ghost use Rattle.std.specs.Prelude.{nat_eq};
 ghost use Rattle.std.specs.Cmp.{on_equiv, partial_equiv_from_equiv};
 ghost use Rattle.std.specs.Ordering.{on};
 ghost use Rattle.std.specs.Cmp.Lexicographic.{nat_list_eq_equiv, pointwise};
+ghost use Rattle.market_units.specs.declared.limits.TheConstants.{MAX_COURSES};
 
-use market_units::SectionNo;
+use market_units::{MAX_COURSES, SectionNo};
 
-const ROOM: usize = 8;
+const ROOM: usize = MAX_COURSES as usize;
 
 /// At most 8 sections, ascending by ordinal.
 #[derive(Clone, Copy, Debug)]
@@ -18,12 +20,12 @@ pub struct Bundle {
     // are passed by value more than once.
     sections: [SectionNo; ROOM],
     len: u8,
-    ghost whole: { length sections ≡ 8 },
-    ghost short: { len ≤ 8 },
+    ghost whole: { length sections ≡ MAX_COURSES },
+    ghost short: { len ≤ MAX_COURSES },
     ghost ascending: { IsAscending (ordinals (take len sections)) } by { IsAscending-prop (ordinals (take len sections)) },
 
     // What stands past the sections is 0, so that bundles of the same sections are equal.
-    ghost padded: { ordinals (drop len sections) ≡ replicate (8 - len) 0 },
+    ghost padded: { ordinals (drop len sections) ≡ replicate (MAX_COURSES - len) 0 },
 }
 
 impl Bundle {
@@ -86,7 +88,7 @@ impl Bundle {
     /// The bundle with one more section, above all of its own.
     #[must_use]
     pub fn with(self, section: SectionNo) -> Bundle
-        requires room { length (sections_of self) < 8 }
+        requires room { length (sections_of self) < MAX_COURSES }
         requires above { IsAscending (sections_of self ++ section.0 ∷ []) }
         ensures { sections_of result ≡ sections_of self ++ section.0 ∷ [] }
     {

@@ -9,6 +9,8 @@ use market_units::{
     MAX_ADJUSTMENT, MAX_PAIRS, MAX_RATING, MAX_RATINGS, MAX_SECTION_CREDITS, MAX_SECTIONS,
 };
 
+/// Whether these may be a menu's places: at most 60, each section, rating and credits in range, and
+/// the section numbers ascending.
 pub(crate) fn are_places(places: &[Rated]) -> bool
     ensures { IsTrue result ↔ ArePlaces places.now }
 {
@@ -42,6 +44,8 @@ fn are_ascending(places: &[Rated]) -> bool
     }
 }
 
+/// Whether these may be the adjustments of a menu with so many places: at most 200, each of two of
+/// its places, the lower first, and from -200 to 200, and no two of them of the same pair.
 pub(crate) fn are_pairs(places: usize, pairs: &[(u8, u8, i16)]) -> bool
     ensures { IsTrue result ↔ ArePairs places pairs.now }
 {
@@ -83,8 +87,11 @@ fn all_name_others(pair: (u8, u8, i16), others: &[(u8, u8, i16)]) -> bool
         .all(|other| pair.0 != other.0 || pair.1 != other.1)
 }
 
+/// Whether these may be the clashes of a menu with these places: a word for each place, whose bits
+/// tell the places that it clashes with. No place clashes with itself, any two places of one course
+/// clash, and a clash goes both ways.
 pub(crate) fn are_clashes(places: &[Rated], clashes: &[u64]) -> bool
-    requires { length places.now ≤ 60 }
+    requires { length places.now ≤ MAX_RATINGS }
     ensures { IsTrue result ↔ AreClashes places.now clashes.now }
 {
     if clashes.len() != places.len() {
@@ -99,7 +106,7 @@ pub(crate) fn are_clashes(places: &[Rated], clashes: &[u64]) -> bool
 }
 
 fn row_is_sound(places: &[Rated], clashes: &[u64], a: usize) -> bool
-    requires few { length places.now ≤ 60 }
+    requires few { length places.now ≤ MAX_RATINGS }
     requires words { length clashes.now ≡ length places.now }
     requires on_menu { a < length places.now }
     ensures { IsTrue result ↔ RowIsSound places.now clashes.now a }
@@ -113,7 +120,7 @@ fn row_is_sound(places: &[Rated], clashes: &[u64], a: usize) -> bool
 }
 
 fn clashes_well(places: &[Rated], clashes: &[u64], a: usize, b: usize) -> bool
-    requires few { length places.now ≤ 60 }
+    requires few { length places.now ≤ MAX_RATINGS }
     requires words { length clashes.now ≡ length places.now }
     requires first { a < length places.now }
     requires second { b < length places.now }

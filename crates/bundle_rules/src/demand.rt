@@ -11,7 +11,7 @@ ghost use Rattle.bundle_rules.specs.Ordinals.{ordinals};
 ghost use Rattle.bundle_rules.specs.Menus.{wishes_of, IsMenu};
 
 use crate::{Bundle, Menu, Rated, feasible, prefers};
-use market_units::{MAX_PRICE, SectionNo, SectionSet, Tokens};
+use market_units::{MAX_COURSES, MAX_PRICE, MAX_SECTIONS, SectionNo, SectionSet, Tokens};
 
 /// Whether there is a price for each section of the menu, each at most 1,000,001: what `best_plain`
 /// needs.
@@ -108,7 +108,7 @@ fn extended(
 ) -> Option<Bundle>
     requires menu { IsMenu menu.now }
     requires prices { HasPrices menu.now prices.now }
-    requires room { length (sections_of chosen) < 8 }
+    requires room { length (sections_of chosen) < MAX_COURSES }
     requires above { IsAscending (sections_of chosen ++ section.0 ∷ []) }
     ensures value { IfSome result
         (λ wider. sections_of wider ≡ sections_of chosen ++ section.0 ∷ []) }
@@ -154,9 +154,9 @@ fn is_choice(
 /// there are at most 8 of them.
 pub fn price_of(prices: &[Tokens], sections: &[SectionNo]) -> u32
     requires priced { All (λ section. IsPriced prices.now section.0) sections.now }
-    requires few { length sections.now ≤ 8 }
+    requires few { length sections.now ≤ MAX_COURSES }
     ensures value { result ≡ total (price_in prices.now) (ordinals sections.now) }
-    ensures high { result ≤ 1000001 * length sections.now }
+    ensures high { result ≤ MAX_PRICE * length sections.now }
 {
     match sections {
         [] => 0,
@@ -166,7 +166,7 @@ pub fn price_of(prices: &[Tokens], sections: &[SectionNo]) -> u32
 
 /// Whether each of these sections is an allowed one. Their ordinals are below 400.
 pub fn all_allowed(allowed: &SectionSet, sections: &[SectionNo]) -> bool
-    requires { All (λ section. section.0 < 400) sections.now }
+    requires { All (λ section. section.0 < MAX_SECTIONS) sections.now }
     ensures { IsTrue result
         ↔ All (λ section. IsTrue (set.contains allowed.now section.0)) sections.now }
 {

@@ -1,10 +1,10 @@
 // What one student may choose from.
-ghost use Rattle.std.specs.Prelude.{◌≡◌, ◌<◌, ◌≤◌, ◌*◌, ◌+◌, ◌≤ℤ◌, pos, negsuc, ℕ, [], Some, IsTrue, length, IfOk, All, slice_get};
+ghost use Rattle.std.specs.Prelude.{◌≡◌, ◌<◌, ◌≤◌, ◌*◌, ◌+◌, ◌≤ℤ◌, neg_ℤ, ℕ, [], Some, IsTrue, length, IfOk, All, slice_get};
 ghost use Rattle.bundle_rules.specs.Kept.{IsTable};
 ghost use Rattle.bundle_rules.specs.Menus.{adjustment_in, clash_in, place_in, IsRated, IsPair, ArePlaces, ArePairs, AreClashes, AreCaps, IsMenu};
 
 use crate::conditions::{are_clashes, are_pairs, are_places};
-use market_units::{MAX_COURSES, MAX_CREDITS, NoMemory, SectionNo};
+use market_units::{MAX_ADJUSTMENT, MAX_COURSES, MAX_CREDITS, MAX_RATINGS, NoMemory, SectionNo};
 use std::alloc::Global;
 use std::marker::Model;
 
@@ -164,8 +164,8 @@ impl Menu {
         requires first { a < length self.now.places }
         requires second { b < length self.now.places }
         ensures value { result ≡ adjustment_in self.now.pairs a b }
-        ensures low { negsuc 199 ≤ℤ result }
-        ensures high { result ≤ℤ pos 200 }
+        ensures low { neg_ℤ MAX_ADJUSTMENT ≤ℤ result }
+        ensures high { result ≤ℤ MAX_ADJUSTMENT }
     {
         self.adjustments[usize::from(a) * self.places.len() + usize::from(b)]
     }
@@ -225,7 +225,7 @@ fn adjustment_table(
     places: usize,
     pairs: &[(u8, u8, i16)],
 ) -> Result<Vec<i16>, NoMemory>
-    requires few { places ≤ 60 }
+    requires few { places ≤ MAX_RATINGS }
     requires pairs { All (IsPair places) pairs.now }
     ensures { IfOk result (λ table. IsTable places pairs.now table.items) }
 {
@@ -238,7 +238,7 @@ fn adjustment_table(
 fn fill(table: &mut [i16], places: usize, pairs: &[(u8, u8, i16)])
     requires size { length table.old ≡ places * places }
     requires zeros { IsTable places [] table.old }
-    requires few { places ≤ 60 }
+    requires few { places ≤ MAX_RATINGS }
     requires pairs { All (IsPair places) pairs.now }
     ensures { IsTable places pairs.now table.new }
 {

@@ -1,17 +1,21 @@
 // The places of a bundle's sections on a menu.
 ghost use Rattle.std.specs.Prelude.{◌≡◌, ◌≤◌, length, map};
+ghost use Rattle.market_units.specs.declared.limits.TheConstants.{MAX_COURSES};
 ghost use Rattle.bundle_rules.specs.Menus.{place_in};
 ghost use Rattle.bundle_rules.specs.Bundles.{sections_of};
 
 use crate::{Bundle, Menu};
+use market_units::MAX_COURSES;
+
+const ROOM: usize = MAX_COURSES as usize;
 
 /// The places of a bundle's sections, in their order; a section that is not on the menu has the
 /// number of places.
 #[derive(Clone, Copy)]
 pub struct Places {
-    places: [u8; 8],
+    places: [u8; ROOM],
     len: usize,
-    ghost short: { len ≤ 8 },
+    ghost short: { len ≤ MAX_COURSES },
 }
 
 impl Places {
@@ -21,7 +25,7 @@ impl Places {
     pub fn of(menu: &Menu, bundle: &Bundle) -> Places
         ensures { listed result ≡ map (place_in menu.now.places) (sections_of bundle.now) }
     {
-        let mut places = [0; 8];
+        let mut places = [0; ROOM];
         for (i, section) in bundle.sections().iter().enumerate() {
             places[i] = menu.place(*section);
         }
@@ -34,7 +38,7 @@ impl Places {
     /// The places, as many as the bundle has sections.
     pub fn as_slice(&self) -> &[u8]
         ensures value { result.now ≡ listed self.now }
-        ensures few { length result.now ≤ 8 }
+        ensures few { length result.now ≤ MAX_COURSES }
     {
         &self.places[..self.len]
     }

@@ -1,5 +1,5 @@
 // Which bundles a student may take, and which of two the student prefers.
-ghost use Rattle.std.specs.Prelude.{◌≡◌, ◌↔◌, ◌<◌, ◌≤◌, ◌*◌, ℕ, pos, neg_ℤ, ◌≤ℤ◌, IsTrue, length, map, take, All};
+ghost use Rattle.std.specs.Prelude.{◌≡◌, ◌↔◌, ◌<◌, ◌≤◌, ◌*◌, ◌*ℤ◌, ℕ, pos, neg_ℤ, ◌≤ℤ◌, IsTrue, length, map, take, All};
 ghost use Rattle.market_units.specs.Totals.{total};
 ghost use Rattle.bundle_rules.specs.Sets.{DiffersFirstIn};
 ghost use Rattle.bundle_rules.specs.Wishes.{AllRated, IsFeasible, utility, adjustments};
@@ -9,6 +9,7 @@ ghost use Rattle.bundle_rules.specs.Bundles.{sections_of};
 ghost use Rattle.bundle_rules.specs.Menus.{by_place, wishes_of, place_in, IsMenu};
 
 use crate::{Bundle, Menu, Places, is_ahead};
+use market_units::{MAX_ADJUSTMENT, MAX_COURSES, MAX_SECTION_CREDITS};
 
 /// The sum of the bundle's ratings and of the adjustments of its unordered pairs. All its sections
 /// are on the menu.
@@ -59,7 +60,7 @@ fn comes_first(menu: &Menu, a: &Bundle, b: &Bundle) -> bool
 
 // Whether the places are on the menu, no two clash, and both caps hold.
 fn may_take(menu: &Menu, places: &[u8]) -> bool
-    requires { length places.now ≤ 8 }
+    requires { length places.now ≤ MAX_COURSES }
     ensures answer { IsTrue result ↔ MayTake menu.now places.now }
     ensures menu { IsMenu menu.now }
 {
@@ -68,7 +69,7 @@ fn may_take(menu: &Menu, places: &[u8]) -> bool
 
 fn within_caps(menu: &Menu, places: &[u8]) -> bool
     requires on_menu { All (λ place. place < length menu.now.places) places.now }
-    requires few { length places.now ≤ 8 }
+    requires few { length places.now ≤ MAX_COURSES }
     ensures { IsTrue result ↔ IsWithinCaps (by_place menu.now) places.now }
 {
     places.len() <= usize::from(menu.courses())
@@ -85,7 +86,7 @@ fn on_menu(menu: &Menu, places: &[u8]) -> bool
 
 fn utility_of(menu: &Menu, places: &[u8]) -> i32
     requires on_menu { All (λ place. place < length menu.now.places) places.now }
-    requires few { length places.now ≤ 8 }
+    requires few { length places.now ≤ MAX_COURSES }
     ensures value { result ≡ utility (by_place menu.now) places.now }
     ensures low { neg_ℤ (pos (1700 * length places.now)) ≤ℤ result }
     ensures high { result ≤ℤ pos (1700 * length places.now) }
@@ -103,10 +104,10 @@ fn utility_of(menu: &Menu, places: &[u8]) -> i32
 fn adjustments_of(menu: &Menu, place: u8, others: &[u8]) -> i32
     requires place { place < length menu.now.places }
     requires on_menu { All (λ place. place < length menu.now.places) others.now }
-    requires few { length others.now ≤ 8 }
+    requires few { length others.now ≤ MAX_COURSES }
     ensures value { result ≡ adjustments (by_place menu.now) place others.now }
-    ensures low { neg_ℤ (pos (200 * length others.now)) ≤ℤ result }
-    ensures high { result ≤ℤ pos (200 * length others.now) }
+    ensures low { neg_ℤ (MAX_ADJUSTMENT *ℤ pos (length others.now)) ≤ℤ result }
+    ensures high { result ≤ℤ (MAX_ADJUSTMENT *ℤ pos (length others.now)) }
 {
     match others {
         [] => 0,
@@ -139,9 +140,9 @@ fn clashes_with_none(menu: &Menu, place: u8, others: &[u8]) -> bool
 
 fn credits_of(menu: &Menu, places: &[u8]) -> u32
     requires on_menu { All (λ place. place < length menu.now.places) places.now }
-    requires few { length places.now ≤ 8 }
+    requires few { length places.now ≤ MAX_COURSES }
     ensures value { result ≡ total (by_place menu.now).credits places.now }
-    ensures high { result ≤ 100 * length places.now }
+    ensures high { result ≤ MAX_SECTION_CREDITS * length places.now }
 {
     match places {
         [] => 0,

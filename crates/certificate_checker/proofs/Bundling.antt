@@ -1,4 +1,4 @@
--- What is found on a student's bundle of stage two.
+-- What is found on a student's bundle of the second stage.
 use Rattle.std.proofs.Common.{ℕ, ◌≡◌, ◌<◌, ◌≤◌, ◌∙◌, List, length, map, get_or, refl, ap, sym, subst, arith}
 use Rattle.std.specs.Prelude.{All, None, nat_lt}
 use Rattle.std.specs.FinSet as set
@@ -30,7 +30,8 @@ use Rattle.certificate_checker.specs.Students.{IsAffordable, IsProvedBundle, May
 use Rattle.certificate_checker.specs.Views.{terms_of}
 use Rattle.certificate_checker.proofs.Reading.{HasLengths, lengths, moved, offer_is, proved_is, so_of_has, stage_two_below}
 
--- what is read of a student in stage two: its menu, its budget, the prices, all sections, and its bundle with the tree
+-- what is read of a student in the second stage: its menu, its budget, the prices, all sections,
+-- and its bundle with the tree
 pub record IsRead (terms : Terms) (publication : declared.Publication) (k : ℕ) (m : MenuData) (b : Tokens) (prices : List Tokens) (all : set.FinSet nat_cmp)
     (item : declared_proved.Proved) : Type 0 where
   pub can : CanCheck terms (publication_of publication)
@@ -63,8 +64,7 @@ module _ (terms : Terms) (publication : declared.Publication) (k : ℕ) (m : Men
   offer_read =
       ap (λ (list : List Tokens). offer_of m list b.0 all) read.prices_are
       ∙ sym
-      (offer_is terms.crowd.menus.items terms.crowd.budgets.items terms.crowd.sections k publication m b all read.can.whole.same read.student read.menu
-      read.budget read.told)
+      (offer_is terms.crowd k publication m b all read.student read.menu read.budget read.told)
 
   proved_read : proved_of item ≡ proved_in (publication_of publication) k
   proved_read = sym (proved_is publication k item low read.printed)

@@ -4,8 +4,7 @@ use Rattle.std.specs.Prelude.{Result, Ok, Err, IfErr, IfOk}
 use Rattle.course_catalog.specs.Sections.{Section}
 use Rattle.student_roll.specs.Students.{Student}
 use Rattle.demand_api.specs.Crowds.{CrowdData, Student as Asked}
-use Rattle.demand_api.specs.Made.{MakeCrowd}
-use Rattle.demand_api.proofs.Takers.{students_length}
+use Rattle.demand_api.proofs.Parts.{students_length}
 use Rattle.market_certificate.specs.Publications.{IsPublication, Publication}
 use Rattle.market_certificate.specs.declared.refusals.TextRefusal.{TextRefusal}
 use Rattle.market_certificate.specs.declared.refusals.TextRefusal.TheVariants.{Defect}
@@ -43,15 +42,14 @@ crowd_length market streams order crowd is =
 -- a publication may be looked at by the terms of its market
 pub can_check : (market : Market) (streams : List (List Command)) (terms : Terms) (p : Publication) → IsPublication (tables_in market) p
     → IsCrowdAfter market streams p.order (terms_of terms).crowd → terms_of terms ≡ terms_in market (terms_of terms).crowd
-    → MakeCrowd terms.crowd.menus.items terms.crowd.budgets.items terms.crowd.sections → market.settings.raise ≤ 50 → CanCheck terms p
-can_check market streams terms p is crowd same whole low = record {
+    → market.settings.raise ≤ 50 → CanCheck terms p
+can_check market streams terms p is crowd same low = record {
   tables = tables_in market;
   is_publication = is;
   students =
       length_map (λ (student : Student). student.name) market.roll.students ∙ sym (crowd_length market streams p.order (terms_of terms).crowd crowd)
-      ∙ students_length terms.crowd.menus.items terms.crowd.budgets.items whole.same;
+      ∙ students_length terms.crowd;
   sections = length_map (λ (section : Section). section.name) market.catalog.sections ∙ sym crowd.is_crowd.sections;
-  whole = whole;
   seats = ap (λ (t : TermsData). length t.seats) same ∙ length_map (λ (section : Section). section.seats) market.catalog.sections ∙ sym crowd.is_crowd.sections;
   raise = subst (λ n. n ≤ 50) (sym (ap (λ (t : TermsData). t.raise) same)) low;
 }

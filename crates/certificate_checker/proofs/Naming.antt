@@ -2,9 +2,9 @@
 use Rattle.std.proofs.Common.{ℕ, zero, suc, ◌≡◌, ◌<◌, List, [], ◌∷◌, Some, length, sym, arith}
 use Rattle.std.specs.Prelude.{option_map, slice_get}
 use Rattle.std.proofs.lemmas.List.{get_or-map}
-use Rattle.course_catalog.specs.Sections.{Section, no_section, section_at}
+use Rattle.course_catalog.specs.Sections.{Section, no_section, section_at, section_names}
 use Rattle.student_roll.specs.Students.{Student, names_of}
-use Rattle.market_certificate.specs.Tables.{Tables, name_at, section_names}
+use Rattle.market_certificate.specs.Tables.{Tables, name_at}
 use Rattle.market_certificate.specs.declared.refusals.TextRefusal.{TextRefusal}
 use Rattle.market_certificate.specs.declared.refusals.TextRefusal.TheVariants.{Defect}
 use Rattle.market_certificate.specs.declared.refusals.TextRefusal.TheVariants as refusals

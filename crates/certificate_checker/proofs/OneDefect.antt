@@ -3,7 +3,7 @@ use Rattle.std.proofs.Common.{ℕ, ◌≡◌, ◌≢◌, ◌<◌, ◌⊎◌, ◌
 use Rattle.std.proofs.lemmas.Bool.{cases_lt}
 use Rattle.bundle_bounds.specs.Offers.{Offer, places_of}
 use Rattle.proof_tree.specs.declared.signs.Sign.{Sign}
-use Rattle.proof_tree.specs.declared.signs.Sign.TheVariants.{Champion, Shut, Closed, Forced, Open, Passed}
+use Rattle.proof_tree.specs.declared.signs.Sign.TheVariants.{Champion, Shut, Pruned, Forced, Open, Passed}
 use Rattle.proof_tree.specs.declared.defects.TreeDefect.{TreeDefect}
 use Rattle.proof_tree.specs.declared.defects.TreeDefect.TheVariants.{Syntax, NotClosed, Redundant, WrongLeaf, WrongBranch, Rest}
 use Rattle.proof_tree.specs.Defects.{Differs, IsCanonical, IsDefect, IsLeaf, Reads, offset}
@@ -46,7 +46,7 @@ module _ (offer : Offer) (required : Option ℕ) (champion : List ℕ) where
 canonical_sign : (offer : Offer) (champion : List ℕ) (k : ℕ) (chosen : List ℕ) (sign : Sign) → IsSign offer None champion k chosen sign → IsCanonical sign
 canonical_sign offer champion k chosen Champion is = tt
 canonical_sign offer champion k chosen Shut is = absurd (cc is.1.1)
-canonical_sign offer champion k chosen (Closed leaf) is = tt
+canonical_sign offer champion k chosen (Pruned leaf) is = tt
 canonical_sign offer champion k chosen Forced is = absurd (cc is.1)
 canonical_sign offer champion k chosen Open is = tt
 canonical_sign offer champion k chosen Passed is = tt

@@ -10,10 +10,11 @@ use Rattle.bundle_bounds.specs.Offers.{offer_of}
 use Rattle.bundle_rules.specs.Bundles.{sections_of}
 use Rattle.bundle_rules.specs.Existence.Members.{has-cases}
 use Rattle.bundle_rules.specs.Menus.{MenuData}
-use Rattle.bundle_rules.specs.Sets.{has}
+use Rattle.market_units.specs.Members.{has}
+use Rattle.demand_api.specs.declared.crowd.Crowd.{Crowd}
 use Rattle.demand_api.specs.Crowds.{Student}
-use Rattle.demand_api.specs.Made.{crowd_of, students_of}
-use Rattle.demand_api.proofs.Takers.{students_length}
+use Rattle.demand_api.specs.Views.{data_of}
+use Rattle.demand_api.proofs.Parts.{menus_few, few_sections, student_of, students_length}
 use Rattle.market_certificate.specs.declared.publication.Proved as declared_proved
 use Rattle.market_certificate.specs.declared.publication.Publication as declared
 use Rattle.market_certificate.specs.Publications.{IsProved}
@@ -59,7 +60,7 @@ length_map f (x ∷ xs) = let more = length_map f xs in omega arith
 pub record HasLengths (terms : Terms) (publication : declared.Publication) : Type 0 where
   pub drawn : length terms.crowd.budgets.items ≡ length terms.crowd.menus.items
   pub seats : length terms.seats.items ≡ terms.crowd.sections
-  pub students : length (students_of terms.crowd.menus.items terms.crowd.budgets.items) ≡ length terms.crowd.menus.items
+  pub students : length (data_of terms.crowd).students ≡ length terms.crowd.menus.items
   pub few : length terms.crowd.menus.items ≤ 2000
   pub few_sections : terms.crowd.sections ≤ 400
   pub budgets : length publication.budgets.items ≡ length terms.crowd.menus.items
@@ -70,11 +71,11 @@ pub record HasLengths (terms : Terms) (publication : declared.Publication) : Typ
 
 pub lengths : (terms : Terms) (publication : declared.Publication) → CanCheck terms (publication_of publication) → HasLengths terms publication
 lengths terms publication is = record {
-  drawn = is.whole.same;
+  drawn = terms.crowd.same;
   seats = is.seats;
-  students = students_length terms.crowd.menus.items terms.crowd.budgets.items is.whole.same;
-  few = is.whole.few;
-  few_sections = is.whole.sections_few;
+  students = students_length terms.crowd;
+  few = menus_few terms.crowd;
+  few_sections = few_sections terms.crowd;
   budgets = sym (length_map (λ (t : Tokens). t.0) publication.budgets.items) ∙ is.is_publication.budgets.count ∙ is.students;
   prices = sym (length_map (λ (t : Tokens). t.0) publication.prices.items) ∙ is.is_publication.prices.count ∙ is.sections;
   bundles = sym (length_map proved_of publication.bundles.items) ∙ is.is_publication.bundles.count ∙ is.students;
@@ -83,26 +84,17 @@ lengths terms publication is = record {
 }
 
 -- the student of a number has the menu and the budget at that place
-pub student_at : (menus : List MenuData) (budgets : List Tokens) (k : ℕ) (d : Student) (m : MenuData) (b : Tokens) → length budgets ≡ length menus
-    → k < length menus
-    → get_or (students_of menus budgets) k d ≡ record { menu = get_or menus k m; budget = (get_or budgets k b).0 }
-student_at [] budgets k d m b same low = absurd (omega arith)
-student_at (x ∷ xs) [] k d m b same low = absurd (omega arith)
-student_at (x ∷ xs) (y ∷ ys) zero d m b same low = refl
-student_at (x ∷ xs) (y ∷ ys) (suc k) d m b same low = student_at xs ys k d m b (omega arith) (omega arith)
-
-pub student_is : (menus : List MenuData) (budgets : List Tokens) (sections k : ℕ) (m : MenuData) (b : Tokens) → length budgets ≡ length menus → k < length menus
-    → m ≡ get_or menus k m → b ≡ get_or budgets k b
-    → student_in (crowd_of menus budgets sections) k ≡ record { menu = m; budget = b.0 }
-student_is menus budgets sections k m b same low first second =
-    student_at menus budgets k _ m b same low ∙ (λ i. record { menu = sym first i; budget = (sym second i).0 })
+pub student_is : (crowd : Crowd) (k : ℕ) (m : MenuData) (b : Tokens) → k < length crowd.menus.items
+    → m ≡ get_or crowd.menus.items k m → b ≡ get_or crowd.budgets.items k b
+    → student_in (data_of crowd) k ≡ record { menu = m; budget = b.0 }
+student_is crowd k m b low first second = student_of crowd k _ m b low ∙ (λ i. record { menu = sym first i; budget = (sym second i).0 })
 
 -- the budget that a student draws, and the one that is printed
-pub drawn_is : (menus : List MenuData) (budgets : List Tokens) (sections k : ℕ) (b : Tokens) → length budgets ≡ length menus → k < length menus
-    → b ≡ get_or budgets k b → (student_in (crowd_of menus budgets sections) k).budget ≡ b.0
-drawn_is [] budgets sections k b same low is = absurd (omega arith)
-drawn_is (m ∷ menus) budgets sections k b same low is =
-    ap (λ (s : Student). s.budget) (student_at (m ∷ menus) budgets k _ m b same low) ∙ ap (λ (t : Tokens). t.0) (sym is)
+pub drawn_is : (crowd : Crowd) (k : ℕ) (b : Tokens) → k < length crowd.menus.items → b ≡ get_or crowd.budgets.items k b
+    → (student_in (data_of crowd) k).budget ≡ b.0
+drawn_is crowd k b low is =
+    let nothing : MenuData = record { places = []; pairs = []; clashes = []; credits = 0; courses = 0 } in
+    ap (λ (s : Student). s.budget) (student_of crowd k _ nothing b low) ∙ ap (λ (t : Tokens). t.0) (sym is)
 
 pub printed_is : (tokens : List Tokens) (k : ℕ) (b : Tokens) → k < length tokens → b ≡ get_or tokens k b → get_or (map (λ (t : Tokens). t.0) tokens) k 0 ≡ b.0
 printed_is tokens k b low is = get_or-map (λ (t : Tokens). t.0) tokens k b 0 low ∙ ap (λ (t : Tokens). t.0) (sym is)
@@ -112,14 +104,14 @@ pub proved_is : (publication : declared.Publication) (k : ℕ) (item : declared_
     → item ≡ get_or publication.bundles.items k item → proved_in (publication_of publication) k ≡ proved_of item
 proved_is publication k item low is = get_or-map proved_of publication.bundles.items k item _ low ∙ ap proved_of (sym is)
 
--- what is offered in stage two
-pub offer_is : (menus : List MenuData) (budgets : List Tokens) (sections k : ℕ) (publication : declared.Publication) (m : MenuData) (b : Tokens)
+-- what is offered in the second stage
+pub offer_is : (crowd : Crowd) (k : ℕ) (publication : declared.Publication) (m : MenuData) (b : Tokens)
     (all : set.FinSet nat_cmp)
-    → length budgets ≡ length menus → k < length menus → m ≡ get_or menus k m → b ≡ get_or budgets k b
-    → ((s : ℕ) → set.contains all s ≡ nat_lt s sections)
-    → offer_in (crowd_of menus budgets sections) (publication_of publication) k ≡ offer_of m publication.prices.items b.0 all
-offer_is menus budgets sections k publication m b all same low first second told =
-    let student = student_is menus budgets sections k m b same low first second in
+    → k < length crowd.menus.items → m ≡ get_or crowd.menus.items k m → b ≡ get_or crowd.budgets.items k b
+    → ((s : ℕ) → set.contains all s ≡ nat_lt s crowd.sections)
+    → offer_in (data_of crowd) (publication_of publication) k ≡ offer_of m publication.prices.items b.0 all
+offer_is crowd k publication m b all low first second told =
+    let student = student_is crowd k m b low first second in
     λ i. record {
       menu = (student i).menu;
       price = slice_index (map (λ (t : Tokens). t.0) publication.prices.items);
@@ -136,7 +128,7 @@ so_of_has P (x ∷ xs) all s is = elim (has-cases x xs s is) [
   | inr there ↦ so_of_has P xs (λ k d low. all (suc k) d (omega arith)) s there
 ]
 
--- the sections of a bundle of stage two are the catalogue's
+-- the sections of a bundle of the second stage are the catalogue's
 pub stage_two_below : (terms : Terms) (publication : declared.Publication) (k : ℕ) (item : declared_proved.Proved) → CanCheck terms (publication_of publication)
     → k < length publication.bundles.items → item ≡ get_or publication.bundles.items k item
     → All (λ s. s < terms.crowd.sections) (sections_of item.bundle)

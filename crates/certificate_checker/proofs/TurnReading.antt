@@ -9,12 +9,12 @@ use Rattle.bundle_bounds.specs.Offers.{Offer, offer_of}
 use Rattle.bundle_rules.specs.Bundles.{sections_of}
 use Rattle.bundle_rules.specs.Demand.{HasPrices, IsPriced, price_in}
 use Rattle.bundle_rules.specs.Menus.{MenuData, wishes_of}
-use Rattle.bundle_rules.specs.Sets.{has}
+use Rattle.market_units.specs.Members.{has}
 use Rattle.bundle_rules.specs.Wishes.{IsFeasible}
 use Rattle.budget_draw.specs.Budgets.{raised_by}
 use Rattle.demand_api.specs.Crowds.{IsWithin}
-use Rattle.demand_api.specs.Made.{students_of}
-use Rattle.demand_api.proofs.Takers.{students_length}
+use Rattle.demand_api.specs.Views.{data_of}
+use Rattle.demand_api.proofs.Parts.{menus_within, students_length}
 use Rattle.market_certificate.specs.declared.publication.ProvedTurn as declared_turn
 use Rattle.market_certificate.specs.declared.publication.Publication as declared
 use Rattle.market_certificate.specs.Publications.{ProvedTurn, Publication}
@@ -62,7 +62,7 @@ pub menu_priced : (terms : Terms) (publication : declared.Publication) (k : ℕ)
     → prices ≡ publication.prices.items → HasPrices m prices
 menu_priced terms publication k m prices is low same menu listed = λ j d inside.
     let long : HasLengths terms publication = lengths terms publication is in
-    let within : IsWithin terms.crowd.sections m = subst (IsWithin terms.crowd.sections) (sym menu) (is.whole.within k m (omega arith)) in
+    let within : IsWithin terms.crowd.sections m = subst (IsWithin terms.crowd.sections) (sym menu) (menus_within terms.crowd k m (omega arith)) in
     let small : (get_or m.places j d).section.0 < terms.crowd.sections = within j d inside in
     let size : length prices ≡ length publication.prices.items = ap length listed in
     record {
@@ -89,13 +89,13 @@ module _ (terms : Terms) (publication : declared.Publication) (place : ℕ) (ord
   pub fits : All (λ s. s < terms.crowd.sections) (sections_of item.bundle)
   fits = turn_below terms publication place item at.can at.low at.printed
 
-  pub some : 0 < length (students_of terms.crowd.menus.items terms.crowd.budgets.items)
-  some = let long = students_length terms.crowd.menus.items terms.crowd.budgets.items at.can.whole.same in let student = who in omega arith
+  pub some : 0 < length (data_of terms.crowd).students
+  some = let long = students_length terms.crowd in let student = who in omega arith
 
   goes : IsProgress (length (terms_of terms).crowd.students) (publication_of publication) place progress
   goes =
       subst (λ n. IsProgress n (publication_of publication) place progress)
-      (sym (students_length terms.crowd.menus.items terms.crowd.budgets.items at.can.whole.same)) at.so_far
+      (sym (students_length terms.crowd)) at.so_far
 
   pub is_due : IsDueTurn order progress (turn_of item) → IsDue (terms_of terms).crowd (publication_of publication) place
   is_due due =
@@ -119,8 +119,8 @@ module _ (terms : Terms) (publication : declared.Publication) (place : ℕ) (ord
     offered_is allowed told =
         ap (λ (list : List Tokens). record { menu = m; price = price_in list; budget = raised.0; allowed = allowed }) of.prices_are
         ∙ sym
-        (turn_offer_is terms.crowd.menus.items terms.crowd.budgets.items terms.crowd.sections terms.seats.items terms.raise place publication item m b raised
-        allowed at.can.whole.same who of.menu of.budget (sym read) of.more told)
+        (turn_offer_is terms.crowd terms.seats.items terms.raise place publication item m b raised
+        allowed who of.menu of.budget (sym read) of.more told)
 
     -- a fact of what is read is one of what is printed
     pub told_of_turn : (P : Offer → ProvedTurn → Type 0) (allowed : ℕ → Bool)
@@ -210,8 +210,8 @@ pub ends_quietly : (terms : Terms) (publication : declared.Publication) (place :
     → EndsQuietly (terms_of terms).crowd (publication_of publication)
 ends_quietly terms publication place progress can at is over = λ some.
     moved (λ (n t : ℕ). HasQuietPass n (publication_of publication) t) (length terms.crowd.menus.items)
-    (length (students_of terms.crowd.menus.items terms.crowd.budgets.items)) place (length (publication_of publication).turns)
-    (sym (students_length terms.crowd.menus.items terms.crowd.budgets.items can.whole.same)) (at ∙ sym (length_map turn_of publication.turns.items))
+    (length (data_of terms.crowd).students) place (length (publication_of publication).turns)
+    (sym (students_length terms.crowd)) (at ∙ sym (length_map turn_of publication.turns.items))
     (is.is_over over)
 
 -- and not where they go on
@@ -220,9 +220,9 @@ pub ends_early : (terms : Terms) (publication : declared.Publication) (place : �
     → 0 < length terms.crowd.menus.items → progress.over ≡ false
     → ¬ EndsQuietly (terms_of terms).crowd (publication_of publication)
 ends_early terms publication place progress can at is some over = λ ends.
-    let students = students_length terms.crowd.menus.items terms.crowd.budgets.items can.whole.same in
+    let students = students_length terms.crowd in
     is.goes_on some over
-    (moved (λ (n t : ℕ). HasQuietPass n (publication_of publication) t) (length (students_of terms.crowd.menus.items terms.crowd.budgets.items)) (length terms.crowd.menus.items) (length (publication_of publication).turns) place
+    (moved (λ (n t : ℕ). HasQuietPass n (publication_of publication) t) (length (data_of terms.crowd).students) (length terms.crowd.menus.items) (length (publication_of publication).turns) place
     students (length_map turn_of publication.turns.items ∙ sym at) (ends (omega arith)))
 
 -- what is found on a turn is the first finding, where what comes before it is right

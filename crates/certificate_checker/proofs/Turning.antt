@@ -14,12 +14,14 @@ use Rattle.bundle_bounds.specs.Offers.{Offer}
 use Rattle.bundle_rules.specs.Bundles.{sections_of}
 use Rattle.bundle_rules.specs.declared.bundle.Bundle.{Bundle}
 use Rattle.bundle_rules.specs.Menus.{MenuData}
-use Rattle.bundle_rules.specs.Sets.{has}
+use Rattle.market_units.specs.Members.{has}
 use Rattle.budget_draw.specs.AfterOrder.{after_order_of, goes_before, ordered, placed}
 use Rattle.budget_draw.specs.Budgets.{amounts, raised_by}
 use Rattle.demand_api.specs.Crowds.{CrowdData, Student}
-use Rattle.demand_api.specs.Made.{crowd_of, students_of}
-use Rattle.demand_api.proofs.Takers.{students_length}
+use Rattle.demand_api.specs.declared.crowd.Crowd.{Crowd}
+use Rattle.demand_api.specs.Parts.{students_of}
+use Rattle.demand_api.specs.Views.{data_of}
+use Rattle.demand_api.proofs.Parts.{menus_few, students_length}
 use Rattle.held_seats.specs.Floors.{AreBelow}
 use Rattle.market_certificate.specs.declared.publication.ProvedTurn as declared_turn
 use Rattle.market_certificate.specs.declared.publication.Publication as declared
@@ -42,24 +44,24 @@ pub turn_is : (publication : declared.Publication) (k : ℕ) (item : declared_tu
 turn_is publication k item low is = get_or-map turn_of publication.turns.items k item _ low ∙ ap turn_of (sym is)
 
 -- what is offered at it, where these sections may be chosen
-pub turn_offer_is : (menus : List MenuData) (budgets : List Tokens) (sections : ℕ) (seats : List ℕ) (raise k : ℕ) (publication : declared.Publication)
+pub turn_offer_is : (crowd : Crowd) (seats : List ℕ) (raise k : ℕ) (publication : declared.Publication)
     (item : declared_turn.ProvedTurn) (m : MenuData) (b raised : Tokens) (allowed : ℕ → Bool)
-    → length budgets ≡ length menus → item.student.0 < length menus → m ≡ get_or menus item.student.0 m → b ≡ get_or budgets item.student.0 b
+    → item.student.0 < length crowd.menus.items → m ≡ get_or crowd.menus.items item.student.0 m → b ≡ get_or crowd.budgets.items item.student.0 b
     → turn_in (publication_of publication) k ≡ turn_of item → raised.0 ≡ raised_by raise b.0
     → ((s : ℕ) → allowed s ≡ may_choose seats (held_before (publication_of publication) k) item.student.0 s)
-    → turn_offer (record { crowd = crowd_of menus budgets sections; seats = seats; raise = raise }) (publication_of publication) k
+    → turn_offer (record { crowd = data_of crowd; seats = seats; raise = raise }) (publication_of publication) k
     ≡ record { menu = m; price = slice_index (map (λ (t : Tokens). t.0) publication.prices.items); budget = raised.0; allowed = allowed }
-turn_offer_is menus budgets sections seats raise k publication item m b raised allowed same low first second turn more told =
+turn_offer_is crowd seats raise k publication item m b raised allowed low first second turn more told =
     let number : (turn_in (publication_of publication) k).student ≡ item.student.0 = ap (λ (t : ProvedTurn). t.student) turn in
-    let student : student_in (crowd_of menus budgets sections) item.student.0 ≡ record { menu = m; budget = b.0 } =
-    student_is menus budgets sections item.student.0 m b same low first second in
+    let student : student_in (data_of crowd) item.student.0 ≡ record { menu = m; budget = b.0 } =
+    student_is crowd item.student.0 m b low first second in
     let offered : ℕ → Student → Offer = λ n who. record {
       menu = who.menu;
       price = slice_index (map (λ (t : Tokens). t.0) publication.prices.items);
       budget = raised_by raise who.budget;
       allowed = may_choose seats (held_before (publication_of publication) k) n;
     } in
-    ap (λ n. offered n (student_in (crowd_of menus budgets sections) n)) number ∙ ap (offered item.student.0) student
+    ap (λ n. offered n (student_in (data_of crowd) n)) number ∙ ap (offered item.student.0) student
     ∙ (λ i. record { menu = m; price = slice_index (map (λ (t : Tokens). t.0) publication.prices.items); budget = sym more i; allowed = λ s. sym (told s) i })
 
 -- the turn has the form of a turn
@@ -153,7 +155,7 @@ pub before_length : (terms : Terms) (publication : declared.Publication) (k : �
     → length (held_before (publication_of publication) k) ≡ length terms.crowd.menus.items
 before_length terms publication k is = after_length terms publication (take k (publication_of publication).turns) is
 
--- the bundles of stage two are within the catalogue
+-- the bundles of the second stage are within the catalogue
 pub stage_two_fits : (terms : Terms) (publication : declared.Publication) (i : ℕ) (bundles lent : List Bundle) (seats : List ℕ)
     → CanCheck terms (publication_of publication) → seats ≡ terms.seats.items → lent ≡ bundles
     → map sections_of bundles ≡ map (λ (proved : Proved). proved.bundle) (map proved_of (take i publication.bundles.items))
@@ -164,6 +166,18 @@ stage_two_fits terms publication i bundles lent seats is listed same made all =
     ∙ ap (λ items. map (λ (proved : Proved). proved.bundle) (map proved_of items)) (take_all i publication.bundles.items all) in
     let size : terms.crowd.sections ≡ length seats = sym is.seats ∙ ap length (sym listed) in
     subst {A = ℕ × List (List ℕ)} (λ both. AreBelow both.0 both.1) (λ j. (size j, sym whole j)) (before_below terms publication 0 is)
+
+-- and as few as the students
+pub stage_two_few : (terms : Terms) (publication : declared.Publication) (i : ℕ) (bundles lent : List Bundle)
+    → CanCheck terms (publication_of publication) → lent ≡ bundles
+    → map sections_of bundles ≡ map (λ (proved : Proved). proved.bundle) (map proved_of (take i publication.bundles.items))
+    → length publication.bundles.items ≤ i → length lent ≤ 2000
+stage_two_few terms publication i bundles lent is same made all =
+    let whole : map sections_of lent ≡ demanded (publication_of publication) =
+    ap (map sections_of) same ∙ made
+    ∙ ap (λ items. map (λ (proved : Proved). proved.bundle) (map proved_of items)) (take_all i publication.bundles.items all) in
+    let each : length (map sections_of lent) ≡ length terms.crowd.menus.items = ap length whole ∙ after_length terms publication [] is in
+    omega (arith, length_map sections_of lent, each, menus_few terms.crowd)
 
 -- the order has every student
 placed_length : (one : ℕ × ℕ) (xs : List (ℕ × ℕ)) → length (placed one xs) ≡ length xs + 1
@@ -194,12 +208,12 @@ budgets_are (m ∷ menus) [] same = absurd (omega arith)
 budgets_are (m ∷ menus) (b ∷ budgets) same = ap (λ rest. b.0 ∷ rest) (budgets_are menus budgets (omega arith))
 
 -- the order is as long as there are students
-pub order_is_long : (terms : Terms) (publication : declared.Publication) (order : List StudentNo) → CanCheck terms (publication_of publication)
+pub order_is_long : (terms : Terms) (order : List StudentNo)
     → map (λ (student : StudentNo). student.0) order ≡ order_in (terms_of terms).crowd → length order ≡ length terms.crowd.menus.items
-order_is_long terms publication order is same =
-    let students : List Student = students_of terms.crowd.menus.items terms.crowd.budgets.items in
+order_is_long terms order same =
+    let students : List Student = (data_of terms.crowd).students in
     sym (length_map (λ (student : StudentNo). student.0) order) ∙ ap length same ∙ order_length (map (λ (student : Student). student.budget) students)
-    ∙ length_map (λ (student : Student). student.budget) students ∙ students_length terms.crowd.menus.items terms.crowd.budgets.items is.whole.same
+    ∙ length_map (λ (student : Student). student.budget) students ∙ students_length terms.crowd
 
 -- a number has one pass and one place in it
 same_pass : (n pass place other spot : ℕ) → place < n → spot < n → pass * n + place ≡ other * n + spot → ¬ (pass < other)

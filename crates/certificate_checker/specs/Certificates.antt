@@ -12,7 +12,7 @@ use Rattle.certificate_checker.specs.Firsts.{AllBelow}
 use Rattle.certificate_checker.specs.Students.{HasBudget, IsProvedBundle}
 use Rattle.certificate_checker.specs.Turns.{EndsQuietly, IsRightTurn}
 
--- no more students hold a section in stage two than it has seats
+-- no more students hold a section in the second stage than it has seats
 abbrev pub IsWithinSeats : List ℕ → Publication → ℕ → Type 0
 IsWithinSeats seats p section = holders section (demanded p) ≤ slice_index seats section
 
@@ -28,10 +28,10 @@ IsUseTold seats p section =
     slice_index_or p.used section (0, 0) ≡ (holders section p.allocation, slice_index seats section)
 
 -- What is printed is right by these terms: each student's budget is the one that it draws; each
--- bundle of stage two is affordable and feasible, with its tree; no section is above its seats;
--- each turn is the due one, and its bundle is affordable, feasible and of what is offered, with its
--- tree; the turns end with a pass without a change; the final bundles are those after the last
--- turn; and the seats are those that they use.
+-- bundle of the second stage is affordable and feasible, with its tree; no section is above its
+-- seats; each turn is the due one, and its bundle is affordable, feasible and of what is offered,
+-- with its tree; the turns end with a pass without a change; the final bundles are those after the
+-- last turn; and the seats are those that they use.
 pub record HoldsOf (terms : TermsData) (p : Publication) : Type 0 where
   pub budgets : AllBelow (length terms.crowd.students) (HasBudget terms.crowd p)
   pub bundles : AllBelow (length terms.crowd.students) (IsProvedBundle terms.crowd p)

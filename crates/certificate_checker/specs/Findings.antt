@@ -66,8 +66,8 @@ IsTurnFinding terms p turn (Turn number fault) =
     (number ≡ turn + 1) × HasTurnFault terms p turn fault
 IsTurnFinding terms p turn finding = ⊥
 
--- the finding is on this student, and tells what is first wrong with its bundle of stage two: its
--- price, its feasibility, or its tree
+-- the finding is on this student, and tells what is first wrong with its bundle of the second
+-- stage: its price, its feasibility, or its tree
 abbrev pub IsBundleFinding : CrowdData → Publication → ℕ → Finding → Type 0
 IsBundleFinding crowd p student (Unaffordable number) =
     (number.0 ≡ student) × (¬ IsAffordable (offer_in crowd p student) (proved_in p student).bundle)
@@ -82,7 +82,8 @@ IsBundleFinding crowd p student (Tree number defect) =
     × IsDefect offer bundle (proved_in p student).tree defect
 IsBundleFinding crowd p student finding = ⊥
 
--- a finding is there, whatever is looked at before the part that it is of
+-- what the finding tells is so, and it is the first of its own part (the budgets, the bundles, the
+-- turns ..); of the parts before nothing is said
 abbrev pub IsFound : TermsData → Publication → Finding → Type 0
 IsFound terms p (Text line kind) = ⊥
 IsFound terms p (Journal at) = ⊥
@@ -110,8 +111,8 @@ IsFound terms p (Allocation student) =
 IsFound terms p (Used section) =
     FailsFirstAt terms.crowd.sections (IsUseTold terms.seats p) section.0
 
--- The parts that are looked at, in their order: the budgets; the bundles of stage two; the seats;
--- the turns; how they end; the final bundles. Each of these is all parts up to one.
+-- The parts that are looked at, in their order: the budgets; the bundles of the second stage; the
+-- seats; the turns; how they end; the final bundles. Each of these is all parts up to one.
 abbrev pub HoldsToBudgets : TermsData → Publication → Type 0
 HoldsToBudgets terms p = AllBelow (length terms.crowd.students) (HasBudget terms.crowd p)
 

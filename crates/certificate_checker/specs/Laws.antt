@@ -24,8 +24,8 @@ pub record IsOptimal (market : Market) (streams : List (List Command))
   pub is_journal : IsJournalOf (names_in market) streams p.order journal
   pub budgets : p.budgets
       ≡ budgets_of market.roll.students market.settings.seed market.settings.spread
-  -- in stage two each student has the best bundle that its budget buys at the printed prices: it
-  -- may take the bundle, and prefers it to every other one that it may take and can pay
+  -- in the second stage each student has the best bundle that its budget buys at the printed
+  -- prices: it may take the bundle, and prefers it to every other one that it may take and can pay
   pub stage_two : (student : ℕ) → student < length market.roll.students
       → IsBest (wishes_in market journal student) (slice_index p.prices)
       (slice_index p.budgets student) (all_sections (length market.catalog.sections))
@@ -34,8 +34,8 @@ pub record IsOptimal (market : Market) (streams : List (List Command))
   -- is free; in the last pass nobody changes anything; and the final bundles and the used seats are
   -- those behind it
   pub allocation : IsAllocation market journal p
-  -- no section has more students than seats: not in stage two, not after any turn, and not in the
-  -- end
+  -- no section has more students than seats: not in the second stage, not after any turn, and not
+  -- in the end
   pub seats_in_stage_two : AreWithinSeats market (demanded p)
   pub seats_after_turns : (earlier later : List ProvedTurn) → p.turns ≡ earlier ++ later
       → AreWithinSeats market (held_after (demanded p) earlier)

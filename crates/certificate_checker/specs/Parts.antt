@@ -1,6 +1,6 @@
 -- What the parts of a check go by.
 use Rattle.std.specs.Prelude.{ℕ, ◌≡◌, ◌<◌, ◌≤◌, ◌+◌, ◌*◌, true, false, Bool, List, Some, length, slice_get}
-use Rattle.demand_api.specs.Made.{MakeCrowd}
+use Rattle.market_units.specs.declared.limits.TheConstants.{MAX_RAISE}
 use Rattle.market_certificate.specs.Publications.{IsPublication, ProvedTurn, Publication}
 use Rattle.market_certificate.specs.Tables.{Tables}
 use Rattle.certificate_checker.specs.declared.progress.Progress.{Progress}
@@ -8,16 +8,15 @@ use Rattle.certificate_checker.specs.declared.terms.Terms.{Terms}
 use Rattle.certificate_checker.specs.Firsts.{AllBelow}
 use Rattle.certificate_checker.specs.Turns.{HasQuietPass, IsQuietTurn}
 
--- A publication may be looked at by these terms: a whole crowd, seats for each section, a raise of
--- at most 50 percent, and a publication with a line for each student and each section.
+-- A publication may be looked at by these terms: seats for each section, a raise of at most 50
+-- percent, and a publication with a line for each student and each section.
 pub record CanCheck (terms : Terms) (p : Publication) : Type 0 where
   pub tables : Tables
   pub is_publication : IsPublication tables p
   pub students : length tables.students ≡ length terms.crowd.menus.items
   pub sections : length tables.sections ≡ terms.crowd.sections
-  pub whole : MakeCrowd terms.crowd.menus.items terms.crowd.budgets.items terms.crowd.sections
   pub seats : length terms.seats.items ≡ terms.crowd.sections
-  pub raise : terms.raise ≤ 50
+  pub raise : terms.raise ≤ MAX_RAISE
 
 -- How far the passes have come after the first turns: so many whole passes, and so many turns of
 -- the next one; whether one of these made a change; and whether some whole pass was without one.

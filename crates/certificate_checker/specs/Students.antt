@@ -3,7 +3,7 @@ use Rattle.std.specs.Prelude.{ℕ, ◌≡◌, ◌≤◌, true, None, List, [], s
 use Rattle.market_units.specs.Totals.{total}
 use Rattle.bundle_bounds.specs.Offers.{Offer}
 use Rattle.bundle_rules.specs.Menus.{wishes_of}
-use Rattle.bundle_rules.specs.Sets.{has}
+use Rattle.market_units.specs.Members.{has}
 use Rattle.bundle_rules.specs.Wishes.{IsFeasible}
 use Rattle.demand_api.specs.Crowds.{CrowdData, Student}
 use Rattle.market_certificate.specs.Publications.{Proved, Publication}
@@ -20,7 +20,7 @@ student_in crowd student =
       budget = 0;
     })
 
--- the bundle and the tree that are printed for it in stage two
+-- the bundle and the tree that are printed for it in the second stage
 abbrev pub proved_in : Publication → ℕ → Proved
 proved_in p student = slice_index_or p.bundles student (record { bundle = []; tree = [] })
 
@@ -28,7 +28,7 @@ proved_in p student = slice_index_or p.bundles student (record { bundle = []; tr
 abbrev pub HasBudget : CrowdData → Publication → ℕ → Type 0
 HasBudget crowd p student = slice_index p.budgets student ≡ (student_in crowd student).budget
 
--- what is offered to it in stage two: all sections at the printed prices, for its budget
+-- what is offered to it in the second stage: all sections at the printed prices, for its budget
 abbrev pub offer_in : CrowdData → Publication → ℕ → Offer
 offer_in crowd p student =
     offer_to (student_in crowd student) (slice_index p.prices) (student_in crowd student).budget
@@ -46,7 +46,7 @@ MayTake offer bundle = IsFeasible (wishes_of offer.menu) bundle
 abbrev pub IsOffered : Offer → List ℕ → Type 0
 IsOffered offer bundle = (s : ℕ) → has bundle s ≡ true → offer.allowed s ≡ true
 
--- its bundle of stage two is affordable and feasible, and the tree is the bundle's
+-- its bundle of the second stage is affordable and feasible, and the tree is the bundle's
 pub record IsProvedBundle (crowd : CrowdData) (p : Publication) (student : ℕ) : Type 0 where
   pub affordable : IsAffordable (offer_in crowd p student) (proved_in p student).bundle
   pub feasible : MayTake (offer_in crowd p student) (proved_in p student).bundle

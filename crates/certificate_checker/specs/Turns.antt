@@ -53,7 +53,7 @@ pub record IsDue (crowd : CrowdData) (p : Publication) (turn : ℕ) : Type 0 whe
   pub goes_on : ¬ HasQuietPass (length crowd.students) p turn
 
 -- what is offered at a turn: the sections that the student holds and those that are free, at the
--- prices of stage two, for its raised budget
+-- prices of the second stage, for its raised budget
 abbrev pub turn_offer : TermsData → Publication → ℕ → Offer
 turn_offer terms p turn =
     let number = (turn_in p turn).student in

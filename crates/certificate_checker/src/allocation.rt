@@ -13,7 +13,8 @@ use held_seats::Floor;
 use market_certificate::Publication;
 use market_units::StudentNo;
 
-// Whether each student's final bundle is the one that it holds after the last turn, on the floor.
+/// Whether each student's printed final bundle is the one that it holds on the floor, after the
+/// last turn. Else a finding on the first student of whom it is not so.
 pub(crate) fn check_allocation(
     terms: &Terms,
     publication: &Publication,

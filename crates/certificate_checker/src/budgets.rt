@@ -10,7 +10,8 @@ use crate::terms::Terms;
 use market_certificate::Publication;
 use market_units::StudentNo;
 
-// Whether each student's printed budget is the one that the seed draws.
+/// Whether each student's printed budget is the one that the seed draws. Else a finding on the
+/// first student of whom it is not so.
 pub(crate) fn check_budgets(terms: &Terms, publication: &Publication) -> Result<(), Finding>
     requires { CanCheck terms.now (publication_of publication.now) }
     ensures ok { OnOk result

@@ -1,9 +1,9 @@
-// The printed bundles of stage two, and what is looked for in any bundle.
+// The printed bundles of the second stage, and what is looked for in any bundle.
 ghost use Rattle.std.specs.Prelude.{◌≡◌, ◌↔◌, ◌<◌, ◌≤◌, ◌*◌, ℕ, IsTrue, IfErr, OnOk, All, length, nat_lt, true};
 ghost use Rattle.std.specs.FinSet as set;
 ghost use Rattle.market_units.specs.Totals.{total};
 ghost use Rattle.bundle_rules.specs.Bundles.{sections_of};
-ghost use Rattle.bundle_rules.specs.Sets.{has};
+ghost use Rattle.market_units.specs.Members.{has};
 ghost use Rattle.bundle_rules.specs.Demand.{IsPriced, price_in};
 ghost use Rattle.bundle_rules.specs.Ordinals.{ordinals};
 ghost use Rattle.bundle_bounds.specs.Offers.{offer_of};
@@ -17,10 +17,11 @@ use crate::Finding;
 use crate::terms::Terms;
 use bundle_rules::{Bundle, all_allowed, feasible, price_of};
 use market_certificate::Publication;
-use market_units::{SectionNo, SectionSet, StudentNo, Tokens};
+use market_units::{MAX_SECTIONS, SectionNo, SectionSet, StudentNo, Tokens};
 use proof_tree::check_tree;
 
-// Whether each student's bundle of stage two is affordable and feasible, and has its tree.
+/// Whether each student's bundle of the second stage is affordable and feasible, and has its tree.
+/// Else a finding on the first student of whom it is not so, with what is wrong.
 pub(crate) fn check_bundles(terms: &Terms, publication: &Publication) -> Result<(), Finding>
     requires terms { CanCheck terms.now (publication_of publication.now) }
     requires before { HoldsToBudgets (terms_of terms.now) (publication_of publication.now) }
@@ -35,7 +36,7 @@ pub(crate) fn check_bundles(terms: &Terms, publication: &Publication) -> Result<
     Ok(())
 }
 
-// Whether this student's bundle of stage two is affordable and feasible, and has its tree.
+// Whether this student's bundle of the second stage is affordable and feasible, and has its tree.
 fn check_bundle(
     terms: &Terms,
     publication: &Publication,
@@ -70,7 +71,7 @@ fn check_bundle(
     }
 }
 
-// Whether the prices of the bundle sum to at most the budget.
+/// Whether the prices of the bundle's sections sum to at most the budget, all in tokens.
 pub(crate) fn is_affordable(prices: &[Tokens], budget: Tokens, bundle: &Bundle) -> bool
     requires { All (λ section. IsPriced prices.now section) (sections_of bundle.now) }
     ensures { IsTrue result ↔ (total (price_in prices.now) (sections_of bundle.now) ≤ budget.0) }
@@ -78,9 +79,9 @@ pub(crate) fn is_affordable(prices: &[Tokens], budget: Tokens, bundle: &Bundle) 
     price_of(prices, bundle.sections()) <= budget.0
 }
 
-// Whether each section of the bundle is among the allowed ones.
+/// Whether each section of the bundle is one of the allowed ones.
 pub(crate) fn is_offered(allowed: &SectionSet, bundle: &Bundle) -> bool
-    requires { All (λ section. section < 400) (sections_of bundle.now) }
+    requires { All (λ section. section < MAX_SECTIONS) (sections_of bundle.now) }
     ensures { IsTrue result
         ↔ ((s : ℕ) → has (sections_of bundle.now) s ≡ true → set.contains allowed.now s ≡ true) }
 {

@@ -8,11 +8,11 @@ ghost use Rattle.market_certificate.specs.Views.{publication_of};
 ghost use Rattle.held_seats.specs.Floors.{IsFloor, held_on};
 ghost use Rattle.published_parts.specs.Holdings.{demanded};
 ghost use Rattle.published_parts.specs.Markets.{market_of};
-ghost use Rattle.demand_api.specs.Made.{MakeCrowd};
 ghost use Rattle.certificate_checker.specs.Certificates.{HoldsBy, HoldsOf, IsAccepted, IsTextOf};
 ghost use Rattle.certificate_checker.specs.Findings.{IsFirstFinding, IsFirstIn, IsFirstOf, OnFound, end_of};
 ghost use Rattle.certificate_checker.specs.Parts.{CanCheck};
-ghost use Rattle.certificate_checker.specs.Views.{crowd_seen, terms_of};
+ghost use Rattle.demand_api.specs.Views.{data_of};
+ghost use Rattle.certificate_checker.specs.Views.{terms_of};
 ghost use Rattle.certificate_checker.specs.Words.{IsNamedIn};
 
 use crate::allocation::check_allocation;
@@ -26,7 +26,7 @@ use course_catalog::Catalog;
 use held_seats::Floor;
 use market_certificate::{Publication, TextRefusal, read_publication};
 use market_settings::Settings;
-use market_units::NoMemory;
+use market_units::{MAX_RAISE, MAX_SPREAD, NoMemory};
 use std::alloc::Global;
 use student_roll::Roll;
 use utility_language::Command;
@@ -46,8 +46,8 @@ pub fn check(
     text: &[u8],
 ) -> Result<(), CheckEnd>
     requires text { length text.now < 2 ^ 32 - 1 }
-    requires spread { settings.now.spread ≤ 49 }
-    requires raise { settings.now.raise ≤ 50 }
+    requires spread { settings.now.spread ≤ MAX_SPREAD }
+    requires raise { settings.now.raise ≤ MAX_RAISE }
     ensures accepted { OnOk result
         (IsAccepted (market_of catalog.now roll.now settings.now)
         (map (λ stream. stream.items) streams.now) text.now) }
@@ -76,8 +76,8 @@ pub fn check_owned(
     text: Vec<u8>,
 ) -> Result<(), CheckEnd>
     requires text { length text.items < 2 ^ 32 - 1 }
-    requires spread { settings.now.spread ≤ 49 }
-    requires raise { settings.now.raise ≤ 50 }
+    requires spread { settings.now.spread ≤ MAX_SPREAD }
+    requires raise { settings.now.raise ≤ MAX_RAISE }
     ensures accepted { OnOk result
         (IsAccepted (market_of catalog.now roll.now settings.now)
         (map (λ stream. stream.items) streams.now) text.items) }
@@ -106,18 +106,15 @@ pub fn accept(
     text: Vec<u8>,
 ) -> Result<Accepted, CheckEnd>
     requires text { length text.items < 2 ^ 32 - 1 }
-    requires spread { settings.now.spread ≤ 49 }
-    requires raise { settings.now.raise ≤ 50 }
+    requires spread { settings.now.spread ≤ MAX_SPREAD }
+    requires raise { settings.now.raise ≤ MAX_RAISE }
     ensures text { IfOk result
         (λ accepted. IsTextOf (market_of catalog.now roll.now settings.now)
         (publication_of accepted.publication) text.items) }
     ensures holds { IfOk result
         (λ accepted. HoldsBy (market_of catalog.now roll.now settings.now)
         (map (λ stream. stream.items) streams.now) (publication_of accepted.publication)
-        (crowd_seen accepted.crowd)) }
-    ensures whole { IfOk result
-        (λ accepted. MakeCrowd accepted.crowd.menus.items accepted.crowd.budgets.items
-        accepted.crowd.sections) }
+        (data_of accepted.crowd)) }
     ensures first { IfErr result
         (λ end. OnFound end
         (IsFirstFinding (market_of catalog.now roll.now settings.now)
@@ -175,17 +172,14 @@ fn accept_publication(
         (publication_of publication) }
     requires entries { length publication.order.items < 2 ^ 32 - 1 }
     requires turns { length publication.turns.items < 2 ^ 32 - 1 }
-    requires spread { settings.now.spread ≤ 49 }
-    requires raise { settings.now.raise ≤ 50 }
+    requires spread { settings.now.spread ≤ MAX_SPREAD }
+    requires raise { settings.now.raise ≤ MAX_RAISE }
     ensures same { IfOk result
         (λ accepted. publication_of accepted.publication ≡ publication_of publication) }
     ensures holds { IfOk result
         (λ accepted. HoldsBy (market_of catalog.now roll.now settings.now)
         (map (λ stream. stream.items) streams.now) (publication_of publication)
-        (crowd_seen accepted.crowd)) }
-    ensures whole { IfOk result
-        (λ accepted. MakeCrowd accepted.crowd.menus.items accepted.crowd.budgets.items
-        accepted.crowd.sections) }
+        (data_of accepted.crowd)) }
     ensures first { IfErr result
         (λ end. OnFound end
         (IsFirstOf (market_of catalog.now roll.now settings.now)
@@ -229,7 +223,7 @@ fn check_printed(alloc: Global, terms: &Terms, publication: &Publication) -> Res
     Ok(())
 }
 
-// What is held in stage two.
+// What is held in the second stage.
 fn stage_two(alloc: Global, terms: &Terms, publication: &Publication) -> Result<Floor, NoMemory>
     requires { CanCheck terms.now (publication_of publication.now) }
     ensures held { IfOk result

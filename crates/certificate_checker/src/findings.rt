@@ -44,25 +44,27 @@ pub enum Finding {
         /// The student.
         student: StudentNo,
     },
-    /// The first student with a wrong bundle in stage two: its prices sum to more than the budget.
+    /// The first student with a wrong bundle in the second stage: its prices sum to more than the
+    /// budget.
     Unaffordable {
         /// The student.
         student: StudentNo,
     },
-    /// The first student with a wrong bundle in stage two: the student may not take it.
+    /// The first student with a wrong bundle in the second stage: the student may not take it.
     Infeasible {
         /// The student.
         student: StudentNo,
     },
-    /// The first student with a wrong bundle in stage two: the tree does not prove the bundle the
-    /// best of what is offered: a better one exists, or the tree is not the canonical one.
+    /// The first student with a wrong bundle in the second stage: the tree does not prove the
+    /// bundle the best of what is offered: a better one exists, or the tree is not the canonical
+    /// one.
     Tree {
         /// The student.
         student: StudentNo,
         /// The first defect of the tree.
         defect: TreeDefect,
     },
-    /// The first section that more students hold in stage two than it has seats.
+    /// The first section that more students hold in the second stage than it has seats.
     Seats {
         /// The section.
         section: SectionNo,

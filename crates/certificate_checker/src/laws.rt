@@ -1,9 +1,9 @@
 //! What holds of accepted texts: each call here does nothing, and its contract is a law.
 ghost use Rattle.certificate_checker.specs.Laws.{AcceptedIsOptimal, NoFindingInAccepted, OneFirstFinding, OneTextForPrices};
 
-/// What is accepted is optimal, whoever printed it. In stage two each student has the best bundle
-/// that its budget buys at the printed prices. The turns come in passes, in each of which each
-/// student has one turn, by budget before any raise; at each it gets the best that its raised
+/// What is accepted is optimal, whoever printed it. In the second stage each student has the best
+/// bundle that its budget buys at the printed prices. The turns come in passes, in each of which
+/// each student has one turn, by budget before any raise; at each it gets the best that its raised
 /// budget buys of what it holds and of what is free; in the last pass, and in no other, nobody
 /// changes anything. Each student's final bundle is what its last turn left, and the best that it
 /// may have in the end. The used seats are those that the final bundles take. No section has more

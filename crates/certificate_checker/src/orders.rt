@@ -15,8 +15,9 @@ use std::alloc::Global;
 use student_roll::Roll;
 use utility_language::Command;
 
-// The desk after the commands of an order: each entry is its session's next command. Else the first
-// entry at which the order does not merge the streams.
+/// The desk after the commands of all sessions, taken in this order: each entry names a session,
+/// whose next command is posted. Else a finding on the first entry at which the order does not
+/// merge the streams, or want of memory.
 pub(crate) fn replay(
     alloc: Global,
     catalog: &Catalog,

@@ -14,7 +14,7 @@ pub(crate) struct Progress {
 }
 
 impl Progress {
-    // Before the first turn.
+    /// How far the aftermarket has come before its first turn.
     pub(crate) fn start() -> Progress
         ensures { (students : ℕ) (p : Publication) → IsProgress students p 0 result }
     {
@@ -26,7 +26,8 @@ impl Progress {
         }
     }
 
-    // After one more turn, which made a change or none, where there are so many students.
+    /// How far it has come after one more turn, which made a change or none. A pass has as many
+    /// turns as there are students.
     pub(crate) fn after_turn(self, students: usize, moved: bool) -> Progress
         requires place { self.place < students }
         requires passes { self.pass < 2 ^ 32 }

@@ -1,4 +1,4 @@
-// The seats of stage two, and those that are printed as used.
+// The seats of the second stage, and those that are printed as used.
 ghost use Rattle.std.specs.Prelude.{◌≡◌, ◌↔◌, IsTrue, IfErr, OnOk};
 ghost use Rattle.market_certificate.specs.Views.{publication_of};
 ghost use Rattle.published_parts.specs.Holdings.{demanded};
@@ -15,8 +15,8 @@ use held_seats::Floor;
 use market_certificate::Publication;
 use market_units::SectionNo;
 
-// Whether no section has more students in stage two than seats, where their bundles are held on the
-// floor.
+/// Whether no section has more students in the second stage than seats; the floor has their
+/// bundles. Else a finding on the first section that has, with both numbers.
 pub(crate) fn check_seats(
     terms: &Terms,
     publication: &Publication,
@@ -43,8 +43,8 @@ pub(crate) fn check_seats(
     Ok(())
 }
 
-// Whether the printed seats of each section are the number of its final holders, who are those on
-// the floor, and the catalogue's seats.
+/// Whether the printed seats of each section are the number of its final holders, who are those on
+/// the floor, and the catalogue's seats. Else a finding on the first section of which it is not so.
 pub(crate) fn check_used(
     terms: &Terms,
     publication: &Publication,

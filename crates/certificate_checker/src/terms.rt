@@ -1,7 +1,6 @@
 // What a publication is checked by.
 ghost use Rattle.std.specs.Prelude.{◌≡◌, ◌≤◌, ◌<◌, ◌-◌, ◌^◌, IfOk, IfErr, length, map};
 ghost use Rattle.market_units.specs.declared.units.NoMemory.{NoMemory};
-ghost use Rattle.demand_api.specs.Made.{MakeCrowd};
 ghost use Rattle.published_parts.specs.Markets.{market_of};
 ghost use Rattle.published_parts.specs.Crowds.{IsCrowdAfter};
 ghost use Rattle.certificate_checker.specs.Findings.{OnFound};
@@ -15,6 +14,7 @@ use course_catalog::Catalog;
 use demand_api::Crowd;
 use market_crowd::make_crowd;
 use market_settings::Settings;
+use market_units::MAX_SPREAD;
 use std::alloc::Global;
 use student_roll::Roll;
 use utility_language::Command;
@@ -30,8 +30,8 @@ pub(crate) struct Terms {
     pub raise: u8,
 }
 
-// The terms of a market after the commands of an order, or the first entry at which it does not
-// merge the streams.
+/// What a check goes by in a market whose sessions' commands were taken in this order. Else a
+/// finding on the first entry at which the order does not merge the streams, or want of memory.
 pub(crate) fn terms_after(
     alloc: Global,
     catalog: &Catalog,
@@ -41,16 +41,13 @@ pub(crate) fn terms_after(
     order: &[u8],
 ) -> Result<Terms, CheckEnd>
     requires few { length order.now < 2 ^ 32 - 1 }
-    requires spread { settings.now.spread ≤ 49 }
+    requires spread { settings.now.spread ≤ MAX_SPREAD }
     ensures terms { IfOk result
         (λ terms. terms_of terms
         ≡ terms_in (market_of catalog.now roll.now settings.now) (terms_of terms).crowd) }
     ensures crowd { IfOk result
         (λ terms. IsCrowdAfter (market_of catalog.now roll.now settings.now)
         (map (λ stream. stream.items) streams.now) order.now (terms_of terms).crowd) }
-    ensures whole { IfOk result
-        (λ terms. MakeCrowd terms.crowd.menus.items terms.crowd.budgets.items
-        terms.crowd.sections) }
     ensures fails { IfErr result
         (λ end. OnFound end (IsOrderFinding (map (λ stream. stream.items) streams.now) order.now)) }
 {

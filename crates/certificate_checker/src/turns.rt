@@ -20,8 +20,9 @@ use market_units::StudentNo;
 use proof_tree::check_tree;
 use std::alloc::Global;
 
-// Whether each turn is right, and whether they end with a whole pass without a change. The floor,
-// on which the bundles of stage two are held, is then as after the last turn.
+/// Whether each turn is right, and whether they end with a whole pass without a change. Else the
+/// first finding, or want of memory. The floor has the bundles of the second stage before the call,
+/// and after `Ok` those that are held behind the last turn.
 pub(crate) fn check_turns(
     alloc: Global,
     terms: &Terms,

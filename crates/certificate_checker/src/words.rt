@@ -1,7 +1,8 @@
 // The line that tells a finding, made without memory.
 ghost use Rattle.std.specs.Prelude.{◌≡◌, ◌<◌, ◌≤◌, ◌+◌, ◌++◌, length};
 ghost use Rattle.std.specs.Fmt.{decimal};
-ghost use Rattle.market_certificate.specs.Tables.{name_at, section_names, tables_of};
+ghost use Rattle.course_catalog.specs.Sections.{section_names};
+ghost use Rattle.market_certificate.specs.Tables.{name_at, tables_of};
 ghost use Rattle.student_roll.specs.Students.{names_of};
 ghost use Rattle.certificate_checker.specs.Words.{IsNamedIn, defect_words, fault_words, finding_line, finding_words, line_words};
 

@@ -32,7 +32,7 @@ impl<O: Object> Model for Journal<O> {
 }
 
 impl<O: Object> Journal<O> {
-    // `close` alone calls it.
+    /// The journal of these steps. Only the close of a chronicle makes one.
     pub(crate) fn of(steps: Vec<Step<O>>) -> Self
         ensures { result ≡ steps.items }
     {

@@ -12,7 +12,8 @@ pub struct Kept<T, Q, A> {
 }
 
 impl<O: Object> Kept<O, O::Request, O::Reply> {
-    // Takes one step, and notes it.
+    /// Takes one step of the object, notes it behind the steps so far, and gives the object's
+    /// reply.
     pub(crate) fn step(&mut self, seat: u16, request: O::Request) -> O::Reply
         requires sound { O.sound (O.base self.old.object) request ≡ true }
         requires room { 1 ≤ O.room self.old.object }

@@ -22,6 +22,3 @@ pub use object::Object;
 pub use origin::Origin;
 pub use seat::Seat;
 pub use standing::Standing;
-
-#[cfg(test)]
-mod tests;

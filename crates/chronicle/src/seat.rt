@@ -51,7 +51,7 @@ impl<O: Object> Seat<O> {
         self.number
     }
 
-    // The seat's place at the table.
+    /// The seat's place at the table. The seat is given up for it.
     pub(crate) fn into_place(self) -> Place<O>
         ensures at_rest { IsAtRest self.number result.me }
         ensures tells { standing_of result.table_id self.number result.me.0 ≡ self }

@@ -2,12 +2,12 @@
 ghost use Rattle.std.specs.Prelude.{◌≡◌, ◌≤◌, nat_abs, All, length};
 ghost use Rattle.clearing_error.specs.Errors.{excess, part, squared, error};
 
-use market_units::Tokens;
+use market_units::{MAX_SECTIONS, MAX_STUDENTS, Tokens};
 
 /// The excess of a section: the students who take it minus its seats, below 0 where seats are free.
 /// The count is at most 2,000.
 pub fn excess(count: u32, seats: u16) -> i32
-    requires { count ≤ 2000 }
+    requires { count ≤ MAX_STUDENTS }
     ensures { result ≡ excess count seats }
 {
     count as i32 - i32::from(seats)
@@ -18,8 +18,8 @@ pub fn excess(count: u32, seats: u16) -> i32
 /// excess and 0 where it is 0, since free seats at price 0 are no error. There is a seat number and
 /// a price for each count, at most 400 of them, and each count is at most 2,000.
 pub fn error(counts: &[u32], seats: &[u16], prices: &[Tokens]) -> u64
-    requires counts { All (λ count. count ≤ 2000) counts.now }
-    requires few { length counts.now ≤ 400 }
+    requires counts { All (λ count. count ≤ MAX_STUDENTS) counts.now }
+    requires few { length counts.now ≤ MAX_SECTIONS }
     requires seats { length seats.now ≡ length counts.now }
     requires prices { length prices.now ≡ length counts.now }
     ensures { result ≡ error counts.now seats.now prices.now }
@@ -33,7 +33,7 @@ pub fn error(counts: &[u32], seats: &[u16], prices: &[Tokens]) -> u64
 
 // The square of a section's part.
 fn squared_part(count: u32, seats: u16, price: Tokens) -> u64
-    requires { count ≤ 2000 }
+    requires { count ≤ MAX_STUDENTS }
     ensures value { result ≡ squared (part count seats price.0) }
     ensures small { result ≤ 4294836225 }
 {
@@ -43,7 +43,7 @@ fn squared_part(count: u32, seats: u16, price: Tokens) -> u64
 
 // What a section adds to the error, before it is squared.
 fn part(count: u32, seats: u16, price: Tokens) -> i32
-    requires { count ≤ 2000 }
+    requires { count ≤ MAX_STUDENTS }
     ensures value { result ≡ part count seats price.0 }
     ensures small { nat_abs result ≤ 65535 }
 {

@@ -4,6 +4,7 @@ use Rattle.std.specs.List.{IsDistinct}
 use Rattle.std.specs.Str.{bytes_eq}
 use Rattle.std.specs.Ordering.{nat_cmp}
 use Rattle.std.specs.FinSet as set
+use Rattle.market_units.specs.declared.limits.TheConstants.{MAX_SECTIONS}
 use Rattle.timetable_rules.specs.Clash.{IsClashTable}
 use Rattle.timetable_rules.specs.Parts.{whole_term}
 use Rattle.market_units.specs.declared.names.Name.{Name}
@@ -26,7 +27,7 @@ pub record IsListed (version : ℕ) (section : Section) : Type 0 where
 pub record IsCatalog (catalog : CatalogData) : Type 0 where
   pub some_version : 1 ≤ catalog.version
   pub known_version : catalog.version ≤ 2
-  pub few : length catalog.sections ≤ 400
+  pub few : length catalog.sections ≤ MAX_SECTIONS
   pub distinct : IsDistinct bytes_eq (map (λ section. section.name) catalog.sections)
   pub each : All (IsListed catalog.version) catalog.sections
 

@@ -1,6 +1,7 @@
 -- The catalogue that bytes stand for, or the refusal of its first bad record at its first bad
 -- column.
 use Rattle.std.specs.Prelude.{ℕ, ◌==◌, if◌then◌else◌, true, List, [], ◌∷◌, ◌++◌, codes, Option, Some, Result, Ok}
+use Rattle.market_units.specs.declared.limits.TheConstants.{MAX_SEATS, MAX_SECTION_CREDITS, MAX_SECTIONS}
 use Rattle.timetable_rules.specs.declared.parts.Parts.{Parts}
 use Rattle.timetable_rules.specs.Parts.{spelled_parts, whole_term}
 use Rattle.timetable_rules.specs.Spelled.{spelled}
@@ -24,8 +25,8 @@ parts_in version fields =
 abbrev pub section_of : ℕ → ℕ → List (List ℕ) → Result Section CatalogRefusal
 section_of version row fields = do
   course ← name_or (refusal.Name row 2) (field_in 2 fields)
-  seats ← number_or (refusal.Number row 3) 9999 (field_in 3 fields)
-  credits ← number_or (refusal.Number row 4) 100 (field_in 4 fields)
+  seats ← number_or (refusal.Number row 3) MAX_SEATS (field_in 3 fields)
+  credits ← number_or (refusal.Number row 4) MAX_SECTION_CREDITS (field_in 4 fields)
   meetings ← or_refused (refusal.Meetings row) (spelled (field_in 5 fields))
   parts ← or_refused (refusal.Parts row) (parts_in version fields)
   Ok
@@ -47,7 +48,7 @@ first_header = codes "section" ∷ codes "course" ∷ codes "seats" ∷ codes "c
 abbrev pub catalog_rules : Rules Section CatalogRefusal
 catalog_rules = record {
   headers = first_header ∷ (first_header ++ codes "parts" ∷ []) ∷ [];
-  most = Some (400, refusal.TooMany);
+  most = Some (MAX_SECTIONS, refusal.TooMany);
   knows = λ name. true;
   refusal = refusal_of;
   row = section_of;

@@ -1,6 +1,7 @@
 -- Sections, as a catalogue lists them.
-use Rattle.std.specs.Prelude.{ℕ, ◌≡◌, ◌≢◌, ◌≤◌, ◌⊎◌, IsTrue, Bool, ◌&&◌, ◌||◌, ◌==◌, not, List, [], All, length, slice_index_or}
+use Rattle.std.specs.Prelude.{ℕ, ◌≡◌, ◌≢◌, ◌≤◌, ◌⊎◌, IsTrue, Bool, ◌&&◌, ◌||◌, ◌==◌, not, List, [], All, length, map, slice_index_or}
 use Rattle.std.specs.Str.{bytes_eq}
+use Rattle.market_units.specs.declared.limits.TheConstants.{MAX_MEETINGS, MAX_SEATS, MAX_SECTION_CREDITS}
 use Rattle.market_units.specs.Names.{IsName}
 use Rattle.timetable_rules.specs.declared.meeting.Meeting.{Meeting}
 use Rattle.timetable_rules.specs.Meeting.{IsMeeting}
@@ -22,9 +23,9 @@ pub record Section : Type 0 where
 pub record IsSection (section : Section) : Type 0 where
   pub name_is : IsName section.name
   pub course_is : IsName section.course
-  pub few_seats : section.seats ≤ 9999
-  pub few_credits : section.credits ≤ 100
-  pub few_meetings : length section.meetings ≤ 10
+  pub few_seats : section.seats ≤ MAX_SEATS
+  pub few_credits : section.credits ≤ MAX_SECTION_CREDITS
+  pub few_meetings : length section.meetings ≤ MAX_MEETINGS
   pub each_meeting : All IsMeeting section.meetings
   pub some_part : IsTrue (section.parts.first || section.parts.second)
 
@@ -37,6 +38,10 @@ no_section =
 -- the section of an ordinal
 abbrev pub section_at : List Section → ℕ → Section
 section_at sections s = slice_index_or sections s no_section
+
+-- the names of sections, in order
+abbrev pub section_names : List Section → List (List ℕ)
+section_names sections = map (λ section. section.name) sections
 
 -- Two different sections clash: they have the same course, or share a part of the term and a
 -- meeting of the one overlaps a meeting of the other.

@@ -13,6 +13,3 @@ mod rules;
 pub use catalog::Catalog;
 pub use reading::read_catalog;
 pub use refusal::CatalogRefusal;
-
-#[cfg(test)]
-mod tests;

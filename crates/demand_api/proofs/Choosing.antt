@@ -8,9 +8,11 @@ use Rattle.std.proofs.lemmas.Slice.Zip.{all_zipped_more, AllZip-long}
 use Rattle.market_units.specs.declared.units.StudentNo.{StudentNo}
 use Rattle.market_units.specs.declared.units.Tokens.{Tokens}
 use Rattle.bundle_rules.specs.Menus.{MenuData}
-use Rattle.demand_api.specs.Crowds.{IsWithin}
-use Rattle.demand_api.specs.Made.{MakeCrowd}
+use Rattle.demand_api.specs.declared.crowd.Crowd.{Crowd}
+use Rattle.demand_api.specs.Crowds.{IsCrowd, IsWithin}
+use Rattle.demand_api.specs.Parts.{of_parts}
 use Rattle.demand_api.specs.Choosing.{AreChosen}
+use Rattle.demand_api.proofs.Parts.{parts_whole, budgets_high, menus_within}
 
 pub chosen_more : {A : Type 0} (items : List A) (students : List StudentNo) (i : ℕ) (d : StudentNo) (picked later : List A) (item : A) → i < length students
     → AreChosen items (take i students) picked
@@ -48,18 +50,21 @@ pub chosen_done : {A : Type 0} (items : List A) (students : List StudentNo) (i :
     → AreChosen items (take i students) picked → AreChosen items students picked
 chosen_done items students i picked done chosen = rw (take_all i students done) at chosen
 
-pub chosen_crowd : (menus : List MenuData) (budgets : List Tokens) (sections : ℕ) (students : List StudentNo) (picked : List MenuData) (amounts : List Tokens)
-    → MakeCrowd menus budgets sections → length students ≤ 2000
-    → AreChosen menus students picked → AreChosen budgets students amounts → MakeCrowd picked amounts sections
-chosen_crowd menus budgets sections students picked amounts is few chosen paid =
+-- an item of each kind for each student
+pub chosen_same : (menus : List MenuData) (budgets : List Tokens) (students : List StudentNo) (picked : List MenuData) (amounts : List Tokens)
+    → AreChosen menus students picked → AreChosen budgets students amounts → length amounts ≡ length picked
+chosen_same menus budgets students picked amounts chosen paid =
+    AllZip-long (λ (student : StudentNo) (one : Tokens). slice_get budgets student.0 ≡ Some one) students amounts paid
+    ∙ sym (AllZip-long (λ (student : StudentNo) (one : MenuData). slice_get menus student.0 ≡ Some one) students picked chosen)
+
+-- the students of a crowd that are chosen are one
+pub chosen_whole : (crowd : Crowd) (students : List StudentNo) (picked : List MenuData) (amounts : List Tokens) → length students ≤ 2000
+    → AreChosen crowd.menus.items students picked → AreChosen crowd.budgets.items students amounts → IsCrowd (of_parts picked amounts crowd.sections)
+chosen_whole crowd students picked amounts few chosen paid =
+    let menus = crowd.menus.items in
     let one : length picked ≡ length students =
     AllZip-long (λ (student : StudentNo) (one : MenuData). slice_get menus student.0 ≡ Some one) students picked chosen in
-    let other : length amounts ≡ length students =
-    AllZip-long (λ (student : StudentNo) (one : Tokens). slice_get budgets student.0 ≡ Some one) students amounts paid in
-    record {
-      same = other ∙ sym one;
-      few = omega arith;
-      high = chosen_all (λ (budget : Tokens). budget.0 ≤ 1000000) budgets students amounts paid is.high;
-      sections_few = is.sections_few;
-      within = chosen_all (IsWithin sections) menus students picked chosen is.within;
-    }
+    parts_whole picked amounts crowd.sections (chosen_same menus crowd.budgets.items students picked amounts chosen paid) (omega arith)
+    (chosen_all (λ (budget : Tokens). budget.0 ≤ 1000000) crowd.budgets.items students amounts paid (budgets_high crowd))
+    crowd.whole.sections
+    (chosen_all (IsWithin crowd.sections) menus students picked chosen (menus_within crowd))

@@ -8,7 +8,7 @@ use Rattle.clearing_error.specs.Errors.{error}
 use Rattle.clearing_error.proofs.Sections.{error_by_top}
 use Rattle.market_units.specs.Totals.{total}
 use Rattle.market_units.proofs.Sums.{total-le}
-use Rattle.bundle_rules.specs.Sets.{has}
+use Rattle.market_units.specs.Members.{has}
 use Rattle.bundle_rules.specs.Menus.{wishes_of}
 use Rattle.bundle_rules.specs.Places.{places_from}
 use Rattle.bundle_rules.specs.Demand.{price_in, IsBest}

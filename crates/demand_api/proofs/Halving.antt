@@ -12,7 +12,8 @@ use Rattle.market_units.specs.declared.units.Tokens.{Tokens}
 use Rattle.bundle_rules.specs.Demand.{price_in}
 use Rattle.demand_api.specs.Crowds.{CrowdData, top, count}
 use Rattle.demand_api.specs.Prices.{with_price, IsRaised, IsLeastFrom}
-use Rattle.demand_api.specs.Asking.{one_more, ArePricesFor}
+use Rattle.market_units.specs.Counts.{one_more}
+use Rattle.demand_api.specs.Asking.{ArePricesFor}
 
 -- a copy of the prices
 pub record IsTrial (crowd : CrowdData) (prices trial : List Tokens) : Type 0 where

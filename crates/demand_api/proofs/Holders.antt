@@ -1,7 +1,7 @@
 -- Holders of a section, where one bundle is changed.
 use Rattle.std.proofs.Common.{ℕ, zero, suc, ◌≡◌, ◌+◌, List, [], ◌∷◌, Some, arith, ap}
 use Rattle.std.specs.Prelude.{slice_get, slice_set, if◌then◌else◌}
-use Rattle.bundle_rules.specs.Sets.{has}
+use Rattle.market_units.specs.Members.{has}
 use Rattle.demand_api.specs.Crowds.{holders}
 
 -- one more holder where the new bundle has the section, one fewer where the old one had it

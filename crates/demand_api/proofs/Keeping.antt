@@ -2,7 +2,7 @@
 use Rattle.std.proofs.Common.{ℕ, ◌≡◌, ◌<◌, ◌≤◌, Bool, true, false, List, [], ◌∷◌, arith, sym, ◌∙◌, subst, inl, inr}
 use Rattle.std.proofs.lemmas.Bool.{cases_order, false≢true}
 use Rattle.market_units.specs.Totals.{total}
-use Rattle.bundle_rules.specs.Sets.{has}
+use Rattle.market_units.specs.Members.{has}
 use Rattle.bundle_rules.specs.Wishes.{Wishes}
 use Rattle.bundle_rules.specs.Demand.{IsBest}
 use Rattle.bundle_rules.specs.Existence.Members.{has-here, has-there}

@@ -2,6 +2,7 @@ pub mod Keeping
 pub mod Tops
 pub mod Counts
 pub mod Halving
+pub mod Parts
 pub mod Choosing
 pub mod Bundles
 pub mod Takers

@@ -4,23 +4,24 @@ use Rattle.std.proofs.lemmas.Bool.{cases_Bool, false≢true}
 use Rattle.std.proofs.lemmas.Bool.Decides.{nat_tests}
 use Rattle.std.specs.Prelude.{slice_index, slice_index_or, nat_lt, if◌then◌else◌}
 use Rattle.std.proofs.lemmas.List.{take_more, take_all, length-take, map-append, get_or-map}
-use Rattle.std.proofs.lemmas.List.Elements.{All-cons}
 use Rattle.std.proofs.Math.Seq.{take-append_seam}
 use Rattle.market_units.specs.declared.units.SectionNo.{SectionNo}
 use Rattle.market_units.specs.declared.units.Tokens.{Tokens}
 use Rattle.market_units.proofs.Sums.{total-append}
-use Rattle.bundle_rules.specs.Sets.{has}
+use Rattle.market_units.specs.Members.{has}
 use Rattle.bundle_rules.specs.Menus.{MenuData, wishes_of}
 use Rattle.bundle_rules.specs.Places.{places_from}
 use Rattle.bundle_rules.specs.Demand.{price_in, HasPrices, IsChoice, IsBest}
 use Rattle.bundle_rules.specs.Ordinals.{ordinals, IsBundle}
 use Rattle.bundle_rules.specs.Existence.Members.{has-here, has-there}
 use Rattle.bundle_rules.proofs.BestValue.{best-is, best-only}
-use Rattle.demand_api.specs.Crowds.{Student, CrowdData, IsCrowd, IsWithin, greatest_budget, top, demand, demands, demand_of, holders, count, counts}
-use Rattle.demand_api.specs.Made.{MakeCrowd, students_of, greatest, crowd_of}
+use Rattle.demand_api.specs.declared.crowd.Crowd.{Crowd}
+use Rattle.demand_api.specs.Crowds.{Student, CrowdData, top, demand, demands, demand_of, holders, count, counts}
+use Rattle.demand_api.specs.Views.{data_of}
 use Rattle.demand_api.specs.Asking.{ArePricesFor}
 use Rattle.demand_api.specs.Counting.{AreCounts, HasCounted}
 use Rattle.demand_api.proofs.Halving.{price_at}
+use Rattle.demand_api.proofs.Parts.{menus_within, student_of, students_length, top_high}
 
 -- allowed sets that say the same have the same best bundles
 choice_by_allowed : (menu : MenuData) (price : ℕ → ℕ) (budget : ℕ) (one other : ℕ → Bool) (bundle : List ℕ) → ((s : ℕ) → one s ≡ other s)
@@ -37,50 +38,34 @@ is_demand menu price budget sections allowed bundle same best = best-only menu p
       λ other choice apart. best.preferred other (choice_by_allowed menu price budget (λ s. nat_lt s sections) allowed other (λ s. sym (same s)) choice) apart;
 })
 
--- the student at a place has the menu and the budget at that place
-student_at : (menus : List MenuData) (budgets : List Tokens) (i : ℕ) (d : Student) (m : MenuData) (b : Tokens) → length budgets ≡ length menus
-    → i < length menus
-    → slice_index_or (students_of menus budgets) i d ≡ record { menu = slice_index_or menus i m; budget = (slice_index_or budgets i b).0 }
-student_at [] budgets i d m b same low = absurd (omega arith)
-student_at (x ∷ xs) [] i d m b same low = absurd (omega arith)
-student_at (x ∷ xs) (y ∷ ys) zero d m b same low = refl
-student_at (x ∷ xs) (y ∷ ys) (suc i) d m b same low = student_at xs ys i d m b (omega arith) (omega arith)
-
-pub students_length : (menus : List MenuData) (budgets : List Tokens) → length budgets ≡ length menus → length (students_of menus budgets) ≡ length menus
-students_length [] budgets same = refl
-students_length (x ∷ xs) [] same = absurd (omega arith)
-students_length (x ∷ xs) (y ∷ ys) same = omega (arith, students_length xs ys (omega arith))
-
 -- what the student at a place takes
-pub demand_at : (menus : List MenuData) (budgets : List Tokens) (sections : ℕ) (price : ℕ → ℕ) (i : ℕ) (m : MenuData) (b : Tokens)
-    → length budgets ≡ length menus → i < length menus
-    → demand_of (crowd_of menus budgets sections) price i
-    ≡ demand sections price (record { menu = slice_index_or menus i m; budget = (slice_index_or budgets i b).0 })
+pub demand_at : (crowd : Crowd) (price : ℕ → ℕ) (i : ℕ) (m : MenuData) (b : Tokens) → i < length crowd.menus.items
+    → demand_of (data_of crowd) price i
+    ≡ demand crowd.sections price (record { menu = slice_index_or crowd.menus.items i m; budget = (slice_index_or crowd.budgets.items i b).0 })
 unfolding demands
-demand_at menus budgets sections price i m b same low =
+demand_at crowd price i m b low =
     let d : Student = record { menu = m; budget = b.0 } in
-    get_or-map (demand sections price) (students_of menus budgets) i d [] (rw (students_length menus budgets same) low)
-    ∙ ap (demand sections price) (student_at menus budgets i d m b same low)
+    get_or-map (demand crowd.sections price) (data_of crowd).students i d [] (rw (students_length crowd) low)
+    ∙ ap (demand crowd.sections price) (student_of crowd i d m b low)
 
 -- the best bundle of the menu and budget at a place is what that student takes
-pub found_demand : (menus : List MenuData) (budgets : List Tokens) (sections : ℕ) (price : ℕ → ℕ) (i : ℕ) (menu : MenuData) (budget : Tokens)
-    (allowed : ℕ → Bool) (bundle : List ℕ)
-    → length budgets ≡ length menus → i < length menus
-    → menu ≡ slice_index_or menus i menu → budget ≡ slice_index_or budgets i budget → ((s : ℕ) → allowed s ≡ nat_lt s sections)
-    → IsBest (wishes_of menu) price budget.0 allowed bundle → bundle ≡ demand_of (crowd_of menus budgets sections) price i
-found_demand menus budgets sections price i menu budget allowed bundle same low is has_it told best =
-    is_demand menu price budget.0 sections allowed bundle told best
+pub found_demand : (crowd : Crowd) (price : ℕ → ℕ) (i : ℕ) (menu : MenuData) (budget : Tokens) (allowed : ℕ → Bool) (bundle : List ℕ)
+    → i < length crowd.menus.items
+    → menu ≡ slice_index_or crowd.menus.items i menu → budget ≡ slice_index_or crowd.budgets.items i budget
+    → ((s : ℕ) → allowed s ≡ nat_lt s crowd.sections)
+    → IsBest (wishes_of menu) price budget.0 allowed bundle → bundle ≡ demand_of (data_of crowd) price i
+found_demand crowd price i menu budget allowed bundle low is has_it told best =
+    is_demand menu price budget.0 crowd.sections allowed bundle told best
     ∙ same_student
-    ∙ sym (demand_at menus budgets sections price i menu budget same low)
+    ∙ sym (demand_at crowd price i menu budget low)
   where
-    same_student : demand sections price (record { menu = menu; budget = budget.0 })
-        ≡ demand sections price (record { menu = slice_index_or menus i menu; budget = (slice_index_or budgets i budget).0 })
+    same_student : demand crowd.sections price (record { menu = menu; budget = budget.0 })
+        ≡ demand crowd.sections price (record { menu = slice_index_or crowd.menus.items i menu; budget = (slice_index_or crowd.budgets.items i budget).0 })
     same_student = rw (← is, ← has_it) refl
 
-pub demands_length : (menus : List MenuData) (budgets : List Tokens) (sections : ℕ) (price : ℕ → ℕ) → length budgets ≡ length menus
-    → length (demands (crowd_of menus budgets sections) price) ≡ length menus
+pub demands_length : (crowd : Crowd) (price : ℕ → ℕ) → length (demands (data_of crowd) price) ≡ length crowd.menus.items
 unfolding demands
-demands_length menus budgets sections price same = length_map (demand sections price) (students_of menus budgets) ∙ students_length menus budgets same
+demands_length crowd price = length_map (demand crowd.sections price) (data_of crowd).students ∙ students_length crowd
   where
     length_map : (f : Student → List ℕ) (xs : List Student) → length (map f xs) ≡ length xs
     length_map f [] = refl
@@ -182,68 +167,23 @@ listed_by_place f (x ∷ xs) first each =
     (λ i low. each (suc i) (let h : suc i < suc (length xs) = omega arith in h) ∙ ap f (let e : first + suc i ≡ suc first + i = omega arith in e)) in
     ap (λ y. y ∷ xs) here ∙ ap (λ ys. f first ∷ ys) rest
 
--- the greatest budget of the students
-greatest_same : (menus : List MenuData) (budgets : List Tokens) → length budgets ≡ length menus → greatest_budget (students_of menus budgets) ≡ greatest budgets
-greatest_same [] [] same = refl
-greatest_same [] (y ∷ ys) same = absurd (omega arith)
-greatest_same (x ∷ xs) [] same = absurd (omega arith)
-greatest_same (x ∷ xs) (y ∷ ys) same = let rest : greatest_budget (students_of xs ys) ≡ greatest ys = greatest_same xs ys (omega arith) in rw rest refl
-
-pub top_found : (menus : List MenuData) (budgets : List Tokens) (sections found : ℕ) → length budgets ≡ length menus → found ≡ greatest budgets
-    → found + 1 ≡ top (crowd_of menus budgets sections)
-unfolding top
-top_found menus budgets sections found same is = omega (arith, is, greatest_same menus budgets same)
-
-pub greatest_high : (budgets : List Tokens) → All (λ budget. budget.0 ≤ 1000000) budgets → greatest budgets ≤ 1000000
-greatest_high [] all = omega arith
-greatest_high (b ∷ bs) all =
-    let here : b.0 ≤ 1000000 = all 0 b (omega arith) in
-    let rest : greatest bs ≤ 1000000 = greatest_high bs (λ i d low. all (suc i) d (let h : suc i < suc (length bs) = omega arith in h)) in
-    omega arith
-
--- the crowd that is made is one
-pub crowd_made : (menus : List MenuData) (budgets : List Tokens) (sections : ℕ) → MakeCrowd menus budgets sections → IsCrowd (crowd_of menus budgets sections)
-crowd_made menus budgets sections make = record {
-  few = rw (students_length menus budgets make.same) make.few;
-  budgets = all_budgets menus budgets make.high;
-  sections = make.sections_few;
-  menus = all_menus menus budgets make.within;
-}
-  where
-    all_budgets : (ms : List MenuData) (bs : List Tokens) → All (λ budget. budget.0 ≤ 1000000) bs
-        → All (λ student. student.budget ≤ 1000000) (students_of ms bs)
-    all_budgets [] bs all = λ i d low. absurd (omega arith)
-    all_budgets (m ∷ ms) [] all = λ i d low. absurd (omega arith)
-    all_budgets (m ∷ ms) (b ∷ bs) all =
-        All-cons (λ student. student.budget ≤ 1000000) (record { menu = m; budget = b.0 }) (students_of ms bs) (all 0 b (omega arith))
-        (all_budgets ms bs (λ i d low. all (suc i) d (let h : suc i < suc (length bs) = omega arith in h)))
-
-    all_menus : (ms : List MenuData) (bs : List Tokens) → All (IsWithin sections) ms → All (λ student. IsWithin sections student.menu) (students_of ms bs)
-    all_menus [] bs all = λ i d low. absurd (omega arith)
-    all_menus (m ∷ ms) [] all = λ i d low. absurd (omega arith)
-    all_menus (m ∷ ms) (b ∷ bs) all =
-        All-cons (λ student. IsWithin sections student.menu) (record { menu = m; budget = b.0 }) (students_of ms bs) (all 0 m (omega arith))
-        (all_menus ms bs (λ i d low. all (suc i) d (let h : suc i < suc (length ms) = omega arith in h)))
-
 -- each section of each menu has a price
-pub all_menus_priced : (menus : List MenuData) (budgets : List Tokens) (sections : ℕ) (prices : List Tokens) → MakeCrowd menus budgets sections
-    → ArePricesFor (crowd_of menus budgets sections) prices → All (λ menu. HasPrices menu prices) menus
-all_menus_priced menus budgets sections prices is are k d low k' d' low' =
-    let below : (slice_index_or (slice_index_or menus k d).places k' d').section.0 < sections = is.within k d low k' d' low' in
-    let size : length prices ≡ sections = are.same in
-    let s : ℕ = (slice_index_or (slice_index_or menus k d).places k' d').section.0 in
-    let capped : greatest budgets ≤ 1000000 = greatest_high budgets is.high in
-    let at_top : greatest budgets + 1 ≡ top (crowd_of menus budgets sections) = top_found menus budgets sections (greatest budgets) is.same refl in
+all_menus_priced : (crowd : Crowd) (prices : List Tokens) → ArePricesFor (data_of crowd) prices → All (λ menu. HasPrices menu prices) crowd.menus.items
+all_menus_priced crowd prices are k d low k' d' low' =
+    let below : (slice_index_or (slice_index_or crowd.menus.items k d).places k' d').section.0 < crowd.sections = menus_within crowd k d low k' d' low' in
+    let size : length prices ≡ crowd.sections = are.same in
+    let s : ℕ = (slice_index_or (slice_index_or crowd.menus.items k d).places k' d').section.0 in
+    let capped : top (data_of crowd) ≤ 1000001 = top_high crowd in
     let none : Tokens = record { 0 = 0 } in
-    let high : (slice_index_or prices s none).0 ≤ top (crowd_of menus budgets sections) = are.high s none (omega arith) in
+    let high : (slice_index_or prices s none).0 ≤ top (data_of crowd) = are.high s none (omega arith) in
     let same : price_in prices s ≡ (slice_index_or prices s none).0 = price_at prices s none (omega arith) in
     record { listed = omega arith; high = omega arith }
 
 -- the menu at a place has its prices
-pub priced_at : (menus : List MenuData) (budgets : List Tokens) (sections : ℕ) (prices : List Tokens) (i : ℕ) (menu : MenuData)
-    → MakeCrowd menus budgets sections → ArePricesFor (crowd_of menus budgets sections) prices → i < length menus → menu ≡ slice_index_or menus i menu
+pub priced_at : (crowd : Crowd) (prices : List Tokens) (i : ℕ) (menu : MenuData)
+    → ArePricesFor (data_of crowd) prices → i < length crowd.menus.items → menu ≡ slice_index_or crowd.menus.items i menu
     → HasPrices menu prices
-priced_at menus budgets sections prices i menu make are low is = rw is (all_menus_priced menus budgets sections prices make are i menu low)
+priced_at crowd prices i menu are low is = rw is (all_menus_priced crowd prices are i menu low)
 
 -- an item, read in two ways
 pub index_same : (xs : List ℕ) (k d : ℕ) → k < length xs → slice_index_or xs k d ≡ slice_index xs k

@@ -1,16 +1,18 @@
 -- What a crowd may be asked, and how often it was.
 use Rattle.std.specs.Prelude.{◌*◌, ℕ, ◌<◌, ◌≤◌, ◌≡◌, ◌+◌, ◌-◌, ◌^◌, List, All, length, min}
+use Rattle.market_units.specs.declared.limits.TheConstants.{MAX_PRICE}
 use Rattle.market_units.specs.declared.units.Tokens.{Tokens}
 use Rattle.demand_api.specs.Crowds.{CrowdData, top}
+
+-- one price for each section, each at most 1,000,001
+pub record AreSectionPrices (sections : ℕ) (prices : List Tokens) : Type 0 where
+  pub same : length prices ≡ sections
+  pub high : All (λ price. price.0 ≤ MAX_PRICE) prices
 
 -- one price for each section, each at most the top
 pub record ArePricesFor (crowd : CrowdData) (prices : List Tokens) : Type 0 where
   pub same : length prices ≡ crowd.sections
   pub high : All (λ price. price.0 ≤ top crowd) prices
-
--- one more, up to the greatest u64
-abbrev pub one_more : ℕ → ℕ
-one_more asked = min (asked + 1) (2 ^ 64 - 1)
 
 -- the count, which is a u64, did not fall, and rose at most by so many times the binary digits of n
 -- plus 1

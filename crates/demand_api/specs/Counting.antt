@@ -1,6 +1,6 @@
 -- Counts by section, and what one bundle adds to them.
 use Rattle.std.specs.Prelude.{ℕ, ◌≡◌, ◌<◌, ◌+◌, List, length, slice_index, if◌then◌else◌}
-use Rattle.bundle_rules.specs.Sets.{has}
+use Rattle.market_units.specs.Members.{has}
 use Rattle.demand_api.specs.Crowds.{holders}
 
 -- one more at the section where the bundle has it, and no change where not

@@ -1,8 +1,9 @@
 -- A crowd of students, and what it demands at given prices. A price is given for each section, by
 -- its ordinal.
 use Rattle.std.specs.Prelude.{ℕ, suc, ◌<◌, ◌≤◌, if◌then◌else◌, max, List, [], ◌∷◌, All, length, map, nat_lt, slice_index_or}
+use Rattle.market_units.specs.declared.limits.TheConstants.{MAX_BUDGET, MAX_SECTIONS, MAX_STUDENTS}
 use Rattle.market_units.specs.Totals.{total}
-use Rattle.bundle_rules.specs.Sets.{has}
+use Rattle.market_units.specs.Members.{has}
 use Rattle.bundle_rules.specs.Menus.{MenuData}
 use Rattle.bundle_rules.specs.Best.{best}
 use Rattle.bundle_rules.specs.Places.{places_from}
@@ -24,9 +25,9 @@ IsWithin sections menu = All (λ rated. rated.section.0 < sections) menu.places
 -- at most 2,000 students with budgets of at most 1,000,000, and at most 400 sections, among which
 -- are those of the menus
 pub record IsCrowd (crowd : CrowdData) : Type 0 where
-  pub few : length crowd.students ≤ 2000
-  pub budgets : All (λ student. student.budget ≤ 1000000) crowd.students
-  pub sections : crowd.sections ≤ 400
+  pub few : length crowd.students ≤ MAX_STUDENTS
+  pub budgets : All (λ student. student.budget ≤ MAX_BUDGET) crowd.students
+  pub sections : crowd.sections ≤ MAX_SECTIONS
   pub menus : All (λ student. IsWithin crowd.sections student.menu) crowd.students
 
 -- the greatest budget, 0 without students

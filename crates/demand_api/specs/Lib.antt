@@ -1,7 +1,8 @@
 pub mod Crowds
-pub mod Made
+pub mod Parts
 pub mod Choosing
 pub mod Prices
 pub mod Asking
 pub mod Counting
 pub mod Laws
+pub mod Views

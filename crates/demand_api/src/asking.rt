@@ -5,10 +5,13 @@ ghost use Rattle.bundle_rules.specs.Demand.{price_in};
 ghost use Rattle.bundle_rules.specs.Bundles.{sections_of};
 ghost use Rattle.demand_api.specs.Crowds.{CrowdData, IsCrowd, top, demand_of, count, counts};
 ghost use Rattle.demand_api.specs.Prices.{AreLeastPrices};
-ghost use Rattle.demand_api.specs.Asking.{one_more, ArePricesFor, RoseByDigits};
+ghost use Rattle.market_units.specs.Counts.{one_more};
+ghost use Rattle.demand_api.specs.Asking.{ArePricesFor, RoseByDigits};
 
 use bundle_rules::Bundle;
-use market_units::{NoMemory, SectionNo, StudentNo, Tokens};
+use market_units::{
+    MAX_SECTIONS, MAX_STUDENTS, MAX_VERSIONS, NoMemory, SectionNo, StudentNo, Tokens,
+};
 use std::alloc::Global;
 use std::sync::Wait;
 use std::thread::Threads;
@@ -44,7 +47,7 @@ pub trait Demands {
     ) -> Result<Vec<Vec<u32>>, NoMemory>
         requires sync { IsSync R.row }
         requires some { 1 ≤ length batch.now }
-        requires few { length batch.now ≤ 16 }
+        requires few { length batch.now ≤ MAX_VERSIONS }
         requires prices { All (λ prices. ArePricesFor (crowd self.old) prices.items) batch.now }
         ensures crowd { crowd self.new ≡ crowd self.old }
         ensures asked { asked self.new ≡ one_more (asked self.old) }
@@ -60,7 +63,7 @@ pub trait Demands {
     ) -> Result<Vec<Bundle>, NoMemory>
         requires sync { IsSync R.row }
         requires prices { ArePricesFor (crowd self.old) prices.now }
-        requires few { length students.now ≤ 2000 }
+        requires few { length students.now ≤ MAX_STUDENTS }
         requires range { All (λ student. student.0 < length (crowd self.old).students)
             students.now }
         ensures crowd { crowd self.new ≡ crowd self.old }
@@ -97,7 +100,7 @@ pub trait Demands {
     ) -> Result<Vec<Tokens>, NoMemory>
         requires sync { IsSync R.row }
         requires prices { ArePricesFor (crowd self.old) prices.now }
-        requires few { length pairs.now ≤ 400 }
+        requires few { length pairs.now ≤ MAX_SECTIONS }
         requires sections { All (λ pair. pair.0.0 < (crowd self.old).sections) pairs.now }
         ensures crowd { crowd self.new ≡ crowd self.old }
         ensures asked { RoseByDigits (length pairs.now) (top (crowd self.old)) (asked self.old)

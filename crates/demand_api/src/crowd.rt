@@ -1,7 +1,7 @@
 // The students of a market, with their menus and budgets.
-ghost use Rattle.std.specs.Prelude.{◌≡◌, ◌↔◌, ◌<◌, ◌≤◌, IsTrue, IfOk, All, length};
-ghost use Rattle.demand_api.specs.Crowds.{IsWithin, top};
-ghost use Rattle.demand_api.specs.Made.{MakeCrowd, crowd_of, greatest};
+ghost use Rattle.std.specs.Prelude.{◌≡◌, ◌↔◌, ◌<◌, ◌≤◌, IsTrue, IsSome, IfSome, IfOk, All, length};
+ghost use Rattle.demand_api.specs.Crowds.{IsCrowd, IsWithin, top};
+ghost use Rattle.demand_api.specs.Parts.{greatest, of_parts};
 ghost use Rattle.demand_api.specs.Asking.{ArePricesFor};
 ghost use Rattle.demand_api.specs.Choosing.{AreChosen};
 
@@ -9,44 +9,48 @@ use bundle_rules::{Menu, Rated};
 use market_units::{MAX_BUDGET, MAX_SECTIONS, MAX_STUDENTS, NoMemory, StudentNo, Tokens};
 use std::alloc::Global;
 
-/// A menu and a budget for each student, and the number of sections. Each call that takes a crowd
-/// needs as many budgets as menus, at most 2,000, each budget at most 1,000,000, and at most 400
-/// sections, among which are those of the menus.
+/// A menu and a budget for each of at most 2,000 students, and the number of sections, at most 400,
+/// among which are those of the menus.
 #[derive(Drop)]
 pub struct Crowd {
-    /// What each student may choose from, in file order: at most 2,000.
+    /// What each student may choose from, in file order.
     pub menus: Vec<Menu>,
     /// The budget of each student, in the same order: at most 1,000,000.
     pub budgets: Vec<Tokens>,
-    /// The number of sections, at most 400.
+    /// The number of sections.
     pub sections: u16,
+    pub ghost same: { length budgets.items ≡ length menus.items },
+    pub ghost whole: { IsCrowd (of_parts menus.items budgets.items sections) },
 }
 
 impl Crowd {
-    /// Whether the crowd meets the condition of each call that takes one.
-    pub fn is_whole(&self) -> bool
-        ensures { IsTrue result
-            ↔ MakeCrowd self.now.menus.items self.now.budgets.items self.now.sections }
+    ghost use Rattle.demand_api.specs.Views.{data_of};
+
+    /// The crowd of these menus and budgets and so many sections. `None` exactly where there are
+    /// not as many budgets as menus, or more than 2,000 of them, a budget above 1,000,000, more
+    /// than 400 sections, or a menu with a section that is none of these; the parts are dropped
+    /// then.
+    pub fn of(menus: Vec<Menu>, budgets: Vec<Tokens>, sections: u16) -> Option<Crowd>
+        ensures some { IsSome result ↔ ((length budgets.items ≡ length menus.items)
+            × IsCrowd (of_parts menus.items budgets.items sections)) }
+        ensures menus { IfSome result (λ crowd. crowd.menus ≡ menus) }
+        ensures budgets { IfSome result (λ crowd. crowd.budgets ≡ budgets) }
+        ensures sections { IfSome result (λ crowd. crowd.sections ≡ sections) }
     {
-        if self.budgets.len() != self.menus.len() {
-            return false;
+        if !are_parts(&menus, &budgets, sections) {
+            return None;
         }
-        if self.menus.len() > usize::from(MAX_STUDENTS) || self.sections > MAX_SECTIONS {
-            return false;
-        }
-        if !all_at_most(&self.budgets, MAX_BUDGET) {
-            return false;
-        }
-        all_within(&self.menus, self.sections)
+        Some(Crowd {
+            menus,
+            budgets,
+            sections,
+        })
     }
 
     /// Whether there is one price for each section, each at most the top: what can be asked of the
     /// crowd.
     pub fn has_prices(&self, prices: &[Tokens]) -> bool
-        requires { MakeCrowd self.now.menus.items self.now.budgets.items self.now.sections }
-        ensures { IsTrue result
-            ↔ ArePricesFor (crowd_of self.now.menus.items self.now.budgets.items self.now.sections)
-            prices.now }
+        ensures { IsTrue result ↔ ArePricesFor (data_of self.now) prices.now }
     {
         if prices.len() != usize::from(self.sections) {
             return false;
@@ -56,9 +60,7 @@ impl Crowd {
 
     /// The top price: one more than the greatest budget, and 1 without students.
     pub fn top(&self) -> Tokens
-        requires { MakeCrowd self.now.menus.items self.now.budgets.items self.now.sections }
-        ensures { result.0
-            ≡ top (crowd_of self.now.menus.items self.now.budgets.items self.now.sections) }
+        ensures { result.0 ≡ top (data_of self.now) }
     {
         Tokens(greatest_budget(&self.budgets) + 1)
     }
@@ -66,16 +68,13 @@ impl Crowd {
     /// The crowd of at most 2,000 listed students, in this order. A student that is listed twice is
     /// there twice. The one error is the want of memory.
     pub fn choose(&self, alloc: Global, students: &[StudentNo]) -> Result<Crowd, NoMemory>
-        requires crowd { MakeCrowd self.now.menus.items self.now.budgets.items self.now.sections }
-        requires few { length students.now ≤ 2000 }
+        requires few { length students.now ≤ MAX_STUDENTS }
         requires range { All (λ student. student.0 < length self.now.menus.items) students.now }
         ensures menus { IfOk result
             (λ crowd. AreChosen self.now.menus.items students.now crowd.menus.items) }
         ensures budgets { IfOk result
             (λ crowd. AreChosen self.now.budgets.items students.now crowd.budgets.items) }
         ensures sections { IfOk result (λ crowd. crowd.sections ≡ self.now.sections) }
-        ensures crowd { IfOk result
-            (λ crowd. MakeCrowd crowd.menus.items crowd.budgets.items crowd.sections) }
     {
         let mut menus = Vec::new(alloc);
         let mut budgets = Vec::new(alloc);
@@ -92,6 +91,27 @@ impl Crowd {
             sections: self.sections,
         })
     }
+}
+
+// Whether these are parts of a crowd.
+fn are_parts(menus: &[Menu], budgets: &[Tokens], sections: u16) -> bool
+    ensures { IsTrue result
+        ↔ ((length budgets.now ≡ length menus.now)
+        × IsCrowd (of_parts menus.now budgets.now sections)) }
+{
+    if budgets.len() != menus.len() {
+        return false;
+    }
+    if menus.len() > usize::from(MAX_STUDENTS) {
+        return false;
+    }
+    if sections > MAX_SECTIONS {
+        return false;
+    }
+    if !all_at_most(budgets, MAX_BUDGET) {
+        return false;
+    }
+    all_within(menus, sections)
 }
 
 // The greatest budget, 0 where there is none.

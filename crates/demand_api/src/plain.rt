@@ -5,7 +5,7 @@ ghost use Rattle.market_units.specs.declared.units.Tokens.{Tokens};
 ghost use Rattle.bundle_rules.specs.Demand.{price_in};
 ghost use Rattle.bundle_rules.specs.Bundles.{sections_of};
 ghost use Rattle.demand_api.specs.Crowds.{demand_of, count, counts};
-ghost use Rattle.demand_api.specs.Made.{MakeCrowd, crowd_of};
+ghost use Rattle.demand_api.specs.Views.{data_of};
 ghost use Rattle.demand_api.specs.Asking.{ArePricesFor};
 
 use crate::Crowd;
@@ -16,35 +16,27 @@ use std::alloc::Global;
 
 // What the student at this place takes, with all sections allowed.
 fn demand(crowd: &Crowd, prices: &[Tokens], allowed: &SectionSet, place: usize) -> Bundle
-    requires crowd { MakeCrowd crowd.now.menus.items crowd.now.budgets.items crowd.now.sections }
-    requires prices { ArePricesFor
-        (crowd_of crowd.now.menus.items crowd.now.budgets.items crowd.now.sections) prices.now }
+    requires prices { ArePricesFor (data_of crowd.now) prices.now }
     requires allowed { (s : ℕ) → set.contains allowed.now s ≡ nat_lt s crowd.now.sections }
     requires range { place < length crowd.now.menus.items }
-    ensures { sections_of result
-        ≡ demand_of (crowd_of crowd.now.menus.items crowd.now.budgets.items crowd.now.sections)
-        (price_in prices.now) place }
+    ensures { sections_of result ≡ demand_of (data_of crowd.now) (price_in prices.now) place }
 {
     best_plain(&crowd.menus[place], prices, crowd.budgets[place], allowed)
 }
 
-// What the listed students take.
+/// The bundle that each listed student takes at these prices, in the order of the list. The only
+/// error is that memory was not given.
 pub(crate) fn bundles(
     alloc: Global,
     crowd: &Crowd,
     prices: &[Tokens],
     students: &[StudentNo],
 ) -> Result<Vec<Bundle>, NoMemory>
-    requires crowd { MakeCrowd crowd.now.menus.items crowd.now.budgets.items crowd.now.sections }
-    requires prices { ArePricesFor
-        (crowd_of crowd.now.menus.items crowd.now.budgets.items crowd.now.sections) prices.now }
+    requires prices { ArePricesFor (data_of crowd.now) prices.now }
     requires range { All (λ student. student.0 < length crowd.now.menus.items) students.now }
     ensures { IfOk result
         (λ bundles. map sections_of bundles.items
-        ≡ map
-        (λ student. demand_of
-        (crowd_of crowd.now.menus.items crowd.now.budgets.items crowd.now.sections)
-        (price_in prices.now) student.0)
+        ≡ map (λ student. demand_of (data_of crowd.now) (price_in prices.now) student.0)
         students.now) }
 {
     let allowed = SectionSet::full(crowd.sections);
@@ -56,19 +48,16 @@ pub(crate) fn bundles(
     Ok(bundles)
 }
 
-// How many students take each section.
+/// For each section, how many students take it at these prices. The only error is that memory was
+/// not given.
 pub(crate) fn counts_at(
     alloc: Global,
     crowd: &Crowd,
     prices: &[Tokens],
 ) -> Result<Vec<u32>, NoMemory>
-    requires crowd { MakeCrowd crowd.now.menus.items crowd.now.budgets.items crowd.now.sections }
-    requires prices { ArePricesFor
-        (crowd_of crowd.now.menus.items crowd.now.budgets.items crowd.now.sections) prices.now }
+    requires prices { ArePricesFor (data_of crowd.now) prices.now }
     ensures { IfOk result
-        (λ found. found.items
-        ≡ counts (crowd_of crowd.now.menus.items crowd.now.budgets.items crowd.now.sections)
-        (price_in prices.now)) }
+        (λ found. found.items ≡ counts (data_of crowd.now) (price_in prices.now)) }
 {
     let allowed = SectionSet::full(crowd.sections);
     let mut counts = vec![in alloc; 0u32; usize::from(crowd.sections)]?;
@@ -79,14 +68,10 @@ pub(crate) fn counts_at(
     Ok(counts)
 }
 
-// How many students take the section.
+/// How many students take the section at these prices.
 pub(crate) fn count_of(crowd: &Crowd, prices: &[Tokens], section: SectionNo) -> u32
-    requires crowd { MakeCrowd crowd.now.menus.items crowd.now.budgets.items crowd.now.sections }
-    requires prices { ArePricesFor
-        (crowd_of crowd.now.menus.items crowd.now.budgets.items crowd.now.sections) prices.now }
-    ensures { result
-        ≡ count (crowd_of crowd.now.menus.items crowd.now.budgets.items crowd.now.sections)
-        (price_in prices.now) section.0 }
+    requires prices { ArePricesFor (data_of crowd.now) prices.now }
+    ensures { result ≡ count (data_of crowd.now) (price_in prices.now) section.0 }
 {
     let allowed = SectionSet::full(crowd.sections);
     let mut count = 0;

@@ -1,7 +1,7 @@
 // Demands of a crowd in one thread, found by trying every choice.
 ghost use Rattle.std.specs.Prelude.{◌≡◌};
 ghost use Rattle.std.specs.Arc.{arc_value};
-ghost use Rattle.demand_api.specs.Made.{MakeCrowd, crowd_of};
+ghost use Rattle.demand_api.specs.Views.{data_of};
 
 use crate::plain::{bundles, count_of, counts_at};
 use crate::{Crowd, Demands};
@@ -17,17 +17,12 @@ use std::thread::Threads;
 pub struct PlainDemands {
     crowd: Arc<Crowd>,
     asked: u64,
-    ghost sound: { MakeCrowd (arc_value crowd).menus.items (arc_value crowd).budgets.items (arc_value crowd).sections },
 }
 
 impl PlainDemands {
     /// The demands of this crowd, of which nothing was asked.
     pub fn make(crowd: Arc<Crowd>) -> PlainDemands
-        requires { MakeCrowd (arc_value crowd).menus.items (arc_value crowd).budgets.items
-            (arc_value crowd).sections }
-        ensures crowd { ⟦<PlainDemands as Demands>⟧.crowd result
-            ≡ crowd_of (arc_value crowd).menus.items (arc_value crowd).budgets.items
-            (arc_value crowd).sections }
+        ensures crowd { ⟦<PlainDemands as Demands>⟧.crowd result ≡ data_of (arc_value crowd) }
         ensures asked { ⟦<PlainDemands as Demands>⟧.asked result ≡ 0 }
     {
         PlainDemands { crowd, asked: 0 }
@@ -35,7 +30,7 @@ impl PlainDemands {
 }
 
 impl Demands for PlainDemands {
-    ghost crowd = { λ demands. crowd_of (arc_value demands.crowd).menus.items (arc_value demands.crowd).budgets.items (arc_value demands.crowd).sections };
+    ghost crowd = { λ demands. data_of (arc_value demands.crowd) };
 
     ghost asked = { λ demands. demands.asked };
 

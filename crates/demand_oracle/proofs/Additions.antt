@@ -5,7 +5,8 @@ use Rattle.std.specs.Prelude.{ℤ, pos, ◌+ℤ◌, ◌≤ℤ◌}
 use Rattle.std.proofs.lemmas.Int.{ints}
 use Rattle.std.proofs.lemmas.Bool.{cases_order}
 use Rattle.market_units.specs.Totals.{total, signed_total}
-use Rattle.bundle_rules.specs.Sets.{has, IsAscending}
+use Rattle.market_units.specs.Members.{has}
+use Rattle.bundle_rules.specs.Sets.{IsAscending}
 use Rattle.bundle_rules.specs.Places.{places_from}
 use Rattle.bundle_rules.specs.Existence.Members.{has-here, has-there, has-cases, has-above}
 use Rattle.bundle_rules.specs.Wishes.{adjustments}

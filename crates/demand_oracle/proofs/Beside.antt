@@ -1,13 +1,13 @@
 -- The best bundle, where one leads all those without a section.
 use Rattle.std.proofs.Common.{◌≡◌, ◌≢◌, ◌∙◌, ℕ, Bool, true, List, refl, sym, ap, inl, inr}
 use Rattle.std.proofs.lemmas.Bool.{cases_Bool, true≢false}
-use Rattle.bundle_rules.specs.Sets.{has}
+use Rattle.market_units.specs.Members.{has}
 use Rattle.bundle_rules.specs.Wishes.{Wishes}
 use Rattle.bundle_rules.specs.Menus.{wishes_of}
 use Rattle.bundle_rules.specs.Preferences.{IsPreferred}
 use Rattle.bundle_rules.specs.Demand.{IsBest}
 use Rattle.bundle_bounds.specs.Offers.{Offer}
-use Rattle.bundle_bounds.specs.Closings.{IsAsGood}
+use Rattle.bundle_bounds.specs.Prunings.{IsAsGood}
 use Rattle.bundle_bounds.specs.Laws.{IsTakable}
 use Rattle.demand_oracle.specs.Beside.{LeadsThoseWithout}
 use Rattle.demand_oracle.specs.Search.{LeadsWanted}

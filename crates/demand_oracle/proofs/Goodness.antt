@@ -5,7 +5,7 @@ use Rattle.bundle_rules.specs.Menus.{wishes_of}
 use Rattle.bundle_rules.specs.Preferences.{IsPreferred}
 use Rattle.bundle_rules.specs.Existence.Orders.{compared, preferred_trans, not_preferred_itself}
 use Rattle.bundle_bounds.specs.Offers.{Offer}
-use Rattle.bundle_bounds.specs.Closings.{IsAsGood}
+use Rattle.bundle_bounds.specs.Prunings.{IsAsGood}
 
 module _ (offer : Offer) where
   -- what is as good as one that is as good as a third is as good as the third

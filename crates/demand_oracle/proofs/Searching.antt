@@ -3,7 +3,8 @@ use Rattle.std.proofs.Common.{◌≡◌, ◌<◌, ◌≤◌, ◌+◌, ◌++◌, 
 use Rattle.std.proofs.lemmas.Bool.{cases_Bool}
 use Rattle.std.proofs.lemmas.List.{append-nil}
 use Rattle.bundle_rules.specs.declared.menu.Rated.{Rated}
-use Rattle.bundle_rules.specs.Sets.{has, IsAscending}
+use Rattle.market_units.specs.Members.{has}
+use Rattle.bundle_rules.specs.Sets.{IsAscending}
 use Rattle.bundle_rules.specs.Menus.{IsMenu, wishes_of, section_at}
 use Rattle.bundle_rules.specs.Places.{menu_sections}
 use Rattle.bundle_rules.specs.Given.{IsBestOf}
@@ -16,7 +17,7 @@ use Rattle.bundle_bounds.specs.Offers.{Offer}
 use Rattle.bundle_bounds.specs.Laws.{IsTakable, IsNode, Completes}
 use Rattle.bundle_bounds.proofs.NodeFacts.{nothing_chosen}
 use Rattle.bundle_bounds.proofs.Openings.{node_with, node_without}
-use Rattle.bundle_bounds.specs.Closings.{IsAsGood}
+use Rattle.bundle_bounds.specs.Prunings.{IsAsGood}
 use Rattle.demand_oracle.specs.Search.{IsSearched, LeadsWanted}
 use Rattle.demand_oracle.specs.Laws.{SearchFindsTheBest}
 use Rattle.demand_oracle.proofs.Goodness.{as_good_trans, as_good_where_other, as_good_where_not, over_other}
@@ -118,12 +119,12 @@ module _ (offer : Offer) (menu : IsMenu offer.menu) where
               (as_good_where_not offer champion chosen takable.feasible.set node.takable.feasible.set
               (λ more. none.0 (subst (λ b. wanted b ≡ true) same is_wanted, more)));
         }
-    finds k chosen (s ∷ undecided) champion result node is up takable (inl closed) =
-        subst (IsFound wanted chosen (s ∷ undecided) champion) (sym closed.1) record {
+    finds k chosen (s ∷ undecided) champion result node is up takable (inl pruned) =
+        subst (IsFound wanted chosen (s ∷ undecided) champion) (sym pruned.1) record {
           takable = takable;
           over_champion = inl refl;
           over_all =
-              λ bundle may is_wanted extends. closed.0 bundle may is_wanted
+              λ bundle may is_wanted extends. pruned.0 bundle may is_wanted
               (extends_completes k chosen bundle (subst (λ later. Extends chosen later bundle) is extends));
         }
     finds k chosen (s ∷ undecided) champion result node is up takable (inr (inl both)) =
@@ -167,7 +168,7 @@ module _ (offer : Offer) (menu : IsMenu offer.menu) where
       → IsSearched offer wanted k chosen undecided champion result → wanted result ≡ true
   stays_wanted wanted k chosen [] champion result fits (inl more) = subst (λ b. wanted b ≡ true) (sym more.1) more.0.0
   stays_wanted wanted k chosen [] champion result fits (inr none) = subst (λ b. wanted b ≡ true) (sym none.1) fits
-  stays_wanted wanted k chosen (s ∷ undecided) champion result fits (inl closed) = subst (λ b. wanted b ≡ true) (sym closed.1) fits
+  stays_wanted wanted k chosen (s ∷ undecided) champion result fits (inl pruned) = subst (λ b. wanted b ≡ true) (sym pruned.1) fits
   stays_wanted wanted k chosen (s ∷ undecided) champion result fits (inr (inl both)) =
       stays_wanted wanted (k + 1) chosen undecided both.0 result (stays_wanted wanted (k + 1) (chosen ++ s ∷ []) undecided champion both.0 fits both.2) both.3
   stays_wanted wanted k chosen (s ∷ undecided) champion result fits (inr (inr shut)) = stays_wanted wanted (k + 1) chosen undecided champion result fits shut.1

@@ -7,7 +7,7 @@ use Rattle.std.proofs.lemmas.Int.{ints}
 use Rattle.std.proofs.lemmas.List.{length-map}
 use Rattle.market_units.specs.Totals.{total}
 use Rattle.market_units.proofs.Sums.{total-append}
-use Rattle.bundle_rules.specs.Sets.{has}
+use Rattle.market_units.specs.Members.{has}
 use Rattle.bundle_rules.specs.Existence.Members.{has-here}
 use Rattle.bundle_rules.specs.Wishes.{utility}
 use Rattle.bundle_rules.specs.Menus.{IsMenu, by_place, credits_at, place_in, wishes_of}

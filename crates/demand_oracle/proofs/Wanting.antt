@@ -1,7 +1,8 @@
 -- Where nothing that completes a node is wanted.
 use Rattle.std.proofs.Common.{◌≡◌, ◌<◌, ◌≤◌, ◌+◌, ◌++◌, ℕ, Bool, true, false, List, [], ◌∷◌, length, refl, sym, ◌∙◌, subst, inl, inr, arith}
 use Rattle.std.proofs.lemmas.Bool.{cases_Bool, true≢false}
-use Rattle.bundle_rules.specs.Sets.{has, IsAscending}
+use Rattle.market_units.specs.Members.{has}
+use Rattle.bundle_rules.specs.Sets.{IsAscending}
 use Rattle.bundle_rules.specs.Menus.{IsMenu, wishes_of, section_at, place_in}
 use Rattle.bundle_rules.specs.Existence.Places.{section_at-place_in}
 use Rattle.bundle_rules.proofs.Parts.{IsPart, choice_part}

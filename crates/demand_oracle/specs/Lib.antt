@@ -1,9 +1,12 @@
+pub mod AtPlaces
 pub mod Beside
-pub mod Branches
-pub mod Cells
+pub mod Champions
+pub mod Columns
 pub mod Covers
 pub mod Laws
+pub mod OpenWords
+pub mod Questions
 pub mod Reaches
 pub mod Search
+pub mod SummedNodes
 pub mod Values
-pub mod Waiting

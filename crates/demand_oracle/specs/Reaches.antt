@@ -1,5 +1,6 @@
 -- What a table of what can be reached says of the offer that it was measured for.
 use Rattle.std.specs.Prelude.{ℕ, ◌*◌, ◌+◌, ◌-◌, ◌≤◌, ◌<◌, ◌≡◌, max, true, List, [], length, slice_index, slice_index_or}
+use Rattle.market_units.specs.declared.limits.TheConstants.{MAX_COURSES}
 use Rattle.bundle_rules.specs.Menus.{credits_at}
 use Rattle.bundle_bounds.specs.Offers.{Offer, allowed_at}
 use Rattle.demand_oracle.specs.declared.multipliers.Multipliers.{Multipliers}
@@ -47,7 +48,7 @@ pub record IsPlaced (courses v cost k next : ℕ) (old new : List (List ℕ)) : 
       → within_at new k (count + 1) units
       ≡ max (within_at old (k + 1) (count + 1) units)
       (within_at old next count (units - cost) + v)
-  pub later : (j count units : ℕ) → k < j → count ≤ 8
+  pub later : (j count units : ℕ) → k < j → count ≤ MAX_COURSES
       → within_at new j count units ≡ within_at old j count units
 
 -- no allowed place has fewer credits

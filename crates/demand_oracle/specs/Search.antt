@@ -1,13 +1,13 @@
 -- The search for the best of the wanted bundles: depth first over the places of the menu, with the
 -- best wanted bundle so far as its champion.
 use Rattle.std.specs.Prelude.{ℕ, ◌+◌, ◌≡◌, ◌⊎◌, Bool, true, Option, None, Some, List, [], ◌∷◌, ◌++◌}
-use Rattle.bundle_rules.specs.Sets.{has}
+use Rattle.market_units.specs.Members.{has}
 use Rattle.bundle_rules.specs.Wishes.{Wishes}
 use Rattle.bundle_rules.specs.Menus.{MenuData, wishes_of, section_at}
 use Rattle.bundle_rules.specs.Preferences.{IsPreferred}
 use Rattle.bundle_bounds.specs.Offers.{Offer}
 use Rattle.bundle_bounds.specs.Laws.{IsTakable}
-use Rattle.bundle_bounds.specs.Closings.{IsAsGood, MayClose}
+use Rattle.bundle_bounds.specs.Prunings.{IsAsGood, MayPrune}
 
 -- which bundles are wanted: all, or those with the section of a given place
 abbrev pub wanted_by : MenuData → Option ℕ → List ℕ → Bool
@@ -18,16 +18,16 @@ wanted_by menu (Some place) bundle = has bundle (section_at menu.places place)
 abbrev pub IsBetter : Wishes → (List ℕ → Bool) → List ℕ → List ℕ → Type 0
 IsBetter wishes wanted chosen champion = (wanted chosen ≡ true) × IsPreferred wishes chosen champion
 
--- the champion after the node that has decided the places below k, where these sections are
--- undecided: a node is closed where it may be, else it is tried with the next section, where that
--- may be taken, and then without it; at the end the better one of the chosen sections and the
--- champion stays
+-- The result is the champion after a search below this node, where these sections are undecided.
+-- Where none is, it is the better of the chosen sections and the champion. Where the node may be
+-- pruned, the champion may stay as it is; else the search goes on with the next section, if it may
+-- be taken, and then without it.
 abbrev pub IsSearched : Offer → (List ℕ → Bool) → ℕ → List ℕ → List ℕ → List ℕ → List ℕ → Type 0
 IsSearched offer wanted k chosen [] champion result =
     (IsBetter (wishes_of offer.menu) wanted chosen champion × (result ≡ chosen))
     ⊎ ((¬ IsBetter (wishes_of offer.menu) wanted chosen champion) × (result ≡ champion))
 IsSearched offer wanted k chosen (s ∷ undecided) champion result =
-    (MayClose offer wanted k chosen champion × (result ≡ champion))
+    (MayPrune offer wanted k chosen champion × (result ≡ champion))
     ⊎ (((between : List ℕ) × IsTakable offer (chosen ++ s ∷ []) × IsSearched offer wanted (k + 1) (chosen ++ s ∷ []) undecided champion between × IsSearched offer wanted (k + 1) chosen undecided between result)
     ⊎ ((¬ IsTakable offer (chosen ++ s ∷ [])) × IsSearched offer wanted (k + 1) chosen undecided champion result))
 

@@ -8,7 +8,7 @@ use crate::multipliers::Multipliers;
 use crate::tables::{MILLION, PLACES};
 use bundle_bounds::price_of_place;
 use bundle_rules::Menu;
-use market_units::{SectionSet, Tokens};
+use market_units::{MAX_RATINGS, SectionSet, Tokens};
 
 // The places that are chosen so far, and what they leave.
 #[derive(Clone, Copy)]
@@ -25,8 +25,9 @@ pub(crate) struct Draft {
 }
 
 impl Draft {
-    // As many places as the course cap allows, each the one that adds most to those before it, of
-    // those that fit.
+    /// As many places as the course cap allows, or fewer where no more fit: each the one that adds
+    /// most to those before it, less what its price and its credits are counted for, of those that
+    /// fit.
     pub(crate) fn of(
         menu: &Menu,
         prices: &[Tokens],
@@ -70,9 +71,9 @@ impl Draft {
         draft
     }
 
-    // Whether the place is chosen.
+    /// Whether the place is chosen.
     pub(crate) fn has(&self, place: u8) -> bool
-        requires { place < 60 }
+        requires { place < MAX_RATINGS }
     {
         (self.chosen >> place) & 1 == 1
     }

@@ -2,7 +2,7 @@
 //! a law.
 ghost use Rattle.demand_oracle.specs.Laws.{SearchFindsTheBest, ReachIsSound, ReachWithinIsSound};
 
-/// A search from a takable wanted champion that closes a node only where no takable wanted bundle
+/// A search from a takable wanted champion that prunes a node only where no takable wanted bundle
 /// that completes it is better than the champion finds the best of the wanted bundles, whichever
 /// are wanted.
 pub fn search_finds_the_best()

@@ -1,18 +1,20 @@
 //! The bundle that a student wants at given prices, of all bundles or of those with a given
 //! section, by branch and bound: what can at most still be reached from a node is looked up in a
 //! table that is made once a demand.
-// Neither: a bound on the number of nodes, and what `opened` counts. That `closes` is true often: a
+// Neither: a bound on the number of nodes, and what `opened` counts. That `prunes` is true often: a
 // table that says everywhere that enough can be reached would keep every clause.
 #![tactic(auto)]
 
-mod branch;
+mod below;
 mod draft;
+mod goods;
 pub mod laws;
 mod multipliers;
 mod oracle;
-mod pending;
 mod places;
+mod question;
 mod reach;
+mod summed_node;
 mod tables;
 
 pub use oracle::{Workspace, demand, demand_beside, demand_from, demand_with};

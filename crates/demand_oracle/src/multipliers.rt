@@ -12,7 +12,7 @@ use crate::places::fitting;
 use crate::tables::{MILLION, PLACES, ROWS};
 use bundle_bounds::price_of_place;
 use bundle_rules::Menu;
-use market_units::{MAX_COURSES, SectionSet, Tokens};
+use market_units::{MAX_COURSES, MAX_RATINGS, MAX_SECTION_CREDITS, SectionSet, Tokens};
 
 /// What a token of the price and a credit are counted for, in millionths of a point of utility.
 #[derive(Clone, Copy, Debug)]
@@ -27,6 +27,9 @@ const HIGHEST_MULTIPLIER: u64 = 1 << 28;
 
 // How often two lines are made to meet.
 const MEETINGS: usize = 3;
+
+// At most this many places are picked.
+const COURSES: usize = MAX_COURSES as usize;
 
 // What may be scarce.
 #[derive(Clone, Copy)]
@@ -65,7 +68,8 @@ struct Line {
     taken: u64,
 }
 
-// Multipliers of both resources at which little can be reached.
+/// What a token and a credit are counted for, in the tables of what can be reached. Any multipliers
+/// are right; with these the tables have small numbers, so that much is pruned.
 pub(crate) fn multipliers_at(
     menu: &Menu,
     prices: &[Tokens],
@@ -75,7 +79,7 @@ pub(crate) fn multipliers_at(
     lightest: u32,
 ) -> Multipliers
     requires prices { HasPrices menu.now prices.now }
-    requires lightest { lightest ≤ 100 }
+    requires lightest { lightest ≤ MAX_SECTION_CREDITS }
 {
     let mut items = [NO_ITEM; PLACES];
     let len = items_of(menu, prices, allowed, hopes, &mut items);
@@ -100,7 +104,7 @@ fn meeting_multiplier(
     multipliers: Multipliers,
     rest: u32,
 ) -> Multipliers
-    requires { count ≤ 8 }
+    requires { count ≤ MAX_COURSES }
 {
     let mut low = line_at(items, count, scarce, multipliers);
     let mut high = Line { worth: 0, taken: 0 };
@@ -138,9 +142,9 @@ fn with_multiplier(multipliers: Multipliers, scarce: Scarce, multiplier: u64) ->
 
 // The line of the greatest values at these multipliers.
 fn line_at(items: &[Item], count: usize, scarce: Scarce, multipliers: Multipliers) -> Line
-    requires { count ≤ 8 }
+    requires { count ≤ MAX_COURSES }
 {
-    let mut picks = [NO_PICK; 8];
+    let mut picks = [NO_PICK; COURSES];
     for item in items {
         put(&mut picks[..count], pick_of(item, scarce, multipliers));
     }
@@ -198,7 +202,7 @@ fn items_of(
     items: &mut [Item; PLACES],
 ) -> usize
     requires { HasPrices menu.now prices.now }
-    ensures { result ≤ 60 }
+    ensures { result ≤ MAX_RATINGS }
 {
     let mut count = 0;
     for place in 0..menu.len() {

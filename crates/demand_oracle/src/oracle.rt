@@ -1,25 +1,24 @@
-// The best bundle, by a depth-first search that closes nodes by what can still be reached from
+// The best bundle, by a depth-first search that prunes nodes by what can still be reached from
 // them.
-ghost use Rattle.std.specs.Prelude.{◌≡◌, ◌<◌, ◌≤◌, ◌⊎◌, ◌↔◌, [], ◌∷◌, ℕ, List, true, Some, IfSome, IfNone, IsTrue, length};
+ghost use Rattle.std.specs.Prelude.{◌≡◌, ◌<◌, [], ◌∷◌, ℕ, true, IfSome, IfNone, length};
 ghost use Rattle.std.specs.FinSet as set;
 ghost use Rattle.bundle_rules.specs.Bundles.{sections_of};
-ghost use Rattle.bundle_rules.specs.Sets.{has};
+ghost use Rattle.market_units.specs.Members.{has};
 ghost use Rattle.bundle_rules.specs.Demand.{price_in, HasPrices, IsBest};
 ghost use Rattle.bundle_rules.specs.Given.{IsBestWith, SomeHas};
-ghost use Rattle.bundle_rules.specs.Menus.{wishes_of, section_at, IsMenu};
-ghost use Rattle.bundle_rules.specs.Wishes.{IsFeasible};
-ghost use Rattle.bundle_bounds.specs.Closings.{MayClose};
-ghost use Rattle.bundle_bounds.specs.Laws.{IsNode, IsTakable};
+ghost use Rattle.bundle_rules.specs.Menus.{wishes_of, section_at};
+ghost use Rattle.bundle_bounds.specs.Laws.{IsTakable};
 ghost use Rattle.bundle_bounds.specs.Offers.{offer_of};
-ghost use Rattle.demand_oracle.specs.Branches.{chosen_of, IsBranch};
-ghost use Rattle.demand_oracle.specs.Reaches.{IsReach};
+ghost use Rattle.demand_oracle.specs.SummedNodes.{chosen_of, IsSummed};
 ghost use Rattle.demand_oracle.specs.Beside.{LeadsThoseWithout};
-ghost use Rattle.demand_oracle.specs.Search.{wanted_by, IsBetter, LeadsWanted};
-ghost use Rattle.demand_oracle.specs.Waiting.{IsChampion, MayWait, before_waiting, HasStepped};
+ghost use Rattle.demand_oracle.specs.Champions.{IsChampion};
+ghost use Rattle.demand_oracle.specs.Search.{wanted_by, LeadsWanted};
 
-use crate::branch::Branch;
-use crate::pending::Pending;
+use crate::below::below;
+use crate::goods::Goods;
+use crate::question::Question;
 use crate::reach::{Reach, begun_with};
+use crate::summed_node::SummedNode;
 use bundle_rules::{Bundle, Menu, prefers};
 use market_units::{NoMemory, SectionNo, SectionSet, Tokens};
 use std::alloc::Global;
@@ -32,12 +31,11 @@ pub struct Workspace {
     frames: Frames,
 }
 
-// The branches that wait in a search, how many were opened, and what more each can reach. The table
-// stands last: its end is seldom written, so that what a search writes at each node shares no line
-// of the cache with the workspace of another thread that stands next to it.
+// How many nodes the last search opened, and what more each can reach. The table stands last: its
+// end is seldom written, so that what a search writes shares no line of the cache with the workspace
+// of another thread that stands next to it.
 #[derive(Drop)]
 struct Frames {
-    pending: Pending,
     opened: u64,
     reach: Reach,
 }
@@ -49,27 +47,23 @@ impl Model for Workspace {
     ghost Value = { ⊤ };
 
     ghost view = { λ _. tt };
-
-    // Between two demands no branch waits.
-    ghost invariant = { λ workspace. workspace.frames.pending ≡ [] };
 }
 
 impl Workspace {
-    /// A workspace of which no demand was asked.
-    pub fn reserve(alloc: Global) -> Result<Workspace, NoMemory> {
-        let pending = Pending::reserve(alloc)?;
+    /// A workspace of which no demand was asked. All that it holds stands in itself, so that it takes
+    /// no memory of the allocator, and this is an `Ok`.
+    pub fn reserve(_alloc: Global) -> Result<Workspace, NoMemory> {
         Ok(Workspace {
             frames: Frames {
-                pending,
-                reach: Reach::empty(),
                 opened: 0,
+                reach: Reach::empty(),
             },
         })
     }
 
-    /// How many nodes the last demand opened: those of which it looked up what can be reached, and
-    /// in a search for bundles with a section those too that can not have it any more. It is there
-    /// to be measured: no clause speaks of it.
+    /// How many nodes the last demand opened: those of which it looked up what can be reached. A
+    /// place that can not be taken with the chosen ones is passed without one. It is there to be
+    /// measured: no clause speaks of it.
     pub fn opened(&self) -> u64 {
         self.frames.opened
     }
@@ -221,18 +215,16 @@ fn place_alone(
     if place >= menu.len() {
         return None;
     }
-    if !Branch::root().may_take(menu, prices, budget, allowed, place) {
+    if !SummedNode::root().may_take(menu, prices, budget, allowed, place) {
         return None;
     }
     Some(place)
 }
 
 // The best bundle, of those with the section of a place where one is given, which may be taken
-// alone: the root is looked at first, and while branches are left, the next one. Where a first
-// bundle is told, the search may begin with it, and where both are, it may end with it: with what
-// is as good as all bundles with the section. Each of the demands has its own copy of the machine
-// code of this and of what it calls, so that the plain one asks nothing about a given place.
-#[inline(always)]
+// alone: what the search below the root leaves. Where a first bundle is told, the search may begin
+// with it, and where both are, it may end with it: with what is as good as all bundles with the
+// section.
 fn search(
     frames: &mut Frames,
     menu: &Menu,
@@ -243,7 +235,6 @@ fn search(
     first: Option<&Bundle>,
 ) -> Bundle
     requires prices { HasPrices menu.now prices.now }
-    requires none { frames.old.pending ≡ [] }
     requires given { IfSome given (λ place. place < length menu.now.places) }
     requires alone { IfSome given
         (λ place. IsTakable (offer_of menu.now prices.now budget.0 allowed.now)
@@ -251,32 +242,27 @@ fn search(
     ensures leads { LeadsWanted (offer_of menu.now prices.now budget.0 allowed.now)
         (wanted_by menu.now given) (sections_of result) }
     ensures wanted { IfNone first.entry (wanted_by menu.now given (sections_of result) ≡ true) }
-    ensures none { frames.new.pending ≡ [] }
 {
-    frames.opened = 0;
     frames.reach.measure(menu, prices, budget, allowed);
+    let goods = Goods::of(menu, prices, budget, allowed);
     let reach = &frames.reach;
     let mut champion = first_champion(reach, menu, prices, budget, allowed, given, first);
-    let mut next = Some(Branch::root());
-    while let Some(branch) = next {
-        next = step(
-            frames,
-            menu,
-            prices,
-            budget,
-            allowed,
-            given,
-            branch,
-            &mut champion,
-        );
-    }
+    let question = Question {
+        menu,
+        prices,
+        budget,
+        allowed,
+        given,
+        reach,
+        goods: &goods,
+    };
+    frames.opened = below(&question, &SummedNode::root(), goods.alone, &mut champion);
     champion.node.chosen
 }
 
 // The champion that a search begins with: where a place is given, its section alone, or the first
-// bundle where one is told; and where none is given a branch that begins well, of the first bundle
+// bundle where one is told; and where none is given a node that begins well, of the first bundle
 // where it is worth no less.
-#[inline(always)]
 fn first_champion(
     reach: &Reach,
     menu: &Menu,
@@ -285,7 +271,7 @@ fn first_champion(
     allowed: &SectionSet,
     given: Option<u8>,
     first: Option<&Bundle>,
-) -> Branch
+) -> SummedNode
     requires prices { HasPrices menu.now prices.now }
     requires given { IfSome given (λ place. place < length menu.now.places) }
     requires alone { IfSome given
@@ -305,7 +291,6 @@ fn first_champion(
 
 // The section of the given place alone, or what may be taken of the first bundle, where one is
 // told.
-#[inline(always)]
 fn begun_beside(
     menu: &Menu,
     prices: &[Tokens],
@@ -313,7 +298,7 @@ fn begun_beside(
     allowed: &SectionSet,
     place: u8,
     first: Option<&Bundle>,
-) -> Branch
+) -> SummedNode
     requires prices { HasPrices menu.now prices.now }
     requires place { place < length menu.now.places }
     requires alone { IsTakable (offer_of menu.now prices.now budget.0 allowed.now)
@@ -324,180 +309,33 @@ fn begun_beside(
 {
     match first {
         Some(bundle) => begun_with(menu, prices, budget, allowed, bundle),
-        None => Branch::alone(menu, prices, place),
+        None => SummedNode::alone(menu, prices, place),
     }
 }
 
-// The branch, or that of the first bundle where it is told and worth no less.
-#[inline(always)]
+// The node, or that of the first bundle where it is told and worth no less.
 fn from_first(
     menu: &Menu,
     prices: &[Tokens],
     budget: Tokens,
     allowed: &SectionSet,
     first: Option<&Bundle>,
-    branch: Branch,
-) -> Branch
+    summed: SummedNode,
+) -> SummedNode
     requires prices { HasPrices menu.now prices.now }
-    requires branch { IsBranch menu.now (price_in prices.now) branch }
+    requires summed { IsSummed menu.now (price_in prices.now) summed }
     requires takable { IsTakable (offer_of menu.now prices.now budget.0 allowed.now)
-        (chosen_of branch) }
-    ensures branch { IsBranch menu.now (price_in prices.now) result }
+        (chosen_of summed) }
+    ensures summed { IsSummed menu.now (price_in prices.now) result }
     ensures takable { IsTakable (offer_of menu.now prices.now budget.0 allowed.now)
         (chosen_of result) }
 {
     let Some(bundle) = first else {
-        return branch;
+        return summed;
     };
     let begun = begun_with(menu, prices, budget, allowed, bundle);
-    if begun.utility() >= branch.utility() {
+    if begun.utility() >= summed.utility() {
         return begun;
     }
-    branch
-}
-
-// Looks at a branch, and tells the branch to look at after it, or `None` where none is left. The
-// chosen sections are compared with the champion, or the branch is closed, or it is tried with its
-// next section, where that may be taken, while it waits without it. Without the given section
-// nothing is looked at.
-#[inline(always)]
-fn step(
-    frames: &mut Frames,
-    menu: &Menu,
-    prices: &[Tokens],
-    budget: Tokens,
-    allowed: &SectionSet,
-    given: Option<u8>,
-    branch: Branch,
-    champion: &mut Branch,
-) -> Option<Branch>
-    requires prices { HasPrices menu.now prices.now }
-    requires given { IfSome given (λ place. place < length menu.now.places) }
-    requires reach { IsReach (offer_of menu.now prices.now budget.0 allowed.now) frames.old.reach }
-    requires branch { MayWait (offer_of menu.now prices.now budget.0 allowed.now)
-        (branch ∷ frames.old.pending) }
-    requires champion { IsChampion (offer_of menu.now prices.now budget.0 allowed.now)
-        champion.old }
-    ensures menu { IsMenu menu.now }
-    ensures reach { frames.new.reach ≡ frames.old.reach }
-    ensures champion { IsChampion (offer_of menu.now prices.now budget.0 allowed.now) champion.new }
-    ensures last { IfNone result (frames.new.pending ≡ []) }
-    ensures stepped { HasStepped (offer_of menu.now prices.now budget.0 allowed.now)
-        (wanted_by menu.now given) (branch ∷ frames.old.pending) (chosen_of champion.old)
-        (before_waiting result frames.new.pending) (chosen_of champion.new) }
-{
-    if is_whole(menu, &branch) {
-        *champion = better(menu, given, branch, *champion);
-        return frames.pending.take();
-    }
-    frames.opened = frames.opened.saturating_add(1);
-    if is_lost(menu, prices, budget, allowed, given, &branch) {
-        return frames.pending.take();
-    }
-    let reach = &frames.reach;
-    if reach.closes(menu, budget, &branch, champion) {
-        return frames.pending.take();
-    }
-    let without = branch.without_next();
-    if !branch.may_take(menu, prices, budget, allowed, branch.node.place) {
-        return Some(without);
-    }
-    let with_it = branch.with_next(menu, prices);
-    if is_given(given, branch.node.place) {
-        return Some(with_it);
-    }
-    frames.pending.put(without);
-    Some(with_it)
-}
-
-// Whether nothing more can be taken: all places are decided, or as many sections are chosen as the
-// course cap allows. Such a branch stands for its chosen sections alone.
-#[inline(always)]
-fn is_whole(menu: &Menu, branch: &Branch) -> bool
-    ensures menu { IsMenu menu.now }
-    ensures whole { IsTrue result
-        ↔ ((length menu.now.places ≤ branch.now.node.place)
-        ⊎ (menu.now.courses ≤ length (chosen_of branch.now))) }
-{
-    if branch.node.place >= menu.len() {
-        return true;
-    }
-    branch.node.chosen.sections().len() >= usize::from(menu.courses())
-}
-
-// Whether the given place is undecided, and its section may no more be taken with the chosen ones.
-#[inline(always)]
-fn is_lost(
-    menu: &Menu,
-    prices: &[Tokens],
-    budget: Tokens,
-    allowed: &SectionSet,
-    given: Option<u8>,
-    branch: &Branch,
-) -> bool
-    requires prices { HasPrices menu.now prices.now }
-    requires given { IfSome given (λ place. place < length menu.now.places) }
-    requires branch { IsBranch menu.now (price_in prices.now) branch.now }
-    requires node { IsNode (offer_of menu.now prices.now budget.0 allowed.now) branch.now.node.place
-        (chosen_of branch.now) }
-    ensures { (champion : List ℕ) → IsMenu menu.now → IsTrue result
-        → MayClose (offer_of menu.now prices.now budget.0 allowed.now) (wanted_by menu.now given)
-        branch.now.node.place (chosen_of branch.now) champion }
-{
-    match given {
-        Some(place) => {
-            if place < branch.node.place {
-                return false;
-            }
-            !branch.may_take(menu, prices, budget, allowed, place)
-        }
-        None => false,
-    }
-}
-
-// Whether the place is the given one.
-#[inline(always)]
-fn is_given(given: Option<u8>, place: u8) -> bool
-    ensures { IsTrue result ↔ (given ≡ Some place) }
-{
-    match given {
-        Some(other) => other == place,
-        None => false,
-    }
-}
-
-// Whether the bundle has the section of the given place, where one is given.
-#[inline(always)]
-fn is_wanted(menu: &Menu, given: Option<u8>, bundle: &Bundle) -> bool
-    requires { IfSome given (λ place. place < length menu.now.places) }
-    ensures { result ≡ wanted_by menu.now given (sections_of bundle.now) }
-{
-    match given {
-        Some(place) => bundle.has(menu.rated(place).section),
-        None => true,
-    }
-}
-
-// The branch, where its sections are wanted and preferred to those of the champion, and else the
-// champion.
-#[inline(always)]
-fn better(menu: &Menu, given: Option<u8>, branch: Branch, champion: Branch) -> Branch
-    requires given { IfSome given (λ place. place < length menu.now.places) }
-    requires branch { (price : ℕ → ℕ) × IsBranch menu.now price branch }
-    requires champion { (price : ℕ → ℕ) × IsBranch menu.now price champion }
-    requires chosen { IsFeasible (wishes_of menu.now) (chosen_of branch) }
-    requires held { IsFeasible (wishes_of menu.now) (chosen_of champion) }
-    ensures { (IsBetter (wishes_of menu.now) (wanted_by menu.now given) (chosen_of branch) (chosen_of champion) × (result ≡ branch))
-        ⊎ ((¬ IsBetter (wishes_of menu.now) (wanted_by menu.now given) (chosen_of branch) (chosen_of champion)) × (result ≡ champion)) }
-{
-    if !is_wanted(menu, given, &branch.node.chosen) {
-        return champion;
-    }
-    if branch.utility() < champion.utility() {
-        return champion;
-    }
-    if !prefers(menu, &branch.node.chosen, &champion.node.chosen) {
-        return champion;
-    }
-    branch
+    summed
 }

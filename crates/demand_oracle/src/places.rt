@@ -2,10 +2,14 @@
 ghost use Rattle.std.specs.Prelude.{◌≡◌, ◌<◌, ◌≤◌, ◌*◌, ℕ, All, length, slice_index};
 ghost use Rattle.market_units.specs.Totals.{total};
 
-// What the adjustments of the chosen places can add, in a row of such numbers.
-pub(crate) fn hopes_of(row: &[u16; 60], chosen: &[u8]) -> u32
-    requires on_menu { All (λ place. place < 60) chosen.now }
-    requires few { length chosen.now ≤ 8 }
+use crate::tables::PLACES;
+use market_units::{MAX_COURSES, MAX_RATINGS, MAX_SECTION_CREDITS};
+
+/// What the adjustments of the chosen places can add: their numbers in a row of the table of hopes,
+/// added up.
+pub(crate) fn hopes_of(row: &[u16; PLACES], chosen: &[u8]) -> u32
+    requires on_menu { All (λ place. place < MAX_RATINGS) chosen.now }
+    requires few { length chosen.now ≤ MAX_COURSES }
     ensures value { result ≡ total (slice_index row.now) chosen.now }
     ensures high { result ≤ 65535 * length chosen.now }
 {
@@ -15,11 +19,11 @@ pub(crate) fn hopes_of(row: &[u16; 60], chosen: &[u8]) -> u32
     }
 }
 
-// How many more sections fit, where the lightest has so many credits. Without this number flat
-// ratings open a million nodes.
+/// How many more sections fit, where the lightest has so many credits: never fewer than do, and at
+/// most as many as there are courses left. Without this number flat ratings open a million nodes.
 pub(crate) fn fitting(courses: u32, credits: u32, lightest: u32) -> u32
-    requires courses { courses ≤ 8 }
-    requires lightest { lightest ≤ 100 }
+    requires courses { courses ≤ MAX_COURSES }
+    requires lightest { lightest ≤ MAX_SECTION_CREDITS }
     ensures within { result ≤ courses }
     ensures enough { (count : ℕ) → count ≤ courses → count * lightest ≤ credits → count ≤ result }
 {

@@ -2,19 +2,20 @@
 ghost use Rattle.std.specs.Prelude.{◌≡◌, ◌↔◌, ◌<◌, ◌≤◌, ◌+◌, ◌*◌, ◌-◌, ◌^◌, ◌-ℤ◌, ◌*ℤ◌, ◌≤ℤ◌, ◌<ℤ◌, pos, neg_ℤ, ℕ, Bool, List, IsTrue, length};
 ghost use Rattle.std.specs.Ordering.{nat_cmp};
 ghost use Rattle.std.specs.FinSet as set;
+ghost use Rattle.market_units.specs.declared.limits.TheConstants.{MAX_COURSES, MAX_RATINGS, MAX_SECTION_CREDITS};
 ghost use Rattle.market_units.specs.declared.units.Tokens.{Tokens};
 ghost use Rattle.bundle_rules.specs.Demand.{price_in, HasPrices};
-ghost use Rattle.bundle_rules.specs.Menus.{IsMenu};
+ghost use Rattle.bundle_rules.specs.Menus.{IsMenu, MenuData};
 ghost use Rattle.bundle_bounds.specs.Offers.{offer_of};
 ghost use Rattle.bundle_bounds.specs.Laws.{IsTakable, IsNode};
-ghost use Rattle.demand_oracle.specs.Branches.{chosen_of, IsBranch};
-ghost use Rattle.bundle_bounds.specs.Closings.{MayClose};
+ghost use Rattle.demand_oracle.specs.SummedNodes.{chosen_of, IsSummed};
+ghost use Rattle.bundle_bounds.specs.Prunings.{MayPrune};
 ghost use Rattle.demand_oracle.specs.Covers.{IsAdded};
 
-use crate::branch::Branch;
 use crate::draft::Draft;
 use crate::multipliers::{Multipliers, multipliers_at};
 use crate::places::{fitting, hopes_of};
+use crate::summed_node::SummedNode;
 use crate::tables::{
     COUNTS, MILLION, PLACES, ROWS, THOUSAND, Table, UNITS, in_units, lightest, put_hopes, put_most,
     shift_for,
@@ -35,14 +36,26 @@ pub struct Reach {
     credits: Multipliers,
     shift: u32,
     most: Table,
-    ghost light: { lightest ≤ 100 },
+    ghost light: { lightest ≤ MAX_SECTION_CREDITS },
     ghost short: { shift < 32 },
+}
+
+/// What is looked up at each place where the same sections are chosen: how many more fit, how many
+/// units are left of the budget, and what is paid at the multipliers for what is left.
+#[derive(Clone, Copy)]
+pub struct Column {
+    count: usize,
+    units: usize,
+    paid: u64,
+    ghost few: { count ≤ MAX_COURSES },
+    ghost low: { units < 64 },
 }
 
 impl Reach {
     ghost use Rattle.demand_oracle.specs.Reaches.{IsReach};
+    ghost use Rattle.demand_oracle.specs.Columns.{IsColumn};
 
-    /// A table that was measured for no demand yet: `closes` promises nothing before `measure`.
+    /// A table that was measured for no demand yet: `prunes` promises nothing before `measure`.
     pub fn empty() -> Reach {
         let nothing = Multipliers {
             money: 0,
@@ -90,94 +103,128 @@ impl Reach {
         );
     }
 
-    /// Whether nothing that completes the branch's node can be better than the champion: less can
-    /// be reached than its utility, or less than one more, and the first decided section on which
-    /// they differ is the champion's. So nothing that is wanted can, whatever bundles are wanted.
-    /// The table is one that was measured for the same menu and budget.
+    /// What is looked up in all places for the sections that a node has chosen. The table is one that
+    /// was measured for the same menu and budget.
     #[inline(always)]
-    pub fn closes(&self, menu: &Menu, budget: Tokens, branch: &Branch, champion: &Branch) -> bool
-        requires branch { (price : ℕ → ℕ) × IsBranch menu.now price branch.now }
-        requires place { branch.now.node.place ≤ length menu.now.places }
-        ensures { (wanted : List ℕ → Bool) (prices : List Tokens) (allowed : set.FinSet nat_cmp) → IsReach (offer_of menu.now prices budget.0 allowed) self.now
-            → IsBranch menu.now (price_in prices) branch.now → IsNode (offer_of menu.now prices budget.0 allowed) branch.now.node.place (chosen_of branch.now)
-            → IsBranch menu.now (price_in prices) champion.now → IsTakable (offer_of menu.now prices budget.0 allowed) (chosen_of champion.now)
-            → IsTrue result → MayClose (offer_of menu.now prices budget.0 allowed) wanted branch.now.node.place (chosen_of branch.now) (chosen_of champion.now) }
+    pub fn column(&self, menu: &Menu, budget: Tokens, summed: &SummedNode) -> Column
+        requires { IsMenu menu.now }
+        ensures { IsColumn menu.now budget.0 self.now summed.now result }
     {
-        prove!(branch.node.place <= menu.len());
-        let added = self.added(menu, budget, branch);
-        let hoped = hopes_of(&self.hopes[usize::from(branch.node.place)], branch.places());
-        let lacking = lacking(champion.utility(), branch.utility(), hoped);
+        let count = self.fitting(menu, summed);
+        let budget_left = summed.budget_left(budget);
+        let units = in_units(budget_left, self.shift);
+        if units >= UNITS as u32 {
+            return Column {
+                count,
+                units: 0,
+                paid: ENOUGH,
+            };
+        }
+        let credits_left = summed.credits_left(menu);
+        let paid = self.credits.money * u64::from(budget_left)
+            + self.credits.credits * u64::from(credits_left);
+        Column {
+            count,
+            units: units as usize,
+            paid,
+        }
+    }
+
+    /// Whether nothing that completes the node where the places below this one are decided can be
+    /// better than the champion: less can be reached than its utility, or less than one more, and
+    /// the first decided section on which they differ is the champion's. So nothing that is wanted
+    /// can, whatever bundles are wanted. The table is one that was measured for the same menu and
+    /// budget, and the column is that of the node's sections.
+    #[inline(always)]
+    pub fn prunes(
+        &self,
+        menu: &Menu,
+        column: &Column,
+        summed: &SummedNode,
+        place: u8,
+        champion: &SummedNode,
+    ) -> bool
+        requires summed { (price : ℕ → ℕ) × IsSummed menu.now price summed.now }
+        requires place { place ≤ length menu.now.places }
+        ensures { (wanted : List ℕ → Bool) (prices : List Tokens) (budget : ℕ) (allowed : set.FinSet nat_cmp) → IsReach (offer_of menu.now prices budget allowed) self.now
+            → IsColumn menu.now budget self.now summed.now column.now
+            → IsSummed menu.now (price_in prices) summed.now → IsNode (offer_of menu.now prices budget allowed) place (chosen_of summed.now)
+            → IsSummed menu.now (price_in prices) champion.now → IsTakable (offer_of menu.now prices budget allowed) (chosen_of champion.now)
+            → IsTrue result → MayPrune (offer_of menu.now prices budget allowed) wanted place (chosen_of summed.now) (chosen_of champion.now) }
+    {
+        prove!(place <= menu.len());
+        let added = self.added(column, place);
+        let short = lacking(champion.utility(), summed.utility(), 0);
+        // Adjustments can only add, so they are looked up where the rest is too little.
+        if !is_below(added, short + 1) {
+            return false;
+        }
+        let hoped = hopes_of(&self.hopes[usize::from(place)], summed.places());
+        let lacking = lacking(champion.utility(), summed.utility(), hoped);
         if is_below(added, lacking) {
             return true;
         }
-        is_below(added, lacking + 1) && branch.is_behind(champion)
+        is_below(added, lacking + 1) && summed.is_behind(place, champion)
     }
 
-    /// A branch that begins well: its sections are chosen one after another, each the one that adds
+    /// A node that begins well: its sections are chosen one after another, each the one that adds
     /// most for what it takes, of those that fit. A search that begins with it as its champion
-    /// closes most nodes at once. The table is one that was measured for the same menu, prices,
-    /// budget and allowed sections; with another the branch may be worth little.
+    /// prunes most nodes at once. The table is one that was measured for the same menu, prices,
+    /// budget and allowed sections; with another the node may be worth little.
     pub fn first_champion(
         &self,
         menu: &Menu,
         prices: &[Tokens],
         budget: Tokens,
         allowed: &SectionSet,
-    ) -> Branch
+    ) -> SummedNode
         requires { HasPrices menu.now prices.now }
-        ensures branch { IsBranch menu.now (price_in prices.now) result }
+        ensures summed { IsSummed menu.now (price_in prices.now) result }
         ensures takable { IsTakable (offer_of menu.now prices.now budget.0 allowed.now)
             (chosen_of result) }
     {
         let draft = Draft::of(menu, prices, budget, allowed, self.multipliers);
-        let mut branch = Branch::root();
-        while branch.node.place < menu.len() {
-            let is_wanted = draft.has(branch.node.place);
-            branch = followed(menu, prices, budget, allowed, is_wanted, branch);
+        let mut summed = SummedNode::root();
+        while summed.node.place < menu.len() {
+            let is_wanted = draft.has(summed.node.place);
+            summed = followed(menu, prices, budget, allowed, is_wanted, summed);
         }
-        branch
+        summed
     }
 
     // How many more sections fit the course cap and the credits of the lightest.
     #[inline(always)]
-    fn fitting(&self, menu: &Menu, branch: &Branch) -> usize
+    fn fitting(&self, menu: &Menu, summed: &SummedNode) -> usize
         requires { IsMenu menu.now }
         ensures within { result ≤ menu.now.courses }
-        ensures enough { (count : ℕ) → count ≤ menu.now.courses - length (chosen_of branch.now)
-            → count * self.now.lightest ≤ menu.now.credits - branch.now.credits → count ≤ result }
+        ensures enough { (count : ℕ) → count ≤ menu.now.courses - length (chosen_of summed.now)
+            → count * self.now.lightest ≤ menu.now.credits - summed.now.credits → count ≤ result }
     {
         fitting(
-            branch.courses_left(menu),
-            branch.credits_left(menu),
+            summed.courses_left(menu),
+            summed.credits_left(menu),
             self.lightest,
         ) as usize
     }
 
-    // A million times the most that can be added to what is hoped for at the branch's node.
+    // A million times the most that can be added to what is hoped for at the node where the places
+    // below this one are decided.
     #[inline(always)]
-    fn added(&self, menu: &Menu, budget: Tokens, branch: &Branch) -> i64
-        requires menu { IsMenu menu.now }
-        requires place { branch.now.node.place ≤ length menu.now.places }
-        ensures value { (prices : List Tokens) (allowed : set.FinSet nat_cmp) → IsReach (offer_of menu.now prices budget.0 allowed) self.now
-            → IsBranch menu.now (price_in prices) branch.now → IsNode (offer_of menu.now prices budget.0 allowed) branch.now.node.place (chosen_of branch.now)
-            → IsAdded (offer_of menu.now prices budget.0 allowed) branch.now.node.place (chosen_of branch.now) result }
+    fn added(&self, column: &Column, place: u8) -> i64
+        requires { place ≤ MAX_RATINGS }
+        ensures value { (menu : MenuData) (prices : List Tokens) (budget : ℕ) (allowed : set.FinSet nat_cmp) (summed : SummedNode) → IsMenu menu
+            → place ≤ length menu.places → IsReach (offer_of menu prices budget allowed) self.now → IsColumn menu budget self.now summed column.now
+            → IsSummed menu (price_in prices) summed → IsNode (offer_of menu prices budget allowed) place (chosen_of summed)
+            → IsAdded (offer_of menu prices budget allowed) place (chosen_of summed) result }
         ensures low { pos 0 ≤ℤ result }
     {
-        let budget_left = branch.budget_left(budget);
-        let units = in_units(budget_left, self.shift);
-        if units >= UNITS as u32 {
-            return ENOUGH as i64;
-        }
-        let credits_left = branch.credits_left(menu);
-        let count = self.fitting(menu, branch);
-        let paid = self.credits.money * u64::from(budget_left)
-            + self.credits.credits * u64::from(credits_left);
-        let most = self.most[usize::from(branch.node.place) * COUNTS + count][units as usize];
-        paid.saturating_add(THOUSAND * u64::from(most)).min(ENOUGH) as i64
+        let most = self.most[usize::from(place) * COUNTS + column.count][column.units];
+        let added = column.paid.saturating_add(THOUSAND * u64::from(most));
+        added.min(ENOUGH) as i64
     }
 }
 
-/// A branch that has of a bundle what may be taken, place by place. A search that begins with it as
+/// A node that has of a bundle what may be taken, place by place. A search that begins with it as
 /// its champion is short where the bundle is nearly the best.
 pub fn begun_with(
     menu: &Menu,
@@ -185,47 +232,47 @@ pub fn begun_with(
     budget: Tokens,
     allowed: &SectionSet,
     bundle: &Bundle,
-) -> Branch
+) -> SummedNode
     requires { HasPrices menu.now prices.now }
-    ensures branch { IsBranch menu.now (price_in prices.now) result }
+    ensures summed { IsSummed menu.now (price_in prices.now) result }
     ensures takable { IsTakable (offer_of menu.now prices.now budget.0 allowed.now)
         (chosen_of result) }
 {
-    let mut branch = Branch::root();
-    while branch.node.place < menu.len() {
-        let is_wanted = bundle.has(menu.rated(branch.node.place).section);
-        branch = followed(menu, prices, budget, allowed, is_wanted, branch);
+    let mut summed = SummedNode::root();
+    while summed.node.place < menu.len() {
+        let is_wanted = bundle.has(menu.rated(summed.node.place).section);
+        summed = followed(menu, prices, budget, allowed, is_wanted, summed);
     }
-    branch
+    summed
 }
 
-// The branch with the next section, where it is wanted and may be taken, and else without it.
+// The node with the next section, where it is wanted and may be taken, and else without it.
 fn followed(
     menu: &Menu,
     prices: &[Tokens],
     budget: Tokens,
     allowed: &SectionSet,
     is_wanted: bool,
-    branch: Branch,
-) -> Branch
+    summed: SummedNode,
+) -> SummedNode
     requires prices { HasPrices menu.now prices.now }
-    requires branch { IsBranch menu.now (price_in prices.now) branch }
-    requires node { IsNode (offer_of menu.now prices.now budget.0 allowed.now) branch.node.place
-        (chosen_of branch) }
-    requires next { branch.node.place < length menu.now.places }
-    ensures branch { IsBranch menu.now (price_in prices.now) result }
+    requires summed { IsSummed menu.now (price_in prices.now) summed }
+    requires node { IsNode (offer_of menu.now prices.now budget.0 allowed.now) summed.node.place
+        (chosen_of summed) }
+    requires next { summed.node.place < length menu.now.places }
+    ensures summed { IsSummed menu.now (price_in prices.now) result }
     ensures node { IsNode (offer_of menu.now prices.now budget.0 allowed.now) result.node.place
         (chosen_of result) }
-    ensures place { result.node.place ≡ branch.node.place + 1 }
+    ensures place { result.node.place ≡ summed.node.place + 1 }
 {
-    prove!(branch.node.place < menu.len());
+    prove!(summed.node.place < menu.len());
     if !is_wanted {
-        return branch.without_next();
+        return summed.without_next();
     }
-    if !branch.may_take(menu, prices, budget, allowed, branch.node.place) {
-        return branch.without_next();
+    if !summed.may_take(menu, prices, budget, allowed, summed.node.place) {
+        return summed.without_next();
     }
-    branch.with_next(menu, prices)
+    summed.with_next(menu, prices)
 }
 
 // What a champion's worth has more than a utility and what is hoped for.

@@ -1,7 +1,7 @@
 // How the tables of what can be reached are filled, from the last place to the first.
 ghost use Rattle.std.specs.Ordering.{nat_cmp};
 ghost use Rattle.std.specs.FinSet as set;
-ghost use Rattle.std.specs.Prelude.{◌≡◌, ◌<◌, ◌≤◌, ◌*◌, ◌+◌, ◌-◌, ◌/◌, ◌^◌, ℕ, List, true, max, length, slice_index};
+ghost use Rattle.std.specs.Prelude.{◌≡◌, ◌<◌, ◌≤◌, ◌*◌, ◌+◌, ◌-◌, ◌/◌, ◌^◌, ℕ, List, true, max, unsigned_abs, length, slice_index};
 ghost use Rattle.market_units.specs.declared.units.Tokens.{Tokens};
 ghost use Rattle.bundle_rules.specs.Demand.{HasPrices};
 ghost use Rattle.bundle_rules.specs.Menus.{adjustment_in, clash_in, credits_at, IsMenu};
@@ -13,13 +13,15 @@ ghost use Rattle.demand_oracle.specs.Reaches.{HoldsHopes, HoldsCovers, IsLightes
 use crate::multipliers::Multipliers;
 use bundle_bounds::price_of_place;
 use bundle_rules::Menu;
-use market_units::{MAX_SECTION_CREDITS, SectionSet, Tokens};
+use market_units::{
+    MAX_ADJUSTMENT, MAX_COURSES, MAX_RATINGS, MAX_SECTION_CREDITS, SectionSet, Tokens,
+};
 
-pub(crate) const ROWS: usize = 61;
+pub(crate) const ROWS: usize = MAX_RATINGS + 1;
 
-pub(crate) const PLACES: usize = 60;
+pub(crate) const PLACES: usize = MAX_RATINGS;
 
-pub(crate) const COUNTS: usize = 9;
+pub(crate) const COUNTS: usize = MAX_COURSES as usize + 1;
 
 // With twice as many, 5 percent fewer nodes are opened, and the table takes twice as long to fill.
 pub(crate) const UNITS: usize = 64;
@@ -32,8 +34,8 @@ pub(crate) const THOUSAND: u64 = 1_000;
 // in thousandths of a point of utility: a row for each place and count.
 pub(crate) type Table = [[u32; UNITS]; ROWS * COUNTS];
 
-// So many tokens in whole units, each of which is a power of two of tokens, so that a node divides
-// by a shift. Prices and what is left are both rounded down, so nothing affordable is left out.
+/// So many tokens in whole units, each of which is a power of two of tokens, so that a node divides
+/// by a shift. Prices and what is left are both rounded down, so nothing affordable is left out.
 #[inline(always)]
 pub(crate) fn in_units(tokens: u32, shift: u32) -> u32
     requires { shift < 32 }
@@ -42,7 +44,7 @@ pub(crate) fn in_units(tokens: u32, shift: u32) -> u32
     tokens >> shift
 }
 
-// A shift at which a budget has fewer units than the table has, the least one.
+/// The least shift at which a budget has fewer units than the table has columns.
 pub(crate) fn shift_for(budget: Tokens) -> u32
     ensures { result < 32 }
 {
@@ -54,11 +56,12 @@ pub(crate) fn shift_for(budget: Tokens) -> u32
     31
 }
 
-// The least credits of an allowed place.
+/// The least credits of an allowed place of the menu; the most that any section may have, where
+/// none is allowed.
 pub(crate) fn lightest(menu: &Menu, allowed: &SectionSet) -> u32
     ensures lightest { (prices : List Tokens) (budget : ℕ)
         → IsLightest (offer_of menu.now prices budget allowed.now) result }
-    ensures high { result ≤ 100 }
+    ensures high { result ≤ MAX_SECTION_CREDITS }
 {
     let mut lightest = MAX_SECTION_CREDITS;
     for place in 0..menu.len() {
@@ -82,7 +85,8 @@ fn lighter(menu: &Menu, allowed: &SectionSet, place: u8, lightest: u16) -> u16
     lightest.min(rated.credits)
 }
 
-// Fills the table of what adjustments can add.
+/// Fills the table of hopes: what a place's positive adjustments with the allowed places from
+/// another one on can add to the utility.
 pub(crate) fn put_hopes(menu: &Menu, allowed: &SectionSet, hopes: &mut [[u16; PLACES]; ROWS])
     ensures { (prices : List Tokens) (budget : ℕ)
         → HoldsHopes (offer_of menu.now prices budget allowed.now) hopes.new 0 }
@@ -122,14 +126,15 @@ fn hope_of(menu: &Menu, earlier: u8, place: u8) -> u16
     requires earlier { earlier < length menu.now.places }
     requires place { place < length menu.now.places }
     ensures value { result ≡ above_zero (adjustment_in menu.now.pairs earlier place) }
-    ensures high { result ≤ 200 }
+    ensures high { result ≤ unsigned_abs MAX_ADJUSTMENT }
     ensures menu { IsMenu menu.now }
 {
     prove!(place < menu.len());
     menu.adjustment(earlier, place).max(0) as u16
 }
 
-// Fills the table of the most that so many places can add which cost so many units.
+/// Fills the table of the most that the places from each one on can add, so many of them at most,
+/// which cost so many units at most.
 pub(crate) fn put_most(
     menu: &Menu,
     prices: &[Tokens],
@@ -166,8 +171,8 @@ pub(crate) fn put_most(
 
 // Writes that no place is left to add anything.
 fn put_nothing(place: u8, most: &mut Table)
-    requires { place ≤ 60 }
-    ensures { (count units : ℕ) → count ≤ 8 → within_at most.new place count units ≡ 0 }
+    requires { place ≤ MAX_RATINGS }
+    ensures { (count units : ℕ) → count ≤ MAX_COURSES → within_at most.new place count units ≡ 0 }
 {
     for count in 0..COUNTS {
         most[usize::from(place) * COUNTS + count] = [0; UNITS];
@@ -256,9 +261,9 @@ fn thousandths(value: u64) -> u32
 // later places can add, and of the value with what one fewer can add from the next place on that
 // does not clash.
 fn put_counts(courses: u8, place: u8, next: u8, value: u32, cost: usize, most: &mut Table)
-    requires courses { courses ≤ 8 }
+    requires courses { courses ≤ MAX_COURSES }
     requires place { place < next }
-    requires next { next ≤ 60 }
+    requires next { next ≤ MAX_RATINGS }
     requires value { value ≤ 65635001 }
     requires small { (count units : ℕ) → count < courses → units < 64
         → within_at most.old next count units ≤ 65635001 * count }

@@ -4,10 +4,8 @@ ghost use Rattle.std.specs.Prelude.{◌<◌, ◌≤◌};
 ghost use Rattle.bundle_rules.specs.Demand.{HasPrices};
 
 use super::*;
-use crate::branch::Branch;
-use crate::pending::Pending;
 use bundle_rules::{Bundle, Menu, Rated, best_plain, feasible, has_prices, prefers};
-use market_units::{SectionNo, SectionSet, Tokens};
+use market_units::{MAX_SECTIONS, SectionNo, SectionSet, Tokens};
 use std::alloc::Global;
 use std::process::Abort;
 use std::test::Fail;
@@ -53,7 +51,8 @@ fn the_first_eight_of_sixty(rt: HostRuntime) -> Result<(), Fail> {
         &SectionSet::empty(),
     );
     assert_eq!(rt; nothing.sections().len(), 0);
-    assert_eq!(rt; workspace.opened(), 60);
+    // Where no section is allowed, nothing has to be looked up.
+    assert_eq!(rt; workspace.opened(), 0);
     Ok(())
 }
 
@@ -282,7 +281,7 @@ fn best_beside(
     section: SectionNo,
 ) -> Bundle
     requires prices { HasPrices menu.now prices.now }
-    requires section { section.0 < 400 }
+    requires section { section.0 < MAX_SECTIONS }
 {
     let fewer = allowed.without(section);
     let first = demand(workspace, menu, prices, budget, &fewer);
@@ -331,24 +330,5 @@ fn the_best_beside_one_without_a_section(rt: HostRuntime) -> Result<(), Fail> {
     // Both kinds occur.
     assert!(rt; with_it >= 5);
     assert!(rt; without >= 20);
-    Ok(())
-}
-
-#[test]
-fn the_last_that_was_put_is_next(rt: HostRuntime) -> Result<(), Fail> {
-    let mut pending = Pending::reserve(rt.alloc()).expect(&rt, "memory");
-    for _ in 0..2 {
-        assert!(rt; pending.take().is_none());
-        let mut branch = Branch::root();
-        for place in 0..60 {
-            branch.node.place = place;
-            pending.put(branch);
-        }
-        for place in (0..60).rev() {
-            let next = pending.take().map(|branch| branch.node.place);
-            assert_eq!(rt; next, Some(place));
-        }
-    }
-    assert!(rt; pending.take().is_none());
     Ok(())
 }

@@ -3,14 +3,16 @@ ghost use Rattle.std.specs.Prelude.{◌≡◌, ◌<◌, ◌+◌, ◌∷◌, [], 
 ghost use Rattle.bundle_rules.specs.Bundles.{sections_of};
 ghost use Rattle.bundle_rules.specs.Demand.{price_in};
 ghost use Rattle.demand_api.specs.Asking.{ArePricesFor};
-ghost use Rattle.demand_api.specs.Crowds.{demand_of as crowd_demand, IsWithin};
-ghost use Rattle.demand_api.specs.Made.{crowd_of};
+ghost use Rattle.demand_api.specs.Crowds.{demand_of as crowd_demand};
+ghost use Rattle.demand_api.specs.Views.{data_of};
 ghost use Rattle.demand_api.specs.declared.crowd.Crowd.{Crowd};
-ghost use Rattle.price_board.specs.Openings.{terms_of, IsMade, IsRound};
-ghost use Rattle.price_board.specs.Seats.{HoldsNothing, IsFinished, IsFree, IsHolding, IsSeatOf, dones, posts};
+ghost use Rattle.price_board.specs.Openings.{terms_of, IsRound};
+ghost use Rattle.price_board.specs.Seats.{HoldsNothing, IsFinished, IsFree, IsHolding, IsSeatOf};
 ghost use Rattle.price_board.specs.Terms.{task_count};
+ghost use Rattle.task_board.specs.Seats.{dones, posts};
 
-use bundle_rules::{Bundle, Menu, Rated, best_plain};
+use crate::rivals::rivals;
+use bundle_rules::{Bundle, best_plain};
 use demand_api::Crowd;
 use market_units::{NoMemory, SectionNo, SectionSet, StudentNo, Tokens};
 use price_board::{Ask, Board, BoardSeat, Draw, Posted, Round, Task};
@@ -19,50 +21,12 @@ use std::process::Abort;
 use std::sync::{Arc, Wait};
 use std::test::Fail;
 
-// The menu of a student who wants the one section.
-fn one_section<R: Abort>(rt: &R, alloc: Global) -> Result<Menu, NoMemory>
-    ensures { IfOk result (λ menu. IsWithin 1 menu) }
-{
-    let places = [Rated {
-        section: SectionNo(0),
-        course: 0,
-        rating: 50,
-        credits: 1,
-    }];
-    assert!(rt; Menu::may_build(&places, &[], &[0], 10, 1));
-    let menu = Menu::build(alloc, &places, &[], &[0], 10, 1)?;
-    Ok(menu)
-}
-
-// Four such students, with budgets from 100 to 103.
-fn four_students<R: Abort>(rt: &R, alloc: Global) -> Result<Crowd, Fail>
-    ensures made { IfOk result (λ crowd. IsMade crowd) }
-    ensures students { IfOk result (λ crowd. length crowd.menus.items ≡ 4) }
-    ensures sections { IfOk result (λ crowd. crowd.sections ≡ 1) }
-{
-    let mut menus = Vec::new(alloc);
-    let mut budgets = Vec::new(alloc);
-    for more in 0..4u32 {
-        let menu = one_section(rt, alloc)?;
-        menus.push(menu)?;
-        budgets.push(Tokens(100 + more))?;
-    }
-    Ok(Crowd {
-        menus,
-        budgets,
-        sections: 1,
-    })
-}
-
 // What a student of the crowd takes.
 fn taken(crowd: &Crowd, prices: &[Tokens], student: StudentNo) -> Bundle
-    requires crowd { IsMade crowd.now }
-    requires prices { ArePricesFor
-        (crowd_of crowd.now.menus.items crowd.now.budgets.items crowd.now.sections) prices.now }
+    requires prices { ArePricesFor (data_of crowd.now) prices.now }
     requires student { student.0 < length crowd.now.menus.items }
     ensures { sections_of result
-        ≡ crowd_demand (crowd_of crowd.now.menus.items crowd.now.budgets.items crowd.now.sections)
-        (price_in prices.now) student.0 }
+        ≡ crowd_demand (data_of crowd.now) (price_in prices.now) student.0 }
 {
     let allowed = SectionSet::full(crowd.sections);
     let place = student.0 as usize;
@@ -97,11 +61,8 @@ fn post_for<R: Wait>(
     crowd: &Crowd,
     prices: &[Tokens],
 ) -> Posted
-    requires crowd { IsMade crowd.now }
-    requires prices { ArePricesFor
-        (crowd_of crowd.now.menus.items crowd.now.budgets.items crowd.now.sections) prices.now }
-    requires base { board.now.base.crowd
-        ≡ crowd_of crowd.now.menus.items crowd.now.budgets.items crowd.now.sections }
+    requires prices { ArePricesFor (data_of crowd.now) prices.now }
+    requires base { board.now.base.crowd ≡ data_of crowd.now }
     requires versions { board.now.base.versions ≡ prices.now ∷ [] }
     requires student { student.0 < length crowd.now.menus.items }
     requires seat { IsSeatOf board.now seat.old }
@@ -125,10 +86,8 @@ fn drawn_by<R: Wait>(
     seat: &mut BoardSeat,
     crowd: &Crowd,
 ) -> Result<Vec<u16>, NoMemory>
-    requires crowd { IsMade crowd.now }
     requires sections { crowd.now.sections ≡ 1 }
-    requires base { board.now.base.crowd
-        ≡ crowd_of crowd.now.menus.items crowd.now.budgets.items crowd.now.sections }
+    requires base { board.now.base.crowd ≡ data_of crowd.now }
     requires versions { board.now.base.versions ≡ (record { 0 = 0 } ∷ []) ∷ [] }
     requires free { IsFree board.now seat.old }
     ensures finished { IfOk result (λ _. IsFinished board.now seat.new) }
@@ -148,7 +107,7 @@ fn settle<R: Abort + Wait>(
     alloc: Global,
     limit: u32,
 ) -> Result<(Vec<u16>, Option<bool>), Fail> {
-    let crowd = Arc::new(alloc, four_students(rt, alloc)?)?;
+    let crowd = Arc::new(alloc, rivals(rt, alloc, 4))?;
     let shown = Arc::try_clone(&crowd)?;
     let round = one_version(alloc, limit)?;
     let (board, mut seats) = Board::start(alloc, crowd, round, 1)?;
@@ -160,28 +119,29 @@ fn settle<R: Abort + Wait>(
     Ok((drawn, board.close(seats).exceeds(0)))
 }
 
+// A limit, the students who are drawn until it decides, and whether more take the section.
+const SETTLED: [(u32, &[u16], bool); 3] = [
+    (2, &[0, 1, 2], true),
+    (3, &[0, 1, 2, 3], true),
+    (4, &[], false),
+];
+
 // A version is settled as soon as its posted bundles decide.
 #[test]
 fn a_version_settles_early(rt: HostRuntime) -> Result<(), Fail> {
-    let (drawn, exceeds) = settle(&rt, rt.alloc(), 2)?;
-    assert_eq!(rt; drawn.as_slice(), [0, 1, 2].as_slice());
-    assert_eq!(rt; exceeds, Some(true));
-    let (drawn, exceeds) = settle(&rt, rt.alloc(), 3)?;
-    assert_eq!(rt; drawn.as_slice(), [0, 1, 2, 3].as_slice());
-    assert_eq!(rt; exceeds, Some(true));
-    let (drawn, exceeds) = settle(&rt, rt.alloc(), 4)?;
-    assert_eq!(rt; drawn.as_slice(), [].as_slice());
-    assert_eq!(rt; exceeds, Some(false));
+    for (limit, students, more) in SETTLED {
+        let (drawn, exceeds) = settle(&rt, rt.alloc(), limit)?;
+        assert_eq!(rt; drawn.as_slice(), students);
+        assert_eq!(rt; exceeds, Some(more));
+    }
     Ok(())
 }
 
 // The second worker draws and posts all tasks but the first.
 fn all_but_the_first<R: Abort + Wait>(rt: &R, board: &Board, seat: &mut BoardSeat, crowd: &Crowd)
-    requires crowd { IsMade crowd.now }
     requires sections { crowd.now.sections ≡ 1 }
     requires students { length crowd.now.menus.items ≡ 4 }
-    requires base { board.now.base.crowd
-        ≡ crowd_of crowd.now.menus.items crowd.now.budgets.items crowd.now.sections }
+    requires base { board.now.base.crowd ≡ data_of crowd.now }
     requires versions { board.now.base.versions ≡ (record { 0 = 0 } ∷ []) ∷ [] }
     requires free { IsFree board.now seat.old }
     requires fresh { posts seat.old.own ≡ 0 }
@@ -205,11 +165,9 @@ fn late_and_again<R: Abort + Wait>(
     second: &mut BoardSeat,
     crowd: &Crowd,
 ) -> (Posted, Posted)
-    requires crowd { IsMade crowd.now }
     requires sections { crowd.now.sections ≡ 1 }
     requires students { length crowd.now.menus.items ≡ 4 }
-    requires base { board.now.base.crowd
-        ≡ crowd_of crowd.now.menus.items crowd.now.budgets.items crowd.now.sections }
+    requires base { board.now.base.crowd ≡ data_of crowd.now }
     requires versions { board.now.base.versions ≡ (record { 0 = 0 } ∷ []) ∷ [] }
     requires first_free { IsFree board.now first.old }
     requires second_free { IsFree board.now second.old }
@@ -230,7 +188,7 @@ fn late_and_again<R: Abort + Wait>(
 
 // What they are answered, and whether more than two take the section.
 fn delay<R: Abort + Wait>(rt: &R, alloc: Global) -> Result<(Posted, Posted, Option<bool>), Fail> {
-    let crowd = Arc::new(alloc, four_students(rt, alloc)?)?;
+    let crowd = Arc::new(alloc, rivals(rt, alloc, 4))?;
     let shown = Arc::try_clone(&crowd)?;
     let round = one_version(alloc, 2)?;
     let (board, mut seats) = Board::start(alloc, crowd, round, 2)?;

@@ -15,8 +15,8 @@ fn rated(section: u16, course: u16, rating: u8) -> Rated {
     }
 }
 
-// The first bound that closes a node with nothing chosen for this champion, with its number.
-fn closing<R: Abort>(
+// The first bound that prunes a node with nothing chosen for this champion, with its number.
+fn pruning<R: Abort>(
     rt: &R,
     menu: &Menu,
     prices: &[Tokens],
@@ -47,16 +47,16 @@ fn two_places_with_a_pair(rt: HostRuntime) -> Result<(), Fail> {
     let menu = Menu::build(rt.alloc(), &places, &pairs, &[0, 0], 10, 2).expect(&rt, "memory");
     let prices = [Tokens(50), Tokens(30)];
     let (first, second) = (SectionNo(0), SectionNo(1));
-    assert_eq!(rt; closing(&rt, &menu, &prices, 60, 0, &[first]), None);
+    assert_eq!(rt; pruning(&rt, &menu, &prices, 60, 0, &[first]), None);
     assert_eq!(rt;
-        closing(&rt, &menu, &prices, 60, 0, &[first, second]),
+        pruning(&rt, &menu, &prices, 60, 0, &[first, second]),
         Some((Leaf::Budget(0), 84_000))
     );
     assert_eq!(rt;
-        closing(&rt, &menu, &prices, 60, 1, &[first]),
+        pruning(&rt, &menu, &prices, 60, 1, &[first]),
         Some((Leaf::Plain, 40_000))
     );
-    assert_eq!(rt; closing(&rt, &menu, &prices, 60, 1, &[second]), None);
+    assert_eq!(rt; pruning(&rt, &menu, &prices, 60, 1, &[second]), None);
     Ok(())
 }
 
@@ -68,11 +68,11 @@ fn two_places_of_one_course(rt: HostRuntime) -> Result<(), Fail> {
     let prices = [Tokens(10); 10];
     let champion = [SectionNo(3), SectionNo(9)];
     assert_eq!(rt;
-        closing(&rt, &menu, &prices, 15, 0, &champion),
+        pruning(&rt, &menu, &prices, 15, 0, &champion),
         Some((Leaf::Budget(2), 35_000))
     );
     assert_eq!(rt;
-        closing(&rt, &menu, &prices, 15, 1, &champion),
+        pruning(&rt, &menu, &prices, 15, 1, &champion),
         Some((Leaf::Plain, 30_000))
     );
     Ok(())

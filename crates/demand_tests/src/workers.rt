@@ -1,15 +1,14 @@
 // Four students of budgets 100 to 103 who want the one section, asked by some workers.
-ghost use Rattle.std.specs.Prelude.{◌≡◌, ◌≤◌, IsTrue, IfOk, All, length};
-ghost use Rattle.std.specs.Arc.{arc_value};
+ghost use Rattle.std.specs.Prelude.{◌≤◌, IsTrue};
 ghost use Rattle.demand_api.specs.Asking.{ArePricesFor};
-ghost use Rattle.price_board.specs.Openings.{IsMade};
-ghost use Rattle.demand_workers.specs.Rounds.{data_of, AreVersionsFor};
+ghost use Rattle.demand_api.specs.Views.{data_of};
+ghost use Rattle.demand_workers.specs.Rounds.{AreVersionsFor};
 
-use bundle_rules::{Menu, Rated};
+use crate::rivals::rivals;
 use demand_api::{Crowd, Demands};
-use demand_workers::{Bench, PooledDemands};
+use demand_workers::{Pool, PooledDemands};
 use market_edge::{Gate, OpenGate, Stop};
-use market_units::{NoMemory, SectionNo, StudentNo, Tokens};
+use market_units::{MAX_WORKERS, NoMemory, SectionNo, StudentNo, Tokens};
 use std::alloc::Global;
 use std::process::Abort;
 use std::sync::atomic::{AtomicU64, Ordering};
@@ -55,50 +54,15 @@ impl Gate for CountingGate {
     }
 }
 
-// The menu of a student who wants the one section.
-fn one_section<R: Abort>(rt: &R, alloc: Global) -> Result<Menu, NoMemory> {
-    let places = [Rated {
-        section: SectionNo(0),
-        course: 0,
-        rating: 50,
-        credits: 1,
-    }];
-    assert!(rt; Menu::may_build(&places, &[], &[0], 10, 1));
-    let menu = Menu::build(alloc, &places, &[], &[0], 10, 1)?;
-    Ok(menu)
-}
-
-// So many such students, with budgets from 100 on.
-fn students_from_100<R: Abort>(rt: &R, alloc: Global, count: u32) -> Result<Arc<Crowd>, Fail>
+// So many students with budgets from 100 on, shared by workers.
+fn shared_rivals<R: Abort>(rt: &R, alloc: Global, count: u32) -> Result<Arc<Crowd>, NoMemory>
     requires { count ≤ 100 }
-    ensures { IfOk result (λ crowd. IsMade (arc_value crowd)) }
 {
-    let mut menus = Vec::new(alloc);
-    let mut budgets = Vec::new(alloc);
-    for more in 0..count {
-        let menu = one_section(rt, alloc)?;
-        menus.push(menu)?;
-        budgets.push(Tokens(100 + more))?;
-    }
-    let crowd = Crowd {
-        menus,
-        budgets,
-        sections: 1,
-    };
-    assert!(rt; crowd.is_whole());
-    Ok(Arc::new(alloc, crowd)?)
-}
-
-// Four of them, with budgets from 100 to 103.
-fn four_students<R: Abort>(rt: &R, alloc: Global) -> Result<Arc<Crowd>, Fail>
-    ensures { IfOk result (λ crowd. IsMade (arc_value crowd)) }
-{
-    students_from_100(rt, alloc, 4)
+    Ok(Arc::new(alloc, rivals(rt, alloc, count))?)
 }
 
 // Whether each of these vectors has prices that can be asked of the crowd.
 fn all_have_prices(crowd: &Crowd, batch: &[Vec<Tokens>]) -> bool
-    requires { IsMade crowd.now }
     ensures { IsTrue result → AreVersionsFor (data_of crowd.now) batch.now }
 {
     match batch {
@@ -119,9 +83,9 @@ fn counts_by<R: Abort + Threads + Wait + Sync>(
     workers: u16,
     gate: &(dyn Gate + Sync),
 ) -> Result<[u32; 4], Fail>
-    requires { (1 ≤ workers) × (workers ≤ 16) }
+    requires { (1 ≤ workers) × (workers ≤ MAX_WORKERS) }
 {
-    let crowd = four_students(rt, alloc)?;
+    let crowd = shared_rivals(rt, alloc, 4)?;
     let batch = [
         at(alloc, 104)?,
         at(alloc, 102)?,
@@ -129,7 +93,7 @@ fn counts_by<R: Abort + Threads + Wait + Sync>(
         at(alloc, 0)?,
     ];
     assert!(rt; all_have_prices(&crowd, &batch));
-    let mut demands = PooledDemands::make(Bench::reserve(alloc, workers)?, crowd, gate);
+    let mut demands = PooledDemands::make(Pool::reserve(alloc, workers)?, crowd, gate);
     let found = demands.counts(rt, alloc, &batch)?;
     let mut counts = [9; 4];
     assert_eq!(rt; found.len(), 4);
@@ -142,10 +106,10 @@ fn counts_by<R: Abort + Threads + Wait + Sync>(
 
 #[test]
 fn counts_of_four_students(rt: HostRuntime) -> Result<(), Fail> {
-    let alloc = rt.alloc();
-    assert_eq!(rt; counts_by(&rt, alloc, 1, &OpenGate)?, [0, 2, 1, 4]);
-    assert_eq!(rt; counts_by(&rt, alloc, 2, &OpenGate)?, [0, 2, 1, 4]);
-    assert_eq!(rt; counts_by(&rt, alloc, 16, &OpenGate)?, [0, 2, 1, 4]);
+    for workers in [1, 2, 16] {
+        let found = counts_by(&rt, rt.alloc(), workers, &OpenGate)?;
+        assert_eq!(rt; found, [0, 2, 1, 4], "{workers} workers");
+    }
     Ok(())
 }
 
@@ -171,7 +135,7 @@ fn counts_in_turn<R: Abort + Threads + Wait + Sync>(
     rt: &R,
     alloc: Global,
 ) -> Result<[(u32, u64); 3], Fail> {
-    let crowd = four_students(rt, alloc)?;
+    let crowd = shared_rivals(rt, alloc, 4)?;
     let first = [at(alloc, 102)?];
     let second = [at(alloc, 103)?];
     let third = [at(alloc, 0)?];
@@ -179,7 +143,7 @@ fn counts_in_turn<R: Abort + Threads + Wait + Sync>(
     assert!(rt; all_have_prices(&crowd, &second));
     assert!(rt; all_have_prices(&crowd, &third));
     let gate = CountingGate::new();
-    let mut demands = PooledDemands::make(Bench::reserve(alloc, 2)?, crowd, &gate);
+    let mut demands = PooledDemands::make(Pool::reserve(alloc, 2)?, crowd, &gate);
     let found = demands.counts(rt, alloc, &first)?;
     let at_first = (only(rt, &found), gate.take().1);
     let found = demands.counts(rt, alloc, &second)?;
@@ -204,12 +168,12 @@ fn bundles_by<R: Abort + Threads + Wait + Sync>(
     alloc: Global,
     workers: u16,
 ) -> Result<[bool; 4], Fail>
-    requires { (1 ≤ workers) × (workers ≤ 16) }
+    requires { (1 ≤ workers) × (workers ≤ MAX_WORKERS) }
 {
-    let crowd = four_students(rt, alloc)?;
+    let crowd = shared_rivals(rt, alloc, 4)?;
     let prices = [Tokens(102)];
     assert!(rt; crowd.has_prices(&prices));
-    let mut demands = PooledDemands::make(Bench::reserve(alloc, workers)?, crowd, &OpenGate);
+    let mut demands = PooledDemands::make(Pool::reserve(alloc, workers)?, crowd, &OpenGate);
     assert_eq!(rt; demands.students(), 4);
     assert_eq!(rt; demands.top(), Tokens(104));
     let students = [StudentNo(3), StudentNo(0), StudentNo(2), StudentNo(2)];
@@ -224,11 +188,10 @@ fn bundles_by<R: Abort + Threads + Wait + Sync>(
 
 #[test]
 fn bundles_of_four_students(rt: HostRuntime) -> Result<(), Fail> {
-    let alloc = rt.alloc();
-    let wanted = [true, false, true, true];
-    assert_eq!(rt; bundles_by(&rt, alloc, 1)?, wanted);
-    assert_eq!(rt; bundles_by(&rt, alloc, 2)?, wanted);
-    assert_eq!(rt; bundles_by(&rt, alloc, 16)?, wanted);
+    for workers in [1, 2, 16] {
+        let found = bundles_by(&rt, rt.alloc(), workers)?;
+        assert_eq!(rt; found, [true, false, true, true], "{workers} workers");
+    }
     Ok(())
 }
 
@@ -239,12 +202,12 @@ fn settle<R: Abort + Threads + Wait + Sync>(
     alloc: Global,
     limit: u32,
 ) -> Result<(bool, u64), Fail> {
-    let crowd = four_students(rt, alloc)?;
+    let crowd = shared_rivals(rt, alloc, 4)?;
     let prices = [Tokens(0)];
     assert!(rt; crowd.has_prices(&prices));
     assert_eq!(rt; crowd.sections, 1);
     let gate = CountingGate::new();
-    let mut demands = PooledDemands::make(Bench::reserve(alloc, 1)?, crowd, &gate);
+    let mut demands = PooledDemands::make(Pool::reserve(alloc, 1)?, crowd, &gate);
     let more = demands.exceeds(rt, alloc, &prices, SectionNo(0), limit)?;
     let (_, calls) = gate.take();
     Ok((more, calls))
@@ -252,10 +215,9 @@ fn settle<R: Abort + Threads + Wait + Sync>(
 
 #[test]
 fn a_comparison_settles_early(rt: HostRuntime) -> Result<(), Fail> {
-    let alloc = rt.alloc();
-    assert_eq!(rt; settle(&rt, alloc, 2)?, (true, 3));
-    assert_eq!(rt; settle(&rt, alloc, 3)?, (true, 4));
-    assert_eq!(rt; settle(&rt, alloc, 4)?, (false, 0));
+    for (limit, wanted) in [(2, (true, 3)), (3, (true, 4)), (4, (false, 0))] {
+        assert_eq!(rt; settle(&rt, rt.alloc(), limit)?, wanted);
+    }
     Ok(())
 }
 
@@ -263,11 +225,11 @@ fn a_comparison_settles_early(rt: HostRuntime) -> Result<(), Fail> {
 #[test]
 fn least_prices_of_four_students(rt: HostRuntime) -> Result<(), Fail> {
     let alloc = rt.alloc();
-    let crowd = four_students(&rt, alloc)?;
+    let crowd = shared_rivals(&rt, alloc, 4)?;
     let prices = [Tokens(50)];
     assert!(rt; crowd.has_prices(&prices));
     assert_eq!(rt; crowd.sections, 1);
-    let mut demands = PooledDemands::make(Bench::reserve(alloc, 2)?, crowd, &OpenGate);
+    let mut demands = PooledDemands::make(Pool::reserve(alloc, 2)?, crowd, &OpenGate);
     let section = SectionNo(0);
     let pairs = [(section, 2), (section, 4), (section, 0), (section, 1)];
     let found = demands.least_prices(&rt, alloc, &prices, &pairs)?;
@@ -281,11 +243,11 @@ fn least_prices_of_four_students(rt: HostRuntime) -> Result<(), Fail> {
 #[test]
 fn least_prices_of_many(rt: HostRuntime) -> Result<(), Fail> {
     let alloc = rt.alloc();
-    let crowd = students_from_100(&rt, alloc, 100)?;
+    let crowd = shared_rivals(&rt, alloc, 100)?;
     let prices = [Tokens(50)];
     assert!(rt; crowd.has_prices(&prices));
     assert_eq!(rt; crowd.sections, 1);
-    let mut demands = PooledDemands::make(Bench::reserve(alloc, 2)?, crowd, &OpenGate);
+    let mut demands = PooledDemands::make(Pool::reserve(alloc, 2)?, crowd, &OpenGate);
     let section = SectionNo(0);
     let pairs = [(section, 30), (section, 10), (section, 100)];
     let found = demands.least_prices(&rt, alloc, &prices, &pairs)?;

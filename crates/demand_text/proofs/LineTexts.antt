@@ -4,9 +4,8 @@ use Rattle.std.specs.Prelude.{Some, option_map, slice_get}
 use Rattle.std.proofs.lemmas.List.{get_or-map, get_or_default, length-map}
 use Rattle.bundle_rules.specs.Bundles.{sections_of}
 use Rattle.bundle_rules.specs.declared.bundle.Bundle.{Bundle}
-use Rattle.course_catalog.specs.Sections.{Section, section_at}
+use Rattle.course_catalog.specs.Sections.{Section, section_at, section_names}
 use Rattle.market_certificate.specs.Lines.{joined}
-use Rattle.market_certificate.specs.Tables.{section_names}
 use Rattle.market_certificate.specs.Texts.{each_line}
 use Rattle.market_certificate.proofs.Joins.{each_more, joined_append, text_more, value_at}
 use Rattle.market_units.proofs.NameLists.{read_at}

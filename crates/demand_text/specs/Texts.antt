@@ -1,9 +1,8 @@
 -- The text of what a crowd takes at given prices.
 use Rattle.std.specs.Prelude.{ℕ, List, [], ◌∷◌, ◌++◌, codes}
 use Rattle.std.specs.Fmt.{decimal}
-use Rattle.course_catalog.specs.Sections.{Section}
+use Rattle.course_catalog.specs.Sections.{Section, section_names}
 use Rattle.market_certificate.specs.Lines.{joined, spaced}
-use Rattle.market_certificate.specs.Tables.{section_names}
 use Rattle.market_certificate.specs.Texts.{bundle_text, each_line, error_line, order_line}
 use Rattle.preference_desk.specs.Journals.{sessions_of}
 use Rattle.preference_desk.specs.declared.entry.Entry.{Entry}

@@ -3,7 +3,7 @@ ghost use Rattle.std.specs.Prelude.{◌≡◌, ◌<◌, ◌++◌, ◌∷◌, [],
 ghost use Rattle.std.specs.Fmt.{decimal};
 ghost use Rattle.market_units.specs.Name.{name_bytes};
 ghost use Rattle.bundle_rules.specs.Bundles.{sections_of};
-ghost use Rattle.market_certificate.specs.Tables.{section_names};
+ghost use Rattle.course_catalog.specs.Sections.{section_names};
 ghost use Rattle.market_certificate.specs.Texts.{order_line};
 ghost use Rattle.preference_desk.specs.Journals.{sessions_of};
 ghost use Rattle.demand_text.specs.Texts.{count_line, taken_line};
@@ -40,7 +40,7 @@ fn put_sessions(text: &mut Vec<u8>, journal: &[Entry]) -> Result<(), NoMemory>
     Ok(())
 }
 
-// Puts the line of what a student takes behind the text.
+/// Puts the line of what a student takes behind the text: its name and its bundle.
 pub(crate) fn put_taken(
     text: &mut Vec<u8>,
     catalog: &Catalog,
@@ -62,7 +62,7 @@ pub(crate) fn put_taken(
     Ok(())
 }
 
-// Puts the line of a section's count behind the text.
+/// Puts the line of a section behind the text: its name, and how many students take it.
 pub(crate) fn put_count(text: &mut Vec<u8>, section: &Name, count: u32) -> Result<(), NoMemory>
     ensures { OnOk result
         (text.new.items ≡ text.old.items ++ count_line (name_bytes section.now) count ++ 10 ∷ []) }

@@ -7,7 +7,7 @@ ghost use Rattle.demand_text.specs.Taken.{IsTakenBy, taken_at};
 use bundle_rules::Bundle;
 use clearing_error::error;
 use demand_api::Demands;
-use market_units::{NoMemory, SectionNo, Tokens};
+use market_units::{MAX_SECTIONS, MAX_STUDENTS, NoMemory, SectionNo, Tokens};
 use own_price::Held;
 use std::alloc::Global;
 use std::marker::Model;
@@ -102,10 +102,10 @@ fn capped(alloc: Global, prices: &[Tokens], top: Tokens) -> Result<Vec<Tokens>, 
 // How many students take each of so many sections.
 fn counts_of(alloc: Global, held: &Held, sections: usize) -> Result<Vec<u32>, NoMemory>
     requires sections { sections ≡ length held.now.prices }
-    requires few { sections ≤ 400 }
+    requires few { sections ≤ MAX_SECTIONS }
     ensures each { IfOk result
         (λ found. found.items ≡ map (λ s. holders s held.now.bundles) (places_from 0 sections)) }
-    ensures few { IfOk result (λ found. All (λ count. count ≤ 2000) found.items) }
+    ensures few { IfOk result (λ found. All (λ count. count ≤ MAX_STUDENTS) found.items) }
 {
     let mut counts = Vec::with_capacity(alloc, sections)?;
     'sections: for section in 0..sections {

@@ -4,7 +4,7 @@ ghost use Rattle.bundle_rules.specs.Bundles.{sections_of};
 ghost use Rattle.demand_text.specs.Taken.{IsTakenBy};
 ghost use Rattle.demand_text.specs.Texts.{count_line, demand_text, taken_line};
 ghost use Rattle.market_certificate.specs.Lines.{joined};
-ghost use Rattle.market_certificate.specs.Tables.{section_names};
+ghost use Rattle.course_catalog.specs.Sections.{section_names};
 ghost use Rattle.market_certificate.specs.Texts.{each_line};
 ghost use Rattle.student_roll.specs.Students.{names_of};
 

@@ -7,7 +7,7 @@ use Rattle.market_units.specs.declared.units.Tokens.{Tokens}
 use Rattle.market_units.specs.declared.units.StudentNo.{StudentNo}
 use Rattle.bundle_rules.specs.declared.bundle.Bundle.{Bundle}
 use Rattle.bundle_rules.specs.Bundles.{sections_of}
-use Rattle.bundle_rules.specs.Sets.{has}
+use Rattle.market_units.specs.Members.{has}
 use Rattle.bundle_rules.specs.Ordinals.{ordinals}
 use Rattle.bundle_rules.specs.Demand.{price_in}
 use Rattle.demand_api.specs.Counting.{AreCounts, HasCounted}

@@ -10,23 +10,26 @@ use Rattle.std.proofs.lemmas.List.Elements.{All-cons, All-tail, All-set}
 use Rattle.std.proofs.lemmas.List.Sorted.{All-permutation, IsPermutation-sym, sum_by_popped, sum_by_pushed}
 use Rattle.market_units.specs.declared.units.Tokens.{Tokens}
 use Rattle.market_units.specs.Totals.{total}
-use Rattle.bundle_rules.specs.Sets.{has, IsAscending}
+use Rattle.market_units.specs.Members.{has}
+use Rattle.bundle_rules.specs.Sets.{IsAscending}
 use Rattle.bundle_rules.specs.Demand.{price_in}
 use Rattle.bundle_rules.specs.Existence.Orders.{none_below}
 use Rattle.bundle_rules.specs.Menus.{MenuData}
 use Rattle.bundle_rules.proofs.BestValue.{best-is}
+use Rattle.demand_api.specs.declared.crowd.Crowd.{Crowd}
 use Rattle.demand_api.specs.Asking.{ArePricesFor}
 use Rattle.demand_api.specs.Crowds.{Student, CrowdData, top, demand, demands, demand_of, count}
-use Rattle.demand_api.specs.Made.{MakeCrowd, crowd_of, greatest}
+use Rattle.demand_api.specs.Parts.{greatest}
+use Rattle.demand_api.specs.Views.{data_of}
 use Rattle.demand_api.specs.Prices.{with_price, IsRaised, IsLeastFrom}
 use Rattle.demand_api.proofs.Counts.{taken_falls, member_le, demands_by_top}
 use Rattle.demand_api.proofs.Halving.{with_here, with_there, with_raised, price_at, price_kept, price_written, tried}
 use Rattle.demand_api.proofs.Keeping.{same_cost, none_falls}
-use Rattle.demand_api.proofs.Takers.{demand_at, top_found}
+use Rattle.demand_api.proofs.Parts.{top_found, top_high}
+use Rattle.demand_api.proofs.Takers.{demand_at}
 use Rattle.demand_workers.specs.Leaving.{takes, leaves, listed, Keeps, AreLeft}
 use Rattle.demand_workers.proofs.HolderSums.{one_at, listed-cons, count_at_least, count_at_most}
 use Rattle.demand_workers.proofs.Recalling.{kept_demand}
-use Rattle.demand_workers.proofs.Rounds.{top_high}
 
 -- at the same prices a student takes the same
 pub demand_same : (crowd : CrowdData) (one other : ℕ → ℕ) (i : ℕ) → ((t : ℕ) → one t ≡ other t) → demand_of crowd one i ≡ demand_of crowd other i
@@ -89,13 +92,13 @@ total_raised s more before after is up (t ∷ ts) ascending = elim (cases_order 
 ]
 
 -- a holder takes the section as long as its price is not higher by more than what is left of the budget
-pub holder_keeps : (menus : List MenuData) (budgets : List Tokens) (sections : ℕ) (price : ℕ → ℕ) (s more i : ℕ) (menu : MenuData) (budget : Tokens)
+pub holder_keeps : (crowd : Crowd) (price : ℕ → ℕ) (s more i : ℕ) (menu : MenuData) (budget : Tokens)
     (bundle : List ℕ)
-    → length budgets ≡ length menus → i < length menus
-    → menu ≡ slice_index_or menus i menu → budget ≡ slice_index_or budgets i budget → bundle ≡ demand_of (crowd_of menus budgets sections) price i
+    → i < length crowd.menus.items
+    → menu ≡ slice_index_or crowd.menus.items i menu → budget ≡ slice_index_or crowd.budgets.items i budget → bundle ≡ demand_of (data_of crowd) price i
     → has bundle s ≡ true → IsAscending bundle → total price bundle + more ≤ budget.0
-    → takes (crowd_of menus budgets sections) price s (price s + more) i ≡ true
-holder_keeps menus budgets sections price s more i menu budget bundle same low is has_it told holds ascending paid =
+    → takes (data_of crowd) price s (price s + more) i ≡ true
+holder_keeps crowd price s more i menu budget bundle low is has_it told holds ascending paid =
     let after : ℕ → ℕ = with_price price s (price s + more) in
     let raised : IsRaised s price after =
     record {
@@ -103,34 +106,34 @@ holder_keeps menus budgets sections price s more i menu budget bundle same low i
       raised = (let e : after s ≡ price s + more = with_here price s (price s + more) in omega arith);
     } in
     let cost : total after bundle ≤ total price bundle + more = total_raised s more price after raised (with_here price s (price s + more)) bundle ascending in
-    let kept : bundle ≡ demand_of (crowd_of menus budgets sections) after i =
-    kept_demand menus budgets sections price after i menu budget bundle same low is has_it
+    let kept : bundle ≡ demand_of (data_of crowd) after i =
+    kept_demand crowd price after i menu budget bundle low is has_it
     (λ k d within. none_falls s price after raised (slice_index_or menu.places k d).section.0)
     (let goal : total after bundle ≤ budget.0 = omega arith in goal) told in
     ap (λ b. has b s) (sym kept) ∙ holds
 
 -- what a student takes is affordable
-pub taken_affordable : (menus : List MenuData) (budgets : List Tokens) (sections : ℕ) (price : ℕ → ℕ) (i : ℕ) (menu : MenuData) (budget : Tokens)
+pub taken_affordable : (crowd : Crowd) (price : ℕ → ℕ) (i : ℕ) (menu : MenuData) (budget : Tokens)
     (bundle : List ℕ)
-    → length budgets ≡ length menus → i < length menus
-    → menu ≡ slice_index_or menus i menu → budget ≡ slice_index_or budgets i budget → bundle ≡ demand_of (crowd_of menus budgets sections) price i
+    → i < length crowd.menus.items
+    → menu ≡ slice_index_or crowd.menus.items i menu → budget ≡ slice_index_or crowd.budgets.items i budget → bundle ≡ demand_of (data_of crowd) price i
     → total price bundle ≤ budget.0
-taken_affordable menus budgets sections price i menu budget bundle same low is has_it told =
-    let was : bundle ≡ demand sections price (record { menu = menu; budget = budget.0 }) =
-    told ∙ demand_at menus budgets sections price i menu budget same low ∙ same_student in
-    subst (λ (b : List ℕ). total price b ≤ budget.0) (sym was) (best-is menu price budget.0 (λ t. nat_lt t sections)).choice.affordable
+taken_affordable crowd price i menu budget bundle low is has_it told =
+    let was : bundle ≡ demand crowd.sections price (record { menu = menu; budget = budget.0 }) =
+    told ∙ demand_at crowd price i menu budget low ∙ same_student in
+    subst (λ (b : List ℕ). total price b ≤ budget.0) (sym was) (best-is menu price budget.0 (λ t. nat_lt t crowd.sections)).choice.affordable
   where
-    same_student : demand sections price (record { menu = slice_index_or menus i menu; budget = (slice_index_or budgets i budget).0 })
-        ≡ demand sections price (record { menu = menu; budget = budget.0 })
+    same_student : demand crowd.sections price (record { menu = slice_index_or crowd.menus.items i menu; budget = (slice_index_or crowd.budgets.items i budget).0 })
+        ≡ demand crowd.sections price (record { menu = menu; budget = budget.0 })
     same_student = rw (← is, ← has_it) refl
 
 -- a budget is below the top
-pub budget_below_top : (menus : List MenuData) (budgets : List Tokens) (sections i : ℕ) (budget : Tokens) → length budgets ≡ length menus → i < length menus
-    → budget ≡ slice_index_or budgets i budget → budget.0 < top (crowd_of menus budgets sections)
-budget_below_top menus budgets sections i budget same low is =
-    let most : (slice_index_or budgets i budget).0 ≤ greatest budgets = among budgets i (omega arith) in
-    let e : budget.0 ≡ (slice_index_or budgets i budget).0 = ap (λ (b : Tokens). b.0) is in
-    let at_top : greatest budgets + 1 ≡ top (crowd_of menus budgets sections) = top_found menus budgets sections (greatest budgets) same refl in
+pub budget_below_top : (crowd : Crowd) (i : ℕ) (budget : Tokens) → i < length crowd.menus.items
+    → budget ≡ slice_index_or crowd.budgets.items i budget → budget.0 < top (data_of crowd)
+budget_below_top crowd i budget low is =
+    let most : (slice_index_or crowd.budgets.items i budget).0 ≤ greatest crowd.budgets.items = among crowd.budgets.items i (omega arith) in
+    let e : budget.0 ≡ (slice_index_or crowd.budgets.items i budget).0 = ap (λ (b : Tokens). b.0) is in
+    let at_top : greatest crowd.budgets.items + 1 ≡ top (data_of crowd) = top_found crowd (greatest crowd.budgets.items) refl in
     omega arith
   where
     among : (bs : List Tokens) (k : ℕ) → k < length bs → (slice_index_or bs k budget).0 ≤ greatest bs
@@ -152,27 +155,27 @@ pub record HolderTold (crowd : CrowdData) (prices : List Tokens) (s i place cost
   pub top_most : top crowd ≤ 1000001
   pub still : takes crowd (price_in prices) s (price_in prices s + (budget - cost)) i ≡ true
 
-pub holder_told : (menus : List MenuData) (budgets : List Tokens) (sections : ℕ) (prices : List Tokens) (s i place cost : ℕ) (budget : Tokens) (bundle : List ℕ)
-    → MakeCrowd menus budgets sections → ArePricesFor (crowd_of menus budgets sections) prices → s < sections → i < length menus
-    → budget ≡ slice_index_or budgets i budget → bundle ≡ demand_of (crowd_of menus budgets sections) (price_in prices) i → has bundle s ≡ true
+pub holder_told : (crowd : Crowd) (prices : List Tokens) (s i place cost : ℕ) (budget : Tokens) (bundle : List ℕ)
+    → ArePricesFor (data_of crowd) prices → s < crowd.sections → i < length crowd.menus.items
+    → budget ≡ slice_index_or crowd.budgets.items i budget → bundle ≡ demand_of (data_of crowd) (price_in prices) i → has bundle s ≡ true
     → IsAscending bundle → cost ≡ total (price_in prices) bundle → place ≡ s
-    → HolderTold (crowd_of menus budgets sections) prices s i place cost budget.0
-holder_told menus budgets sections prices s i place cost budget bundle make are within low has_it told holds ascending sum at =
-    let some = some_menu menus i low in
+    → HolderTold (data_of crowd) prices s i place cost budget.0
+holder_told crowd prices s i place cost budget bundle are within low has_it told holds ascending sum at =
+    let some = some_menu crowd.menus.items i low in
     let paid : total (price_in prices) bundle ≤ budget.0 =
-    taken_affordable menus budgets sections (price_in prices) i some.0 budget bundle make.same low some.1 has_it told in
+    taken_affordable crowd (price_in prices) i some.0 budget bundle low some.1 has_it told in
     let part : price_in prices s ≤ total (price_in prices) bundle = member_le (price_in prices) bundle s holds in
-    let high : budget.0 < top (crowd_of menus budgets sections) = budget_below_top menus budgets sections i budget make.same low has_it in
-    let length_is : length prices ≡ sections = are.same in
+    let high : budget.0 < top (data_of crowd) = budget_below_top crowd i budget low has_it in
+    let length_is : length prices ≡ crowd.sections = are.same in
     let read : price_in prices s ≡ (slice_index_or prices s (record { 0 = 0 })).0 =
     price_at prices s (record { 0 = 0 }) (let goal : s < length prices = omega arith in goal) in
     record {
       paid = (let goal : cost ≤ budget.0 = omega arith in goal);
       price = ap (λ (n : ℕ). (slice_index_or prices n (record { 0 = 0 })).0) at ∙ sym read;
-      most = (let goal : price_in prices s + (budget.0 - cost) + 1 ≤ top (crowd_of menus budgets sections) = omega arith in goal);
-      top_most = top_high menus budgets sections make;
+      most = (let goal : price_in prices s + (budget.0 - cost) + 1 ≤ top (data_of crowd) = omega arith in goal);
+      top_most = top_high crowd;
       still =
-          holder_keeps menus budgets sections (price_in prices) s (budget.0 - cost) i some.0 budget bundle make.same low some.1 has_it told holds ascending
+          holder_keeps crowd (price_in prices) s (budget.0 - cost) i some.0 budget bundle low some.1 has_it told holds ascending
           (let goal : total (price_in prices) bundle + (budget.0 - cost) ≤ budget.0 = omega arith in goal);
     }
 

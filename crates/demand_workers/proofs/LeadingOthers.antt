@@ -5,13 +5,14 @@ use Rattle.std.proofs.lemmas.Bool.{cases_order}
 use Rattle.market_units.specs.declared.units.Tokens.{Tokens}
 use Rattle.market_units.specs.Totals.{total}
 use Rattle.bundle_rules.specs.declared.menu.Rated.{Rated}
-use Rattle.bundle_rules.specs.Sets.{has}
+use Rattle.market_units.specs.Members.{has}
 use Rattle.bundle_rules.specs.Demand.{price_in, IsBest}
 use Rattle.bundle_rules.specs.Menus.{MenuData, wishes_of}
 use Rattle.bundle_rules.specs.Wishes.{Wishes}
 use Rattle.bundle_rules.proofs.BestValue.{best-is}
+use Rattle.demand_api.specs.declared.crowd.Crowd.{Crowd}
 use Rattle.demand_api.specs.Crowds.{demand, demand_of}
-use Rattle.demand_api.specs.Made.{crowd_of}
+use Rattle.demand_api.specs.Views.{data_of}
 use Rattle.demand_api.proofs.Keeping.{total_has_le}
 use Rattle.demand_api.proofs.Takers.{demand_at}
 use Rattle.demand_oracle.specs.Beside.{LeadsThoseWithout}
@@ -50,20 +51,20 @@ dearer_but menu sections first past section before after below same same' within
     no_other_cheaper first past before after s within one (omega arith) (omega arith) (λ e. other (e ∙ sym its))
 
 -- so it is with what a student took
-pub leads_demand : (menus : List MenuData) (budgets : List Tokens) (sections : ℕ) (before after : ℕ → ℕ) (i : ℕ) (menu : MenuData) (budget : Tokens)
+pub leads_demand : (crowd : Crowd) (before after : ℕ → ℕ) (i : ℕ) (menu : MenuData) (budget : Tokens)
     (allowed : ℕ → Bool) (section : ℕ) (bundle : List ℕ)
-    → length budgets ≡ length menus → i < length menus
-    → menu ≡ slice_index_or menus i menu → budget ≡ slice_index_or budgets i budget → ((s : ℕ) → allowed s ≡ nat_lt s sections)
+    → i < length crowd.menus.items
+    → menu ≡ slice_index_or crowd.menus.items i menu → budget ≡ slice_index_or crowd.budgets.items i budget → ((s : ℕ) → allowed s ≡ nat_lt s crowd.sections)
     → ((s : ℕ) → 0 < (wishes_of menu).rating s → s ≢ section → before s ≤ after s) → total after bundle ≤ budget.0
-    → bundle ≡ demand_of (crowd_of menus budgets sections) before i → LeadsThoseWithout (wishes_of menu) after budget.0 allowed section bundle
-leads_demand menus budgets sections before after i menu budget allowed section bundle same low is has_it allows dearer affordable told =
-    let within : ℕ → Bool = λ t. nat_lt t sections in
-    let was : bundle ≡ demand sections before (record { menu = menu; budget = budget.0 }) =
-    told ∙ demand_at menus budgets sections before i menu budget same low ∙ same_student in
+    → bundle ≡ demand_of (data_of crowd) before i → LeadsThoseWithout (wishes_of menu) after budget.0 allowed section bundle
+leads_demand crowd before after i menu budget allowed section bundle low is has_it allows dearer affordable told =
+    let within : ℕ → Bool = λ t. nat_lt t crowd.sections in
+    let was : bundle ≡ demand crowd.sections before (record { menu = menu; budget = budget.0 }) =
+    told ∙ demand_at crowd before i menu budget low ∙ same_student in
     let best : IsBest (wishes_of menu) before budget.0 within bundle =
     subst (IsBest (wishes_of menu) before budget.0 within) (sym was) (best-is menu before budget.0 within) in
     leads_where_cheaper (wishes_of menu) before after budget.0 within allowed section bundle allows dearer best affordable
   where
-    same_student : demand sections before (record { menu = slice_index_or menus i menu; budget = (slice_index_or budgets i budget).0 })
-        ≡ demand sections before (record { menu = menu; budget = budget.0 })
+    same_student : demand crowd.sections before (record { menu = slice_index_or crowd.menus.items i menu; budget = (slice_index_or crowd.budgets.items i budget).0 })
+        ≡ demand crowd.sections before (record { menu = menu; budget = budget.0 })
     same_student = rw (← is, ← has_it) refl

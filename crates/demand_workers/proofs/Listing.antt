@@ -4,17 +4,17 @@ use Rattle.std.specs.List.Sorted.{IsPermutation}
 use Rattle.std.proofs.lemmas.List.Elements.{All-append, All-cons, All-tail}
 use Rattle.std.proofs.lemmas.List.Sorted.{All-permutation}
 use Rattle.demand_api.specs.declared.crowd.Crowd.{Crowd}
-use Rattle.demand_api.proofs.Takers.{students_length}
+use Rattle.demand_api.proofs.Parts.{students_length}
 use Rattle.demand_workers.specs.declared.questions.Question.{Question}
 use Rattle.demand_workers.specs.Leaving.{AreLeft}
 use Rattle.demand_workers.specs.Questions.{IsQuestion, IsListed}
-use Rattle.demand_workers.specs.Rounds.{data_of}
+use Rattle.demand_api.specs.Views.{data_of}
 
 -- the holders that are left are listed
-pub listed_left : (crowd : Crowd) (price : ℕ → ℕ) (s level : ℕ) (hs : List (ℕ × ℕ)) → length crowd.budgets.items ≡ length crowd.menus.items
+pub listed_left : (crowd : Crowd) (price : ℕ → ℕ) (s level : ℕ) (hs : List (ℕ × ℕ))
     → AreLeft (data_of crowd) price s level hs → All (IsListed crowd) hs
-listed_left crowd price s level hs same left k d low = record {
-  student = subst (λ (n : ℕ). (slice_index_or hs k d).1 < n) (students_length crowd.menus.items crowd.budgets.items same) (left.students k d low);
+listed_left crowd price s level hs left k d low = record {
+  student = subst (λ (n : ℕ). (slice_index_or hs k d).1 < n) (students_length crowd) (left.students k d low);
   room = (left.keep k d low).room;
   capped = (left.keep k d low).capped;
 }

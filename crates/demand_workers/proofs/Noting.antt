@@ -4,12 +4,13 @@ use Rattle.std.proofs.lemmas.Bool.{cases_order}
 use Rattle.std.proofs.lemmas.List.Elements.{All-append}
 use Rattle.market_units.specs.declared.units.Tokens.{Tokens}
 use Rattle.market_units.specs.Totals.{total}
-use Rattle.bundle_rules.specs.Sets.{has}
+use Rattle.market_units.specs.Members.{has}
 use Rattle.bundle_rules.specs.Bundles.{sections_of}
 use Rattle.bundle_rules.specs.Menus.{MenuData}
 use Rattle.bundle_rules.specs.Demand.{price_in}
+use Rattle.demand_api.specs.declared.crowd.Crowd.{Crowd}
 use Rattle.demand_api.specs.Crowds.{CrowdData, demand_of}
-use Rattle.demand_api.specs.Made.{crowd_of}
+use Rattle.demand_api.specs.Views.{data_of}
 use Rattle.demand_api.specs.Prices.{IsRaised}
 use Rattle.demand_api.proofs.Halving.{price_kept, price_written}
 use Rattle.demand_api.proofs.Keeping.{none_falls, same_cost}
@@ -72,17 +73,17 @@ item_there (x ∷ items) zero d e low = refl
 item_there (x ∷ items) (suc i) d e low = item_there items i d e (let goal : i < length items = omega arith in goal)
 
 -- a bundle without the section stays where only the section's price rises
-pub lacking_stays : (menus : List MenuData) (budgets : List Tokens) (sections : ℕ) (prices raised : List Tokens) (s i : ℕ) (least : Tokens) (bundle : List ℕ)
-    → length budgets ≡ length menus → i < length menus → s < length prices → price_in prices s ≤ least.0
-    → raised ≡ slice_set prices s least → has bundle s ≡ false → bundle ≡ demand_of (crowd_of menus budgets sections) (price_in prices) i
-    → bundle ≡ demand_of (crowd_of menus budgets sections) (price_in raised) i
-lacking_stays menus budgets sections prices raised s i least bundle same low there up written lacks told =
+pub lacking_stays : (crowd : Crowd) (prices raised : List Tokens) (s i : ℕ) (least : Tokens) (bundle : List ℕ)
+    → i < length crowd.menus.items → s < length prices → price_in prices s ≤ least.0
+    → raised ≡ slice_set prices s least → has bundle s ≡ false → bundle ≡ demand_of (data_of crowd) (price_in prices) i
+    → bundle ≡ demand_of (data_of crowd) (price_in raised) i
+lacking_stays crowd prices raised s i least bundle low there up written lacks told =
     let after : ℕ → ℕ = price_in (slice_set prices s least) in
-    let menu : MenuData = slice_index_or menus i nobody in
-    let budget : Tokens = slice_index_or budgets i (record { 0 = 0 }) in
-    let menu_is : menu ≡ slice_index_or menus i menu = menu_there menus i low in
-    let budget_is : budget ≡ slice_index_or budgets i budget =
-    item_there budgets i (record { 0 = 0 }) budget (let goal : i < length budgets = omega (arith, same, low) in goal) in
+    let menu : MenuData = slice_index_or crowd.menus.items i nobody in
+    let budget : Tokens = slice_index_or crowd.budgets.items i (record { 0 = 0 }) in
+    let menu_is : menu ≡ slice_index_or crowd.menus.items i menu = menu_there crowd.menus.items i low in
+    let budget_is : budget ≡ slice_index_or crowd.budgets.items i budget =
+    item_there crowd.budgets.items i (record { 0 = 0 }) budget (let goal : i < length crowd.budgets.items = omega (arith, crowd.same, low) in goal) in
     let here : price_in (slice_set prices s least) s ≡ least.0 = price_written prices s least.0 there in
     let is : IsRaised s (price_in prices) after =
     record {
@@ -90,8 +91,8 @@ lacking_stays menus budgets sections prices raised s i least bundle same low the
       raised = (let goal : price_in prices s ≤ price_in (slice_set prices s least) s = omega (arith, here, up) in goal);
     } in
     let paid : total (price_in prices) bundle ≤ budget.0 =
-    taken_affordable menus budgets sections (price_in prices) i menu budget bundle same low menu_is budget_is told in
+    taken_affordable crowd (price_in prices) i menu budget bundle low menu_is budget_is told in
     let cost : total after bundle ≤ total (price_in prices) bundle = same_cost s (price_in prices) after bundle is lacks in
-    subst (λ (l : List Tokens). bundle ≡ demand_of (crowd_of menus budgets sections) (price_in l) i) (sym written)
-    (kept_demand menus budgets sections (price_in prices) after i menu budget bundle same low menu_is budget_is (λ k d within. none_falls s (price_in prices) after is (slice_index_or menu.places k d).section.0)
+    subst (λ (l : List Tokens). bundle ≡ demand_of (data_of crowd) (price_in l) i) (sym written)
+    (kept_demand crowd (price_in prices) after i menu budget bundle low menu_is budget_is (λ k d within. none_falls s (price_in prices) after is (slice_index_or menu.places k d).section.0)
     (let goal : total after bundle ≤ budget.0 = omega (arith, paid, cost) in goal) told)

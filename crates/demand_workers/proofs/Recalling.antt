@@ -13,15 +13,16 @@ use Rattle.bundle_rules.specs.Demand.{price_in, IsPriced, IsBest}
 use Rattle.bundle_rules.specs.Menus.{MenuData, rating_at, place_in, wishes_of}
 use Rattle.bundle_rules.specs.Ordinals.{ordinals}
 use Rattle.bundle_rules.proofs.BestValue.{best-is}
+use Rattle.demand_api.specs.declared.crowd.Crowd.{Crowd}
 use Rattle.demand_api.specs.Asking.{ArePricesFor}
 use Rattle.demand_api.specs.Crowds.{CrowdData, IsWithin, top, demand, demand_of}
-use Rattle.demand_api.specs.Made.{MakeCrowd, crowd_of}
+use Rattle.demand_api.specs.Views.{data_of}
 use Rattle.demand_api.proofs.Halving.{price_at}
 use Rattle.demand_api.proofs.Keeping.{best_stays}
+use Rattle.demand_api.proofs.Parts.{menus_within, top_high}
 use Rattle.demand_api.proofs.Takers.{demand_at, found_demand, lent_back, sections_low}
 use Rattle.demand_workers.specs.Remembered.{AreRemembered, AreTaken}
 use Rattle.demand_workers.specs.Rounds.{prices_of, AreVersionsFor}
-use Rattle.demand_workers.proofs.Rounds.{top_high}
 
 -- a rated section is at one of the places
 pub rated_no_cheaper : (places : List Rated) (before after : ℕ → ℕ) → All (λ (rated : Rated). before rated.section.0 ≤ after rated.section.0) places → (s : ℕ)
@@ -34,47 +35,47 @@ rated_no_cheaper (r ∷ more) before after all s some = elim (cases_Bool (r.sect
 ]
 
 -- a bundle that a student took is what the student takes, where it is affordable and no section of the menu became cheaper
-pub kept_demand : (menus : List MenuData) (budgets : List Tokens) (sections : ℕ) (before after : ℕ → ℕ) (i : ℕ) (menu : MenuData) (budget : Tokens)
+pub kept_demand : (crowd : Crowd) (before after : ℕ → ℕ) (i : ℕ) (menu : MenuData) (budget : Tokens)
     (bundle : List ℕ)
-    → length budgets ≡ length menus → i < length menus
-    → menu ≡ slice_index_or menus i menu → budget ≡ slice_index_or budgets i budget
+    → i < length crowd.menus.items
+    → menu ≡ slice_index_or crowd.menus.items i menu → budget ≡ slice_index_or crowd.budgets.items i budget
     → All (λ (rated : Rated). before rated.section.0 ≤ after rated.section.0) menu.places → total after bundle ≤ budget.0
-    → bundle ≡ demand_of (crowd_of menus budgets sections) before i → bundle ≡ demand_of (crowd_of menus budgets sections) after i
+    → bundle ≡ demand_of (data_of crowd) before i → bundle ≡ demand_of (data_of crowd) after i
 unfolding wishes_of
-kept_demand menus budgets sections before after i menu budget bundle same low is has_it no_cheaper affordable told =
-    let allowed : ℕ → Bool = λ t. nat_lt t sections in
-    let was : bundle ≡ demand sections before (record { menu = menu; budget = budget.0 }) =
-    told ∙ demand_at menus budgets sections before i menu budget same low ∙ same_student in
+kept_demand crowd before after i menu budget bundle low is has_it no_cheaper affordable told =
+    let allowed : ℕ → Bool = λ t. nat_lt t crowd.sections in
+    let was : bundle ≡ demand crowd.sections before (record { menu = menu; budget = budget.0 }) =
+    told ∙ demand_at crowd before i menu budget low ∙ same_student in
     let best : IsBest (wishes_of menu) before budget.0 allowed bundle =
     subst (IsBest (wishes_of menu) before budget.0 allowed) (sym was) (best-is menu before budget.0 allowed) in
-    found_demand menus budgets sections after i menu budget allowed bundle same low is has_it (λ s. refl)
+    found_demand crowd after i menu budget allowed bundle low is has_it (λ s. refl)
     (best_stays (wishes_of menu) before after budget.0 allowed bundle (rated_no_cheaper menu.places before after no_cheaper) affordable best)
   where
-    same_student : demand sections before (record { menu = slice_index_or menus i menu; budget = (slice_index_or budgets i budget).0 })
-        ≡ demand sections before (record { menu = menu; budget = budget.0 })
+    same_student : demand crowd.sections before (record { menu = slice_index_or crowd.menus.items i menu; budget = (slice_index_or crowd.budgets.items i budget).0 })
+        ≡ demand crowd.sections before (record { menu = menu; budget = budget.0 })
     same_student = rw (← is, ← has_it) refl
 
 -- the sections of what a student takes have prices
-pub taken_priced : (menus : List MenuData) (budgets : List Tokens) (sections : ℕ) (prices : List Tokens) (price : ℕ → ℕ) (i : ℕ) (listed : List SectionNo)
+pub taken_priced : (crowd : Crowd) (prices : List Tokens) (price : ℕ → ℕ) (i : ℕ) (listed : List SectionNo)
     (bundle : List ℕ)
-    → MakeCrowd menus budgets sections → ArePricesFor (crowd_of menus budgets sections) prices
-    → ordinals listed ≡ bundle → bundle ≡ demand_of (crowd_of menus budgets sections) price i → All (λ (section : SectionNo). IsPriced prices section.0) listed
-taken_priced menus budgets sections prices price i listed bundle make are spelled told k d low =
+    → ArePricesFor (data_of crowd) prices
+    → ordinals listed ≡ bundle → bundle ≡ demand_of (data_of crowd) price i → All (λ (section : SectionNo). IsPriced prices section.0) listed
+taken_priced crowd prices price i listed bundle are spelled told k d low =
     let s : ℕ = (slice_index_or listed k d).0 in
-    let below : s < sections = sections_low (crowd_of menus budgets sections) price i sections listed bundle spelled told refl k d low in
-    let size : length prices ≡ sections = are.same in
-    let most : top (crowd_of menus budgets sections) ≤ 1000001 = top_high menus budgets sections make in
+    let below : s < crowd.sections = sections_low (data_of crowd) price i crowd.sections listed bundle spelled told refl k d low in
+    let size : length prices ≡ crowd.sections = are.same in
+    let most : top (data_of crowd) ≤ 1000001 = top_high crowd in
     let none : Tokens = record { 0 = 0 } in
-    let high : (slice_index_or prices s none).0 ≤ top (crowd_of menus budgets sections) =
+    let high : (slice_index_or prices s none).0 ≤ top (data_of crowd) =
     are.high s none (let goal : s < length prices = omega arith in goal) in
     let same : price_in prices s ≡ (slice_index_or prices s none).0 = price_at prices s none (let goal : s < length prices = omega arith in goal) in
     record { listed = (let goal : s < length prices = omega arith in goal); high = (let goal : price_in prices s ≤ 1000001 = omega arith in goal) }
 
 -- the sections at a student's places are below the number of prices
-pub places_low : (menus : List MenuData) (budgets : List Tokens) (sections n i : ℕ) (menu : MenuData) → MakeCrowd menus budgets sections → n ≡ sections
-    → i < length menus → menu ≡ slice_index_or menus i menu → All (λ (rated : Rated). rated.section.0 < n) menu.places
-places_low menus budgets sections n i menu make size low is =
-    let within : IsWithin sections menu = subst (IsWithin sections) (sym is) (make.within i menu low) in
+pub places_low : (crowd : Crowd) (n i : ℕ) (menu : MenuData) → n ≡ crowd.sections
+    → i < length crowd.menus.items → menu ≡ slice_index_or crowd.menus.items i menu → All (λ (rated : Rated). rated.section.0 < n) menu.places
+places_low crowd n i menu size low is =
+    let within : IsWithin crowd.sections menu = subst (IsWithin crowd.sections) (sym is) (menus_within crowd i menu low) in
     let P : ℕ → Type 0 = λ m. All (λ (rated : Rated). rated.section.0 < m) menu.places in
     subst P (sym size) within
 

@@ -3,46 +3,36 @@ use Rattle.std.proofs.Common.{ℕ, ◌≡◌, ◌<◌, ◌≤◌, ◌+◌, ◌�
 use Rattle.std.specs.List.{Any}
 use Rattle.std.proofs.lemmas.List.{length-map}
 use Rattle.std.proofs.lemmas.List.Elements.{All-map}
-use Rattle.chronicle.specs.declared.standing.Standing.{Standing}
 use Rattle.chronicle.proofs.SeatLists.{all_at_their_numbers}
 use Rattle.market_units.specs.declared.units.Tokens.{Tokens}
-use Rattle.bundle_rules.specs.Menus.{MenuData}
+use Rattle.demand_api.specs.declared.crowd.Crowd.{Crowd}
 use Rattle.demand_api.specs.Crowds.{top}
-use Rattle.demand_api.specs.Made.{MakeCrowd, crowd_of, greatest}
-use Rattle.demand_api.proofs.Takers.{greatest_high, top_found, lent_back}
-use Rattle.price_board.specs.declared.calls.BoardCall.{BoardCall}
-use Rattle.price_board.specs.declared.calls.BoardReply.{BoardReply}
+use Rattle.demand_api.specs.Asking.{AreSectionPrices}
+use Rattle.demand_api.specs.Views.{data_of}
+use Rattle.demand_api.proofs.Parts.{top_high}
+use Rattle.demand_api.proofs.Takers.{lent_back}
 use Rattle.price_board.specs.declared.round.Ask.{Ask}
-use Rattle.price_board.specs.declared.shared.Terms.{Terms}
-use Rattle.price_board.specs.declared.shared.Progress.{Progress}
-use Rattle.price_board.specs.Openings.{ArePrices, IsAskOf, IsRound}
+use Rattle.price_board.specs.Openings.{IsAskOf, IsRound}
+use Rattle.price_board.specs.Seats.{RoundSeat}
 use Rattle.demand_workers.specs.Rounds.{prices_of, AreVersionsFor}
 
--- the top is at most the greatest price
-pub top_high : (menus : List MenuData) (budgets : List Tokens) (sections : ℕ) → MakeCrowd menus budgets sections
-    → top (crowd_of menus budgets sections) ≤ 1000001
-top_high menus budgets sections make =
-    let most : greatest budgets ≤ 1000000 = greatest_high budgets make.high in
-    let at_top : greatest budgets + 1 ≡ top (crowd_of menus budgets sections) = top_found menus budgets sections (greatest budgets) make.same refl in
-    let goal : top (crowd_of menus budgets sections) ≤ 1000001 = omega arith in goal
-
 -- versions for a crowd, and as many asks, are a round of it
-pub versions_are_round : (menus : List MenuData) (budgets : List Tokens) (sections : ℕ) (versions copies : List (Vec Tokens Global)) (asks : List Ask)
-    → MakeCrowd menus budgets sections → AreVersionsFor (crowd_of menus budgets sections) versions
-    → 1 ≤ length versions → length versions ≤ 16 → length asks ≡ length versions → All (IsAskOf sections) asks → prices_of copies ≡ prices_of versions
-    → IsRound (record { crowd = crowd_of menus budgets sections; versions = prices_of copies; asks = asks })
-versions_are_round menus budgets sections versions copies asks make are some few many among same =
+pub versions_are_round : (crowd : Crowd) (versions copies : List (Vec Tokens Global)) (asks : List Ask)
+    → AreVersionsFor (data_of crowd) versions
+    → 1 ≤ length versions → length versions ≤ 16 → length asks ≡ length versions → All (IsAskOf crowd.sections) asks → prices_of copies ≡ prices_of versions
+    → IsRound (record { crowd = data_of crowd; versions = prices_of copies; asks = asks })
+versions_are_round crowd versions copies asks are some few many among same =
     let count : length (prices_of copies) ≡ length versions = ap length same ∙ length-map versions (λ (version : Vec Tokens Global). version.items) in
-    let most : top (crowd_of menus budgets sections) ≤ 1000001 = top_high menus budgets sections make in
+    let most : top (data_of crowd) ≤ 1000001 = top_high crowd in
     record {
       some = (let goal : 1 ≤ length (prices_of copies) = omega arith in goal);
       few = (let goal : length (prices_of copies) ≤ 16 = omega arith in goal);
-      prices = subst (All (ArePrices sections)) (sym same)
-          (All-map (ArePrices sections) (λ (version : Vec Tokens Global). version.items) versions (λ k d low. record {
-            each = (are k d low).same;
+      prices = subst (All (AreSectionPrices crowd.sections)) (sym same)
+          (All-map (AreSectionPrices crowd.sections) (λ (version : Vec Tokens Global). version.items) versions (λ k d low. record {
+            same = (are k d low).same;
             high =
                 λ i e below. (let h : (slice_index_or (slice_index_or versions k d).items i e).0
-                ≤ top (crowd_of menus budgets sections) = (are k d low).high i e below in let goal :
+                ≤ top (data_of crowd) = (are k d low).high i e below in let goal :
                 (slice_index_or (slice_index_or versions k d).items i e).0
                 ≤ 1000001 = omega arith in goal);
           }));
@@ -51,11 +41,11 @@ versions_are_round menus budgets sections versions copies asks make are some few
     }
 
 -- each number below the count is that of a seat, of the seats that were lent whole and came back as many
-pub every_number : (count len : ℕ) (lent new old : List (Standing Terms Progress BoardCall BoardReply)) → length lent ≡ count → len ≡ length lent
+pub every_number : (count len : ℕ) (lent new old : List (RoundSeat)) → length lent ≡ count → len ≡ length lent
     → length new ≡ length lent
-    → ((n : ℕ) (d : Standing Terms Progress BoardCall BoardReply) → n < length lent → (slice_index_or new n d).number ≡ n)
-    → (n : ℕ) → n < count → Any (λ (s : Standing Terms Progress BoardCall BoardReply). s.number ≡ n) (take len (new ++ drop (length new) old))
+    → ((n : ℕ) (d : RoundSeat) → n < length lent → (slice_index_or new n d).number ≡ n)
+    → (n : ℕ) → n < count → Any (λ (s : RoundSeat). s.number ≡ n) (take len (new ++ drop (length new) old))
 every_number count len lent new old counted whole back numbers n low =
-    subst (λ seats. Any (λ (s : Standing Terms Progress BoardCall BoardReply). s.number ≡ n) seats) (sym (lent_back len new old (whole ∙ sym back)))
+    subst (λ seats. Any (λ (s : RoundSeat). s.number ≡ n) seats) (sym (lent_back len new old (whole ∙ sym back)))
     (all_at_their_numbers count new (let goal : count ≤ length new = omega arith in goal)
     (λ k d below. numbers k d (let goal : k < length lent = omega arith in goal)) n low)

@@ -10,7 +10,7 @@ use Rattle.demand_api.specs.declared.crowd.Crowd.{Crowd}
 use Rattle.demand_api.specs.Crowds.{CrowdData, demand_of}
 use Rattle.demand_workers.specs.declared.batch.Inquiry.{Inquiry}
 use Rattle.demand_workers.specs.Remembered.{IsKept}
-use Rattle.demand_workers.specs.Rounds.{data_of}
+use Rattle.demand_api.specs.Views.{data_of}
 
 -- the student is one of the crowd, and the version one of the batch
 pub record IsInquiry (crowd : Crowd) (batch : List (Vec Tokens Global))

@@ -1,7 +1,8 @@
 -- Holders of a section whose price rises, and who of them is left at a price.
 use Rattle.std.specs.Prelude.{ℕ, ◌<◌, ◌≤◌, ◌≡◌, ◌-◌, ◌==◌, Bool, true, List, All, length, if◌then◌else◌}
 use Rattle.std.specs.List.{sum_by}
-use Rattle.bundle_rules.specs.Sets.{has}
+use Rattle.market_units.specs.declared.limits.TheConstants.{MAX_PRICE}
+use Rattle.market_units.specs.Members.{has}
 use Rattle.demand_api.specs.Crowds.{CrowdData, top, demand_of}
 use Rattle.demand_api.specs.Prices.{with_price}
 
@@ -9,10 +10,10 @@ use Rattle.demand_api.specs.Prices.{with_price}
 abbrev pub takes : CrowdData → (ℕ → ℕ) → ℕ → ℕ → ℕ → Bool
 takes crowd price s p student = has (demand_of crowd (with_price price s p) student) s
 
--- A holder is listed by how far below 1,000,001 the price is from which it does not keep what it
--- holds, and by its number: that price
+-- the price from which a listed holder does not keep what it holds; the list has 1,000,001 less
+-- that price, and the holder's number
 abbrev pub leaves : ℕ × ℕ → ℕ
-leaves holder = 1000001 - holder.0
+leaves holder = MAX_PRICE - holder.0
 
 -- how often the student is listed
 abbrev pub listed : ℕ → List (ℕ × ℕ) → ℕ
@@ -21,7 +22,7 @@ listed student holders = sum_by (λ holder. if holder.1 == student then 1 else 0
 -- the holder does not leave below this price, and takes the section up to the price at which it
 -- leaves, which is at most the top
 pub record Keeps (crowd : CrowdData) (price : ℕ → ℕ) (s level : ℕ) (holder : ℕ × ℕ) : Type 0 where
-  pub room : holder.0 ≤ 1000001
+  pub room : holder.0 ≤ MAX_PRICE
   pub some : 1 ≤ leaves holder
   pub later : level ≤ leaves holder
   pub capped : leaves holder ≤ top crowd

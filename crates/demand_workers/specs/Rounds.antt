@@ -1,18 +1,10 @@
 -- What the workers of a round are given.
 use Rattle.std.specs.Prelude.{◌≡◌, List, All, map}
 use Rattle.std.proofs.Common.{Vec, Global}
-use Rattle.chronicle.specs.declared.origin.Origin.{Origin}
 use Rattle.market_units.specs.declared.units.Tokens.{Tokens}
-use Rattle.demand_api.specs.declared.crowd.Crowd.{Crowd}
 use Rattle.demand_api.specs.Crowds.{CrowdData}
-use Rattle.demand_api.specs.Made.{crowd_of}
 use Rattle.demand_api.specs.Asking.{ArePricesFor}
-use Rattle.price_board.specs.declared.shared.Terms.{Terms}
-use Rattle.price_board.specs.declared.shared.Progress.{Progress}
-
--- the crowd as plain data
-abbrev pub data_of : Crowd → CrowdData
-data_of crowd = crowd_of crowd.menus.items crowd.budgets.items crowd.sections
+use Rattle.price_board.specs.Seats.{RoundBoard}
 
 -- the prices of each version
 abbrev pub prices_of : List (Vec Tokens Global) → List (List Tokens)
@@ -25,6 +17,6 @@ AreVersionsFor crowd versions =
 
 -- the board's tasks are what each student of the crowd takes at each version
 pub record IsBoardOf (crowd : CrowdData) (versions : List (Vec Tokens Global))
-    (board : Origin Terms Progress) : Type 0 where
+    (board : RoundBoard) : Type 0 where
   pub its_crowd : board.base.crowd ≡ crowd
   pub its_versions : board.base.versions ≡ prices_of versions

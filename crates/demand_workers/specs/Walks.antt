@@ -5,7 +5,7 @@ use Rattle.std.specs.BinaryHeap.{heap_items}
 use Rattle.demand_api.specs.declared.crowd.Crowd.{Crowd}
 use Rattle.demand_workers.specs.declared.ahead.Foreseen.{Foreseen}
 use Rattle.demand_workers.specs.Questions.{AreAnswered, IsListed}
-use Rattle.demand_workers.specs.Rounds.{data_of}
+use Rattle.demand_api.specs.Views.{data_of}
 
 -- the section is one of the crowd, the holders are listed, and what was answered is what is taken
 pub record IsForeseen (crowd : Crowd) (walk : Foreseen) : Type 0 where

@@ -1,10 +1,9 @@
 // Questions of walks to least prices, asked ahead by several workers.
 ghost use Rattle.std.specs.Prelude.{◌≡◌, ◌<◌, ◌≤◌, All, IfOk, length};
 ghost use Rattle.demand_api.specs.Asking.{ArePricesFor};
-ghost use Rattle.price_board.specs.Openings.{IsMade};
 ghost use Rattle.demand_workers.specs.Questions.{IsQuestion, IsAnswered, AreAnswered};
 ghost use Rattle.demand_workers.specs.Remembered.{AreRemembered};
-ghost use Rattle.demand_workers.specs.Rounds.{data_of};
+ghost use Rattle.demand_api.specs.Views.{data_of};
 ghost use Rattle.demand_workers.specs.Walks.{IsForeseen};
 
 use crate::leaving::{Holder, holder_of, holders_of};
@@ -34,9 +33,10 @@ pub(crate) struct Foreseen {
     answered: Vec<Question>,
 }
 
-// What those take who are surely asked on the walks to the least prices of these pairs of a section
-// and a limit, or most of them, asked by all workers at once, as long as that is worth their start:
-// for each pair what is known of its walk, or nothing at all. Of one worker it asks nothing.
+/// What those take who are surely asked on the walks to the least prices of these pairs of a
+/// section and a limit, or most of them, asked by several workers at once, as long as that is worth
+/// their start: for each pair what is known of its walk, or nothing at all. Of one worker it asks
+/// nothing. The only error is that memory was not given.
 pub(crate) fn ask_ahead<R: Threads + Wait + Sync>(
     rt: &R,
     alloc: Global,
@@ -48,7 +48,6 @@ pub(crate) fn ask_ahead<R: Threads + Wait + Sync>(
     requires remembered { AreRemembered (data_of crowd.now) remembered.now.prices.items
         remembered.now.bundles.items }
     requires all { length remembered.now.bundles.items ≡ length crowd.now.menus.items }
-    requires crowd { IsMade crowd.now }
     requires prices { ArePricesFor (data_of crowd.now) remembered.now.prices.items }
     requires workers { 1 ≤ length workspaces.now }
     requires sections { All (λ pair. pair.0.0 < crowd.now.sections) pairs.now }
@@ -72,7 +71,7 @@ pub(crate) fn ask_ahead<R: Threads + Wait + Sync>(
     Ok(walks)
 }
 
-// What was answered on the walk at this place, or nothing.
+/// What was answered on the walk at this place, from 0; nothing where there is no such walk.
 pub(crate) fn answers_at<'w>(_crowd: &Crowd, walks: &'w [Foreseen], place: usize) -> &'w [Question]
     requires { All (IsForeseen _crowd.now) walks.now }
     ensures { AreAnswered (data_of _crowd.now) result.now }
@@ -115,7 +114,6 @@ fn walks_of(
     requires remembered { AreRemembered (data_of crowd.now) remembered.now.prices.items
         remembered.now.bundles.items }
     requires all { length remembered.now.bundles.items ≡ length crowd.now.menus.items }
-    requires crowd { IsMade crowd.now }
     requires prices { ArePricesFor (data_of crowd.now) remembered.now.prices.items }
     requires sections { All (λ pair. pair.0.0 < crowd.now.sections) pairs.now }
     ensures { IfOk result (λ walks. All (IsForeseen crowd.now) walks.items) }
@@ -193,7 +191,6 @@ fn take_answers(
     walks: &mut [Foreseen],
     questions: &mut Vec<Question>,
 ) -> Result<(), NoMemory>
-    requires crowd { IsMade crowd.now }
     requires walks { All (IsForeseen crowd.now) walks.old }
     requires questions { All (IsQuestion crowd.now) questions.old.items }
     requires answered { AreAnswered (data_of crowd.now) questions.old.items }
@@ -212,7 +209,6 @@ fn take_own(
     walk: &mut Foreseen,
     questions: &mut Vec<Question>,
 ) -> Result<(), NoMemory>
-    requires crowd { IsMade crowd.now }
     requires walk { IsForeseen crowd.now walk.old }
     requires questions { All (IsQuestion crowd.now) questions.old.items }
     requires answered { AreAnswered (data_of crowd.now) questions.old.items }
@@ -231,7 +227,6 @@ fn take_own(
 
 // Gives a walk an answer: who still takes the section holds it up to another price.
 fn take_answer(crowd: &Crowd, walk: &mut Foreseen, question: Question) -> Result<(), NoMemory>
-    requires crowd { IsMade crowd.now }
     requires walk { IsForeseen crowd.now walk.old }
     requires question { IsQuestion crowd.now question }
     requires answered { IsAnswered (data_of crowd.now) question }

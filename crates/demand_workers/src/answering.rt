@@ -23,7 +23,7 @@ fn bundle_of(answers: &Answers, version: u8, student: StudentNo) -> Bundle
     }
 }
 
-// Writes what each student takes at a version of which all bundles were asked.
+/// Writes what each student takes at a version of which all bundles were asked.
 pub(crate) fn read_all(answers: &Answers, version: u8, bundles: &mut [Bundle])
     requires crowd { IsCrowd answers.now.terms.crowd }
     requires version { version < version_count answers.now.terms }

@@ -1,10 +1,10 @@
 // Inquiries of a batch: what students take at its versions.
 ghost use Rattle.std.specs.Prelude.{◌≡◌, ◌<◌, ◌≤◌, ℕ, All, IfOk, length, nat_lt, slice_index_or};
 ghost use Rattle.std.specs.FinSet as set;
-ghost use Rattle.price_board.specs.Openings.{IsMade};
 ghost use Rattle.demand_workers.specs.Batches.{AreOthersKept, IsFound, IsInquiry};
 ghost use Rattle.demand_workers.specs.Remembered.{AreRemembered, AreTaken};
-ghost use Rattle.demand_workers.specs.Rounds.{data_of, AreVersionsFor};
+ghost use Rattle.demand_api.specs.Views.{data_of};
+ghost use Rattle.demand_workers.specs.Rounds.{AreVersionsFor};
 
 use crate::beside::asked_beside;
 use crate::questions::SHARE;
@@ -27,8 +27,8 @@ pub(crate) struct Inquiry {
     pub bundle: Bundle,
 }
 
-// Answers the inquiries of a batch, by so many workers as they are worth, of as many as there are
-// workspaces. It takes no memory.
+/// Answers the inquiries of a batch, by so many workers as they are worth, of as many as there are
+/// workspaces. It takes no memory.
 pub(crate) fn answer_batch<R: Threads + Wait + Sync>(
     rt: &R,
     workspaces: &[Mutex<Workspace>],
@@ -39,7 +39,6 @@ pub(crate) fn answer_batch<R: Threads + Wait + Sync>(
 )
     requires remembered { AreRemembered (data_of crowd.now) remembered.now.prices.items
         remembered.now.bundles.items }
-    requires crowd { IsMade crowd.now }
     requires batch { AreVersionsFor (data_of crowd.now) batch.now }
     requires workers { 1 ≤ length workspaces.now }
     requires inquiries { All (IsInquiry crowd.now batch.now) inquiries.old }
@@ -64,7 +63,7 @@ pub(crate) fn answer_batch<R: Threads + Wait + Sync>(
                 × IsInquiry crowd.now batch.now inquiry.now
                 × AreRemembered (data_of crowd.now) remembered.now.prices.items
                 remembered.now.bundles.items
-                × IsMade crowd.now × AreVersionsFor (data_of crowd.now) batch.now
+                × AreVersionsFor (data_of crowd.now) batch.now
                 × ((s : ℕ) → set.contains allowed s ≡ nat_lt s crowd.now.sections) }
             ensures { IsInquiry crowd.entry.now batch.entry.now inquiry.exit.now
                 × IsFound (data_of crowd.entry.now) batch.entry.now inquiry.exit.now
@@ -97,7 +96,6 @@ fn answer<R: Wait>(
 )
     requires remembered { AreRemembered (data_of crowd.now) remembered.now.prices.items
         remembered.now.bundles.items }
-    requires crowd { IsMade crowd.now }
     requires batch { AreVersionsFor (data_of crowd.now) batch.now }
     requires allowed { (s : ℕ) → set.contains allowed.now s ≡ nat_lt s crowd.now.sections }
     requires inquiry { IsInquiry crowd.now batch.now inquiry.old }
@@ -117,7 +115,8 @@ fn answer<R: Wait>(
     );
 }
 
-// What each student takes at a version of the batch: what was found for it, or what is remembered.
+/// What each student takes at a version of the batch: what was found for it, or what is remembered.
+/// The only error is that memory was not given.
 pub(crate) fn bundles_at(
     alloc: Global,
     remembered: &Remembered,

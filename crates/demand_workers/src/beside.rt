@@ -5,9 +5,8 @@ ghost use Rattle.bundle_rules.specs.Bundles.{sections_of};
 ghost use Rattle.bundle_rules.specs.Demand.{price_in};
 ghost use Rattle.demand_api.specs.Asking.{ArePricesFor};
 ghost use Rattle.demand_api.specs.Crowds.{demand_of};
-ghost use Rattle.price_board.specs.Openings.{IsMade};
 ghost use Rattle.demand_workers.specs.Remembered.{AreRemembered};
-ghost use Rattle.demand_workers.specs.Rounds.{data_of};
+ghost use Rattle.demand_api.specs.Views.{data_of};
 
 use crate::cheaper::Cheaper;
 use crate::remembered::Remembered;
@@ -17,9 +16,9 @@ use demand_api::Crowd;
 use demand_oracle::{Workspace, demand_beside};
 use market_units::{SectionSet, StudentNo, Tokens};
 
-// What a student takes at these prices, of all sections, asked. Where one section alone is cheaper
-// than remembered, and what is remembered of the student is still affordable, it is preferred to
-// all that lacks the section, so only bundles with it are searched.
+/// What a student takes at these prices, of all sections, asked. Where one section alone is cheaper
+/// than remembered, and what is remembered of the student is still affordable, it is preferred to
+/// all that lacks the section, so only bundles with it are searched.
 pub(crate) fn asked_beside(
     workspace: &mut Workspace,
     remembered: &Remembered,
@@ -30,7 +29,6 @@ pub(crate) fn asked_beside(
 ) -> Bundle
     requires remembered { AreRemembered (data_of crowd.now) remembered.now.prices.items
         remembered.now.bundles.items }
-    requires crowd { IsMade crowd.now }
     requires prices { ArePricesFor (data_of crowd.now) prices.now }
     requires allowed { (s : ℕ) → set.contains allowed.now s ≡ nat_lt s crowd.now.sections }
     requires student { student.0 < length crowd.now.menus.items }

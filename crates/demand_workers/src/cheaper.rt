@@ -14,7 +14,7 @@ pub(crate) struct Cheaper {
 }
 
 impl Cheaper {
-    // Any section may have become cheaper.
+    /// Any section may have become cheaper.
     pub(crate) fn anywhere(before: &[Tokens], _after: &[Tokens]) -> Cheaper
         ensures { AreWithin result.first result.past before.now _after.now }
     {
@@ -24,8 +24,8 @@ impl Cheaper {
         }
     }
 
-    // From the first section that became cheaper to the last. Where none did, there is none between
-    // the two.
+    /// From the first section that became cheaper to the last. Where none did, there is none
+    /// between the two.
     pub(crate) fn between(before: &[Tokens], after: &[Tokens]) -> Cheaper
         ensures { AreWithin result.first result.past before.now after.now }
     {
@@ -42,7 +42,7 @@ impl Cheaper {
         Cheaper { first, past }
     }
 
-    // The section that alone may have become cheaper, where it is one.
+    /// The section that alone may have become cheaper; `None` where several may have, or none.
     pub(crate) fn alone(self) -> Option<SectionNo>
         ensures { IfSome result
             (λ section. (section.0 ≡ self.first) × (self.past ≡ self.first + 1)) }
@@ -56,7 +56,7 @@ impl Cheaper {
         }
     }
 
-    // Whether no section at these places became cheaper.
+    /// Whether it is known that no section at these places became cheaper.
     pub(crate) fn spares(self, places: &[Rated], before: &[Tokens], after: &[Tokens]) -> bool
         requires before { All (λ rated. rated.section.0 < length before.now) places.now }
         requires after { All (λ rated. rated.section.0 < length after.now) places.now }

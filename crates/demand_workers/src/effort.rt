@@ -1,13 +1,12 @@
 // How many students have to be asked.
 ghost use Rattle.std.specs.Prelude.{◌<◌, ◌≤◌, All, length};
 ghost use Rattle.demand_api.specs.Asking.{ArePricesFor};
-ghost use Rattle.price_board.specs.Openings.{IsMade};
 ghost use Rattle.demand_workers.specs.Remembered.{AreRemembered};
-ghost use Rattle.demand_workers.specs.Rounds.{data_of};
+ghost use Rattle.demand_api.specs.Views.{data_of};
 
 use crate::remembered::Remembered;
 use demand_api::Crowd;
-use market_units::{StudentNo, Tokens};
+use market_units::{MAX_STUDENTS, StudentNo, Tokens};
 
 // A call for which at most one student in so many has to be asked is answered by the caller's own
 // thread: the draws and posts of the others on a shared board, and the starts of threads, take
@@ -19,17 +18,18 @@ const FEW: usize = 16;
 // other student too, and so is worth it only where most are asked.
 const FEW_OF_BATCH: usize = 2;
 
-// Whether few of the students have to be asked.
+/// Whether few of the students have to be asked at these prices, so that the caller's own thread
+/// asks them all.
 pub(crate) fn few_at(remembered: &Remembered, crowd: &Crowd, prices: &[Tokens]) -> bool
     requires remembered { AreRemembered (data_of crowd.now) remembered.now.prices.items
         remembered.now.bundles.items }
-    requires crowd { IsMade crowd.now }
     requires prices { ArePricesFor (data_of crowd.now) prices.now }
 {
     are_few(asked_at(remembered, crowd, prices), crowd.menus.len())
 }
 
-// Whether few of the listed students have to be asked, of all in the crowd.
+/// Whether few have to be asked of the listed students at these prices, measured by all in the
+/// crowd.
 pub(crate) fn few_listed(
     remembered: &Remembered,
     crowd: &Crowd,
@@ -38,10 +38,9 @@ pub(crate) fn few_listed(
 ) -> bool
     requires remembered { AreRemembered (data_of crowd.now) remembered.now.prices.items
         remembered.now.bundles.items }
-    requires crowd { IsMade crowd.now }
     requires prices { ArePricesFor (data_of crowd.now) prices.now }
     requires students { All (λ student. student.0 < length crowd.now.menus.items) students.now }
-    requires few { length students.now ≤ 2000 }
+    requires few { length students.now ≤ MAX_STUDENTS }
 {
     let mut asked = 0;
     for student in students {
@@ -50,13 +49,13 @@ pub(crate) fn few_listed(
     are_few(asked, crowd.menus.len())
 }
 
-// Whether so many are few of so many students. One alone needs no worker beside the caller, unless
-// nobody else is there.
+/// Whether so many are few of so many students. One alone needs no worker beside the caller, unless
+/// nobody else is there.
 pub(crate) fn are_few(asked: usize, students: usize) -> bool {
     asked <= students / FEW || (asked == 1 && students > 1)
 }
 
-// Whether so many are few of so many students, at a version of a batch.
+/// Whether so many are few of so many students at a version of a batch: at most half.
 pub(crate) fn are_few_of_batch(asked: usize, students: usize) -> bool {
     asked <= students / FEW_OF_BATCH
 }
@@ -65,9 +64,8 @@ pub(crate) fn are_few_of_batch(asked: usize, students: usize) -> bool {
 fn asked_at(remembered: &Remembered, crowd: &Crowd, prices: &[Tokens]) -> usize
     requires remembered { AreRemembered (data_of crowd.now) remembered.now.prices.items
         remembered.now.bundles.items }
-    requires crowd { IsMade crowd.now }
     requires prices { ArePricesFor (data_of crowd.now) prices.now }
-    ensures { result ≤ 2000 }
+    ensures { result ≤ MAX_STUDENTS }
 {
     let mut asked = 0;
     for place in 0..crowd.menus.len() {

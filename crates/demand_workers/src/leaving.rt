@@ -4,16 +4,15 @@ ghost use Rattle.std.specs.BinaryHeap.{IsHeap, heap_items};
 ghost use Rattle.std.specs.Ordering.{nat_cmp, ordering_then};
 ghost use Rattle.bundle_rules.specs.Bundles.{sections_of};
 ghost use Rattle.bundle_rules.specs.Demand.{price_in};
-ghost use Rattle.bundle_rules.specs.Sets.{has};
+ghost use Rattle.market_units.specs.Members.{has};
 ghost use Rattle.demand_api.specs.Asking.{ArePricesFor};
 ghost use Rattle.demand_api.specs.Crowds.{top, demand_of};
 ghost use Rattle.demand_api.specs.Prices.{IsLeastFrom, AreLeastPrices};
-ghost use Rattle.price_board.specs.Openings.{IsMade};
 ghost use Rattle.demand_workers.specs.Leaving.{leaves, takes, AreLeft};
 ghost use Rattle.demand_workers.specs.Notes.{AreNoted};
 ghost use Rattle.demand_workers.specs.Questions.{AreAnswered};
 ghost use Rattle.demand_workers.specs.Remembered.{AreRemembered};
-ghost use Rattle.demand_workers.specs.Rounds.{data_of};
+ghost use Rattle.demand_api.specs.Views.{data_of};
 ghost use Rattle.demand_workers.specs.Walks.{IsForeseen};
 
 use crate::ahead::{Foreseen, answers_at};
@@ -46,9 +45,10 @@ pub(crate) struct Walk {
 // and its number. So the greatest is the first to leave.
 pub(crate) type Holder = (u32, u16);
 
-// For each pair of a section and a limit the least price of the section from its remembered one up
-// at which at most so many students take it, the other prices as remembered. What each student
-// takes at the remembered prices is remembered, and of some walks something is known.
+/// For each pair of a section and a limit the least price of the section from its remembered one up
+/// at which at most so many students take it, the other prices as remembered. What each student
+/// takes at the remembered prices is remembered, and of some walks something is known. The only
+/// error is that memory was not given.
 pub(crate) fn least_for_each(
     alloc: Global,
     workspace: &mut Workspace,
@@ -60,7 +60,6 @@ pub(crate) fn least_for_each(
     requires remembered { AreRemembered (data_of crowd.now) remembered.now.prices.items
         remembered.now.bundles.items }
     requires all { length remembered.now.bundles.items ≡ length crowd.now.menus.items }
-    requires crowd { IsMade crowd.now }
     requires prices { ArePricesFor (data_of crowd.now) remembered.now.prices.items }
     requires walks { All (IsForeseen crowd.now) walks.now }
     requires sections { All (λ pair. pair.0.0 < crowd.now.sections) pairs.now }
@@ -81,10 +80,10 @@ pub(crate) fn least_for_each(
     Ok(found)
 }
 
-// The least price of the section for one limit. The trial has the remembered prices, also
-// afterwards. As long as there are too many holders, the first of them to leave is asked at the
-// price from which it does not keep what it holds: it holds the section from then on up to another
-// price, or leaves.
+/// The least price of the section for one limit. The trial has the remembered prices, also
+/// afterwards. As long as there are too many holders, the first of them to leave is asked at the
+/// price from which it does not keep what it holds: it holds the section from then on up to another
+/// price, or leaves.
 pub(crate) fn least_price(
     alloc: Global,
     workspace: &mut Workspace,
@@ -98,7 +97,6 @@ pub(crate) fn least_price(
     requires remembered { AreRemembered (data_of crowd.now) remembered.now.prices.items
         remembered.now.bundles.items }
     requires all { length remembered.now.bundles.items ≡ length crowd.now.menus.items }
-    requires crowd { IsMade crowd.now }
     requires prices { ArePricesFor (data_of crowd.now) remembered.now.prices.items }
     requires answered { AreAnswered (data_of crowd.now) answered.now }
     requires section { section.0 < crowd.now.sections }
@@ -145,7 +143,8 @@ pub(crate) fn least_price(
     Ok(Walk { least, notes })
 }
 
-// All who hold the section at the remembered prices.
+/// All who hold the section at the remembered prices, the first to leave on top. The only error is
+/// that memory was not given.
 pub(crate) fn holders_of(
     alloc: Global,
     remembered: &Remembered,
@@ -155,7 +154,6 @@ pub(crate) fn holders_of(
     requires remembered { AreRemembered (data_of crowd.now) remembered.now.prices.items
         remembered.now.bundles.items }
     requires all { length remembered.now.bundles.items ≡ length crowd.now.menus.items }
-    requires crowd { IsMade crowd.now }
     requires prices { ArePricesFor (data_of crowd.now) remembered.now.prices.items }
     requires section { section.0 < crowd.now.sections }
     ensures heap { IfOk result
@@ -178,8 +176,8 @@ pub(crate) fn holders_of(
     Ok(holders)
 }
 
-// The holder with its bundle at these prices: it keeps the bundle as long as the section costs no
-// more than what is left of the budget besides.
+/// The holder with its bundle at these prices: it keeps the bundle as long as the section costs no
+/// more than what is left of the budget besides.
 pub(crate) fn holder_of(
     crowd: &Crowd,
     prices: &[Tokens],
@@ -187,7 +185,6 @@ pub(crate) fn holder_of(
     student: StudentNo,
     bundle: &Bundle,
 ) -> Holder
-    requires crowd { IsMade crowd.now }
     requires prices { ArePricesFor (data_of crowd.now) prices.now }
     requires section { section.0 < crowd.now.sections }
     requires student { student.0 < length crowd.now.menus.items }
@@ -195,7 +192,7 @@ pub(crate) fn holder_of(
         ≡ demand_of (data_of crowd.now) (price_in prices.now) student.0 }
     requires holds { has (sections_of bundle.now) section.0 ≡ true }
     ensures student { result.1 ≡ student.0 }
-    ensures room { result.0 ≤ 1000001 }
+    ensures room { result.0 ≤ MAX_PRICE }
     ensures later { price_in prices.now section.0 < leaves result }
     ensures capped { leaves result ≤ top (data_of crowd.now) }
     ensures still { takes (data_of crowd.now) (price_in prices.now) section.0 (leaves result - 1)

@@ -9,11 +9,11 @@
 mod ahead;
 mod answering;
 mod batch;
-mod bench;
 mod beside;
 mod cheaper;
 mod effort;
 mod leaving;
+mod pool;
 mod pooled_demands;
 mod questions;
 mod raised;
@@ -23,5 +23,5 @@ mod taking;
 mod unsettled;
 mod worker;
 
-pub use bench::Bench;
+pub use pool::Pool;
 pub use pooled_demands::PooledDemands;

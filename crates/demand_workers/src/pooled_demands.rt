@@ -5,12 +5,12 @@ ghost use Rattle.bundle_rules.specs.Demand.{price_in};
 ghost use Rattle.demand_api.specs.Asking.{ArePricesFor};
 ghost use Rattle.demand_api.specs.Crowds.{counts};
 ghost use Rattle.demand_api.specs.Prices.{AreLeastPrices};
-ghost use Rattle.price_board.specs.Openings.{IsMade};
 ghost use Rattle.demand_workers.specs.Batches.{IsFound, IsSurvey};
 ghost use Rattle.demand_workers.specs.Remembered.{AreRemembered, AreTaken};
-ghost use Rattle.demand_workers.specs.Rounds.{data_of, AreVersionsFor};
+ghost use Rattle.demand_api.specs.Views.{data_of};
+ghost use Rattle.demand_workers.specs.Rounds.{AreVersionsFor};
 
-use crate::Bench;
+use crate::Pool;
 use crate::ahead::{answers_at, ask_ahead};
 use crate::answering::read_all;
 use crate::batch::bundles_at;
@@ -24,13 +24,13 @@ use crate::unsettled::{Survey, ask_few};
 use bundle_rules::Bundle;
 use demand_api::{Crowd, Demands};
 use market_edge::{AnyGate, Gate};
-use market_units::{NoMemory, SectionNo, StudentNo, Tokens};
+use market_units::{MAX_STUDENTS, NoMemory, SectionNo, StudentNo, Tokens};
 use price_board::Ask;
 use std::alloc::Global;
 use std::sync::{Arc, Wait};
 use std::thread::Threads;
 
-/// A crowd that is asked by the workers of a bench, each with a workspace of its own. They draw the
+/// A crowd that is asked by the workers of a pool, each with a workspace of its own. They draw the
 /// tasks of a call, or of one version of it, from one board, each in a thread of its own where one
 /// can be started, and pass the gate before their first draw and after each post. Where what is
 /// remembered of earlier calls leaves few students to ask, the caller's own thread asks them,
@@ -40,31 +40,29 @@ use std::thread::Threads;
 #[derive(Drop)]
 pub struct PooledDemands<G> {
     crowd: Arc<Crowd>,
-    bench: Bench,
+    pool: Pool,
     gate: G,
     asked: u64,
     remembered: Remembered,
-    ghost made: { IsMade (arc_value crowd) },
     ghost right: { AreRemembered (data_of (arc_value crowd)) remembered.prices.items remembered.bundles.items },
 }
 
 impl<'g> PooledDemands<AnyGate<'g>> {
-    /// The demands of this crowd, of which nothing was asked, for the workers of a bench. It takes
+    /// The demands of this crowd, of which nothing was asked, for the workers of a pool. It takes
     /// no memory.
     pub fn make(
-        bench: Bench,
+        pool: Pool,
         crowd: Arc<Crowd>,
         gate: &'g (dyn Gate + Sync),
     ) -> PooledDemands<AnyGate<'g>>
-        requires { IsMade (arc_value crowd) }
         ensures crowd { ⟦<PooledDemands<AnyGate<'g>> as Demands>⟧.crowd result
             ≡ data_of (arc_value crowd) }
         ensures asked { ⟦<PooledDemands<AnyGate<'g>> as Demands>⟧.asked result ≡ 0 }
     {
-        let remembered = Remembered::nothing(bench.alloc);
+        let remembered = Remembered::nothing(pool.alloc);
         PooledDemands {
             crowd,
-            bench,
+            pool,
             gate,
             asked: 0,
             remembered,
@@ -86,7 +84,7 @@ impl<'g> PooledDemands<AnyGate<'g>> {
     {
         if few_at(&self.remembered, &self.crowd, prices) {
             let mut bundles = vec![in alloc; Bundle::empty(); self.crowd.menus.len()]?;
-            let mut workspace = self.bench.workspaces()[0].lock(rt);
+            let mut workspace = self.pool.workspaces()[0].lock(rt);
             take_all(
                 &mut workspace,
                 &self.remembered,
@@ -121,7 +119,7 @@ impl<'g> PooledDemands<AnyGate<'g>> {
             &self.crowd,
             &[version],
             asks,
-            self.bench.workspaces(),
+            self.pool.workspaces(),
             &self.remembered,
             self.gate,
         )?;
@@ -187,7 +185,7 @@ impl<'g> PooledDemands<AnyGate<'g>> {
         requires prices { ArePricesFor (data_of (arc_value self.old.crowd)) prices.now }
         requires students { All
             (λ student. student.0 < length (arc_value self.old.crowd).menus.items) students.now }
-        requires few { length students.now ≤ 2000 }
+        requires few { length students.now ≤ MAX_STUDENTS }
         ensures crowd { self.new.crowd ≡ self.old.crowd }
         ensures asked { self.new.asked ≡ self.old.asked }
     {
@@ -227,14 +225,14 @@ impl<'g> PooledDemands<AnyGate<'g>> {
         let walks = ask_ahead(
             rt,
             alloc,
-            self.bench.workspaces(),
+            self.pool.workspaces(),
             &self.remembered,
             &self.crowd,
             &[(section, limit)],
         )?;
         let answered = answers_at(&self.crowd, &walks, 0);
         let (least, memory) = {
-            let mut workspace = self.bench.workspaces()[0].lock(rt);
+            let mut workspace = self.pool.workspaces()[0].lock(rt);
             let walk = least_price(
                 alloc,
                 &mut workspace,
@@ -376,7 +374,7 @@ impl Demands for PooledDemands<AnyGate<'_>> {
         let survey = ask_few(
             rt,
             alloc,
-            self.bench.workspaces(),
+            self.pool.workspaces(),
             &self.remembered,
             &self.crowd,
             batch,
@@ -398,7 +396,7 @@ impl Demands for PooledDemands<AnyGate<'_>> {
         self.asked = self.asked.saturating_add(1);
         let mut bundles = vec![in alloc; Bundle::empty(); students.len()]?;
         self.recall_for(rt, alloc, prices, students)?;
-        let mut workspace = self.bench.workspaces()[0].lock(rt);
+        let mut workspace = self.pool.workspaces()[0].lock(rt);
         take_listed(
             &mut workspace,
             &self.remembered,
@@ -420,7 +418,7 @@ impl Demands for PooledDemands<AnyGate<'_>> {
     ) -> Result<bool, NoMemory> {
         self.asked = self.asked.saturating_add(1);
         if few_at(&self.remembered, &self.crowd, prices) {
-            let mut workspace = self.bench.workspaces()[0].lock(rt);
+            let mut workspace = self.pool.workspaces()[0].lock(rt);
             let takers = count_takers(
                 &mut workspace,
                 &self.remembered,
@@ -438,7 +436,7 @@ impl Demands for PooledDemands<AnyGate<'_>> {
             &self.crowd,
             &[version],
             asks,
-            self.bench.workspaces(),
+            self.pool.workspaces(),
             &self.remembered,
             self.gate,
         )?;
@@ -462,12 +460,12 @@ impl Demands for PooledDemands<AnyGate<'_>> {
         let walks = ask_ahead(
             rt,
             alloc,
-            self.bench.workspaces(),
+            self.pool.workspaces(),
             &self.remembered,
             &self.crowd,
             pairs,
         )?;
-        let mut workspace = self.bench.workspaces()[0].lock(rt);
+        let mut workspace = self.pool.workspaces()[0].lock(rt);
         least_for_each(
             alloc,
             &mut workspace,

@@ -5,9 +5,8 @@ ghost use Rattle.bundle_rules.specs.Bundles.{sections_of};
 ghost use Rattle.bundle_rules.specs.Demand.{price_in};
 ghost use Rattle.demand_api.specs.Asking.{ArePricesFor};
 ghost use Rattle.demand_api.specs.Crowds.{demand_of};
-ghost use Rattle.price_board.specs.Openings.{IsMade};
 ghost use Rattle.demand_workers.specs.Questions.{IsQuestion, IsAnswered, AreAnswered};
-ghost use Rattle.demand_workers.specs.Rounds.{data_of};
+ghost use Rattle.demand_api.specs.Views.{data_of};
 
 use crate::remembered::{Remembered, are_same};
 use crate::taking::asked_again;
@@ -34,7 +33,7 @@ pub(crate) struct Question {
     pub bundle: Bundle,
 }
 
-// What was answered of the student at these prices.
+/// What was answered of the student at just these prices; `None` where that was not asked.
 pub(crate) fn answer_of(
     _crowd: &Crowd,
     answered: &[Question],
@@ -58,7 +57,7 @@ pub(crate) fn answer_of(
     None
 }
 
-// What a student takes at these prices, of all sections: answered, or asked.
+/// What a student takes at these prices, of all sections: answered, or asked.
 pub(crate) fn answered_or_asked(
     workspace: &mut Workspace,
     remembered: &Remembered,
@@ -68,7 +67,6 @@ pub(crate) fn answered_or_asked(
     answered: &[Question],
     student: StudentNo,
 ) -> Bundle
-    requires crowd { IsMade crowd.now }
     requires prices { ArePricesFor (data_of crowd.now) prices.now }
     requires allowed { (s : ℕ) → set.contains allowed.now s ≡ nat_lt s crowd.now.sections }
     requires answered { AreAnswered (data_of crowd.now) answered.now }
@@ -81,8 +79,8 @@ pub(crate) fn answered_or_asked(
     }
 }
 
-// Answers the questions, by so many workers as they are worth, of as many as there are workspaces.
-// It takes no memory.
+/// Answers the questions, by so many workers as they are worth, of as many as there are workspaces.
+/// It takes no memory.
 pub(crate) fn answer_all<R: Threads + Wait + Sync>(
     rt: &R,
     workspaces: &[Mutex<Workspace>],
@@ -90,7 +88,6 @@ pub(crate) fn answer_all<R: Threads + Wait + Sync>(
     crowd: &Crowd,
     questions: &mut [Question],
 )
-    requires crowd { IsMade crowd.now }
     requires workers { 1 ≤ length workspaces.now }
     requires questions { All (IsQuestion crowd.now) questions.old }
     ensures count { length questions.new ≡ length questions.old }
@@ -105,8 +102,7 @@ pub(crate) fn answer_all<R: Threads + Wait + Sync>(
         questions,
         workers,
         &|n, question|
-            requires { (0 < size) × (1 ≤ length workspaces.now) × IsQuestion crowd.now question.now
-                × IsMade crowd.now }
+            requires { (0 < size) × (1 ≤ length workspaces.now) × IsQuestion crowd.now question.now }
             ensures { IsQuestion crowd.entry.now question.exit.now
                 × IsAnswered (data_of crowd.entry.now) question.exit.now }
         {
@@ -124,7 +120,6 @@ fn answer<R: Wait>(
     crowd: &Crowd,
     question: &mut Question,
 )
-    requires crowd { IsMade crowd.now }
     requires question { IsQuestion crowd.now question.old }
     ensures question { IsQuestion crowd.now question.new }
     ensures answered { IsAnswered (data_of crowd.now) question.new }

@@ -5,10 +5,9 @@ ghost use Rattle.bundle_rules.specs.Bundles.{sections_of};
 ghost use Rattle.bundle_rules.specs.Demand.{price_in};
 ghost use Rattle.demand_api.specs.Asking.{ArePricesFor};
 ghost use Rattle.demand_api.specs.Crowds.{top, demand_of};
-ghost use Rattle.price_board.specs.Openings.{IsMade};
 ghost use Rattle.demand_workers.specs.Notes.{AreNoted};
 ghost use Rattle.demand_workers.specs.Remembered.{AreRemembered};
-ghost use Rattle.demand_workers.specs.Rounds.{data_of};
+ghost use Rattle.demand_api.specs.Views.{data_of};
 
 use crate::leaving::{Note, Walk};
 use crate::remembered::Remembered;
@@ -19,9 +18,9 @@ use demand_oracle::Workspace;
 use market_units::{NoMemory, SectionNo, SectionSet, StudentNo, Tokens};
 use std::alloc::Global;
 
-// What each student takes at the remembered prices with the section at the least price of a walk.
-// Who does not hold the section keeps what it takes. Who was asked on the way there keeps what it
-// took then, as long as that is affordable.
+/// What each student takes at the remembered prices with the section at the least price of a walk.
+/// Who does not hold the section keeps what it takes. Who was asked on the way there keeps what it
+/// took then, as long as that is affordable. The only error is that memory was not given.
 pub(crate) fn raised_memory(
     alloc: Global,
     workspace: &mut Workspace,
@@ -33,7 +32,6 @@ pub(crate) fn raised_memory(
     requires remembered { AreRemembered (data_of crowd.now) remembered.now.prices.items
         remembered.now.bundles.items }
     requires all { length remembered.now.bundles.items ≡ length crowd.now.menus.items }
-    requires crowd { IsMade crowd.now }
     requires prices { ArePricesFor (data_of crowd.now) remembered.now.prices.items }
     requires section { section.0 < crowd.now.sections }
     requires low { price_in remembered.now.prices.items section.0 ≤ walk.now.least.0 }
@@ -68,7 +66,6 @@ fn noted(
     walk: &Walk,
     student: StudentNo,
 ) -> Option<Bundle>
-    requires crowd { IsMade crowd.now }
     requires prices { ArePricesFor (data_of crowd.now) prices.now }
     requires student { student.0 < length crowd.now.menus.items }
     requires section { _section.0 < crowd.now.sections }

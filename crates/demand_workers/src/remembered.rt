@@ -6,9 +6,8 @@ ghost use Rattle.bundle_rules.specs.Ordinals.{ordinals};
 ghost use Rattle.market_units.specs.Totals.{total};
 ghost use Rattle.demand_api.specs.Asking.{ArePricesFor};
 ghost use Rattle.demand_api.specs.Crowds.{CrowdData, demand_of};
-ghost use Rattle.price_board.specs.Openings.{IsMade};
 ghost use Rattle.demand_workers.specs.Remembered.{AreRemembered, AreWithin, IsKept};
-ghost use Rattle.demand_workers.specs.Rounds.{data_of};
+ghost use Rattle.demand_api.specs.Views.{data_of};
 
 use crate::cheaper::Cheaper;
 use bundle_rules::{Bundle, price_of};
@@ -24,7 +23,7 @@ pub(crate) struct Remembered {
 }
 
 impl Remembered {
-    // Nothing. It takes no memory.
+    /// Nothing is remembered of any student. It takes no memory.
     pub(crate) fn nothing(alloc: Global) -> Remembered
         ensures { (crowd : CrowdData)
             → AreRemembered crowd result.prices.items result.bundles.items }
@@ -35,7 +34,7 @@ impl Remembered {
         }
     }
 
-    // Whether what each of so many students takes at just these prices is remembered.
+    /// Whether what each of so many students takes at just these prices is remembered.
     pub(crate) fn is_of(&self, students: usize, prices: &[Tokens]) -> bool
         ensures all { IsTrue result → length self.now.bundles.items ≡ students }
         ensures same { IsTrue result → self.now.prices.items ≡ prices.now }
@@ -46,7 +45,8 @@ impl Remembered {
         are_same(&self.prices, prices)
     }
 
-    // What is remembered of the student, where the student takes the same at these prices.
+    /// What is remembered of the student, where the student surely takes the same at these prices;
+    /// else `None`, and the student has to be asked.
     pub(crate) fn kept(
         &self,
         crowd: &Crowd,
@@ -55,7 +55,6 @@ impl Remembered {
     ) -> Option<Bundle>
         requires remembered { AreRemembered (data_of crowd.now) self.now.prices.items
             self.now.bundles.items }
-        requires crowd { IsMade crowd.now }
         requires prices { ArePricesFor (data_of crowd.now) prices.now }
         requires student { student.0 < length crowd.now.menus.items }
         ensures { IfSome result
@@ -73,8 +72,8 @@ impl Remembered {
         Some(self.bundles[place])
     }
 
-    // Whether the student at a place takes what is remembered of it at these prices too: the bundle
-    // is still affordable, and no section of the menu became cheaper.
+    /// Whether the student at a place surely takes what is remembered of it at these prices too:
+    /// the bundle is still affordable, and no section of the menu became cheaper.
     pub(crate) fn stays(
         &self,
         crowd: &Crowd,
@@ -84,7 +83,6 @@ impl Remembered {
     ) -> bool
         requires remembered { AreRemembered (data_of crowd.now) self.now.prices.items
             self.now.bundles.items }
-        requires crowd { IsMade crowd.now }
         requires prices { ArePricesFor (data_of crowd.now) prices.now }
         requires cheaper { AreWithin cheaper.first cheaper.past self.now.prices.items prices.now }
         requires student { place < length crowd.now.menus.items }
@@ -100,7 +98,7 @@ impl Remembered {
     }
 }
 
-// Whether these are the same prices.
+/// Whether these are the same prices.
 pub(crate) fn are_same(one: &[Tokens], other: &[Tokens]) -> bool
     ensures { IsTrue result → one.now ≡ other.now }
 {

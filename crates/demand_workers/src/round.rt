@@ -2,25 +2,26 @@
 ghost use Rattle.std.specs.Prelude.{◌≡◌, ◌≤◌, ◌<◌, ℕ, All, IfOk, length, slice_index_or};
 ghost use Rattle.std.specs.Arc.{arc_value};
 ghost use Rattle.std.specs.Vec.{vec_len};
-ghost use Rattle.price_board.specs.Openings.{IsAskOf, IsMade};
+ghost use Rattle.price_board.specs.Openings.{IsAskOf};
 ghost use Rattle.price_board.specs.Seats.{IsFree, IsFinished};
 ghost use Rattle.demand_workers.specs.Remembered.{AreRemembered};
-ghost use Rattle.demand_workers.specs.Rounds.{data_of, prices_of, AreVersionsFor, IsBoardOf};
+ghost use Rattle.demand_api.specs.Views.{data_of};
+ghost use Rattle.demand_workers.specs.Rounds.{prices_of, AreVersionsFor, IsBoardOf};
 
 use crate::remembered::Remembered;
 use crate::worker::work;
 use demand_api::Crowd;
 use demand_oracle::Workspace;
 use market_edge::Gate;
-use market_units::{NoMemory, Tokens};
+use market_units::{MAX_VERSIONS, MAX_WORKERS, NoMemory, Tokens};
 use price_board::{Answers, Ask, Board, BoardSeat, Round};
 use std::alloc::Global;
 use std::sync::{Arc, Mutex, Wait};
 use std::thread;
 use std::thread::Threads;
 
-// What all workers find for these versions and what is asked of each. All memory is taken before
-// the first worker starts, and the only error is that it was not given.
+/// What all workers find for these versions and what is asked of each. All memory is taken before
+/// the first worker starts, and the only error is that it was not given.
 pub(crate) fn ask_workers<R: Threads + Wait + Sync>(
     rt: &R,
     alloc: Global,
@@ -33,13 +34,12 @@ pub(crate) fn ask_workers<R: Threads + Wait + Sync>(
 ) -> Result<Answers, NoMemory>
     requires remembered { AreRemembered (data_of (arc_value crowd.now)) remembered.now.prices.items
         remembered.now.bundles.items }
-    requires crowd { IsMade (arc_value crowd.now) }
     requires versions { AreVersionsFor (data_of (arc_value crowd.now)) versions.now }
     requires some { 1 ≤ length versions.now }
-    requires few { length versions.now ≤ 16 }
+    requires few { length versions.now ≤ MAX_VERSIONS }
     requires asks { length asks.items ≡ length versions.now }
     requires sections { All (IsAskOf (arc_value crowd.now).sections) asks.items }
-    requires workers { (1 ≤ length workspaces.now) × (length workspaces.now ≤ 16) }
+    requires workers { (1 ≤ length workspaces.now) × (length workspaces.now ≤ MAX_WORKERS) }
     ensures crowd { IfOk result (λ answers. answers.terms.crowd ≡ data_of (arc_value crowd.now)) }
     ensures versions { IfOk result (λ answers. answers.terms.versions ≡ prices_of versions.now) }
     ensures asks { IfOk result (λ answers. answers.terms.asks ≡ asks.items) }
@@ -69,11 +69,10 @@ fn work_and_close<R: Threads + Wait + Sync>(
 ) -> Answers
     requires remembered { AreRemembered (data_of crowd.now) remembered.now.prices.items
         remembered.now.bundles.items }
-    requires crowd { IsMade crowd.now }
     requires versions { AreVersionsFor (data_of crowd.now) versions.now }
     requires board { IsBoardOf (data_of crowd.now) versions.now board }
     requires count { (vec_len seats ≡ length workspaces.now) × (1 ≤ length workspaces.now)
-        × (length workspaces.now ≤ 16) }
+        × (length workspaces.now ≤ MAX_WORKERS) }
     requires allotments { length board.allotments ≡ vec_len seats }
     requires numbers { (n : ℕ) (d : _) → n < vec_len seats
         → (slice_index_or seats.items n d).number ≡ n }
@@ -119,11 +118,10 @@ fn work_all<R: Threads + Wait + Sync>(
 )
     requires remembered { AreRemembered (data_of crowd.now) remembered.now.prices.items
         remembered.now.bundles.items }
-    requires crowd { IsMade crowd.now }
     requires versions { AreVersionsFor (data_of crowd.now) versions.now }
     requires board { IsBoardOf (data_of crowd.now) versions.now board.now }
     requires count { (length seats.old ≡ length workspaces.now) × (1 ≤ length workspaces.now)
-        × (length workspaces.now ≤ 16) }
+        × (length workspaces.now ≤ MAX_WORKERS) }
     requires numbers { (n : ℕ) (d : _) → n < length seats.old
         → (slice_index_or seats.old n d).number ≡ n }
     requires free { All (λ seat. IsFree board.now seat) seats.old }
@@ -138,11 +136,11 @@ fn work_all<R: Threads + Wait + Sync>(
         seats,
         threads,
         &|n, seat|
-            requires { (n < length workspaces.now) × (seat.now.number < 16)
+            requires { (n < length workspaces.now) × (seat.now.number < MAX_WORKERS)
                 × IsFree board.now seat.now
                 × AreRemembered (data_of crowd.now) remembered.now.prices.items
                 remembered.now.bundles.items
-                × IsMade crowd.now × AreVersionsFor (data_of crowd.now) versions.now
+                × AreVersionsFor (data_of crowd.now) versions.now
                 × IsBoardOf (data_of crowd.now) versions.now board.now }
             ensures { IsFinished board.entry.now seat.exit.now
                 × (seat.exit.now.number ≡ seat.entry.now.number) }

@@ -5,9 +5,8 @@ ghost use Rattle.bundle_rules.specs.Bundles.{sections_of};
 ghost use Rattle.bundle_rules.specs.Demand.{price_in};
 ghost use Rattle.demand_api.specs.Asking.{ArePricesFor};
 ghost use Rattle.demand_api.specs.Crowds.{count, counts, demand_of};
-ghost use Rattle.price_board.specs.Openings.{IsMade};
 ghost use Rattle.demand_workers.specs.Remembered.{AreRemembered, AreTaken};
-ghost use Rattle.demand_workers.specs.Rounds.{data_of};
+ghost use Rattle.demand_api.specs.Views.{data_of};
 
 use crate::remembered::Remembered;
 use bundle_rules::Bundle;
@@ -15,7 +14,7 @@ use demand_api::{Crowd, count_bundle};
 use demand_oracle::{Workspace, demand, demand_from};
 use market_units::{SectionNo, SectionSet, StudentNo, Tokens};
 
-// What a student takes at these prices, of all sections.
+/// What a student takes at these prices, of all sections: remembered, or asked.
 pub(crate) fn taken(
     workspace: &mut Workspace,
     remembered: &Remembered,
@@ -26,7 +25,6 @@ pub(crate) fn taken(
 ) -> Bundle
     requires remembered { AreRemembered (data_of crowd.now) remembered.now.prices.items
         remembered.now.bundles.items }
-    requires crowd { IsMade crowd.now }
     requires prices { ArePricesFor (data_of crowd.now) prices.now }
     requires allowed { (s : ℕ) → set.contains allowed.now s ≡ nat_lt s crowd.now.sections }
     requires student { student.0 < length crowd.now.menus.items }
@@ -38,8 +36,8 @@ pub(crate) fn taken(
     }
 }
 
-// The same, asked. The search begins with what is remembered of the student, which is often still
-// nearly the best.
+/// What a student takes at these prices, of all sections, asked. The search begins with what is
+/// remembered of the student, which is often still nearly the best.
 pub(crate) fn asked_again(
     workspace: &mut Workspace,
     remembered: &Remembered,
@@ -48,7 +46,6 @@ pub(crate) fn asked_again(
     allowed: &SectionSet,
     student: StudentNo,
 ) -> Bundle
-    requires crowd { IsMade crowd.now }
     requires prices { ArePricesFor (data_of crowd.now) prices.now }
     requires allowed { (s : ℕ) → set.contains allowed.now s ≡ nat_lt s crowd.now.sections }
     requires student { student.0 < length crowd.now.menus.items }
@@ -68,7 +65,8 @@ pub(crate) fn asked_again(
     )
 }
 
-// The same, asked.
+/// What a student takes at these prices, of all sections, asked. The search begins with nothing
+/// that is remembered.
 pub(crate) fn asked(
     workspace: &mut Workspace,
     crowd: &Crowd,
@@ -76,7 +74,6 @@ pub(crate) fn asked(
     allowed: &SectionSet,
     student: StudentNo,
 ) -> Bundle
-    requires crowd { IsMade crowd.now }
     requires prices { ArePricesFor (data_of crowd.now) prices.now }
     requires allowed { (s : ℕ) → set.contains allowed.now s ≡ nat_lt s crowd.now.sections }
     requires student { student.0 < length crowd.now.menus.items }
@@ -92,7 +89,7 @@ pub(crate) fn asked(
     )
 }
 
-// Writes what each listed student takes.
+/// Writes what each listed student takes at these prices, in the order of the list.
 pub(crate) fn take_listed(
     workspace: &mut Workspace,
     remembered: &Remembered,
@@ -103,7 +100,6 @@ pub(crate) fn take_listed(
 )
     requires remembered { AreRemembered (data_of crowd.now) remembered.now.prices.items
         remembered.now.bundles.items }
-    requires crowd { IsMade crowd.now }
     requires prices { ArePricesFor (data_of crowd.now) prices.now }
     requires students { All (λ student. student.0 < length crowd.now.menus.items) students.now }
     requires same { length bundles.old ≡ length students.now }
@@ -118,7 +114,7 @@ pub(crate) fn take_listed(
     }
 }
 
-// Writes what each student takes.
+/// Writes what each student takes at these prices, in the crowd's order.
 pub(crate) fn take_all(
     workspace: &mut Workspace,
     remembered: &Remembered,
@@ -128,7 +124,6 @@ pub(crate) fn take_all(
 )
     requires remembered { AreRemembered (data_of crowd.now) remembered.now.prices.items
         remembered.now.bundles.items }
-    requires crowd { IsMade crowd.now }
     requires prices { ArePricesFor (data_of crowd.now) prices.now }
     requires same { length bundles.old ≡ length crowd.now.menus.items }
     ensures len { length bundles.new ≡ length bundles.old }
@@ -141,9 +136,8 @@ pub(crate) fn take_all(
     }
 }
 
-// Counts, from 0, how many students take each section, of what each takes at these prices.
+/// Counts, from 0, how many students take each section, of what each takes at these prices.
 pub(crate) fn count_all(_crowd: &Crowd, _prices: &[Tokens], bundles: &[Bundle], found: &mut [u32])
-    requires crowd { IsMade _crowd.now }
     requires all { length bundles.now ≡ length _crowd.now.menus.items }
     requires taken { AreTaken (data_of _crowd.now) _prices.now bundles.now }
     requires zeros { found.old ≡ replicate _crowd.now.sections 0 }
@@ -154,7 +148,7 @@ pub(crate) fn count_all(_crowd: &Crowd, _prices: &[Tokens], bundles: &[Bundle], 
     }
 }
 
-// How many students take the section.
+/// How many students take the section at these prices.
 pub(crate) fn count_takers(
     workspace: &mut Workspace,
     remembered: &Remembered,
@@ -164,7 +158,6 @@ pub(crate) fn count_takers(
 ) -> u32
     requires remembered { AreRemembered (data_of crowd.now) remembered.now.prices.items
         remembered.now.bundles.items }
-    requires crowd { IsMade crowd.now }
     requires prices { ArePricesFor (data_of crowd.now) prices.now }
     ensures { result ≡ count (data_of crowd.now) (price_in prices.now) section.0 }
 {

@@ -1,9 +1,9 @@
 // Students whom what is remembered does not settle, asked by several workers.
 ghost use Rattle.std.specs.Prelude.{◌≡◌, ◌<◌, ◌≤◌, All, IfOk, IfSome, length, slice_index_or};
-ghost use Rattle.price_board.specs.Openings.{IsMade};
 ghost use Rattle.demand_workers.specs.Batches.{AreOthersKept, IsFound, IsInquiry, IsSurvey};
 ghost use Rattle.demand_workers.specs.Remembered.{AreRemembered};
-ghost use Rattle.demand_workers.specs.Rounds.{data_of, AreVersionsFor};
+ghost use Rattle.demand_api.specs.Views.{data_of};
+ghost use Rattle.demand_workers.specs.Rounds.{AreVersionsFor};
 
 use crate::batch::{Inquiry, answer_batch};
 use crate::cheaper::Cheaper;
@@ -24,8 +24,9 @@ pub(crate) struct Survey {
     pub inquiries: Vec<Inquiry>,
 }
 
-// What those take who have to be asked at the versions of a batch, asked by all workers at once,
-// but for versions at which they are not few. What each student takes at some prices is remembered.
+/// What those take who have to be asked at the versions of a batch, asked by so many workers as
+/// they are worth, but for versions at which they are not few. What each student takes at some
+/// prices is remembered. The only error is that memory was not given.
 pub(crate) fn ask_few<R: Threads + Wait + Sync>(
     rt: &R,
     alloc: Global,
@@ -37,7 +38,6 @@ pub(crate) fn ask_few<R: Threads + Wait + Sync>(
     requires remembered { AreRemembered (data_of crowd.now) remembered.now.prices.items
         remembered.now.bundles.items }
     requires all { length remembered.now.bundles.items ≡ length crowd.now.menus.items }
-    requires crowd { IsMade crowd.now }
     requires batch { AreVersionsFor (data_of crowd.now) batch.now }
     requires workers { 1 ≤ length workspaces.now }
     ensures survey { IfOk result
@@ -68,7 +68,6 @@ fn few_of_all(
     requires remembered { AreRemembered (data_of crowd.now) remembered.now.prices.items
         remembered.now.bundles.items }
     requires all { length remembered.now.bundles.items ≡ length crowd.now.menus.items }
-    requires crowd { IsMade crowd.now }
     requires batch { AreVersionsFor (data_of crowd.now) batch.now }
     ensures survey { IfOk result
         (λ survey. IsSurvey crowd.now remembered.now.bundles.items batch.now survey.few.items
@@ -99,7 +98,6 @@ fn few_of_one(
     requires remembered { AreRemembered (data_of crowd.now) remembered.now.prices.items
         remembered.now.bundles.items }
     requires all { length remembered.now.bundles.items ≡ length crowd.now.menus.items }
-    requires crowd { IsMade crowd.now }
     requires batch { AreVersionsFor (data_of crowd.now) batch.now }
     requires version { version < length batch.now }
     ensures inquiries { IfOk result

@@ -8,10 +8,11 @@ use Rattle.std.proofs.lemmas.List.{append_assoc, length-append, get_or-map, leng
 use Rattle.market_units.specs.declared.units.SectionNo.{SectionNo}
 use Rattle.bundle_rules.specs.declared.bundle.Bundle.{Bundle}
 use Rattle.bundle_rules.specs.Bundles.{sections_of}
-use Rattle.bundle_rules.specs.Sets.{has, IsAscending}
+use Rattle.market_units.specs.Members.{has}
+use Rattle.bundle_rules.specs.Sets.{IsAscending, without_section}
 use Rattle.bundle_rules.specs.Ordinals.{ordinals, IsBundle}
 use Rattle.bundle_rules.specs.Existence.Members.{IsAscending-front}
-use Rattle.dropadd_desk.specs.Sets.{place_in, with_section, without_section}
+use Rattle.dropadd_desk.specs.Sets.{place_in, with_section}
 use Rattle.dropadd_desk.proofs.SetChanges.{place_within, lower_part, higher_part, other_parts, with_ascends, without_ascends, length-with, length-without}
 
 -- the sections of each bundle ascend

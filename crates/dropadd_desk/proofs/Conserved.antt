@@ -12,7 +12,7 @@ use Rattle.course_catalog.specs.Sections.{Section}
 use Rattle.student_roll.specs.Students.{Student, names_of}
 use Rattle.chronicle.specs.History.{IsLegal, state_after as state_after_steps}
 use Rattle.chronicle.proofs.HistoryLaws.{legal_front, reply_of_step}
-use Rattle.bundle_rules.specs.Sets.{has}
+use Rattle.market_units.specs.Members.{has}
 use Rattle.demand_api.specs.Crowds.{holders}
 use Rattle.dropadd_desk.specs.declared.command.HallCommand.{HallCommand}
 use Rattle.dropadd_desk.specs.declared.command.HallCommand.TheVariants.{Add, Drop, Leave, Unreadable}

@@ -10,7 +10,7 @@ use Rattle.std.proofs.lemmas.Option.{slice_get-get_or}
 use Rattle.market_units.specs.declared.names.Name.{Name}
 use Rattle.market_units.specs.declared.units.SectionNo.{SectionNo}
 use Rattle.market_units.specs.declared.units.StudentNo.{StudentNo}
-use Rattle.bundle_rules.specs.Sets.{has}
+use Rattle.market_units.specs.Members.{has}
 use Rattle.bundle_rules.specs.Existence.Members.{has-here, has-there}
 use Rattle.dropadd_desk.specs.declared.command.HallCommand.TheVariants.{Add, Drop, Leave, Unreadable}
 use Rattle.dropadd_desk.specs.declared.reply.HallReply.{HallReply}
@@ -19,7 +19,8 @@ use Rattle.dropadd_desk.specs.declared.shared.HallState.{HallState}
 use Rattle.dropadd_desk.specs.Fits.{fits}
 use Rattle.dropadd_desk.specs.Halls.{IsQueue, times}
 use Rattle.dropadd_desk.specs.Market.{Market, section_named, student_named}
-use Rattle.dropadd_desk.specs.Sets.{with_section, without_section}
+use Rattle.bundle_rules.specs.Sets.{without_section}
+use Rattle.dropadd_desk.specs.Sets.{with_section}
 use Rattle.dropadd_desk.specs.Step.{IsUnknown, add, by_names, drop as drop_section, first_of, given, has_free_seat, held_by, known, leave, pass_on, refusal, step as step_of, waiting_for, where_so, with_held, with_waiting}
 use Rattle.dropadd_desk.proofs.Queues.{lacks_times}
 

@@ -10,15 +10,16 @@ use Rattle.market_units.specs.declared.names.Name.{Name}
 use Rattle.course_catalog.specs.Sections.{sections_clash}
 use Rattle.course_catalog.proofs.ClashFacts.{clashes_mutual}
 use Rattle.chronicle.specs.History.{state_after as state_after_steps}
-use Rattle.bundle_rules.specs.Sets.{has}
+use Rattle.market_units.specs.Members.{has}
 use Rattle.dropadd_desk.specs.declared.command.HallCommand.{HallCommand}
 use Rattle.dropadd_desk.specs.declared.command.HallCommand.TheVariants.{Add, Drop, Leave, Unreadable}
 use Rattle.dropadd_desk.specs.declared.reply.HallReply.{HallReply}
 use Rattle.dropadd_desk.specs.declared.reply.HallReply.TheVariants as reply
 use Rattle.dropadd_desk.specs.declared.shared.HallState.{HallState}
 use Rattle.dropadd_desk.specs.Market.{Market, enrolled, offered, section_count, student_count}
-use Rattle.dropadd_desk.specs.Sets.{with_section, without_section}
-use Rattle.dropadd_desk.specs.Fits.{credits_of, fits, lowest_clash, passes_courses, passes_credits}
+use Rattle.bundle_rules.specs.Sets.{without_section}
+use Rattle.dropadd_desk.specs.Sets.{with_section}
+use Rattle.dropadd_desk.specs.Fits.{credits_of, fits, lowest_clash, exceeds_courses, exceeds_credits}
 use Rattle.dropadd_desk.specs.Halls.{IsHall}
 use Rattle.dropadd_desk.specs.Laws.{AllowedLaw}
 use Rattle.dropadd_desk.specs.Lines.{HallStep}
@@ -91,7 +92,7 @@ module _ (market : Market) where
   -- a section that fits leaves what is held allowed
   allowed_with : (i s : ℕ) (set : List ℕ) → IsAllowed market i set → fits market i s set ≡ true → IsAllowed market i (with_section s set)
   allowed_with i s set is fit =
-      let parts = all_false (is_some (lowest_clash market s set)) (passes_credits market i s set) (passes_courses market i set) fit in
+      let parts = all_false (is_some (lowest_clash market s set)) (exceeds_credits market i s set) (exceeds_courses market i set) fit in
       let clear : (t : ℕ) → has set t ≡ true → sections_clash market.catalog.sections s t ≡ false =
       none_found (λ t. sections_clash market.catalog.sections s t) set parts.0 in
       let credits = ltb-false (enrolled market i).credits (credits_of market set + (offered market s).credits) parts.1 in
@@ -160,16 +161,16 @@ module _ (market : Market) where
       let first : Option HallReply = where_so (has held s) reply.Holding in
       let second : Option HallReply = where_so (has (waiting_for state s) i) reply.Waiting in
       let third : Option HallReply = option_map (λ (t : ℕ). reply.Clash (record { 0 = t })) (lowest_clash market s held) in
-      let fourth : Option HallReply = where_so (passes_credits market i s held) reply.Credits in
-      let fifth : Option HallReply = where_so (passes_courses market i held) reply.Courses in
+      let fourth : Option HallReply = where_so (exceeds_credits market i s held) reply.Credits in
+      let fifth : Option HallReply = where_so (exceeds_courses market i held) reply.Courses in
       let one = first_none first (second ∷ third ∷ fourth ∷ fifth ∷ []) e in
       let two = first_none second (third ∷ fourth ∷ fifth ∷ []) one.1 in
       let three = first_none third (fourth ∷ fifth ∷ []) two.1 in
       let four = first_none fourth (fifth ∷ []) three.1 in
       let five = first_none fifth [] four.1 in
       let clash : is_some (lowest_clash market s (held_by state i)) ≡ false = no_clash (lowest_clash market s (held_by state i)) three.0 in
-      let credits : passes_credits market i s (held_by state i) ≡ false = so_none (passes_credits market i s (held_by state i)) reply.Credits four.0 in
-      let courses : passes_courses market i (held_by state i) ≡ false = so_none (passes_courses market i (held_by state i)) reply.Courses five.0 in
+      let credits : exceeds_credits market i s (held_by state i) ≡ false = so_none (exceeds_credits market i s (held_by state i)) reply.Credits four.0 in
+      let courses : exceeds_courses market i (held_by state i) ≡ false = so_none (exceeds_courses market i (held_by state i)) reply.Courses five.0 in
       rw (clash, credits, courses) refl
     where
       no_clash : (o : Option ℕ) → option_map (λ (t : ℕ). reply.Clash (record { 0 = t })) o ≡ None → is_some o ≡ false

@@ -5,12 +5,12 @@ use Rattle.std.specs.FinMap as map
 use Rattle.std.proofs.lemmas.Bool.{cases_Bool, false≢true, or_parts, ne_eqb, eq-eqb}
 use Rattle.std.proofs.lemmas.List.{length-take-le, replicate_more, take_more_set}
 use Rattle.std.proofs.lemmas.Option.{slice_get_read}
-use Rattle.row_region.specs.Rows.{Rows, IsLive, with_row, spare_of, rewritten}
+use Rattle.row_region.specs.Rows.{Rows, IsLive, with_row, spare_of, rewritten, cells_of}
 use Rattle.row_region.proofs.Filling.{rewritten_same}
 use Rattle.row_region.proofs.Rows.{row_here, row_there, live_here, live_there, spare_apart}
 use Rattle.dropadd_desk.specs.declared.lists.Front.{Front}
 use Rattle.dropadd_desk.specs.Lists.{Lists}
-use Rattle.dropadd_desk.specs.Fronts.{cells_of, fronts_in, is_row_of, AreLive}
+use Rattle.dropadd_desk.specs.Fronts.{fronts_in, is_row_of, AreLive}
 
 apart_of_test : (a b : ℕ) → (a == b) ≡ false → a ≢ b
 apart_of_test a b other e = false≢true (sym other ∙ eq-eqb a b e)

@@ -11,14 +11,15 @@ use Rattle.market_units.specs.declared.names.Name.{Name}
 use Rattle.market_units.specs.declared.units.StudentNo.{StudentNo}
 use Rattle.chronicle.specs.History.{state_after as state_after_steps}
 use Rattle.chronicle.proofs.HistoryLaws.{reply_of_step, state_after-append}
-use Rattle.bundle_rules.specs.Sets.{has}
+use Rattle.market_units.specs.Members.{has}
 use Rattle.dropadd_desk.specs.declared.command.HallCommand.{HallCommand}
 use Rattle.dropadd_desk.specs.declared.command.HallCommand.TheVariants.{Add, Drop, Leave, Unreadable}
 use Rattle.dropadd_desk.specs.declared.reply.HallReply.{HallReply}
 use Rattle.dropadd_desk.specs.declared.reply.HallReply.TheVariants as reply
 use Rattle.dropadd_desk.specs.declared.shared.HallState.{HallState}
 use Rattle.dropadd_desk.specs.Market.{Market, section_count, section_named, student_count}
-use Rattle.dropadd_desk.specs.Sets.{with_section, without_section}
+use Rattle.bundle_rules.specs.Sets.{without_section}
+use Rattle.dropadd_desk.specs.Sets.{with_section}
 use Rattle.dropadd_desk.specs.Fits.{fits}
 use Rattle.dropadd_desk.specs.Halls.{IsHall}
 use Rattle.dropadd_desk.specs.Laws.{FirstFitLaw, GoesToFirstFit, RefusalLaw}

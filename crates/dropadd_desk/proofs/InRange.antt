@@ -5,20 +5,20 @@ use Rattle.std.specs.List.{before_first, find}
 use Rattle.std.proofs.lemmas.Bool.{cases_Bool}
 use Rattle.std.proofs.lemmas.List.Elements.{All-cons, All-nil}
 use Rattle.course_catalog.specs.Sections.{sections_clash}
-use Rattle.bundle_rules.specs.Sets.{has}
+use Rattle.market_units.specs.Members.{has}
 use Rattle.bundle_rules.specs.Existence.Members.{has-here, has-there}
 use Rattle.dropadd_desk.specs.declared.command.HallCommand.{HallCommand}
 use Rattle.dropadd_desk.specs.declared.command.HallCommand.TheVariants.{Add, Drop, Leave, Unreadable}
 use Rattle.dropadd_desk.specs.declared.reply.HallReply.{HallReply}
 use Rattle.dropadd_desk.specs.declared.reply.HallReply.TheVariants as reply
 use Rattle.dropadd_desk.specs.declared.shared.HallState.{HallState}
-use Rattle.dropadd_desk.specs.Fits.{fits, lowest_clash, passes_credits, passes_courses}
+use Rattle.dropadd_desk.specs.Fits.{fits, lowest_clash, exceeds_credits, exceeds_courses}
 use Rattle.dropadd_desk.specs.Halls.{IsHall}
 use Rattle.dropadd_desk.specs.Laws.{RepliesInRangeLaw}
 use Rattle.dropadd_desk.specs.Lines.{HallStep}
 use Rattle.dropadd_desk.specs.Market.{Market, section_count, student_count}
 use Rattle.dropadd_desk.specs.Replies.{NamesInRange}
-use Rattle.dropadd_desk.specs.Sets.{without_section}
+use Rattle.bundle_rules.specs.Sets.{without_section}
 use Rattle.dropadd_desk.specs.Shared.{state_after}
 use Rattle.dropadd_desk.specs.Step.{add, answered, drop as drop_section, first_of, has_free_seat, held_by, leave, pass_on, refusal, step as step_of, waiting_for, where_so, with_held}
 use Rattle.dropadd_desk.proofs.Conserved.{hall_after, names_or_quiet}
@@ -79,8 +79,8 @@ module _ (market : Market) where
         first_named _ _ (so_named (has (held_by state i) s) reply.Holding tt)
         (first_named _ _ (so_named (has (waiting_for state s) i) reply.Waiting tt)
         (first_named _ _ (clash_named (lowest_clash market s (held_by state i)) (λ t e. within_at market state i t is (found_in (λ u. sections_clash market.catalog.sections s u) (held_by state i) t e)))
-        (first_named _ _ (so_named (passes_credits market i s (held_by state i)) reply.Credits tt)
-        (first_named _ _ (so_named (passes_courses market i (held_by state i)) reply.Courses tt) tt))))
+        (first_named _ _ (so_named (exceeds_credits market i s (held_by state i)) reply.Credits tt)
+        (first_named _ _ (so_named (exceeds_courses market i (held_by state i)) reply.Courses tt) tt))))
 
     add_named : (i s : ℕ) → NamesInRange market (add market state i s).0
     unfolding add

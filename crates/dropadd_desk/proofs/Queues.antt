@@ -3,10 +3,10 @@ use Rattle.std.proofs.Common.{ℕ, zero, suc, ◌≡◌, ◌≢◌, ◌<◌, ◌
 use Rattle.std.specs.Prelude.{slice_get, if◌then◌else◌}
 use Rattle.std.proofs.lemmas.Bool.{cases_Bool, cases_eq, eq-eqb, eqb-true, false≢true, true≢false}
 use Rattle.market_units.proofs.Sums.{total-append}
-use Rattle.bundle_rules.specs.Sets.{has}
+use Rattle.market_units.specs.Members.{has}
 use Rattle.bundle_rules.specs.Existence.Members.{has-cases, has-there, has-here}
 use Rattle.dropadd_desk.specs.Halls.{times, IsQueue}
-use Rattle.dropadd_desk.specs.Sets.{without_section}
+use Rattle.bundle_rules.specs.Sets.{without_section}
 use Rattle.dropadd_desk.proofs.SetChanges.{has-without}
 
 -- who does not stand in a list stands there no time

@@ -14,7 +14,7 @@ use Rattle.market_units.specs.declared.units.SectionNo.{SectionNo}
 use Rattle.market_units.specs.Name.{name_bytes}
 use Rattle.course_catalog.specs.Sections.{Section, no_section, sections_clash}
 use Rattle.student_roll.specs.Students.{Student, no_student}
-use Rattle.bundle_rules.specs.Sets.{has}
+use Rattle.market_units.specs.Members.{has}
 use Rattle.bundle_rules.specs.Ordinals.{ordinals}
 use Rattle.bundle_rules.specs.Existence.Members.{has-here, has-there}
 use Rattle.dropadd_desk.specs.declared.rules.Caps.{Caps}

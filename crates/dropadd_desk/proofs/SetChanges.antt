@@ -4,10 +4,11 @@ use Rattle.std.specs.Prelude.{nat_lt, nat_le}
 use Rattle.std.specs.List.{filter}
 use Rattle.std.proofs.lemmas.Bool.{cases_Bool, cases_lt, cases_order, le-ltb, lt-ltb, le-leb, lt-leb, ltb-true, eq-eqb, ne_eqb, eqb-true, false≢true, or_parts}
 use Rattle.market_units.specs.declared.units.SectionNo.{SectionNo}
-use Rattle.bundle_rules.specs.Sets.{has, AllAbove, IsAscending}
+use Rattle.market_units.specs.Members.{has}
+use Rattle.bundle_rules.specs.Sets.{AllAbove, IsAscending, without_section}
 use Rattle.bundle_rules.specs.Ordinals.{ordinals}
 use Rattle.bundle_rules.specs.Existence.Members.{has-above}
-use Rattle.dropadd_desk.specs.Sets.{place_in, with_section, without_section}
+use Rattle.dropadd_desk.specs.Sets.{place_in, with_section}
 
 above_all : (x y : ℕ) (ys : List ℕ) → x < y → AllAbove y ys → AllAbove x ys
 above_all x y [] low above = tt

@@ -6,11 +6,12 @@ use Rattle.std.proofs.lemmas.Bool.{false≢true, ltb-false}
 use Rattle.std.proofs.lemmas.List.{length-map, length-replicate}
 use Rattle.course_catalog.specs.Sections.{Section}
 use Rattle.student_roll.specs.Students.{no_student}
-use Rattle.bundle_rules.specs.Sets.{has, IsAscending}
+use Rattle.market_units.specs.Members.{has}
+use Rattle.bundle_rules.specs.Sets.{IsAscending}
 use Rattle.held_seats.specs.declared.floor.Floor.{Floor}
 use Rattle.held_seats.specs.Floors.{AreBelow, IsFloor, held_on}
 use Rattle.dropadd_desk.specs.declared.shared.HallState.{HallState}
-use Rattle.dropadd_desk.specs.Fits.{fits, lowest_clash, passes_credits, passes_courses}
+use Rattle.dropadd_desk.specs.Fits.{fits, lowest_clash, exceeds_credits, exceeds_courses}
 use Rattle.dropadd_desk.specs.Halls.{IsHall, IsQueue, opening}
 use Rattle.dropadd_desk.specs.Kept.{IsMarket}
 use Rattle.dropadd_desk.specs.Lists.{Lists}
@@ -66,7 +67,7 @@ fits_few market i s set is low fit =
     let few : (enrolled market i).courses ≤ 8 = (is.roll.each i no_student low).is_student.courses in
     let room : length set + 1 ≤ (enrolled market i).courses =
     ltb-false (enrolled market i).courses (length set + 1)
-    (last_of (is_some (lowest_clash market s set)) (passes_credits market i s set) (passes_courses market i set) fit) in
+    (last_of (is_some (lowest_clash market s set)) (exceeds_credits market i s set) (exceeds_courses market i set) fit) in
     omega (arith, few, room)
   where
     last_of : (a b c : Bool) → (not a && not b && not c) ≡ true → c ≡ false

@@ -9,14 +9,15 @@ use Rattle.std.proofs.lemmas.Option.{slice_get_within}
 use Rattle.std.specs.List.{drop-map}
 use Rattle.market_units.specs.declared.units.StudentNo.{StudentNo}
 use Rattle.course_catalog.specs.Sections.{Section, no_section}
-use Rattle.bundle_rules.specs.Sets.{has}
+use Rattle.market_units.specs.Members.{has}
 use Rattle.demand_api.specs.Crowds.{holders}
 use Rattle.dropadd_desk.specs.declared.reply.HallReply.{HallReply}
 use Rattle.dropadd_desk.specs.declared.reply.HallReply.TheVariants as reply
 use Rattle.dropadd_desk.specs.declared.shared.HallState.{HallState}
 use Rattle.dropadd_desk.specs.Market.{Market, offered, section_count, student_count, seats_in}
-use Rattle.dropadd_desk.specs.Sets.{with_section, without_section}
-use Rattle.dropadd_desk.specs.Fits.{fits, lowest_clash, passes_credits, passes_courses}
+use Rattle.bundle_rules.specs.Sets.{without_section}
+use Rattle.dropadd_desk.specs.Sets.{with_section}
+use Rattle.dropadd_desk.specs.Fits.{fits, lowest_clash, exceeds_credits, exceeds_courses}
 use Rattle.dropadd_desk.specs.Halls.{IsHall}
 use Rattle.dropadd_desk.specs.Holdings.{held_after_reply}
 use Rattle.dropadd_desk.specs.Lines.{Line, Ticket, is_added, is_dropped, is_passed_on, is_queued, is_refusal, noted}
@@ -97,8 +98,8 @@ refusal_quiet market state i s =
     first_quiet _ _ (so_quiet (has (held_by state i) s) reply.Holding refl)
     (first_quiet _ _ (so_quiet (has (waiting_for state s) i) reply.Waiting refl)
     (first_quiet _ _ (clash_quiet (lowest_clash market s (held_by state i)))
-    (first_quiet _ _ (so_quiet (passes_credits market i s (held_by state i)) reply.Credits refl)
-    (first_quiet _ _ (so_quiet (passes_courses market i (held_by state i)) reply.Courses refl) tt))))
+    (first_quiet _ _ (so_quiet (exceeds_credits market i s (held_by state i)) reply.Credits refl)
+    (first_quiet _ _ (so_quiet (exceeds_courses market i (held_by state i)) reply.Courses refl) tt))))
 
 pub first_none : (o : Option HallReply) (more : List (Option HallReply)) → first_of (o ∷ more) ≡ None → (o ≡ None) × (first_of more ≡ None)
 first_none None more e = (refl, e)

@@ -5,12 +5,13 @@ use Rattle.std.specs.List.{All}
 use Rattle.std.proofs.lemmas.Bool.{cases_Bool, cases_eq, eq-eqb, ne_eqb, eqb-true, false≢true, ltb-true, ltb-false}
 use Rattle.std.proofs.lemmas.List.{get_or-set_same, get_or-set_other, get_or_past}
 use Rattle.std.proofs.lemmas.Option.{slice_get-get_or}
-use Rattle.bundle_rules.specs.Sets.{has, IsAscending}
+use Rattle.market_units.specs.Members.{has}
+use Rattle.bundle_rules.specs.Sets.{IsAscending, without_section}
 use Rattle.demand_api.specs.Crowds.{holders}
 use Rattle.held_seats.proofs.Gets.{holders_set}
 use Rattle.dropadd_desk.specs.declared.shared.HallState.{HallState}
 use Rattle.dropadd_desk.specs.Market.{Market, section_count, student_count}
-use Rattle.dropadd_desk.specs.Sets.{with_section, without_section}
+use Rattle.dropadd_desk.specs.Sets.{with_section}
 use Rattle.dropadd_desk.specs.Halls.{IsHall, IsQueue}
 use Rattle.dropadd_desk.specs.Step.{held_by, waiting_for, with_held, with_waiting}
 use Rattle.dropadd_desk.proofs.SetChanges.{has-with, has-without, with_ascends, without_ascends}

@@ -13,18 +13,18 @@ credits_of market sections = total (λ s. (offered market s).credits) sections
 abbrev pub lowest_clash : Market → ℕ → List ℕ → Option ℕ
 lowest_clash market s set = find (λ t. sections_clash market.catalog.sections s t) set
 
--- with the section the credits pass the student's cap
-abbrev pub passes_credits : Market → ℕ → ℕ → List ℕ → Bool
-passes_credits market i s set =
+-- with the section the credits exceed the student's cap
+abbrev pub exceeds_credits : Market → ℕ → ℕ → List ℕ → Bool
+exceeds_credits market i s set =
     nat_lt (enrolled market i).credits (credits_of market set + (offered market s).credits)
 
 -- with one section more there are more than the student's cap
-abbrev pub passes_courses : Market → ℕ → List ℕ → Bool
-passes_courses market i set = nat_lt (enrolled market i).courses (length set + 1)
+abbrev pub exceeds_courses : Market → ℕ → List ℕ → Bool
+exceeds_courses market i set = nat_lt (enrolled market i).courses (length set + 1)
 
 -- The section fits a student who holds these: it clashes with none of them, and with it neither cap
--- is passed.
+-- is exceeded.
 abbrev pub fits : Market → ℕ → ℕ → List ℕ → Bool
 fits market i s set =
-    not (is_some (lowest_clash market s set)) && not (passes_credits market i s set)
-    && not (passes_courses market i set)
+    not (is_some (lowest_clash market s set)) && not (exceeds_credits market i s set)
+    && not (exceeds_courses market i set)

@@ -1,16 +1,11 @@
 -- How lists are kept: each is the front of a live row of a region.
-use Rattle.std.specs.Prelude.{ℕ, ◌≡◌, ◌<◌, ◌≤◌, ◌^◌, ◌==◌, ◌||◌, Bool, false, ⊤, List, [], ◌∷◌, Option, None, Some, take}
+use Rattle.std.specs.Prelude.{ℕ, ◌≡◌, ◌<◌, ◌≤◌, ◌^◌, ◌==◌, ◌||◌, Bool, false, ⊤, List, [], ◌∷◌, take}
 use Rattle.std.specs.Ordering.{nat_cmp}
 use Rattle.std.specs.FinMap as map
-use Rattle.row_region.specs.Rows.{Rows, IsLive}
+use Rattle.row_region.specs.Rows.{Rows, IsLive, cells_of}
 use Rattle.dropadd_desk.specs.declared.lists.Front.{Front}
 use Rattle.dropadd_desk.specs.declared.lists.WaitingLists.TheInside.{Inside}
 use Rattle.dropadd_desk.specs.Lists.{Lists}
-
--- what a row holds, and nothing where it is spare
-abbrev pub cells_of : Option (List ℕ) → List ℕ
-cells_of None = []
-cells_of (Some row) = row
 
 -- the fronts of these rows
 abbrev pub fronts_in : map.FinMap nat_cmp (List ℕ) → List Front → List (List ℕ)

@@ -2,7 +2,8 @@
 use Rattle.std.specs.Prelude.{ℕ, ◌≡◌, ◌<◌, ◌≤◌, ◌+◌, ◌↔◌, true, false, if◌then◌else◌, Option, Some, option_map, None, List, All, [], ◌∷◌, ◌++◌, length, map, slice_get}
 use Rattle.chronicle.specs.History.{IsLegal, state_after as state_after_steps}
 use Rattle.market_units.specs.declared.units.StudentNo.{StudentNo}
-use Rattle.bundle_rules.specs.Sets.{has, IsAscending}
+use Rattle.market_units.specs.Members.{has}
+use Rattle.bundle_rules.specs.Sets.{IsAscending}
 use Rattle.demand_api.specs.Crowds.{holders}
 use Rattle.dropadd_desk.specs.declared.reply.HallReply.TheVariants as reply
 use Rattle.dropadd_desk.specs.declared.shared.HallState.{HallState}
@@ -65,8 +66,8 @@ pub record IsConserved (market : Market) (opening : HallState) (history : List H
       lapsed
       ≡ Some next.0
 
--- Whatever is requested from an opening where nobody waits, no section is over its seats, and each
--- student's sections keep timetable and caps, it is so of each section, and student by student. A
+-- Let nobody wait at the opening, no section be over its seats, and each student's sections keep
+-- timetable and caps. Then, whatever is requested, each section is conserved (`IsConserved`). A
 -- beginning of a history is a history, so this holds at each time.
 abbrev pub ConservationLaw : Type 0
 ConservationLaw =
@@ -85,12 +86,12 @@ AllowedLaw =
     → i < student_count market
     → IsAllowed market i (held_by (state_after_steps state_after market opening history) i)
 
--- What a given up seat comes to, from one state to the next, where so many lapse and this student
--- is told as the next.
+-- Where a seat that is given up goes, from one state to the next: the reply tells how many lapse
+-- and who is next.
 pub record GoesToFirstFit (market : Market) (before after : HallState) (s lapsed : ℕ)
     (next : Option StudentNo) : Type 0 where
   -- those who lapse are the first so many who wait, and the section fits none of them beside what
-  -- he holds
+  -- it holds
   pub lapse : (place i : ℕ) → place < lapsed → slice_get (waiting_for before s) place ≡ Some i
       → fits market i s (held_by before i) ≡ false
   -- the next is who waits behind them, and there is none where nobody does
@@ -98,7 +99,7 @@ pub record GoesToFirstFit (market : Market) (before after : HallState) (s lapsed
       ≡ option_map (λ (one : StudentNo). one.0) next
   -- where there is no next, all who wait lapse, and no more are told
   pub all : next ≡ None → lapsed ≡ length (waiting_for before s)
-  -- the section fits the next beside what he holds
+  -- the section fits the next beside what it holds
   pub fit : (one : StudentNo) → next ≡ Some one → fits market one.0 s (held_by before one.0) ≡ true
   -- of those who did not hold the section the next holds it now, and nobody else
   pub given : (i : ℕ) → i < student_count market → has (held_by before i) s ≡ false

@@ -111,8 +111,7 @@ abbrev pub is_passed_on : HallReply → Bool
 is_passed_on (reply.Dropped lapsed (Some next)) = true
 is_passed_on _ = false
 
--- a request is refused by each reply but that a seat was given, a place in the list was given, a
--- seat was given up or a place was given up
+-- whether a reply refuses the request: each does but `Added`, `Queued`, `Dropped` and `Left`
 abbrev pub is_refusal : HallReply → Bool
 is_refusal reply.Added = false
 is_refusal (reply.Queued ahead) = false

@@ -4,7 +4,7 @@ use Rattle.std.specs.Str.{bytes_eq}
 use Rattle.market_units.specs.declared.names.Name.{Name}
 use Rattle.market_units.specs.Name.{name_bytes}
 use Rattle.course_catalog.specs.Catalog.{CatalogData}
-use Rattle.course_catalog.specs.Sections.{Section, section_at}
+use Rattle.course_catalog.specs.Sections.{Section, section_at, section_names}
 use Rattle.student_roll.specs.Students.{RollData, Student, no_student, names_of}
 
 pub record Market : Type 0 where
@@ -29,7 +29,7 @@ enrolled market i = slice_index_or market.roll.students i no_student
 -- the ordinal of the section of a name, where there is one
 abbrev pub section_named : Market → Name → Option ℕ
 section_named market name =
-    position (bytes_eq (name_bytes name)) (map (λ section. section.name) market.catalog.sections)
+    position (bytes_eq (name_bytes name)) (section_names market.catalog.sections)
 
 -- the ordinal of the student of a name, where there is one
 abbrev pub student_named : Market → Name → Option ℕ

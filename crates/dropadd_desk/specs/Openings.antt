@@ -1,6 +1,6 @@
 -- States in which a desk may open.
 use Rattle.std.specs.Prelude.{ℕ, ◌≡◌, ◌<◌, ◌≤◌, true, false, List, [], length}
-use Rattle.bundle_rules.specs.Sets.{has}
+use Rattle.market_units.specs.Members.{has}
 use Rattle.course_catalog.specs.Sections.{sections_clash}
 use Rattle.demand_api.specs.Crowds.{holders}
 use Rattle.dropadd_desk.specs.declared.shared.HallState.{HallState}

@@ -1,5 +1,5 @@
--- Sets of sections, each written as its ordinals in ascending order, with one section more or less.
-use Rattle.std.specs.Prelude.{ℕ, ◌==◌, not, nat_le, nat_lt, List, ◌∷◌, ◌++◌}
+-- Sets of sections, each written as its ordinals in ascending order, with one section more.
+use Rattle.std.specs.Prelude.{ℕ, nat_le, nat_lt, List, ◌∷◌, ◌++◌}
 use Rattle.std.specs.List.{filter, position_or_len}
 use Rattle.market_units.specs.declared.units.SectionNo.{SectionNo}
 
@@ -10,7 +10,3 @@ place_in s sections = position_or_len (λ (other : SectionNo). nat_le s other.0)
 -- the set and the section: what is below it, the section, and what is above it
 abbrev pub with_section : ℕ → List ℕ → List ℕ
 with_section s set = filter (λ t. nat_lt t s) set ++ s ∷ filter (λ t. nat_lt s t) set
-
--- the set without the section
-abbrev pub without_section : ℕ → List ℕ → List ℕ
-without_section s set = filter (λ t. not (t == s)) set

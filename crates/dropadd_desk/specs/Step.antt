@@ -2,7 +2,7 @@
 use Rattle.std.specs.Prelude.{ℕ, ◌≡◌, ◌==◌, Bool, not, if◌then◌else◌, Option, None, Some, option_map, List, [], ◌∷◌, ◌++◌, length, slice_index_or, slice_set}
 use Rattle.std.specs.List.{before_first, after_first, filter, find}
 use Rattle.market_units.specs.declared.names.Name.{Name}
-use Rattle.bundle_rules.specs.Sets.{has}
+use Rattle.market_units.specs.Members.{has}
 use Rattle.held_seats.specs.Choices.{is_free}
 use Rattle.dropadd_desk.specs.declared.command.HallCommand.{HallCommand}
 use Rattle.dropadd_desk.specs.declared.command.HallCommand.TheVariants.{Add, Drop, Leave, Unreadable}
@@ -10,8 +10,9 @@ use Rattle.dropadd_desk.specs.declared.reply.HallReply.{HallReply}
 use Rattle.dropadd_desk.specs.declared.reply.HallReply.TheVariants as reply
 use Rattle.dropadd_desk.specs.declared.shared.HallState.{HallState}
 use Rattle.dropadd_desk.specs.Market.{Market, section_named, student_named, seats_in}
-use Rattle.dropadd_desk.specs.Sets.{with_section, without_section}
-use Rattle.dropadd_desk.specs.Fits.{fits, lowest_clash, passes_credits, passes_courses}
+use Rattle.bundle_rules.specs.Sets.{without_section}
+use Rattle.dropadd_desk.specs.Sets.{with_section}
+use Rattle.dropadd_desk.specs.Fits.{fits, lowest_clash, exceeds_credits, exceeds_courses}
 
 -- the set of sections that a student holds
 abbrev pub held_by : HallState → ℕ → List ℕ
@@ -49,8 +50,8 @@ refusal market state i s = let held = held_by state i in first_of (
     where_so (has held s) reply.Holding
     ∷ where_so (has (waiting_for state s) i) reply.Waiting
     ∷ option_map (λ (t : ℕ). reply.Clash (record { 0 = t })) (lowest_clash market s held)
-    ∷ where_so (passes_credits market i s held) reply.Credits
-    ∷ where_so (passes_courses market i held) reply.Courses
+    ∷ where_so (exceeds_credits market i s held) reply.Credits
+    ∷ where_so (exceeds_courses market i held) reply.Courses
     ∷ [])
 
 -- a reply that changes nothing where there is one, and else this

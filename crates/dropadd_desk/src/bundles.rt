@@ -2,16 +2,17 @@
 ghost use Rattle.std.specs.Prelude.{◌≡◌, ◌<◌, ◌≤◌, ◌+◌, ◌++◌, true, false, length, nat_le};
 ghost use Rattle.bundle_rules.specs.Bundles.{sections_of};
 ghost use Rattle.bundle_rules.specs.Ordinals.{ordinals, IsBundle};
-ghost use Rattle.bundle_rules.specs.Sets.{has};
+ghost use Rattle.market_units.specs.Members.{has};
 ghost use Rattle.std.specs.List.{position};
-ghost use Rattle.dropadd_desk.specs.Sets.{place_in, with_section, without_section};
+ghost use Rattle.bundle_rules.specs.Sets.{without_section};
+ghost use Rattle.dropadd_desk.specs.Sets.{place_in, with_section};
 
 use bundle_rules::Bundle;
-use market_units::SectionNo;
+use market_units::{MAX_COURSES, SectionNo};
 
-// The bundle with the section too.
+/// The bundle with one section more, put at its place in the order.
 pub(crate) fn with_section(bundle: &Bundle, section: SectionNo) -> Bundle
-    requires room { length (sections_of bundle.now) < 8 }
+    requires room { length (sections_of bundle.now) < MAX_COURSES }
     requires new { has (sections_of bundle.now) section.0 ≡ false }
     ensures { sections_of result ≡ with_section section.0 (sections_of bundle.now) }
 {
@@ -22,7 +23,7 @@ pub(crate) fn with_section(bundle: &Bundle, section: SectionNo) -> Bundle
     put_all(below.with(section), higher)
 }
 
-// The bundle without the section.
+/// The bundle without this section, which it has.
 pub(crate) fn without_section(bundle: &Bundle, section: SectionNo) -> Bundle
     requires { has (sections_of bundle.now) section.0 ≡ true }
     ensures { sections_of result ≡ without_section section.0 (sections_of bundle.now) }

@@ -15,7 +15,7 @@ use market_units::{Name, NoMemory, SectionNo, SectionSet, StudentNo};
 use std::alloc::Global;
 use student_roll::Roll;
 
-// The names of the students, in file order.
+/// The names of the students, in file order, for looking a name up.
 pub(crate) fn student_names(alloc: Global, roll: &Roll) -> Result<IndexSet<Name>, NoMemory>
     ensures names { IfOk result (λ names. map name_bytes names.keys ≡ names_of roll.now.students) }
     ensures roll { IfOk result (λ names. IsRoll roll.now) }
@@ -28,7 +28,7 @@ pub(crate) fn student_names(alloc: Global, roll: &Roll) -> Result<IndexSet<Name>
     Ok(names)
 }
 
-// The names of the sections, in file order.
+/// The names of the sections, in file order, for looking a name up.
 pub(crate) fn section_names(alloc: Global, catalog: &Catalog) -> Result<IndexSet<Name>, NoMemory>
     ensures names { IfOk result
         (λ names. map name_bytes names.keys
@@ -43,7 +43,7 @@ pub(crate) fn section_names(alloc: Global, catalog: &Catalog) -> Result<IndexSet
     Ok(names)
 }
 
-// The caps of the students, in file order.
+/// The caps on credits and on sections of each student, in file order.
 pub(crate) fn caps_of(alloc: Global, roll: &Roll) -> Result<Vec<Caps>, NoMemory>
     ensures { IfOk result (λ caps. AreCaps roll.now.students caps.items) }
 {
@@ -59,7 +59,7 @@ pub(crate) fn caps_of(alloc: Global, roll: &Roll) -> Result<Vec<Caps>, NoMemory>
     Ok(caps)
 }
 
-// The credits of the sections, in file order.
+/// The credits of each section, in file order.
 pub(crate) fn credits_of(alloc: Global, catalog: &Catalog) -> Result<Vec<u16>, NoMemory>
     ensures { IfOk result
         (λ credits. credits.items
@@ -73,7 +73,7 @@ pub(crate) fn credits_of(alloc: Global, catalog: &Catalog) -> Result<Vec<u16>, N
     Ok(credits)
 }
 
-// The sections with which each section clashes, in file order.
+/// For each section, in file order, the sections with which it clashes.
 pub(crate) fn clashes_of(alloc: Global, catalog: &Catalog) -> Result<Vec<SectionSet>, NoMemory>
     ensures { IfOk result (λ clashes. AreClashes catalog.now.sections clashes.items) }
 {

@@ -2,7 +2,8 @@
 ghost use Rattle.std.specs.Prelude.{ℕ, ◌≡◌, ◌<◌, ◌≤◌, ◌+◌, true, false, length, map, slice_index_or};
 ghost use Rattle.std.proofs.Props.{props};
 ghost use Rattle.bundle_rules.specs.Bundles.{sections_of};
-ghost use Rattle.bundle_rules.specs.Sets.{has, IsAscending-prop};
+ghost use Rattle.market_units.specs.Members.{has};
+ghost use Rattle.bundle_rules.specs.Sets.{IsAscending-prop};
 ghost use Rattle.held_seats.specs.Floors.{AreBelow, IsFloor, held_on};
 ghost use Rattle.dropadd_desk.specs.Halls.{IsHall};
 ghost use Rattle.dropadd_desk.specs.Kept.{IsMarket};
@@ -16,7 +17,7 @@ use crate::rules::MarketRules;
 use bundle_rules::Bundle;
 use course_catalog::Catalog;
 use held_seats::Floor;
-use market_units::{Name, NoMemory, SectionNo, StudentNo};
+use market_units::{MAX_COURSES, Name, NoMemory, SectionNo, StudentNo};
 use std::alloc::Global;
 use student_roll::Roll;
 
@@ -188,7 +189,8 @@ impl HallDesk {
         requires section { section.0 < section_count (market_of self.now) }
         ensures refusal { result
             ≡ refusal (market_of self.now) (state_of self.now) student.0 section.0 }
-        ensures room { result ≡ None → length (held_by (state_of self.now) student.0) < 8 }
+        ensures room { result ≡ None
+            → length (held_by (state_of self.now) student.0) < MAX_COURSES }
     {
         let held = self.bundle(student);
         if held.has(section) {
@@ -200,10 +202,10 @@ impl HallDesk {
         if let Some(with) = self.rules.lowest_clash(section, &held) {
             return Some(HallReply::Clash { with });
         }
-        if self.rules.passes_credits(student, section, &held) {
+        if self.rules.exceeds_credits(student, section, &held) {
             return Some(HallReply::Credits);
         }
-        if self.rules.passes_courses(student, &held) {
+        if self.rules.exceeds_courses(student, &held) {
             return Some(HallReply::Courses);
         }
         None
@@ -216,7 +218,7 @@ impl HallDesk {
         requires section { section.0 < section_count (market_of self.old) }
         requires new { has (held_by (state_of self.old) student.0) section.0 ≡ false }
         requires apart { has (waiting_for (state_of self.old) section.0) student.0 ≡ false }
-        requires few { length (held_by (state_of self.old) student.0) < 8 }
+        requires few { length (held_by (state_of self.old) student.0) < MAX_COURSES }
         ensures market { market_of self.new ≡ market_of self.old }
         ensures given { state_of self.new ≡ given (state_of self.old) (Some student.0) section.0 }
         ensures room { room_of self.new ≡ room_of self.old }
@@ -295,7 +297,8 @@ impl HallDesk {
         ensures fits { result
             ≡ fits (market_of self.now) student.0 section.0
             (held_by (state_of self.now) student.0) }
-        ensures room { result ≡ true → length (held_by (state_of self.now) student.0) < 8 }
+        ensures room { result ≡ true
+            → length (held_by (state_of self.now) student.0) < MAX_COURSES }
     {
         self.rules.fits(student, section, &self.bundle(student))
     }

@@ -102,7 +102,7 @@ impl WaitingLists {
     }
 }
 
-// The first place of an item in a list.
+/// The first place of an item in a list, from 0; `None` where the item is not in it.
 pub(crate) fn place_of(items: &[u16], item: u16) -> Option<usize>
     ensures { result ≡ position (λ other. other == item) items.now }
 {

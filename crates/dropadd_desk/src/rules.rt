@@ -1,5 +1,5 @@
 // What a desk keeps of a market.
-ghost use Rattle.std.specs.Prelude.{◌≡◌, ◌<◌, ◌≤◌, ◌+◌, [], ℕ, true, false, IfOk, IfSome, IsTrue, All, length, map, option_map, slice_index_or, take};
+ghost use Rattle.std.specs.Prelude.{◌≡◌, ◌<◌, ◌≤◌, ◌+◌, ◌*◌, [], ℕ, true, false, IfOk, IfSome, IsTrue, All, length, map, option_map, slice_index_or, take};
 ghost use Rattle.market_units.specs.Totals.{total};
 ghost use Rattle.market_units.specs.Name.{name_bytes};
 ghost use Rattle.std.specs.Ordering.{nat_cmp};
@@ -7,7 +7,7 @@ ghost use Rattle.std.specs.FinSet as set;
 ghost use Rattle.std.specs.List.{find};
 ghost use Rattle.bundle_rules.specs.Bundles.{sections_of};
 ghost use Rattle.bundle_rules.specs.Ordinals.{ordinals};
-ghost use Rattle.bundle_rules.specs.Sets.{has};
+ghost use Rattle.market_units.specs.Members.{has};
 ghost use Rattle.course_catalog.specs.Sections.{Section, section_at, sections_clash};
 ghost use Rattle.student_roll.specs.Students.{Student};
 
@@ -15,7 +15,10 @@ use crate::copies::{caps_of, clashes_of, credits_of, section_names, student_name
 use bundle_rules::Bundle;
 use course_catalog::Catalog;
 use indexmap::IndexSet;
-use market_units::{Name, NoMemory, SectionNo, SectionSet, StudentNo};
+use market_units::{
+    MAX_COURSES, MAX_SECTION_CREDITS, MAX_SECTIONS, Name, NoMemory, SectionNo, SectionSet,
+    StudentNo,
+};
 use std::alloc::Global;
 use std::marker::Model;
 use std::snapshot::Snapshot;
@@ -56,10 +59,11 @@ impl Model for MarketRules {
 
 impl MarketRules {
     ghost use Rattle.dropadd_desk.specs.Market.{section_count, student_count, section_named, student_named, seats_in};
-    ghost use Rattle.dropadd_desk.specs.Fits.{credits_of, fits, lowest_clash, passes_credits, passes_courses};
+    ghost use Rattle.dropadd_desk.specs.Fits.{credits_of, fits, lowest_clash, exceeds_credits, exceeds_courses};
     ghost use Rattle.dropadd_desk.specs.Kept.{IsMarket};
 
-    // Of this catalogue and this roll.
+    /// What a desk keeps of this catalogue and this roll. The only error is that memory was wanted
+    /// and not given.
     pub(crate) fn copy(
         alloc: Global,
         catalog: &Catalog,
@@ -107,7 +111,7 @@ impl MarketRules {
         &self.seats
     }
 
-    // The lowest section of the bundle with which the section clashes.
+    /// The lowest section of the bundle that clashes with the section; `None` where none does.
     pub(crate) fn lowest_clash(&self, section: SectionNo, held: &Bundle) -> Option<SectionNo>
         requires section { section.0 < section_count self.now }
         requires within { (s : ℕ) → has (sections_of held.now) s ≡ true
@@ -119,8 +123,8 @@ impl MarketRules {
         first_in(&clashes, held.sections())
     }
 
-    // Whether the student's credits pass the cap with the section.
-    pub(crate) fn passes_credits(
+    /// Whether the credits of the bundle and the section together exceed the student's cap.
+    pub(crate) fn exceeds_credits(
         &self,
         student: StudentNo,
         section: SectionNo,
@@ -130,45 +134,46 @@ impl MarketRules {
         requires section { section.0 < section_count self.now }
         requires within { (s : ℕ) → has (sections_of held.now) s ≡ true
             → s < section_count self.now }
-        ensures { result ≡ passes_credits self.now student.0 section.0 (sections_of held.now) }
+        ensures { result ≡ exceeds_credits self.now student.0 section.0 (sections_of held.now) }
     {
         let credits = self.sum_credits(held.sections()) + self.credits[usize::from(section.0)];
         credits > self.caps[usize::from(student.0)].credits
     }
 
-    // Whether one section more is one too many for the student.
-    pub(crate) fn passes_courses(&self, student: StudentNo, held: &Bundle) -> bool
+    /// Whether one section more than the bundle has is one too many for the student's cap.
+    pub(crate) fn exceeds_courses(&self, student: StudentNo, held: &Bundle) -> bool
         requires { student.0 < student_count self.now }
-        ensures passes { result ≡ passes_courses self.now student.0 (sections_of held.now) }
-        ensures room { result ≡ false → length (sections_of held.now) < 8 }
+        ensures exceeds { result ≡ exceeds_courses self.now student.0 (sections_of held.now) }
+        ensures room { result ≡ false → length (sections_of held.now) < MAX_COURSES }
     {
         held.sections().len() + 1 > usize::from(self.caps[usize::from(student.0)].courses)
     }
 
-    // Whether the section fits the student, who holds this bundle.
+    /// Whether the student, who holds this bundle, could take the section too: there is no clash,
+    /// and the caps are kept. Seats are not looked at.
     pub(crate) fn fits(&self, student: StudentNo, section: SectionNo, held: &Bundle) -> bool
         requires student { student.0 < student_count self.now }
         requires section { section.0 < section_count self.now }
         requires within { (s : ℕ) → has (sections_of held.now) s ≡ true
             → s < section_count self.now }
         ensures fits { result ≡ fits self.now student.0 section.0 (sections_of held.now) }
-        ensures room { result ≡ true → length (sections_of held.now) < 8 }
+        ensures room { result ≡ true → length (sections_of held.now) < MAX_COURSES }
     {
         if self.lowest_clash(section, held).is_some() {
             return false;
         }
-        if self.passes_credits(student, section, held) {
+        if self.exceeds_credits(student, section, held) {
             return false;
         }
-        !self.passes_courses(student, held)
+        !self.exceeds_courses(student, held)
     }
 
     // The credits of these sections together.
     fn sum_credits(&self, sections: &[SectionNo]) -> u16
-        requires few { length sections.now ≤ 8 }
+        requires few { length sections.now ≤ MAX_COURSES }
         requires within { All (λ section. section.0 < section_count self.now) sections.now }
         ensures sum { result ≡ credits_of self.now (ordinals sections.now) }
-        ensures few { result ≤ 800 }
+        ensures few { result ≤ MAX_SECTION_CREDITS * MAX_COURSES }
     {
         let mut sum = 0;
         for section in sections {
@@ -180,7 +185,7 @@ impl MarketRules {
 
 // The first of the sections that is in the set.
 fn first_in(wanted: &SectionSet, sections: &[SectionNo]) -> Option<SectionNo>
-    requires { All (λ section. section.0 < 400) sections.now }
+    requires { All (λ section. section.0 < MAX_SECTIONS) sections.now }
     ensures { option_map (λ section. section.0) result
         ≡ find (λ s. set.contains wanted.now s) (ordinals sections.now) }
 {

@@ -99,7 +99,7 @@ tables_in_limits : (market : Market) → IsCatalog market.catalog → IsRoll mar
 tables_in_limits market catalog roll =
     tables_are _ _ _ market.roll market.catalog (let one = catalog.known_version in let two = roll.known_version in omega arith) refl refl roll catalog
 
--- with whatever publication a hall opens, the text is that of one alone
+-- with whatever publication a desk opens, the text is that of one alone
 pub opens_alone : (market : Market) (text : List ℕ) (p : Publication) → IsCatalog market.catalog → IsRoll market.roll → IsTextOf market p text
     → CanOpen market text → IsFaultless market (opened market p)
 opens_alone market text p catalog roll is can =

@@ -69,7 +69,7 @@ fault_stands market state (NotQuiet turns) is none = is
 fault_stands market state (Allocation student) is none = is
 fault_stands market state (Used section) is none = is
 
--- and no hall opens with the text
+-- and no desk opens with the text
 pub fault_refused : (market : Market) (text : List ℕ) (p : Publication) (finding : Finding) → IsCatalog market.catalog → IsRoll market.roll
     → IsTextOf market p text → TellsFault market (opened market p) finding → ¬ CanOpen market text
 fault_refused market text p finding catalog roll of is can = fault_stands market (opened market p) finding is (opens_alone market text p catalog roll of can)

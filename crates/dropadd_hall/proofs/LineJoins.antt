@@ -7,11 +7,11 @@ use Rattle.std.proofs.lemmas.List.{get_or-map, map_more, take_more}
 use Rattle.std.proofs.lemmas.List.Concat.{flat_map-append}
 use Rattle.std.proofs.lemmas.List.FromFn.{map-range_with_len_more}
 use Rattle.course_catalog.specs.Catalog.{CatalogData}
-use Rattle.course_catalog.specs.Sections.{Section, no_section, section_at}
+use Rattle.course_catalog.specs.Sections.{Section, no_section, section_at, section_names}
 use Rattle.student_roll.specs.Students.{RollData, Student, names_of}
 use Rattle.demand_api.specs.Crowds.{holders}
 use Rattle.market_certificate.specs.Lines.{joined, spaced}
-use Rattle.market_certificate.specs.Tables.{name_at, section_names}
+use Rattle.market_certificate.specs.Tables.{name_at}
 use Rattle.market_certificate.specs.Texts.{final_line, used_line}
 use Rattle.market_certificate.proofs.Joins.{joined_append, text_more}
 use Rattle.dropadd_desk.specs.Lines.{HallStep}

@@ -10,7 +10,7 @@ use Rattle.market_units.specs.declared.units.SectionNo.{SectionNo}
 use Rattle.course_catalog.specs.Catalog.{CatalogData}
 use Rattle.course_catalog.specs.Sections.{Section, section_at, sections_clash}
 use Rattle.student_roll.specs.Students.{RollData, Student, no_student}
-use Rattle.bundle_rules.specs.Sets.{has}
+use Rattle.market_units.specs.Members.{has}
 use Rattle.bundle_rules.specs.Ordinals.{ordinals}
 use Rattle.bundle_rules.specs.Existence.Members.{has-cases, has-here, has-there}
 use Rattle.dropadd_desk.specs.Openings.{IsAllowed}

@@ -12,7 +12,7 @@ use Rattle.dropadd_hall.specs.declared.opening.OpeningFault.TheVariants.{Infeasi
 abbrev pub AreAllowed : Market → HallState → Type 0
 AreAllowed market state = (i : ℕ) → i < student_count market → IsAllowed market i (held_by state i)
 
--- so it is, and no section has more holders than seats
+-- each student may hold what it holds, and no section has more holders than seats
 pub record IsFaultless (market : Market) (state : HallState) : Type 0 where
   pub students : AreAllowed market state
   pub seats : (s : ℕ) → s < section_count market → holders s state.held ≤ (offered market s).seats

@@ -1,4 +1,4 @@
--- Whether a hall opens with the final bundles of a published text, and what is told where it does
+-- Whether a desk opens with the final bundles of a published text, and what is told where it does
 -- not.
 use Rattle.std.specs.Prelude.{ℕ, ◌≡◌, List}
 use Rattle.certificate_checker.specs.declared.findings.Finding.{Finding}
@@ -34,7 +34,7 @@ pub record Opens (market : Market) (text : List ℕ) (p : Publication) : Type 0 
   pub is_text : IsTextOf market p text
   pub faultless : IsFaultless market (opened market p)
 
--- a hall opens with the text
+-- a desk opens with the text
 abbrev pub CanOpen : Market → List ℕ → Type 0
 CanOpen market text = (p : Publication) × Opens market text p
 
@@ -47,7 +47,7 @@ TellsFault market state (Seats section used seats) =
     IsFirstOverfull market state section.0 used seats
 TellsFault market state finding = ⊥
 
--- The first finding on a text with which no hall opens: its first defect, where it is the text of
+-- The first finding on a text with which no desk opens: its first defect, where it is the text of
 -- no publication; else the first fault of the final bundles.
 abbrev pub IsOpeningFinding : Market → List ℕ → Finding → Type 0
 IsOpeningFinding market text (Text line kind) =

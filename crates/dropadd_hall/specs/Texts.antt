@@ -6,7 +6,8 @@ use Rattle.market_units.specs.declared.units.StudentNo.{StudentNo}
 use Rattle.student_roll.specs.Students.{names_of}
 use Rattle.demand_api.specs.Crowds.{holders}
 use Rattle.market_certificate.specs.Lines.{joined, spaced}
-use Rattle.market_certificate.specs.Tables.{name_at, section_names}
+use Rattle.course_catalog.specs.Sections.{section_names}
+use Rattle.market_certificate.specs.Tables.{name_at}
 use Rattle.market_certificate.specs.Texts.{final_line, used_line}
 use Rattle.dropadd_desk.specs.declared.reply.HallReply.{HallReply}
 use Rattle.dropadd_desk.specs.declared.reply.HallReply.TheVariants as reply

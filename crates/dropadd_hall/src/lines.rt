@@ -4,7 +4,8 @@ ghost use Rattle.std.specs.List.{flat_map};
 ghost use Rattle.market_units.specs.Name.{name_bytes};
 ghost use Rattle.bundle_rules.specs.Bundles.{sections_of};
 ghost use Rattle.market_certificate.specs.Lines.{spaced};
-ghost use Rattle.market_certificate.specs.Tables.{name_at, section_names};
+ghost use Rattle.course_catalog.specs.Sections.{section_names};
+ghost use Rattle.market_certificate.specs.Tables.{name_at};
 ghost use Rattle.market_certificate.specs.Texts.{final_line, used_line};
 ghost use Rattle.student_roll.specs.Students.{names_of};
 ghost use Rattle.dropadd_desk.specs.Replies.{NamesInRange};
@@ -19,7 +20,8 @@ use market_certificate::{put_bundle_field, put_field, put_number_field};
 use market_units::{Name, NoMemory, StudentNo};
 use student_roll::Roll;
 
-// Puts the line of a step behind the text.
+/// Puts the line of one request and its reply behind the text. Sessions are told by their numbers
+/// from 1.
 pub(crate) fn put_entry(
     text: &mut Vec<u8>,
     catalog: &Catalog,
@@ -126,7 +128,7 @@ fn put_next(text: &mut Vec<u8>, roll: &Roll, next: Option<StudentNo>) -> Result<
     put_field(text, roll.name(student).bytes())
 }
 
-// Puts the line of what a student holds behind the text.
+/// Puts the line of what a student holds at last behind the text.
 pub(crate) fn put_held(
     text: &mut Vec<u8>,
     catalog: &Catalog,
@@ -148,7 +150,7 @@ pub(crate) fn put_held(
     Ok(())
 }
 
-// Puts the line of a section's waiting list behind the text.
+/// Puts the line of a section's waiting list behind the text: who waits longest stands first.
 pub(crate) fn put_waiting(
     text: &mut Vec<u8>,
     roll: &Roll,
@@ -185,7 +187,7 @@ fn put_students(text: &mut Vec<u8>, roll: &Roll, students: &[u16]) -> Result<(),
     Ok(())
 }
 
-// Puts the line of a section's seats behind the text.
+/// Puts the line of a section's seats behind the text: how many are held, and how many there are.
 pub(crate) fn put_seats(
     text: &mut Vec<u8>,
     section: &Name,

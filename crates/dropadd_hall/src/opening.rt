@@ -4,7 +4,7 @@ ghost use Rattle.std.specs.List.{list_any};
 ghost use Rattle.market_units.specs.Totals.{total};
 ghost use Rattle.bundle_rules.specs.Bundles.{sections_of};
 ghost use Rattle.bundle_rules.specs.Ordinals.{ordinals};
-ghost use Rattle.bundle_rules.specs.Sets.{has};
+ghost use Rattle.market_units.specs.Members.{has};
 ghost use Rattle.course_catalog.specs.Sections.{section_at, sections_clash};
 ghost use Rattle.dropadd_desk.specs.HallView.{market_of, state_of};
 ghost use Rattle.dropadd_desk.specs.Openings.{IsAllowed};
@@ -13,7 +13,7 @@ ghost use Rattle.dropadd_hall.specs.Faults.{IsFaultless, IsFirstFault};
 use bundle_rules::Bundle;
 use course_catalog::Catalog;
 use dropadd_desk::HallDesk;
-use market_units::{SectionNo, StudentNo};
+use market_units::{MAX_COURSES, SectionNo, StudentNo};
 use student_roll::Roll;
 
 /// Why students may not hold what they hold.
@@ -83,7 +83,7 @@ fn may_hold(catalog: &Catalog, roll: &Roll, student: StudentNo, held: &Bundle) -
 
 // The credits of these sections together.
 fn sum_credits(catalog: &Catalog, sections: &[SectionNo]) -> u32
-    requires few { length sections.now ≤ 8 }
+    requires few { length sections.now ≤ MAX_COURSES }
     requires within { All (λ section. section.0 < length catalog.now.sections) sections.now }
     ensures { result
         ≡ total (λ s. (section_at catalog.now.sections s).credits) (ordinals sections.now) }

@@ -20,8 +20,9 @@ use market_units::MAX_COMMANDS;
 use std::alloc::Global;
 use student_roll::Roll;
 
-// A desk at which students hold the final bundles of the text, with room for all requests that
-// sessions may have, or the first finding.
+/// A desk at which students hold the final bundles of a published text, with room for all requests
+/// that sessions may have. Else the first finding for which the text opens no desk, or want of
+/// memory.
 pub(crate) fn open_desk(
     alloc: Global,
     catalog: &Catalog,

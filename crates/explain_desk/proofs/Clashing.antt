@@ -2,7 +2,8 @@
 use Rattle.std.proofs.Common.{ℕ, ◌≡◌, ◌<◌, ◌≤◌, ◌-◌, true, false, List, ◌∷◌, length, get_or, take, drop, subst, sym, ap, arith, inl, inr}
 use Rattle.market_units.specs.declared.units.SectionNo.{SectionNo}
 use Rattle.bundle_rules.specs.Ordinals.{ordinals}
-use Rattle.bundle_rules.specs.Sets.{has, IsAscending}
+use Rattle.market_units.specs.Members.{has}
+use Rattle.bundle_rules.specs.Sets.{IsAscending}
 use Rattle.bundle_rules.specs.Wishes.{Wishes}
 use Rattle.bundle_rules.specs.Existence.Members.{has-above, has-cases, has-here, has-there}
 use Rattle.bundle_rules.proofs.Firsts.{first_rest}

@@ -5,7 +5,7 @@ use Rattle.market_units.specs.Totals.{total}
 use Rattle.bundle_rules.specs.Demand.{IsChoice}
 use Rattle.bundle_rules.specs.Given.{SomeHas}
 use Rattle.bundle_rules.specs.Menus.{MenuData, wishes_of}
-use Rattle.bundle_rules.specs.Sets.{has}
+use Rattle.market_units.specs.Members.{has}
 use Rattle.bundle_rules.specs.Wishes.{Wishes, IsFeasible}
 use Rattle.bundle_rules.specs.Existence.Members.{has-cases, has-here}
 use Rattle.bundle_rules.proofs.GivenBest.{best_with_a_section}

@@ -9,7 +9,7 @@ use Rattle.bundle_rules.specs.declared.menu.Rated.{Rated}
 use Rattle.bundle_rules.specs.Demand.{price_in}
 use Rattle.bundle_rules.specs.Given.{IsBestWith}
 use Rattle.bundle_rules.specs.Menus.{MenuData, place_in, section_at, wishes_of}
-use Rattle.bundle_rules.specs.Sets.{has}
+use Rattle.market_units.specs.Members.{has}
 use Rattle.bundle_rules.specs.Wishes.{AllRated}
 use Rattle.bundle_rules.specs.Existence.Members.{has-here, has-there}
 use Rattle.bundle_rules.specs.Existence.Places.{section_at-place_in}

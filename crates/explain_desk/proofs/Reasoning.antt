@@ -1,7 +1,7 @@
 -- The first reason that applies.
 use Rattle.std.proofs.Common.{ℕ, ◌≡◌, ◌<◌, ◌≤◌, false, true≢false, List, [], ◌∷◌, length, sym, arith, ◌∙◌}
 use Rattle.bundle_rules.specs.Menus.{IsMenu, MenuData, place_in, wishes_of}
-use Rattle.bundle_rules.specs.Sets.{has}
+use Rattle.market_units.specs.Members.{has}
 use Rattle.bundle_rules.specs.Wishes.{Wishes}
 use Rattle.bundle_rules.specs.Existence.Places.{on_menu_rated, rating_at-past}
 use Rattle.explain_desk.specs.declared.limits.Limit.{Limit}

@@ -9,11 +9,12 @@ use Rattle.bundle_rules.specs.Demand.{HasPrices, IsBest, IsPriced, price_in}
 use Rattle.bundle_rules.specs.Menus.{MenuData, wishes_of}
 use Rattle.bundle_bounds.specs.Offers.{Offer}
 use Rattle.course_catalog.specs.Catalog.{CatalogData}
-use Rattle.course_catalog.specs.Sections.{Section}
+use Rattle.course_catalog.specs.Sections.{Section, section_names}
 use Rattle.student_roll.specs.Students.{RollData, Student as Enrolled, names_of}
+use Rattle.demand_api.specs.declared.crowd.Crowd.{Crowd}
 use Rattle.demand_api.specs.Crowds.{CrowdData, IsWithin, Student}
-use Rattle.demand_api.specs.Made.{MakeCrowd, crowd_of, students_of}
-use Rattle.demand_api.proofs.Takers.{students_length}
+use Rattle.demand_api.specs.Views.{data_of}
+use Rattle.demand_api.proofs.Parts.{menus_within, students_length}
 use Rattle.market_certificate.specs.declared.publication.Proved as declared_proved
 use Rattle.market_certificate.specs.declared.publication.Publication as declared
 use Rattle.market_certificate.specs.Publications.{IsPublication, Proved}
@@ -27,7 +28,7 @@ use Rattle.certificate_checker.proofs.Optimal.{best_in_stage_two}
 use Rattle.certificate_checker.proofs.Reading.{length_map, proved_is, student_is}
 use Rattle.explain_desk.specs.Explanations.{ExplainedData, IsExplained, offer_of_all}
 use Rattle.explain_desk.specs.Texts.{explained_text}
-use Rattle.market_certificate.specs.Tables.{name_at, section_names}
+use Rattle.market_certificate.specs.Tables.{name_at}
 use Rattle.explain_desk.specs.Told.{IsTold}
 use Rattle.explain_desk.specs.Checked.{IsChecked}
 
@@ -43,84 +44,81 @@ checked market streams text p crowd is holds =
     }
 
 -- what stands at the place of a student
-pub record StandsAt (menus : List MenuData) (budgets : List Tokens) (sections k : ℕ) (publication : declared.Publication) (m : MenuData) (b : Tokens)
+pub record StandsAt (crowd : Crowd) (k : ℕ) (publication : declared.Publication) (m : MenuData) (b : Tokens)
     (item : declared_proved.Proved) : Type 0 where
-  pub whole : MakeCrowd menus budgets sections
-  pub low : k < length menus
+  pub low : k < length crowd.menus.items
   pub printed_low : k < length publication.bundles.items
-  pub menu : m ≡ get_or menus k m
-  pub budget : b ≡ get_or budgets k b
+  pub menu : m ≡ get_or crowd.menus.items k m
+  pub budget : b ≡ get_or crowd.budgets.items k b
   pub printed : item ≡ get_or publication.bundles.items k item
 
 -- the places of a student of the roll
-pub lows : (catalog : CatalogData) (roll : RollData) (publication : declared.Publication) (menus : List MenuData) (budgets : List Tokens)
-    (sections place student : ℕ)
-    → IsChecked catalog roll (publication_of publication) (crowd_of menus budgets sections)
-    → MakeCrowd menus budgets sections → student < length roll.students → place ≡ student
-    → (place < length menus) × (place < length budgets) × (place < length publication.bundles.items)
-lows catalog roll publication menus budgets sections place student is whole low same =
-    let asked : length (students_of menus budgets) ≡ length roll.students = is.students in
-    let count : length (students_of menus budgets) ≡ length menus = students_length menus budgets whole.same in
-    let drawn : length budgets ≡ length menus = whole.same in
+pub lows : (catalog : CatalogData) (roll : RollData) (publication : declared.Publication) (crowd : Crowd) (place student : ℕ)
+    → IsChecked catalog roll (publication_of publication) (data_of crowd)
+    → student < length roll.students → place ≡ student
+    → (place < length crowd.menus.items) × (place < length crowd.budgets.items) × (place < length publication.bundles.items)
+lows catalog roll publication crowd place student is low same =
+    let asked : length (data_of crowd).students ≡ length roll.students = is.students in
+    let count : length (data_of crowd).students ≡ length crowd.menus.items = students_length crowd in
+    let drawn : length crowd.budgets.items ≡ length crowd.menus.items = crowd.same in
     let printed : length (map proved_of publication.bundles.items) ≡ length (map (λ (student : Enrolled). student.name) roll.students) =
     is.is_publication.bundles.count in
     let names = length_map (λ (student : Enrolled). student.name) roll.students in
     let long = length_map proved_of publication.bundles.items in
     (omega (arith, asked, count, low, same), omega (arith, asked, count, drawn, low, same), omega (arith, printed, names, long, low, same))
 
-pub stands_at : (catalog : CatalogData) (roll : RollData) (publication : declared.Publication) (menus : List MenuData) (budgets : List Tokens)
-    (sections place student : ℕ) (m : MenuData) (b : Tokens) (item : declared_proved.Proved)
-    → IsChecked catalog roll (publication_of publication) (crowd_of menus budgets sections) → MakeCrowd menus budgets sections → student < length roll.students
-    → place ≡ student → m ≡ get_or menus place m → b ≡ get_or budgets place b
-    → item ≡ get_or publication.bundles.items place item → StandsAt menus budgets sections student publication m b item
-stands_at catalog roll publication menus budgets sections place student m b item is whole low same first second third =
-    let inside = lows catalog roll publication menus budgets sections place student is whole low same in record {
-      whole = whole;
-      low = subst (λ k. k < length menus) same inside.0;
+pub stands_at : (catalog : CatalogData) (roll : RollData) (publication : declared.Publication) (crowd : Crowd) (place student : ℕ)
+    (m : MenuData) (b : Tokens) (item : declared_proved.Proved)
+    → IsChecked catalog roll (publication_of publication) (data_of crowd) → student < length roll.students
+    → place ≡ student → m ≡ get_or crowd.menus.items place m → b ≡ get_or crowd.budgets.items place b
+    → item ≡ get_or publication.bundles.items place item → StandsAt crowd student publication m b item
+stands_at catalog roll publication crowd place student m b item is low same first second third =
+    let inside = lows catalog roll publication crowd place student is low same in record {
+      low = subst (λ k. k < length crowd.menus.items) same inside.0;
       printed_low = subst (λ k. k < length publication.bundles.items) same inside.2;
-      menu = subst (λ k. m ≡ get_or menus k m) same first;
-      budget = subst (λ k. b ≡ get_or budgets k b) same second;
+      menu = subst (λ k. m ≡ get_or crowd.menus.items k m) same first;
+      budget = subst (λ k. b ≡ get_or crowd.budgets.items k b) same second;
       printed = subst (λ k. item ≡ get_or publication.bundles.items k item) same third;
     }
 
-module _ (menus : List MenuData) (budgets : List Tokens) (sections k : ℕ) (publication : declared.Publication) (m : MenuData) (b : Tokens)
-    (item : declared_proved.Proved) (stands : StandsAt menus budgets sections k publication m b item) where
-  pub this_student : student_in (crowd_of menus budgets sections) k ≡ record { menu = m; budget = b.0 }
-  this_student = student_is menus budgets sections k m b stands.whole.same stands.low stands.menu stands.budget
+module _ (crowd : Crowd) (k : ℕ) (publication : declared.Publication) (m : MenuData) (b : Tokens)
+    (item : declared_proved.Proved) (stands : StandsAt crowd k publication m b item) where
+  pub this_student : student_in (data_of crowd) k ≡ record { menu = m; budget = b.0 }
+  this_student = student_is crowd k m b stands.low stands.menu stands.budget
 
   pub this_bundle : proved_in (publication_of publication) k ≡ proved_of item
   this_bundle = proved_is publication k item stands.printed_low stands.printed
 
-  pub this_offer : offer_in (crowd_of menus budgets sections) (publication_of publication) k ≡ offer_of_all m publication.prices.items b.0 sections
+  pub this_offer : offer_in (data_of crowd) (publication_of publication) k ≡ offer_of_all m publication.prices.items b.0 crowd.sections
   this_offer =
       λ i. record {
         menu = (this_student i).menu;
         price = slice_index (map (λ (t : Tokens). t.0) publication.prices.items);
         budget = (this_student i).budget;
-        allowed = λ s. nat_lt s sections;
+        allowed = λ s. nat_lt s crowd.sections;
       }
 
   -- a fact of what is offered and printed is one of what stands there
   pub stands_so : (P : Offer → Proved → Type 0)
-      → P (offer_in (crowd_of menus budgets sections) (publication_of publication) k) (proved_in (publication_of publication) k)
-      → P (offer_of_all m publication.prices.items b.0 sections) (proved_of item)
+      → P (offer_in (data_of crowd) (publication_of publication) k) (proved_in (publication_of publication) k)
+      → P (offer_of_all m publication.prices.items b.0 crowd.sections) (proved_of item)
   stands_so P is =
       subst (λ offer. P offer (proved_of item)) this_offer
-      (subst (λ proved. P (offer_in (crowd_of menus budgets sections) (publication_of publication) k) proved) this_bundle is)
+      (subst (λ proved. P (offer_in (data_of crowd) (publication_of publication) k) proved) this_bundle is)
 
   -- and the other way round
-  pub printed_so : (P : Offer → Proved → Type 0) → P (offer_of_all m publication.prices.items b.0 sections) (proved_of item)
-      → P (offer_in (crowd_of menus budgets sections) (publication_of publication) k) (proved_in (publication_of publication) k)
+  pub printed_so : (P : Offer → Proved → Type 0) → P (offer_of_all m publication.prices.items b.0 crowd.sections) (proved_of item)
+      → P (offer_in (data_of crowd) (publication_of publication) k) (proved_in (publication_of publication) k)
   printed_so P is =
       subst (λ offer. P offer (proved_in (publication_of publication) k)) (sym this_offer)
-      (subst (λ proved. P (offer_of_all m publication.prices.items b.0 sections) proved) (sym this_bundle) is)
+      (subst (λ proved. P (offer_of_all m publication.prices.items b.0 crowd.sections) proved) (sym this_bundle) is)
 
   -- its sections are among those of the crowd
-  pub menu_within : All (λ (rated : Rated). rated.section.0 < sections) m.places
-  menu_within = subst (IsWithin sections) (sym stands.menu) (stands.whole.within k m stands.low)
+  pub menu_within : All (λ (rated : Rated). rated.section.0 < crowd.sections) m.places
+  menu_within = subst (IsWithin crowd.sections) (sym stands.menu) (menus_within crowd k m stands.low)
 
   -- and have prices
-  pub menu_priced : (catalog : CatalogData) (roll : RollData) → IsChecked catalog roll (publication_of publication) (crowd_of menus budgets sections)
+  pub menu_priced : (catalog : CatalogData) (roll : RollData) → IsChecked catalog roll (publication_of publication) (data_of crowd)
       → HasPrices m publication.prices.items
   menu_priced catalog roll is = λ j d inside.
       let many : length (map (λ (t : Tokens). t.0) publication.prices.items) ≡ length (map (λ (section : Section). section.name) catalog.sections) =
@@ -129,27 +127,27 @@ module _ (menus : List MenuData) (budgets : List Tokens) (sections k : ℕ) (pub
       length_map (λ (section : Section). section.name) catalog.sections in
       let listed : length (map (λ (t : Tokens). t.0) publication.prices.items) ≡ length publication.prices.items =
       length_map (λ (t : Tokens). t.0) publication.prices.items in
-      let all : sections ≡ length catalog.sections = is.sections in
-      let small : (get_or m.places j d).section.0 < sections = menu_within j d inside in
+      let all : crowd.sections ≡ length catalog.sections = is.sections in
+      let small : (get_or m.places j d).section.0 < crowd.sections = menu_within j d inside in
       record {
         listed = omega (arith, many, counted, listed, all, small);
         high = is.is_publication.prices.each (get_or m.places j d).section.0 0 (omega (arith, many, counted, all, small));
       }
 
   -- the bundle that is printed is the best
-  pub bundle_best : (catalog : CatalogData) (roll : RollData) → IsChecked catalog roll (publication_of publication) (crowd_of menus budgets sections)
-      → IsBest (wishes_of m) (price_in publication.prices.items) b.0 (λ s. nat_lt s sections) (sections_of item.bundle)
+  pub bundle_best : (catalog : CatalogData) (roll : RollData) → IsChecked catalog roll (publication_of publication) (data_of crowd)
+      → IsBest (wishes_of m) (price_in publication.prices.items) b.0 (λ s. nat_lt s crowd.sections) (sections_of item.bundle)
   bundle_best catalog roll is =
-      let count : length (students_of menus budgets) ≡ length menus = students_length menus budgets stands.whole.same in
+      let count : length (data_of crowd).students ≡ length crowd.menus.items = students_length crowd in
       let inside = stands.low in
       stands_so (λ offer proved. IsBest (wishes_of offer.menu) offer.price offer.budget offer.allowed proved.bundle) (is.best k (omega (arith, count, inside)))
 
   -- what is told of what stands there is told of what is printed
   pub told_there : (catalog : CatalogData) (roll : RollData) (section : ℕ) (explained : ExplainedData) (name text : List ℕ)
       → name ≡ name_at (names_of roll.students) k
-      → IsExplained (offer_of_all m publication.prices.items b.0 sections) (sections_of item.bundle) section explained
+      → IsExplained (offer_of_all m publication.prices.items b.0 crowd.sections) (sections_of item.bundle) section explained
       → text ≡ explained_text (section_names catalog.sections) m name section (sections_of item.bundle) explained
-      → IsTold catalog roll (crowd_of menus budgets sections) (publication_of publication) k section text
+      → IsTold catalog roll (data_of crowd) (publication_of publication) k section text
   told_there catalog roll section explained name text named is written =
       let whole =
       printed_so

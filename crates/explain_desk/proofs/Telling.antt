@@ -8,7 +8,7 @@ use Rattle.bundle_rules.specs.Existence.Orders.{compared, not_preferred_itself}
 use Rattle.bundle_rules.specs.Demand.{IsChoice}
 use Rattle.bundle_rules.specs.Given.{IsBestWith}
 use Rattle.bundle_rules.specs.Menus.{place_in, section_at, wishes_of}
-use Rattle.bundle_rules.specs.Sets.{has}
+use Rattle.market_units.specs.Members.{has}
 use Rattle.bundle_rules.specs.Existence.Places.{section_at-place_in}
 use Rattle.bundle_rules.proofs.GivenBest.{best_with_a_section}
 use Rattle.bundle_bounds.specs.Offers.{Offer, places_of}

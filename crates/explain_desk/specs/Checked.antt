@@ -10,7 +10,7 @@ use Rattle.market_certificate.specs.Tables.{tables_of}
 use Rattle.student_roll.specs.Students.{RollData}
 
 -- a publication of these tables and the crowd of their students, each of which has its best bundle
--- in stage two
+-- in the second stage
 pub record IsChecked (catalog : CatalogData) (roll : RollData) (p : Publication)
     (crowd : CrowdData) : Type 0 where
   pub is_publication : IsPublication (tables_of catalog roll) p

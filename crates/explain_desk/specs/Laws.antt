@@ -2,8 +2,8 @@
 use Rattle.std.specs.Prelude.{ℕ, ◌≤ℤ◌, ◌≡◌, ◌↔◌, Bool, true, false, Some, List}
 use Rattle.bundle_rules.specs.Demand.{IsBest}
 use Rattle.bundle_rules.specs.Given.{IsBestWith, SomeHas}
-use Rattle.bundle_rules.specs.Menus.{IsMenu, MenuData, place_in, wishes_of}
-use Rattle.bundle_rules.specs.Sets.{has}
+use Rattle.bundle_rules.specs.Menus.{IsMenu, MenuData, place_in, wishes_of, worth}
+use Rattle.market_units.specs.Members.{has}
 use Rattle.bundle_rules.specs.Wishes.{Wishes}
 use Rattle.bundle_bounds.specs.Laws.{IsTakable}
 use Rattle.bundle_bounds.specs.Offers.{Offer}
@@ -11,7 +11,6 @@ use Rattle.proof_tree.specs.Texts.{IsTreeText}
 use Rattle.explain_desk.specs.declared.reasons.Reason.{Reason}
 use Rattle.explain_desk.specs.Reasons.{IsReason, tells_best}
 use Rattle.explain_desk.specs.Explanations.{ExplainedData, IsExplained, IsProvedWith}
-use Rattle.explain_desk.specs.Texts.{worth}
 use Rattle.market_certificate.specs.Publications.{Proved}
 
 -- at most one reason is the first that applies
@@ -22,8 +21,8 @@ OneReason =
     → IsReason wishes price budget bundle section one
     → IsReason wishes price budget bundle section other → one ≡ other
 
--- some choice has a section that the bundle does not have exactly where the reason leaves one, for
--- every section that is offered
+-- for every offered section that the bundle lacks: some choice has it exactly where the reason is
+-- one that leaves a bundle with it (`tells_best`)
 abbrev pub ReasonsLeaveABundle : Type 0
 ReasonsLeaveABundle =
     (menu : MenuData) (price : ℕ → ℕ) (budget : ℕ) (allowed : ℕ → Bool) (bundle : List ℕ)

@@ -1,6 +1,6 @@
 -- Why a student does not have a section.
 use Rattle.std.specs.Prelude.{ℕ, ◌<◌, ◌≡◌, Bool, true, false, ⊤, List, [], ◌∷◌}
-use Rattle.bundle_rules.specs.Sets.{has}
+use Rattle.market_units.specs.Members.{has}
 use Rattle.bundle_rules.specs.Wishes.{Wishes}
 use Rattle.explain_desk.specs.declared.reasons.Reason.{Reason}
 use Rattle.explain_desk.specs.declared.reasons.Reason.TheVariants.{Held, Unrated, Alone, Clash, Beside, Less}
@@ -43,7 +43,7 @@ pub record IsReason (wishes : Wishes) (price : ℕ → ℕ) (budget : ℕ) (bund
   pub first : (earlier : Reason) → stage earlier < stage reason
       → ¬ Applies wishes price budget bundle section earlier
 
--- the reasons for which some bundle with the section can be had
+-- the reasons of a student who lacks the section, though some bundle with it can be had
 abbrev pub tells_best : Reason → Bool
 tells_best (Clash other) = true
 tells_best (Beside limit) = true

@@ -1,8 +1,7 @@
 -- The text of an explanation.
 use Rattle.std.specs.Prelude.{ℕ, ℤ, ◌-ℤ◌, ◌<◌, ⊤, List, [], ◌∷◌, codes, Option, Some, None}
 use Rattle.std.specs.Fmt.{signed_decimal}
-use Rattle.bundle_rules.specs.Menus.{MenuData, wishes_of}
-use Rattle.bundle_rules.specs.Wishes.{utility}
+use Rattle.bundle_rules.specs.Menus.{MenuData, worth}
 use Rattle.market_certificate.specs.Lines.{joined, spaced}
 use Rattle.market_certificate.specs.Publications.{Proved}
 use Rattle.market_certificate.specs.Tables.{name_at}
@@ -40,7 +39,8 @@ reason_line sections student section reason =
 
 -- the best bundle with the section, and its utility
 abbrev pub best_line : List (List ℕ) → List ℕ → ℤ → List ℕ
-best_line sections bundle worth = spaced (codes "best" ∷ bundle_text sections bundle ∷ signed_decimal worth ∷ [])
+best_line sections bundle utility =
+    spaced (codes "best" ∷ bundle_text sections bundle ∷ signed_decimal utility ∷ [])
 
 -- what of utility would be lost by it
 abbrev pub lost_line : ℤ → List ℕ
@@ -49,10 +49,6 @@ lost_line lost = spaced (codes "lost" ∷ signed_decimal lost ∷ [])
 -- its tree
 abbrev pub tree_line : List ℕ → List ℕ
 tree_line tree = spaced (codes "tree" ∷ tree ∷ [])
-
--- what a student with this menu has of a bundle
-abbrev pub worth : MenuData → List ℕ → ℤ
-worth menu bundle = utility (wishes_of menu) bundle
 
 -- the three lines on the best bundle with the section, where one is told
 abbrev pub best_lines : List (List ℕ) → MenuData → List ℕ → Option Proved → List (List ℕ)

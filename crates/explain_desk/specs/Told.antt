@@ -7,14 +7,16 @@ use Rattle.demand_api.specs.Crowds.{CrowdData}
 use Rattle.explain_desk.specs.Explanations.{ExplainedData, IsExplained}
 use Rattle.explain_desk.specs.Texts.{explained_text}
 use Rattle.market_certificate.specs.Publications.{Publication}
-use Rattle.market_certificate.specs.Tables.{name_at, section_names}
+use Rattle.course_catalog.specs.Sections.{section_names}
+use Rattle.market_certificate.specs.Tables.{name_at}
 use Rattle.published_parts.specs.Markets.{Market}
 use Rattle.student_roll.specs.Students.{RollData, names_of}
 use Rattle.utility_language.specs.declared.commands.Command.{Command}
 
--- The text tells why the student does not have the section: at the printed prices of stage two,
--- within the budget that it draws, beside its printed bundle of stage two; and where some bundle
--- with the section can be had and the student does not have it, the best one, with its tree.
+-- The text tells why the student does not have the section: at the printed prices of the second
+-- stage, within the budget that it draws, beside its printed bundle of the second stage; and where
+-- some bundle with the section can be had and the student does not have it, the best one, with its
+-- tree.
 abbrev pub IsTold : CatalogData → RollData → CrowdData → Publication → ℕ → ℕ → List ℕ → Type 0
 IsTold catalog roll crowd p student section text =
     (explained : ExplainedData)

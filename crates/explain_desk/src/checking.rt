@@ -4,13 +4,13 @@ ghost use Rattle.market_units.specs.Totals.{total};
 ghost use Rattle.bundle_rules.specs.Bundles.{sections_of};
 ghost use Rattle.bundle_rules.specs.Demand.{HasPrices, price_in};
 ghost use Rattle.bundle_rules.specs.Menus.{place_in, wishes_of};
-ghost use Rattle.bundle_rules.specs.Sets.{has};
+ghost use Rattle.market_units.specs.Members.{has};
 ghost use Rattle.bundle_rules.specs.Wishes.{IsFeasible};
 ghost use Rattle.proof_tree.specs.Defects.{FirstFailsAt};
 ghost use Rattle.explain_desk.specs.Explanations.{IsProvedWith, offer_of_all};
 
 use bundle_rules::{Bundle, Menu};
-use market_units::{SectionNo, SectionSet, Tokens};
+use market_units::{MAX_SECTIONS, SectionNo, SectionSet, Tokens};
 
 /// Whether the champion is the best bundle with the section, where all of so many sections are
 /// offered, and the text its forced tree: `Ok` exactly there, and else the offset, in bytes, at
@@ -28,7 +28,7 @@ pub fn check_forced(
     text: &[u8],
 ) -> Result<(), u32>
     requires prices { HasPrices menu.now prices.now }
-    requires sections { sections ≤ 400 }
+    requires sections { sections ≤ MAX_SECTIONS }
     requires menu { All (λ rated. rated.section.0 < sections) menu.now.places }
     requires feasible { IsFeasible (wishes_of menu.now) (sections_of champion.now) }
     requires affordable { total (price_in prices.now) (sections_of champion.now) ≤ budget.0 }

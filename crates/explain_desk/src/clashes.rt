@@ -2,13 +2,15 @@
 ghost use Rattle.std.specs.Prelude.{◌≡◌, ◌<◌, ℕ, true, false, IfSome, IfNone, All, length};
 ghost use Rattle.bundle_rules.specs.Menus.{place_in, wishes_of};
 ghost use Rattle.bundle_rules.specs.Ordinals.{ordinals};
-ghost use Rattle.bundle_rules.specs.Sets.{has, IsAscending};
+ghost use Rattle.market_units.specs.Members.{has};
+ghost use Rattle.bundle_rules.specs.Sets.{IsAscending};
 ghost use Rattle.explain_desk.specs.Reasons.{ClashesFirst};
 
 use bundle_rules::Menu;
 use market_units::SectionNo;
 
-// The lowest of these sections of the menu, which ascend, that clashes with the section.
+/// The lowest of these sections that clashes with the given one; `None` where none does. All are on
+/// the menu, and the list ascends.
 pub(crate) fn first_clash(
     menu: &Menu,
     sections: &[SectionNo],

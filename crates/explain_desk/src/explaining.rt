@@ -11,7 +11,7 @@ use crate::reasons::{reason_of, tells_best};
 use crate::{Explained, Proved};
 use bundle_rules::{Bundle, Menu};
 use demand_oracle::{Workspace, demand_with};
-use market_units::{NoMemory, SectionNo, SectionSet, Tokens};
+use market_units::{MAX_SECTIONS, NoMemory, SectionNo, SectionSet, Tokens};
 use proof_tree::build_forced;
 use std::alloc::Global;
 
@@ -30,7 +30,7 @@ pub fn explain(
     section: SectionNo,
 ) -> Result<Explained, NoMemory>
     requires prices { HasPrices menu.now prices.now }
-    requires sections { sections ≤ 400 }
+    requires sections { sections ≤ MAX_SECTIONS }
     requires menu { All (λ rated. rated.section.0 < sections) menu.now.places }
     requires section { section.0 < sections }
     requires bundle { IsBest (wishes_of menu.now) (price_in prices.now) budget.0
@@ -57,7 +57,7 @@ fn best_with(
     section: SectionNo,
 ) -> Result<Option<Proved>, NoMemory>
     requires prices { HasPrices menu.now prices.now }
-    requires sections { sections ≤ 400 }
+    requires sections { sections ≤ MAX_SECTIONS }
     ensures some { IfOk result
         (λ best. IfSome best
         (λ proved. IsProvedWith (offer_of_all menu.now prices.now budget.0 sections) section.0

@@ -11,7 +11,7 @@ ghost use Rattle.explain_desk.specs.declared.limits.Limit.{Limit};
 
 use bundle_bounds::price_of_place;
 use bundle_rules::{Bundle, Menu};
-use market_units::{SectionNo, Tokens};
+use market_units::{MAX_COURSES, MAX_PRICE, MAX_SECTION_CREDITS, SectionNo, Tokens};
 
 /// A limit on what a student may take.
 #[derive(Clone, Copy, Debug, PartialEq, Eq)]
@@ -24,8 +24,8 @@ pub enum Limit {
     Courses,
 }
 
-// The first limit that the section and those of the bundle pass together: the budget, the credit
-// cap, the course cap.
+/// The first limit that the section passes together with those of the bundle: the budget, the cap
+/// on credits, the cap on sections, in this order. `None` where they keep all three.
 pub(crate) fn first_passed(
     menu: &Menu,
     prices: &[Tokens],
@@ -62,7 +62,7 @@ fn price_of(menu: &Menu, prices: &[Tokens], section: SectionNo) -> u32
     requires prices { HasPrices menu.now prices.now }
     requires section { place_in menu.now.places section.0 < length menu.now.places }
     ensures value { result ≡ price_in prices.now section.0 }
-    ensures high { result ≤ 1000001 }
+    ensures high { result ≤ MAX_PRICE }
 {
     price_of_place(menu, prices, menu.place(section))
 }
@@ -72,9 +72,9 @@ fn prices_of(menu: &Menu, prices: &[Tokens], sections: &[SectionNo]) -> u32
     requires prices { HasPrices menu.now prices.now }
     requires on_menu { All (λ section. place_in menu.now.places section.0 < length menu.now.places)
         sections.now }
-    requires few { length sections.now ≤ 8 }
+    requires few { length sections.now ≤ MAX_COURSES }
     ensures value { result ≡ total (price_in prices.now) (ordinals sections.now) }
-    ensures high { result ≤ 1000001 * length sections.now }
+    ensures high { result ≤ MAX_PRICE * length sections.now }
 {
     match sections {
         [] => 0,
@@ -86,7 +86,7 @@ fn prices_of(menu: &Menu, prices: &[Tokens], sections: &[SectionNo]) -> u32
 fn credits_of(menu: &Menu, section: SectionNo) -> u32
     requires { place_in menu.now.places section.0 < length menu.now.places }
     ensures value { result ≡ (wishes_of menu.now).credits section.0 }
-    ensures high { result ≤ 100 }
+    ensures high { result ≤ MAX_SECTION_CREDITS }
 {
     u32::from(menu.rated(menu.place(section)).credits)
 }
@@ -95,9 +95,9 @@ fn credits_of(menu: &Menu, section: SectionNo) -> u32
 fn all_credits_of(menu: &Menu, sections: &[SectionNo]) -> u32
     requires on_menu { All (λ section. place_in menu.now.places section.0 < length menu.now.places)
         sections.now }
-    requires few { length sections.now ≤ 8 }
+    requires few { length sections.now ≤ MAX_COURSES }
     ensures value { result ≡ total (wishes_of menu.now).credits (ordinals sections.now) }
-    ensures high { result ≤ 100 * length sections.now }
+    ensures high { result ≤ MAX_SECTION_CREDITS * length sections.now }
 {
     match sections {
         [] => 0,

@@ -2,7 +2,7 @@
 ghost use Rattle.std.specs.Prelude.{◌≡◌, ◌<◌, ◌++◌, ◌∷◌, [], All, OnOk, length};
 ghost use Rattle.market_units.specs.Name.{name_bytes};
 ghost use Rattle.bundle_rules.specs.Bundles.{sections_of};
-ghost use Rattle.market_certificate.specs.Tables.{section_names};
+ghost use Rattle.course_catalog.specs.Sections.{section_names};
 ghost use Rattle.explain_desk.specs.Texts.{best_line, limit_word, lost_line, NamesBelow, reason_line, tree_line};
 
 use crate::{Limit, Reason};
@@ -12,7 +12,8 @@ use market_certificate::{put_bundle_field, put_field, put_signed_field};
 use market_units::{Name, NoMemory, SectionNo};
 use std::alloc::Global;
 
-// Puts the first line behind the text: the student, the section and the reason.
+/// Puts the first line of an explanation behind the text: the student, the section, and why the
+/// student does not have it.
 pub(crate) fn put_reason(
     text: &mut Vec<u8>,
     catalog: &Catalog,
@@ -62,7 +63,7 @@ fn word_of(limit: Limit) -> &'static [u8]
     }
 }
 
-// Puts the line of a bundle and its utility behind the text.
+/// Puts the line of the best bundle with the section behind the text, and its utility.
 pub(crate) fn put_best(
     alloc: Global,
     text: &mut Vec<u8>,
@@ -84,7 +85,7 @@ pub(crate) fn put_best(
     Ok(())
 }
 
-// Puts the line of what is lost behind the text.
+/// Puts the line of what the student would lose with the section behind the text, in utility.
 pub(crate) fn put_lost(alloc: Global, text: &mut Vec<u8>, lost: i64) -> Result<(), NoMemory>
     ensures { OnOk result (text.new.items ≡ text.old.items ++ lost_line lost ++ 10 ∷ []) }
 {
@@ -94,7 +95,7 @@ pub(crate) fn put_lost(alloc: Global, text: &mut Vec<u8>, lost: i64) -> Result<(
     Ok(())
 }
 
-// Puts the line of a tree behind the text.
+/// Puts the line of a tree behind the text.
 pub(crate) fn put_tree(text: &mut Vec<u8>, tree: &[u8]) -> Result<(), NoMemory>
     ensures { OnOk result (text.new.items ≡ text.old.items ++ tree_line tree.now ++ 10 ∷ []) }
 {

@@ -1,12 +1,11 @@
 // The reason of a student's published bundle.
 ghost use Rattle.std.specs.Prelude.{◌≡◌, ◌≤◌, ◌<◌, ◌^◌, ◌-◌, IfOk, IfErr, length, map};
-ghost use Rattle.demand_api.specs.Made.{MakeCrowd};
 ghost use Rattle.market_certificate.specs.Tables.{tables_of};
 ghost use Rattle.market_certificate.specs.Views.{publication_of};
 ghost use Rattle.published_parts.specs.Markets.{market_of};
 ghost use Rattle.certificate_checker.specs.Certificates.{IsAccepted};
 ghost use Rattle.certificate_checker.specs.Findings.{IsFirstFinding, OnFound};
-ghost use Rattle.certificate_checker.specs.Views.{crowd_seen};
+ghost use Rattle.demand_api.specs.Views.{data_of};
 ghost use Rattle.certificate_checker.specs.Words.{IsNamedIn};
 ghost use Rattle.explain_desk.specs.Checked.{IsChecked};
 ghost use Rattle.explain_desk.specs.Told.{IsTold, IsToldOf};
@@ -17,16 +16,16 @@ use course_catalog::Catalog;
 use demand_api::Crowd;
 use market_certificate::Publication;
 use market_settings::Settings;
-use market_units::{NoMemory, SectionNo, StudentNo};
+use market_units::{MAX_RAISE, MAX_SPREAD, NoMemory, SectionNo, StudentNo};
 use std::alloc::Global;
 use student_roll::Roll;
 use utility_language::Command;
 
 /// The text that tells why a student does not have a section, at the prices and beside the bundle
-/// of stage two that a text publishes which is accepted for this market and these streams, one for
-/// each session; and the first finding where it is not accepted. Whom a finding names is on the
-/// roll, or in the catalogue. The text has fewer than 4,294,967,295 bytes. `NoMemory` comes where
-/// memory is wanted, and has no other cause.
+/// of the second stage that a text publishes which is accepted for this market and these streams,
+/// one for each session; and the first finding where it is not accepted. Whom a finding names is on
+/// the roll, or in the catalogue. The text has fewer than 4,294,967,295 bytes. `NoMemory` comes
+/// where memory is wanted, and has no other cause.
 pub fn published_reason(
     alloc: Global,
     catalog: &Catalog,
@@ -38,8 +37,8 @@ pub fn published_reason(
     section: SectionNo,
 ) -> Result<Vec<u8>, CheckEnd>
     requires text { length text.items < 2 ^ 32 - 1 }
-    requires spread { settings.now.spread ≤ 49 }
-    requires raise { settings.now.raise ≤ 50 }
+    requires spread { settings.now.spread ≤ MAX_SPREAD }
+    requires raise { settings.now.raise ≤ MAX_RAISE }
     requires student { student.0 < length roll.now.students }
     requires section { section.0 < length catalog.now.sections }
     ensures told { IfOk result
@@ -75,12 +74,11 @@ fn reason_in(
     section: SectionNo,
 ) -> Result<Vec<u8>, NoMemory>
     requires checked { IsChecked catalog.now roll.now (publication_of publication.now)
-        (crowd_seen crowd.now) }
-    requires whole { MakeCrowd crowd.now.menus.items crowd.now.budgets.items crowd.now.sections }
+        (data_of crowd.now) }
     requires student { student.0 < length roll.now.students }
     requires section { section.0 < length catalog.now.sections }
     ensures { IfOk result
-        (λ told. IsTold catalog.now roll.now (crowd_seen crowd.now) (publication_of publication.now)
+        (λ told. IsTold catalog.now roll.now (data_of crowd.now) (publication_of publication.now)
         student.0 section.0 told.items) }
 {
     let place = usize::from(student.0);

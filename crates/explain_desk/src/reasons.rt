@@ -29,7 +29,8 @@ pub enum Reason {
     Less,
 }
 
-// The first reason that applies.
+/// Why the student does not have the section beside this bundle, within this budget at these
+/// prices: the first reason that applies.
 pub(crate) fn reason_of(
     menu: &Menu,
     prices: &[Tokens],
@@ -60,7 +61,8 @@ pub(crate) fn reason_of(
     }
 }
 
-// Whether some bundle with the section can be had, for this reason not to have it.
+/// Whether the best bundle with the section is told beside this reason: not where the student has
+/// the section, does not rate it, or could not take it alone. Else some choice has the section.
 pub(crate) fn tells_best(reason: Reason) -> bool
     ensures { result ≡ tells_best reason }
 {

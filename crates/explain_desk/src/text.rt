@@ -5,7 +5,7 @@ ghost use Rattle.bundle_rules.specs.Bundles.{sections_of};
 ghost use Rattle.bundle_rules.specs.Menus.{wishes_of};
 ghost use Rattle.bundle_rules.specs.Wishes.{AllRated};
 ghost use Rattle.market_certificate.specs.Lines.{joined};
-ghost use Rattle.market_certificate.specs.Tables.{section_names};
+ghost use Rattle.course_catalog.specs.Sections.{section_names};
 ghost use Rattle.explain_desk.specs.Texts.{best_lines, explained_text, NamesBelow};
 ghost use Rattle.explain_desk.specs.Views.{explained_of, proved_of};
 

@@ -9,21 +9,13 @@ use Rattle.bundle_rules.specs.Bundles.{sections_of}
 use Rattle.bundle_rules.specs.Menus.{MenuData, wishes_of}
 use Rattle.bundle_rules.specs.Wishes.{AllRated, IsFeasible, utility}
 use Rattle.bundle_rules.specs.declared.bundle.Bundle.{Bundle}
+use Rattle.demand_api.specs.declared.crowd.Crowd.{Crowd}
 use Rattle.demand_api.specs.Crowds.{Student}
-use Rattle.demand_api.specs.Made.{crowd_of, students_of}
-use Rattle.demand_api.proofs.Takers.{students_length}
-use Rattle.fairness_audit.specs.Allocations.{Allocation, IsAllocation, budget_at, bundle_at, menu_at, student_count}
+use Rattle.demand_api.proofs.Parts.{menus_few, student_of, students_length}
+use Rattle.fairness_audit.specs.Allocations.{Allocation, IsAllocation, allocation_of, budget_at, bundle_at, menu_at, student_count}
 use Rattle.fairness_audit.specs.Rows.{RowData, SeenData, envied, own_worth, row_over}
 use Rattle.fairness_audit.specs.Tallies.{with_sight}
 use Rattle.fairness_audit.proofs.OneMore.{counts_few, is_envied, not_better, not_itself, range_more}
-
-student_there : (menus : List MenuData) (budgets : List Tokens) (i : ℕ) (d : Student) (m : MenuData) (b : Tokens) → length budgets ≡ length menus
-    → i < length menus
-    → slice_index_or (students_of menus budgets) i d ≡ record { menu = slice_index_or menus i m; budget = (slice_index_or budgets i b).0 }
-student_there [] budgets i d m b same low = absurd (omega arith)
-student_there (x ∷ xs) [] i d m b same low = absurd (omega arith)
-student_there (x ∷ xs) (y ∷ ys) zero d m b same low = refl
-student_there (x ∷ xs) (y ∷ ys) (suc i) d m b same low = student_there xs ys i d m b (omega arith) (omega arith)
 
 -- the next number behind a range
 pub range_next : (n : ℕ) → range_with_len 0 (n + 1) ≡ range_with_len 0 n ++ n ∷ []
@@ -31,20 +23,20 @@ range_next n =
     ap (range_with_len 0) (let goal : n + 1 ≡ suc n = omega arith in goal) ∙ range_more 0 n
     ∙ ap (λ m. range_with_len 0 n ++ m ∷ []) (let goal : 0 + n ≡ n = omega arith in goal)
 
-module _ (menus : List MenuData) (budgets : List Tokens) (sections : ℕ) (bundles : List Bundle) (same : length budgets ≡ length menus) where
+module _ (crowd : Crowd) (bundles : List Bundle) where
   abbrev a : Allocation
-  a = record { crowd = crowd_of menus budgets sections; bundles = map sections_of bundles }
+  a = allocation_of crowd bundles
 
-  pub count_is : student_count a ≡ length menus
-  count_is = students_length menus budgets same
+  pub count_is : student_count a ≡ length crowd.menus.items
+  count_is = students_length crowd
 
-  pub menu_is : (i : ℕ) (menu : MenuData) → i < length menus → menu ≡ slice_index_or menus i menu → menu_at a i ≡ menu
-  menu_is i menu low is = ap (λ (s : Student). s.menu) (student_there menus budgets i _ menu (record { 0 = 0 }) same low) ∙ sym is
+  pub menu_is : (i : ℕ) (menu : MenuData) → i < length crowd.menus.items → menu ≡ slice_index_or crowd.menus.items i menu → menu_at a i ≡ menu
+  menu_is i menu low is = ap (λ (s : Student). s.menu) (student_of crowd i _ menu (record { 0 = 0 }) low) ∙ sym is
 
-  pub budget_is : (i : ℕ) (budget : Tokens) → i < length menus → budget ≡ slice_index_or budgets i budget → budget_at a i ≡ budget.0
+  pub budget_is : (i : ℕ) (budget : Tokens) → i < length crowd.menus.items → budget ≡ slice_index_or crowd.budgets.items i budget → budget_at a i ≡ budget.0
   budget_is i budget low is =
       ap (λ (s : Student). s.budget)
-      (student_there menus budgets i _ (record { places = []; pairs = []; clashes = []; credits = 0; courses = 0 }) budget same low)
+      (student_of crowd i _ (record { places = []; pairs = []; clashes = []; credits = 0; courses = 0 }) budget low)
       ∙ ap (λ (b : Tokens). b.0) (sym is)
 
   pub bundle_is : (i : ℕ) (bundle : Bundle) → i < length bundles → bundle ≡ slice_index_or bundles i bundle → bundle_at a i ≡ sections_of bundle
@@ -52,10 +44,10 @@ module _ (menus : List MenuData) (budgets : List Tokens) (sections : ℕ) (bundl
 
   module _ (are : IsAllocation a) where
     -- one bundle for each menu
-    pub as_many : length bundles ≡ length menus
+    pub as_many : length bundles ≡ length crowd.menus.items
     as_many = sym (length-map bundles sections_of) ∙ are.each ∙ count_is
 
-    module _ (i : ℕ) (menu : MenuData) (mine : Bundle) (low : i < length menus) (is : menu ≡ slice_index_or menus i menu)
+    module _ (i : ℕ) (menu : MenuData) (mine : Bundle) (low : i < length crowd.menus.items) (is : menu ≡ slice_index_or crowd.menus.items i menu)
         (has_it : mine ≡ slice_index_or bundles i mine) where
       within : i < length bundles
       within = subst (λ n. i < n) (sym as_many) low
@@ -91,18 +83,19 @@ module _ (menus : List MenuData) (budgets : List Tokens) (sections : ℕ) (bundl
 
             -- past one who is
             pub past_envied : (seen : SeenData) (budget other : Tokens) → ¬ (k ≡ i) → envied menu own k (sections_of theirs) ≡ Some seen
-                → budget ≡ slice_index_or budgets i budget → other ≡ slice_index_or budgets k other
+                → budget ≡ slice_index_or crowd.budgets.items i budget → other ≡ slice_index_or crowd.budgets.items k other
                 → with_sight row seen (nat_le other.0 budget.0) ≡ row_over a i (range_with_len 0 (k + 1))
             past_envied seen budget other apart some mine_is their_is =
-                let low_menu : k < length menus = subst (λ n. k < n) as_many low_k in
+                let low_menu : k < length crowd.menus.items = subst (λ n. k < n) as_many low_k in
                 grown (with_sight row seen (nat_le other.0 budget.0))
                 (is_envied a i (range_with_len 0 k) k seen (nat_le other.0 budget.0) apart (envied_by ∙ some)
                 (ap (λ n. nat_le n budget.0) (sym (budget_is k other low_menu their_is)) ∙ ap (nat_le (budget_at a k)) (sym (budget_is i budget low mine_is)))
                 ∙ ap (λ (r : RowData). with_sight r seen (nat_le other.0 budget.0)) (sym so_far))
 
-          pub few_so_far : length menus ≤ 2000 → (row.lower ≤ 2000) × (row.higher ≤ 2000) × (row.beyond ≤ 2000)
-          few_so_far few =
-              let n : ℕ = length menus in
+          pub few_so_far : (row.lower ≤ 2000) × (row.higher ≤ 2000) × (row.beyond ≤ 2000)
+          few_so_far =
+              let few : length crowd.menus.items ≤ 2000 = menus_few crowd in
+              let n : ℕ = length crowd.menus.items in
               let m : ℕ = length bundles in
               let same_many : m ≡ n = as_many in
               let l : ℕ = length (range_with_len 0 k) in

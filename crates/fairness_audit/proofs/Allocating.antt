@@ -1,4 +1,4 @@
--- Each student of an accepted text may take its bundles, of stage two and the final one.
+-- Each student of an accepted text may take its bundles, of the second stage and the final one.
 use Rattle.std.proofs.Common.{ℕ, zero, suc, ◌≡◌, ◌<◌, ◌∙◌, add-one, List, [], length, take, get_or, ap, sym, subst, inl, inr, arith}
 use Rattle.std.specs.Prelude.{slice_index_or, slice_set}
 use Rattle.std.proofs.lemmas.Bool.{cases_lt}
@@ -43,7 +43,7 @@ module _ (market : Market) (streams : List (List Command)) (text : List ℕ) (ac
   abbrev crowd : CrowdData
   crowd = accepted.holds.crowd
 
-  -- as many bundles of stage two as students
+  -- as many bundles of the second stage as students
   pub bundles_count : length (demanded p) ≡ length crowd.students
   bundles_count = length_map (λ (one : Proved). one.bundle) p.bundles ∙ accepted.is_text.is_publication.bundles.count ∙ students market streams text accepted
 

@@ -6,16 +6,18 @@ use Rattle.std.proofs.lemmas.Int.{ints}
 use Rattle.std.proofs.lemmas.List.{get_or-set_other, get_or-set_same}
 use Rattle.market_units.specs.Totals.{signed_total, total}
 use Rattle.bundle_rules.specs.declared.menu.Rated.{Rated}
-use Rattle.bundle_rules.specs.Menus.{IsMenu, MenuData, adjustment_in, place_in, rating_at, section_at, wishes_of}
-use Rattle.bundle_rules.specs.Sets.{AllAbove, IsAscending, has}
+use Rattle.bundle_rules.specs.Menus.{IsMenu, MenuData, adjustment_in, place_in, rating_at, section_at, wishes_of, worth}
+use Rattle.market_units.specs.Members.{has}
+use Rattle.bundle_rules.specs.Sets.{AllAbove, IsAscending}
 use Rattle.bundle_rules.specs.Wishes.{AllRated, Wishes, adjustments, utility}
 use Rattle.bundle_rules.specs.Existence.Members.{has-above, has-cases, has-here, has-there}
 use Rattle.bundle_rules.specs.Existence.Places.{rated_on_menu, section_at-place_in}
 use Rattle.bundle_rules.proofs.BestValue.{best-is}
 use Rattle.bundle_rules.proofs.Parts.{total_part}
 use Rattle.bundle_rules.proofs.PlacesFirst.{place_in-rises, section_at-rises}
-use Rattle.fairness_audit.specs.Envy.{is_more, seen, worth}
-use Rattle.fairness_audit.specs.Weights.{AreWeights, gain, gains, weight_at}
+use Rattle.fairness_audit.specs.Envy.{is_more, seen}
+use Rattle.bundle_bounds.specs.Opens.{above_zero}
+use Rattle.fairness_audit.specs.Weights.{AreWeights, gains, weight_at}
 
 -- ---- what weights tell
 
@@ -50,7 +52,7 @@ not_more menu weights are own bundle up high =
 
 -- ---- the weights of a menu
 
-gain_high : (z : ℤ) → z ≤ℤ pos (gain z)
+gain_high : (z : ℤ) → z ≤ℤ pos (above_zero z)
 gain_high (pos n) = omega (arith, ints)
 gain_high (negsuc n) = omega (arith, ints)
 
@@ -67,13 +69,13 @@ module _ (places : List Rated) (up : IsAscending (map (λ rated. rated.section.0
       let here = on s (has-here s ss) in
       let p : ℕ = place_in places s in
       let low : first ≤ p = here.1 in
-      let g : ℕ = gain (f first) in
+      let g : ℕ = above_zero (f first) in
       let n : ℕ = gains f (first + 1) count in
       elim (cases_eq first p) [
         | inl same ↦
             let a : ℤ = f p in
             let b : ℤ = signed_total (λ t. f (place_in places t)) ss in
-            let one : a ≤ℤ pos g = subst (λ q. f q ≤ℤ pos (gain (f first))) same (gain_high (f first)) in
+            let one : a ≤ℤ pos g = subst (λ q. f q ≤ℤ pos (above_zero (f first))) same (gain_high (f first)) in
             let rest : b ≤ℤ pos n = within_gains count (first + 1) ss rises.1 (λ t is.
             let there = on t (has-there s ss t is) in
             let q : ℕ = place_in places t in
@@ -132,7 +134,7 @@ weight_written menu weights p value is low inside each high k below = elim (case
 ]
 
 -- the gains from a number on: that at the number, and the later ones
-pub gains_step : (f : ℕ → ℤ) (first n : ℕ) → first < n → gains f first (n - first) ≡ gain (f first) + gains f (first + 1) (n - (first + 1))
+pub gains_step : (f : ℕ → ℤ) (first n : ℕ) → first < n → gains f first (n - first) ≡ above_zero (f first) + gains f (first + 1) (n - (first + 1))
 gains_step f first n low = ap (gains f first) (let goal : n - first ≡ suc (n - (first + 1)) = omega arith in goal)
 
 pub gains_none : (f : ℕ → ℤ) (first n : ℕ) → n ≤ first → gains f first (n - first) ≡ 0

@@ -6,10 +6,9 @@ use Rattle.std.proofs.lemmas.List.{append-nil, length-map, length-take-le, take_
 use Rattle.std.proofs.lemmas.List.Elements.{filter-append}
 use Rattle.market_units.specs.declared.units.SectionNo.{SectionNo}
 use Rattle.bundle_rules.specs.Ordinals.{ordinals}
-use Rattle.bundle_rules.specs.Sets.{AllAbove, IsAscending}
+use Rattle.bundle_rules.specs.Sets.{AllAbove, IsAscending, without_section}
 use Rattle.bundle_rules.specs.Existence.Members.{IsAscending-front}
 use Rattle.bundle_rules.proofs.Ends.{ascending-next}
-use Rattle.fairness_audit.specs.Envy.{but_for}
 
 filter_above : (p : ℕ → Bool) (s : ℕ) (xs : List ℕ) → AllAbove s xs → AllAbove s (filter p xs)
 filter_above p s [] above = tt
@@ -37,38 +36,39 @@ filter_few p (x ∷ xs) =
     ]
 
 module _ (s : ℕ) (items : List SectionNo) (k : ℕ) (d : SectionNo) (low : k < length items) where
-  one_more : but_for s (ordinals (take (k + 1) items)) ≡ but_for s (ordinals (take k items)) ++ but_for s ((get_or items k d).0 ∷ [])
+  one_more : without_section s (ordinals (take (k + 1) items)) ≡ without_section s (ordinals (take k items)) ++ without_section s ((get_or items k d).0 ∷ [])
   one_more =
-      ap (λ l. but_for s (ordinals l)) (take_more items k d low)
-      ∙ ap (but_for s) (map-append (λ (section : SectionNo). section.0) (take k items) (get_or items k d ∷ []))
+      ap (λ l. without_section s (ordinals l)) (take_more items k d low)
+      ∙ ap (without_section s) (map-append (λ (section : SectionNo). section.0) (take k items) (get_or items k d ∷ []))
       ∙ filter-append (λ t. not (t == s)) (ordinals (take k items)) ((get_or items k d).0 ∷ [])
 
   -- one more section that stays
   pub one_stays : ((get_or items k d).0 == s) ≡ false
-      → but_for s (ordinals (take (k + 1) items)) ≡ but_for s (ordinals (take k items)) ++ (get_or items k d).0 ∷ []
+      → without_section s (ordinals (take (k + 1) items)) ≡ without_section s (ordinals (take k items)) ++ (get_or items k d).0 ∷ []
   one_stays other =
       one_more
-      ∙ ap (λ l. but_for s (ordinals (take k items)) ++ l)
-      (let goal : but_for s ((get_or items k d).0 ∷ []) ≡ (get_or items k d).0 ∷ [] = rw other refl in goal)
+      ∙ ap (λ l. without_section s (ordinals (take k items)) ++ l)
+      (let goal : without_section s ((get_or items k d).0 ∷ []) ≡ (get_or items k d).0 ∷ [] = rw other refl in goal)
 
   -- and one that does not
-  pub one_goes : ((get_or items k d).0 == s) ≡ true → but_for s (ordinals (take (k + 1) items)) ≡ but_for s (ordinals (take k items))
+  pub one_goes : ((get_or items k d).0 == s) ≡ true → without_section s (ordinals (take (k + 1) items)) ≡ without_section s (ordinals (take k items))
   one_goes same =
-      one_more ∙ ap (λ l. but_for s (ordinals (take k items)) ++ l) (let goal : but_for s ((get_or items k d).0 ∷ []) ≡ [] = rw same refl in goal)
-      ∙ append-nil (but_for s (ordinals (take k items)))
+      one_more
+      ∙ ap (λ l. without_section s (ordinals (take k items)) ++ l) (let goal : without_section s ((get_or items k d).0 ∷ []) ≡ [] = rw same refl in goal)
+      ∙ append-nil (without_section s (ordinals (take k items)))
 
   -- the one that stays is above those before it
   pub stays_above : ((get_or items k d).0 == s) ≡ false → IsAscending (ordinals items)
-      → IsAscending (but_for s (ordinals (take k items)) ++ (get_or items k d).0 ∷ [])
+      → IsAscending (without_section s (ordinals (take k items)) ++ (get_or items k d).0 ∷ [])
   stays_above other up =
       subst IsAscending (one_stays other)
       (filter_up (λ t. not (t == s)) (ordinals (take (k + 1) items))
       (subst IsAscending (sym (ap ordinals (take_more items k d low) ∙ map-append (λ (section : SectionNo). section.0) (take k items) (get_or items k d ∷ []))) (ascending-next items k d low up)))
 
   -- and those before it are fewer than all
-  pub room_left : length items ≤ 8 → length (but_for s (ordinals (take k items))) < 8
+  pub room_left : length items ≤ 8 → length (without_section s (ordinals (take k items))) < 8
   room_left few =
-      let m : ℕ = length (but_for s (ordinals (take k items))) in
+      let m : ℕ = length (without_section s (ordinals (take k items))) in
       let n : ℕ = length (ordinals (take k items)) in
       let h1 : m ≤ n = filter_few (λ t. not (t == s)) (ordinals (take k items)) in
       let h2 : n ≡ length (take k items) = length-map (take k items) (λ (section : SectionNo). section.0) in

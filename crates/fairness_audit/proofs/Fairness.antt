@@ -1,4 +1,4 @@
--- In stage two nobody has lower envy.
+-- In the second stage nobody has lower envy.
 use Rattle.std.proofs.Common.{ℕ, ◌≡◌, ◌≢◌, ◌≤◌, ◌∙◌, Bool, true, List, [], length, sym, subst, inl, inr, arith}
 use Rattle.std.specs.Prelude.{ℤ, ◌<ℤ◌, ◌≤ℤ◌, ◌⊎◌, nat_lt, slice_index}
 use Rattle.std.proofs.lemmas.Int.{ints}
@@ -6,7 +6,7 @@ use Rattle.std.proofs.lemmas.List.{get_or-map}
 use Rattle.market_units.specs.Totals.{total}
 use Rattle.bundle_rules.specs.Demand.{IsBest, IsChoice}
 use Rattle.bundle_rules.specs.Preferences.{IsPreferred}
-use Rattle.bundle_rules.specs.Sets.{has}
+use Rattle.market_units.specs.Members.{has}
 use Rattle.bundle_rules.specs.Wishes.{IsFeasible, Wishes, utility}
 use Rattle.bundle_rules.proofs.BestValue.{best-only}
 use Rattle.bundle_rules.proofs.Parts.{total_part}
@@ -76,7 +76,7 @@ no_lower_envy market streams text accepted =
           (optimal.stage_two theirs low') less may part;
     }
 
--- each student has in stage two what it takes at the printed prices
+-- each student has in the second stage what it takes at the printed prices
 taken : (market : Market) (streams : List (List Command)) (text : List ℕ) (accepted : IsAccepted market streams text)
     → AreTakenAt (settled_in accepted.holds.crowd accepted.publication) (slice_index accepted.publication.prices)
 unfolding demands

@@ -2,14 +2,12 @@ pub mod Allocated
 pub mod Allocating
 pub mod Bounds
 pub mod ButFor
-pub mod Endings
 pub mod Fairness
-pub mod Histories
 pub mod Joining
+pub mod Listing
 pub mod Naming
 pub mod OneMore
-pub mod Places
 pub mod Prices
 pub mod RowTexts
-pub mod SeatTurns
+pub mod SameRows
 pub mod Seeing

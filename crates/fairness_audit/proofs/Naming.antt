@@ -9,13 +9,14 @@ use Rattle.std.proofs.lemmas.List.FromFn.{get_or-range_with_len, length-range_wi
 use Rattle.std.proofs.lemmas.List.Sums.{count_by-le-length}
 use Rattle.bundle_rules.specs.declared.menu.Rated.{Rated}
 use Rattle.bundle_rules.specs.Menus.{MenuData, place_in, rating_at, section_at, wishes_of}
-use Rattle.bundle_rules.specs.Sets.{has}
+use Rattle.market_units.specs.Members.{has}
 use Rattle.bundle_rules.specs.Existence.Members.{has-here, has-there}
 use Rattle.bundle_rules.specs.Existence.Places.{rated_on_menu, section_at-place_in}
 use Rattle.bundle_rules.proofs.BestValue.{best-is}
 use Rattle.demand_api.specs.Crowds.{IsCrowd, IsWithin}
 use Rattle.fairness_audit.specs.Allocations.{Allocation, IsAllocation, bundle_at, menu_at, student_count, students}
-use Rattle.fairness_audit.specs.Envy.{but_for, is_more, seen}
+use Rattle.bundle_rules.specs.Sets.{without_section}
+use Rattle.fairness_audit.specs.Envy.{is_more, seen}
 use Rattle.fairness_audit.specs.Rows.{RowData, ends_but_for, envies, has_envy_beyond_one, has_higher_envy, has_lower_envy, own_worth, row, rows, sight}
 use Rattle.fairness_audit.specs.Texts.{AreRowsAmong, IsRowAmong, IsSightAmong}
 

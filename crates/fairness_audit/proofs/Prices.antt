@@ -9,15 +9,15 @@ use Rattle.std.proofs.lemmas.List.{get_or-map}
 use Rattle.market_units.specs.Totals.{total}
 use Rattle.bundle_rules.specs.Best.{best}
 use Rattle.bundle_rules.specs.Demand.{IsBest, IsChoice}
-use Rattle.bundle_rules.specs.Menus.{wishes_of}
+use Rattle.bundle_rules.specs.Menus.{wishes_of, worth}
 use Rattle.bundle_rules.specs.Preferences.{IsPreferred}
-use Rattle.bundle_rules.specs.Sets.{has}
+use Rattle.market_units.specs.Members.{has}
 use Rattle.bundle_rules.specs.Wishes.{Wishes, utility}
 use Rattle.bundle_rules.proofs.BestValue.{best-is}
 use Rattle.bundle_rules.proofs.Parts.{total_part}
 use Rattle.demand_api.specs.Crowds.{CrowdData, Student, demand, demand_of, demands}
 use Rattle.fairness_audit.specs.Allocations.{Allocation, budget_at, bundle_at, menu_at, student_at, student_count}
-use Rattle.fairness_audit.specs.Envy.{is_more, seen, worth}
+use Rattle.fairness_audit.specs.Envy.{is_more, seen}
 use Rattle.fairness_audit.specs.Laws.{AreTakenAt}
 use Rattle.fairness_audit.specs.Rows.{envies, has_lower_envy, own_worth}
 use Rattle.fairness_audit.proofs.OneMore.{count_more, range_more}

@@ -11,7 +11,8 @@ use Rattle.market_units.specs.Totals.{total}
 use Rattle.bundle_rules.specs.Demand.{IsBest, IsChoice}
 use Rattle.bundle_rules.specs.Menus.{MenuData, wishes_of}
 use Rattle.bundle_rules.specs.Ordinals.{ordinals}
-use Rattle.bundle_rules.specs.Sets.{has, IsAscending}
+use Rattle.market_units.specs.Members.{has}
+use Rattle.bundle_rules.specs.Sets.{IsAscending}
 use Rattle.bundle_rules.specs.Wishes.{Wishes, IsFeasible}
 use Rattle.bundle_rules.specs.Existence.Demands.{no_section}
 use Rattle.bundle_rules.specs.Existence.Members.{IsAscending-front, IsAscending-middle}

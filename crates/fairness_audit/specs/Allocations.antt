@@ -6,8 +6,8 @@ use Rattle.bundle_rules.specs.Menus.{MenuData, wishes_of}
 use Rattle.bundle_rules.specs.Wishes.{IsFeasible}
 use Rattle.bundle_rules.specs.declared.bundle.Bundle.{Bundle}
 use Rattle.demand_api.specs.Crowds.{CrowdData, Student}
-use Rattle.demand_api.specs.Made.{crowd_of}
 use Rattle.demand_api.specs.declared.crowd.Crowd.{Crowd}
+use Rattle.demand_api.specs.Views.{data_of}
 
 -- a crowd, and the bundle of each student in file order
 pub record Allocation : Type 0 where
@@ -51,6 +51,6 @@ pub record IsAllocation (a : Allocation) : Type 0 where
 abbrev pub allocation_of : Crowd → List Bundle → Allocation
 allocation_of crowd bundles =
     record {
-      crowd = crowd_of crowd.menus.items crowd.budgets.items crowd.sections;
+      crowd = data_of crowd;
       bundles = map sections_of bundles;
     }

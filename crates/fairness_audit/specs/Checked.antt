@@ -7,8 +7,8 @@ use Rattle.market_certificate.specs.Publications.{Publication}
 use Rattle.student_roll.specs.Students.{RollData}
 use Rattle.fairness_audit.specs.Audits.{final_in, settled_in}
 
--- a crowd of these tables, and of each student a bundle of stage two and a final one that it may
--- take
+-- a crowd of these tables, and of each student a bundle of the second stage and a final one that it
+-- may take
 pub record IsChecked (catalog : CatalogData) (roll : RollData) (p : Publication)
     (crowd : CrowdData) : Type 0 where
   pub students : length crowd.students ≡ length roll.students

@@ -3,7 +3,7 @@ use Rattle.std.specs.Prelude.{ℕ, ◌≡◌, ◌<◌, false, ◌≤◌, ◌≤�
 use Rattle.demand_api.specs.Crowds.{IsCrowd, demand_of}
 use Rattle.fairness_audit.specs.Allocations.{Allocation, bundle_at, student_count}
 use Rattle.fairness_audit.specs.Rows.{has_lower_envy, row}
-use Rattle.bundle_rules.specs.Sets.{has}
+use Rattle.market_units.specs.Members.{has}
 use Rattle.bundle_rules.specs.Wishes.{IsFeasible, utility}
 use Rattle.certificate_checker.specs.Certificates.{IsAccepted}
 use Rattle.market_certificate.specs.Publications.{Publication}
@@ -31,12 +31,12 @@ NoLowerCount =
     (a : Allocation) (price : ℕ → ℕ) → IsCrowd a.crowd → AreTakenAt a price → (i : ℕ)
     → i < student_count a → (row a i).lower ≡ 0
 
--- the bundle that is printed for a student in stage two
+-- the bundle that is printed for a student in the second stage
 abbrev pub settled_of : Publication → ℕ → List ℕ
 settled_of p student = slice_index_or (demanded p) student []
 
 -- whatever one student could take out of the bundle of the other is worth no more to it than its
--- own bundle, in stage two, by the journal
+-- own bundle, in the second stage, by the journal
 abbrev pub SeesNoMore : Market → List Entry → Publication → ℕ → ℕ → Type 0
 SeesNoMore market journal p mine theirs =
     (bundle : List ℕ) → IsFeasible (wishes_in market journal mine) bundle
@@ -46,8 +46,8 @@ SeesNoMore market journal p mine theirs =
 
 -- What an accepted text promises of every two students, whoever printed it. What a student wants is
 -- what all sessions said of it, in the printed order. Whatever a student could take out of the
--- bundle of stage two of one whose printed budget is no greater than its own is worth no more to it
--- than the bundle that it has itself.
+-- bundle of the second stage of one whose printed budget is no greater than its own is worth no
+-- more to it than the bundle that it has itself.
 pub record IsWithoutLowerEnvy (market : Market) (streams : List (List Command))
     (p : Publication) : Type 0 where
   pub journal : List Entry
@@ -64,7 +64,7 @@ NoLowerEnvyInAccepted =
     → (accepted : IsAccepted market streams text)
     → IsWithoutLowerEnvy market streams accepted.publication
 
--- so an audit of what is accepted counts none in stage two
+-- so an audit of what is accepted counts none in the second stage
 abbrev pub NoLowerCountInAccepted : Type 0
 NoLowerCountInAccepted =
     (market : Market) (streams : List (List Command)) (text : List ℕ)

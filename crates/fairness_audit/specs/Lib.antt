@@ -1,14 +1,12 @@
 pub mod Allocations
+pub mod Asked
 pub mod Audits
 pub mod Checked
-pub mod Drawing
 pub mod Envy
 pub mod Laws
-pub mod Registers
 pub mod Rows
+pub mod SameRows
 pub mod Searching
-pub mod Seats
-pub mod Shared
 pub mod Tallies
 pub mod Texts
 pub mod Views

@@ -1,9 +1,9 @@
 -- Whom each student envies.
 use Rattle.std.specs.Prelude.{ℕ, ℤ, ◌==◌, ◌&&◌, Bool, not, nat_le, nat_lt, if◌then◌else◌, is_none, option_map, Option, Some, None, List, map}
 use Rattle.std.specs.List.{count_by, find}
-use Rattle.bundle_rules.specs.Menus.{MenuData}
+use Rattle.bundle_rules.specs.Menus.{MenuData, worth}
 use Rattle.fairness_audit.specs.Allocations.{Allocation, budget_at, bundle_at, menu_at, students}
-use Rattle.fairness_audit.specs.Envy.{ended_by, is_more, seen, worth}
+use Rattle.fairness_audit.specs.Envy.{ended_by, is_more, seen}
 
 -- what the student's own bundle is worth to it
 abbrev pub own_worth : Allocation → ℕ → ℤ

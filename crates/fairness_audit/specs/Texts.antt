@@ -50,7 +50,8 @@ abbrev pub part_lines : List ℕ → List (List ℕ) → List (List ℕ) → Lis
 part_lines part students sections rows =
     rows_lines part students sections students rows ++ total_line part rows ∷ []
 
--- the text of an audit: the rows of the bundles of stage two, and then those of the final ones
+-- the text of an audit: the rows of the bundles of the second stage, and then those of the final
+-- ones
 abbrev pub audit_text : List (List ℕ) → List (List ℕ) → List RowData → List RowData → List ℕ
 audit_text students sections settled last = joined (part_lines (codes "settled") students sections settled ++ part_lines (codes "final") students sections last)
 

@@ -1,6 +1,5 @@
 // Which bundles can be audited.
 ghost use Rattle.std.specs.Prelude.{◌↔◌, IsTrue};
-ghost use Rattle.demand_api.specs.Made.{MakeCrowd};
 ghost use Rattle.fairness_audit.specs.Allocations.{IsAllocation, allocation_of};
 
 use bundle_rules::{Bundle, feasible};
@@ -9,7 +8,6 @@ use demand_api::Crowd;
 /// Whether there is one bundle for each student of the crowd, which it may take: what `audit` and
 /// `count_envy` need.
 pub fn is_allocation(crowd: &Crowd, bundles: &[Bundle]) -> bool
-    requires { MakeCrowd crowd.now.menus.items crowd.now.budgets.items crowd.now.sections }
     ensures { IsTrue result ↔ IsAllocation (allocation_of crowd.now bundles.now) }
 {
     if bundles.len() != crowd.menus.len() {

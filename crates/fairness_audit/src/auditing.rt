@@ -2,25 +2,26 @@
 ghost use Rattle.std.specs.Prelude.{◌≡◌, ◌≤◌, ◌<◌, ℕ, All, IfOk, length, map, slice_index_or};
 ghost use Rattle.std.specs.Vec.{vec_len};
 ghost use Rattle.std.specs.Arc.{arc_value};
-ghost use Rattle.demand_api.specs.Made.{MakeCrowd};
+ghost use Rattle.task_board.specs.Kept.{AreSettled};
+ghost use Rattle.task_board.specs.Seats.{IsFinished, IsFree};
 ghost use Rattle.fairness_audit.specs.Allocations.{IsAllocation, allocation_of, student_count};
+ghost use Rattle.fairness_audit.specs.Asked.{audit_rules};
 ghost use Rattle.fairness_audit.specs.Rows.{row, rows};
-ghost use Rattle.fairness_audit.specs.Seats.{IsFinished, IsFree};
 ghost use Rattle.fairness_audit.specs.Texts.{AreRowsAmong};
 ghost use Rattle.fairness_audit.specs.Views.{row_of};
 
-use crate::register::Register;
 use crate::row::EnvyRow;
+use crate::tasks::AuditTasks;
 use crate::worker::work;
 use bundle_rules::Bundle;
-use chronicle::{Chronicle, Seat};
 use demand_api::Crowd;
 use market_edge::Gate;
-use market_units::{MAX_WORKERS, NoMemory};
+use market_units::{MAX_STUDENTS, MAX_WORKERS, NoMemory};
 use std::alloc::Global;
 use std::sync::{Arc, Wait};
 use std::thread;
 use std::thread::Threads;
+use task_board::{Answers, Board, BoardSeat};
 
 /// Whom each student of a crowd envies, where the students have these bundles: one for each, in
 /// file order, which it may take. The rows are in file order, found by 1 to 16 workers in threads
@@ -35,8 +36,6 @@ pub fn audit<R: Threads + Wait + Sync, G: Gate + Sync>(
     workers: u16,
     gate: &G,
 ) -> Result<Vec<EnvyRow>, NoMemory>
-    requires crowd { MakeCrowd (arc_value crowd).menus.items (arc_value crowd).budgets.items
-        (arc_value crowd).sections }
     requires bundles { IsAllocation (allocation_of (arc_value crowd) (arc_value bundles).items) }
     requires workers { (1 ≤ workers) × (workers ≤ MAX_WORKERS) }
     ensures rows { IfOk result
@@ -48,13 +47,10 @@ pub fn audit<R: Threads + Wait + Sync, G: Gate + Sync>(
 {
     let shared = Arc::try_clone(&crowd)?;
     let held = Arc::try_clone(&bundles)?;
-    let register = Register::make(alloc, shared, held, workers)?;
-    let students = register.student_count();
-    let mut found = vec![in alloc; EnvyRow::empty(); students]?;
-    let share = 2 * students as u64 + 1;
-    let allotments = vec![in alloc; share; usize::from(workers)]?;
-    let (chronicle, seats) = Chronicle::start(alloc, register, allotments)?;
-    work_and_write(rt, chronicle, seats, &crowd, &bundles, &mut found, gate);
+    let tasks = AuditTasks::of(shared, held);
+    let mut found = vec![in alloc; EnvyRow::empty(); crowd.menus.len()]?;
+    let (board, seats) = Board::start(alloc, tasks, workers)?;
+    work_and_write(rt, board, seats, &crowd, &bundles, &mut found, gate);
     Ok(found)
 }
 
@@ -62,51 +58,50 @@ pub fn audit<R: Threads + Wait + Sync, G: Gate + Sync>(
 // memory is taken meanwhile.
 fn work_and_write<R: Threads + Wait + Sync, G: Gate + Sync>(
     rt: &R,
-    chronicle: Chronicle<Register>,
-    mut seats: Vec<Seat<Register>>,
+    board: Board<AuditTasks>,
+    mut seats: Vec<BoardSeat<AuditTasks>>,
     crowd: &Crowd,
     bundles: &[Bundle],
     rows: &mut [EnvyRow],
     gate: &G,
 )
-    requires crowd { MakeCrowd crowd.now.menus.items crowd.now.budgets.items crowd.now.sections }
     requires bundles { IsAllocation (allocation_of crowd.now bundles.now) }
-    requires chronicle { chronicle.base.allocation ≡ allocation_of crowd.now bundles.now }
-    requires count { (1 ≤ vec_len seats) × (vec_len seats ≤ 16)
-        × (length chronicle.allotments ≡ vec_len seats) }
+    requires board { board.base.allocation ≡ allocation_of crowd.now bundles.now }
+    requires count { (1 ≤ vec_len seats) × (vec_len seats ≤ MAX_WORKERS)
+        × (length board.allotments ≡ vec_len seats) }
     requires numbers { (n : ℕ) (d : _) → n < vec_len seats
         → (slice_index_or seats.items n d).number ≡ n }
-    requires free { All (λ seat. IsFree chronicle seat) seats.items }
-    requires rows { length rows.old ≡ student_count chronicle.base.allocation }
+    requires free { All (λ seat. IsFree audit_rules board seat) seats.items }
+    requires rows { length rows.old ≡ student_count board.base.allocation }
+    requires few { length rows.old ≤ MAX_STUDENTS }
     ensures count { length rows.new ≡ length rows.old }
     ensures each { (i : ℕ) (d : EnvyRow) → i < length rows.new
-        → row_of (slice_index_or rows.new i d) ≡ row chronicle.base.allocation i }
+        → row_of (slice_index_or rows.new i d) ≡ row board.base.allocation i }
 {
-    work_all(rt, &chronicle, seats.as_mut_slice(), crowd, bundles, gate);
-    let (register, _) = chronicle.close(seats);
-    register.write_rows(rows);
+    work_all(rt, &board, seats.as_mut_slice(), crowd, bundles, gate);
+    let answers = board.close(seats);
+    write_rows(&answers, rows);
 }
 
 // Each worker works at its seat, in a thread of its own where one can be started.
 fn work_all<R: Threads + Wait + Sync, G: Gate + Sync>(
     rt: &R,
-    chronicle: &Chronicle<Register>,
-    seats: &mut [Seat<Register>],
+    board: &Board<AuditTasks>,
+    seats: &mut [BoardSeat<AuditTasks>],
     crowd: &Crowd,
     bundles: &[Bundle],
     gate: &G,
 )
-    requires crowd { MakeCrowd crowd.now.menus.items crowd.now.budgets.items crowd.now.sections }
     requires bundles { IsAllocation (allocation_of crowd.now bundles.now) }
-    requires chronicle { chronicle.now.base.allocation ≡ allocation_of crowd.now bundles.now }
-    requires count { (1 ≤ length seats.old) × (length seats.old ≤ 16) }
+    requires board { board.now.base.allocation ≡ allocation_of crowd.now bundles.now }
+    requires count { (1 ≤ length seats.old) × (length seats.old ≤ MAX_WORKERS) }
     requires numbers { (n : ℕ) (d : _) → n < length seats.old
         → (slice_index_or seats.old n d).number ≡ n }
-    requires free { All (λ seat. IsFree chronicle.now seat) seats.old }
+    requires free { All (λ seat. IsFree audit_rules board.now seat) seats.old }
     ensures count { length seats.new ≡ length seats.old }
     ensures numbers { (n : ℕ) (d : _) → n < length seats.old
         → (slice_index_or seats.new n d).number ≡ n }
-    ensures finished { All (λ seat. IsFinished chronicle.now seat) seats.new }
+    ensures finished { All (λ seat. IsFinished audit_rules board.now seat) seats.new }
 {
     let threads = seats.len();
     thread::for_each_mut(
@@ -114,10 +109,35 @@ fn work_all<R: Threads + Wait + Sync, G: Gate + Sync>(
         seats,
         threads,
         &|n, seat|
-            requires { (seat.now.number < 16) × IsFree chronicle.now seat.now
-                × MakeCrowd crowd.now.menus.items crowd.now.budgets.items crowd.now.sections
+            requires { (seat.now.number < MAX_WORKERS) × IsFree audit_rules board.now seat.now
                 × IsAllocation (allocation_of crowd.now bundles.now)
-                × (chronicle.now.base.allocation ≡ allocation_of crowd.now bundles.now) }
-        { work(rt, chronicle, seat, crowd, bundles, gate) },
+                × (board.now.base.allocation ≡ allocation_of crowd.now bundles.now) }
+        { work(rt, board, seat, crowd, bundles, gate) },
     );
+}
+
+// Writes the rows of all students, each of which is posted.
+fn write_rows(answers: &Answers<AuditTasks>, rows: &mut [EnvyRow])
+    requires settled { AreSettled audit_rules answers.now.terms answers.now.marks }
+    requires count { length rows.old ≡ student_count answers.now.terms.allocation }
+    requires few { length rows.old ≤ MAX_STUDENTS }
+    ensures count { length rows.new ≡ length rows.old }
+    ensures each { (i : ℕ) (d : EnvyRow) → i < length rows.new
+        → row_of (slice_index_or rows.new i d) ≡ row answers.now.terms.allocation i }
+{
+    'students: for place in 0..rows.len() {
+        rows[place] = posted(answers, place as u32);
+    }
+}
+
+// The row that was posted for a student.
+fn posted(answers: &Answers<AuditTasks>, student: u32) -> EnvyRow
+    requires settled { AreSettled audit_rules answers.now.terms answers.now.marks }
+    requires student { student < student_count answers.now.terms.allocation }
+    ensures { row_of result ≡ row answers.now.terms.allocation student }
+{
+    match answers.answer(student) {
+        Some(row) => row,
+        None => unreachable!(),
+    }
 }

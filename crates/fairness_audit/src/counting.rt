@@ -1,6 +1,5 @@
 // The row of one student.
 ghost use Rattle.std.specs.Prelude.{◌≡◌, ◌<◌, length};
-ghost use Rattle.demand_api.specs.Made.{MakeCrowd};
 ghost use Rattle.fairness_audit.specs.Allocations.{IsAllocation, allocation_of};
 ghost use Rattle.fairness_audit.specs.Rows.{row};
 ghost use Rattle.fairness_audit.specs.Views.{row_of};
@@ -15,7 +14,6 @@ use market_units::StudentNo;
 /// Whom one student envies, of all who have these bundles: one for each student of the crowd, which
 /// it may take.
 pub fn count_envy(crowd: &Crowd, bundles: &[Bundle], student: StudentNo) -> EnvyRow
-    requires crowd { MakeCrowd crowd.now.menus.items crowd.now.budgets.items crowd.now.sections }
     requires bundles { IsAllocation (allocation_of crowd.now bundles.now) }
     requires student { student.0 < length crowd.now.menus.items }
     ensures { row_of result ≡ row (allocation_of crowd.now bundles.now) student.0 }

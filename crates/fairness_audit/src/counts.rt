@@ -6,6 +6,7 @@ ghost use Rattle.fairness_audit.specs.Texts.{IsRowAmong};
 ghost use Rattle.fairness_audit.specs.Views.{row_of};
 
 use crate::row::EnvyRow;
+use market_units::MAX_STUDENTS;
 
 /// The three counts of a row, or of several together.
 #[derive(Clone, Copy)]
@@ -16,7 +17,7 @@ pub struct Counts {
 }
 
 impl Counts {
-    // The counts of one row.
+    /// The three counts of one student's row.
     pub(crate) fn of(row: &EnvyRow) -> Counts
         ensures value { result
             ≡ record { lower = row.now.lower; higher = row.now.higher; beyond = row.now.beyond } }
@@ -30,9 +31,9 @@ impl Counts {
     }
 }
 
-// The counts of all rows, of which there are at most 2,000.
+/// The counts of all rows, added up. There are at most 2,000 rows.
 pub(crate) fn sum_up(rows: &[EnvyRow]) -> Counts
-    requires { length rows.now ≤ 2000 }
+    requires { length rows.now ≤ MAX_STUDENTS }
     ensures lower { result.lower ≡ total (λ (row : RowData). row.lower) (map row_of rows.now) }
     ensures higher { result.higher ≡ total (λ (row : RowData). row.higher) (map row_of rows.now) }
     ensures beyond { result.beyond ≡ total (λ (row : RowData). row.beyond) (map row_of rows.now) }

@@ -13,7 +13,7 @@ pub fn no_lower_count()
     ensures { NoLowerCount }
 {}
 
-/// In stage two of an accepted text, whoever printed it, nobody has reason to envy one whose
+/// In the second stage of an accepted text, whoever printed it, nobody has reason to envy one whose
 /// printed budget is no greater than its own: whatever a student could take out of that one's
 /// bundle, by its own ratings, caps and timetable, is worth no more to it than the bundle that it
 /// has itself.
@@ -21,7 +21,7 @@ pub fn no_lower_envy_in_accepted()
     ensures { NoLowerEnvyInAccepted }
 {}
 
-/// So an audit of an accepted text counts no lower envy in any row of stage two.
+/// So an audit of an accepted text counts no lower envy in any row of the second stage.
 pub fn no_lower_count_in_accepted()
     ensures { NoLowerCountInAccepted }
 {}

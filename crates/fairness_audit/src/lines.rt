@@ -2,7 +2,7 @@
 ghost use Rattle.std.specs.Prelude.{◌≡◌, ◌<◌, ◌++◌, ◌∷◌, [], ℕ, OnOk, IfSome, length, option_map};
 ghost use Rattle.market_units.specs.declared.units.SectionNo.{SectionNo};
 ghost use Rattle.market_certificate.specs.Lines.{joined};
-ghost use Rattle.market_certificate.specs.Tables.{section_names};
+ghost use Rattle.course_catalog.specs.Sections.{section_names};
 ghost use Rattle.student_roll.specs.Students.{names_of};
 ghost use Rattle.fairness_audit.specs.Texts.{IsSightAmong, counts_line, ending, first_lines, sight_line};
 ghost use Rattle.fairness_audit.specs.Views.{seen_of};
@@ -14,8 +14,8 @@ use market_certificate::{put_bundle_field, put_field, put_number_field};
 use market_units::{NoMemory, SectionNo};
 use student_roll::Roll;
 
-// Puts the line of three counts behind the text: the word of the part, whose they are, and the
-// counts.
+/// Puts a line of three counts behind the text: the word of the part, whose they are, and the
+/// counts of lower envy, of higher envy, and of envy beyond one section.
 pub(crate) fn put_counts(
     text: &mut Vec<u8>,
     part: &[u8],
@@ -37,7 +37,8 @@ pub(crate) fn put_counts(
     Ok(())
 }
 
-// Puts the line of the first envied student behind the text, if there is one.
+/// Puts the line of the first student who is envied behind the text. Where nobody is, nothing is
+/// put.
 pub(crate) fn put_first(
     text: &mut Vec<u8>,
     catalog: &Catalog,

@@ -2,7 +2,6 @@
 ghost use Rattle.std.specs.Prelude.{◌≡◌, ◌≤◌, ◌<◌, ◌^◌, ◌-◌, IfOk, IfErr, length, map};
 ghost use Rattle.std.specs.Arc.{arc_value};
 ghost use Rattle.bundle_rules.specs.Bundles.{sections_of};
-ghost use Rattle.demand_api.specs.Made.{MakeCrowd};
 ghost use Rattle.fairness_audit.specs.Allocations.{IsAllocation, allocation_of};
 ghost use Rattle.fairness_audit.specs.Rows.{rows};
 ghost use Rattle.fairness_audit.specs.Texts.{AreRowsAmong};
@@ -13,7 +12,7 @@ ghost use Rattle.published_parts.specs.Holdings.{demanded};
 ghost use Rattle.published_parts.specs.Markets.{market_of};
 ghost use Rattle.certificate_checker.specs.Certificates.{IsAccepted};
 ghost use Rattle.certificate_checker.specs.Findings.{IsFirstFinding, OnFound};
-ghost use Rattle.certificate_checker.specs.Views.{crowd_seen};
+ghost use Rattle.demand_api.specs.Views.{data_of};
 ghost use Rattle.certificate_checker.specs.Words.{IsNamedIn};
 ghost use Rattle.fairness_audit.specs.Audits.{IsAuditOf, IsAudited};
 ghost use Rattle.fairness_audit.specs.Checked.{IsChecked};
@@ -26,7 +25,7 @@ use demand_api::Crowd;
 use market_certificate::Publication;
 use market_edge::Gate;
 use market_settings::Settings;
-use market_units::{MAX_WORKERS, NoMemory};
+use market_units::{MAX_RAISE, MAX_SPREAD, MAX_WORKERS, NoMemory};
 use std::alloc::Global;
 use std::sync::{Arc, Wait};
 use std::thread::Threads;
@@ -34,12 +33,12 @@ use student_roll::Roll;
 use utility_language::Command;
 
 /// The text of an audit of what a text publishes that is accepted for this market and these
-/// streams, one for each session: whom each student envies at the bundles of stage two, and whom at
-/// the final ones; and the first finding where the text is not accepted. 1 to 16 workers look for
-/// both, and no number of workers occurs in what is told. For each of the two each worker passes
-/// the gate before its first student and after each of its students. Whom a finding names is on the
-/// roll, or in the catalogue. The text has fewer than 4,294,967,295 bytes. `NoMemory` comes where
-/// memory is wanted, and has no other cause.
+/// streams, one for each session: whom each student envies at the bundles of the second stage, and
+/// whom at the final ones; and the first finding where the text is not accepted. 1 to 16 workers
+/// look for both, and no number of workers occurs in what is told. For each of the two each worker
+/// passes the gate before its first student and after each of its students. Whom a finding names is
+/// on the roll, or in the catalogue. The text has fewer than 4,294,967,295 bytes. `NoMemory` comes
+/// where memory is wanted, and has no other cause.
 pub fn published_audit<R: Threads + Wait + Sync, G: Gate + Sync>(
     rt: &R,
     alloc: Global,
@@ -53,8 +52,8 @@ pub fn published_audit<R: Threads + Wait + Sync, G: Gate + Sync>(
 ) -> Result<Vec<u8>, CheckEnd>
     requires workers { (1 ≤ workers) × (workers ≤ MAX_WORKERS) }
     requires text { length text.items < 2 ^ 32 - 1 }
-    requires spread { settings.now.spread ≤ 49 }
-    requires raise { settings.now.raise ≤ 50 }
+    requires spread { settings.now.spread ≤ MAX_SPREAD }
+    requires raise { settings.now.raise ≤ MAX_RAISE }
     ensures audited { IfOk result
         (λ audited. IsAuditOf (market_of catalog.now roll.now settings.now)
         (map (λ stream. stream.items) streams.now) text.items audited.items) }
@@ -87,11 +86,9 @@ fn audit_accepted<R: Threads + Wait + Sync, G: Gate + Sync>(
 ) -> Result<Vec<u8>, NoMemory>
     requires workers { (1 ≤ workers) × (workers ≤ MAX_WORKERS) }
     requires checked { IsChecked catalog.now roll.now (publication_of accepted.publication)
-        (crowd_seen accepted.crowd) }
-    requires whole { MakeCrowd accepted.crowd.menus.items accepted.crowd.budgets.items
-        accepted.crowd.sections }
+        (data_of accepted.crowd) }
     ensures { IfOk result
-        (λ audited. IsAudited catalog.now roll.now (crowd_seen accepted.crowd)
+        (λ audited. IsAudited catalog.now roll.now (data_of accepted.crowd)
         (publication_of accepted.publication) audited.items) }
 {
     let Accepted { publication, crowd } = accepted;
@@ -102,7 +99,7 @@ fn audit_accepted<R: Threads + Wait + Sync, G: Gate + Sync>(
     put_rows(alloc, catalog, roll, &first, &last)
 }
 
-// Each student's bundle of stage two.
+// Each student's bundle of the second stage.
 fn settled_bundles(alloc: Global, publication: &Publication) -> Result<Vec<Bundle>, NoMemory>
     ensures { IfOk result
         (λ bundles. map sections_of bundles.items ≡ demanded (publication_of publication.now)) }
@@ -124,8 +121,6 @@ fn rows_with<R: Threads + Wait + Sync, G: Gate + Sync>(
     gate: &G,
 ) -> Result<Vec<EnvyRow>, NoMemory>
     requires workers { (1 ≤ workers) × (workers ≤ MAX_WORKERS) }
-    requires crowd { MakeCrowd (arc_value crowd.now).menus.items (arc_value crowd.now).budgets.items
-        (arc_value crowd.now).sections }
     requires bundles { IsAllocation (allocation_of (arc_value crowd.now) bundles.items) }
     ensures rows { IfOk result
         (λ found. map row_of found.items

@@ -4,7 +4,7 @@ ghost use Rattle.fairness_audit.specs.Views.{row_of, seen_of};
 ghost use Rattle.fairness_audit.specs.Tallies.{no_envy, with_sight};
 
 use bundle_rules::Bundle;
-use market_units::{SectionNo, StudentNo};
+use market_units::{MAX_STUDENTS, SectionNo, StudentNo};
 
 /// An envied student, and what is seen in its bundle.
 #[derive(Clone, Copy, Debug, PartialEq, Eq)]
@@ -32,7 +32,7 @@ pub struct EnvyRow {
 }
 
 impl EnvyRow {
-    // The row of a student who envies nobody.
+    /// The row of a student who envies nobody.
     pub(crate) fn empty() -> EnvyRow
         ensures { row_of result ≡ no_envy }
     {
@@ -44,9 +44,11 @@ impl EnvyRow {
         }
     }
 
-    // The row with one more envied student, behind those that it counts.
+    /// The row with one more envied student, behind those that it counts. `is_lower` tells whether
+    /// the envy is lower: the budget of the other is at most the own one.
     pub(crate) fn with(self, seen: Seen, is_lower: bool) -> EnvyRow
-        requires few { (self.lower ≤ 2000) × (self.higher ≤ 2000) × (self.beyond ≤ 2000) }
+        requires few { (self.lower ≤ MAX_STUDENTS) × (self.higher ≤ MAX_STUDENTS)
+            × (self.beyond ≤ MAX_STUDENTS) }
         ensures { row_of result ≡ with_sight (row_of self) (seen_of seen) is_lower }
     {
         EnvyRow {

@@ -4,9 +4,9 @@ ghost use Rattle.market_units.specs.declared.units.SectionNo.{SectionNo};
 ghost use Rattle.bundle_rules.specs.Bundles.{sections_of};
 ghost use Rattle.bundle_rules.specs.Menus.{wishes_of};
 ghost use Rattle.bundle_rules.specs.Ordinals.{ordinals, IsBundle};
-ghost use Rattle.bundle_rules.specs.Sets.{IsAscending};
+ghost use Rattle.bundle_rules.specs.Sets.{IsAscending, without_section};
 ghost use Rattle.bundle_rules.specs.Wishes.{IsFeasible};
-ghost use Rattle.fairness_audit.specs.Envy.{but_for, ended_by, is_more, seen};
+ghost use Rattle.fairness_audit.specs.Envy.{ended_by, is_more, seen};
 ghost use Rattle.fairness_audit.specs.Rows.{envied};
 ghost use Rattle.fairness_audit.specs.Searching.{IsBestOfThese};
 ghost use Rattle.fairness_audit.specs.Views.{seen_of};
@@ -15,10 +15,11 @@ ghost use Rattle.fairness_audit.specs.Weights.{AreWeights};
 use crate::row::Seen;
 use crate::weights::{Weights, may_be_more};
 use bundle_rules::{Bundle, Menu, feasible, prefers, utility};
-use market_units::{SectionNo, StudentNo};
+use market_units::{MAX_COURSES, SectionNo, StudentNo};
 
-// What a student with this menu, whose own bundle is worth so much to it, sees in the bundle of
-// another, if that is worth more. Most bundles need no search, by their weights.
+/// What a student with this menu, whose own bundle has this utility for it, sees in the bundle of
+/// another; `None` where it has no more utility than its own. Most bundles need no search, by their
+/// weights.
 pub(crate) fn sight(
     menu: &Menu,
     weights: &Weights,
@@ -67,7 +68,7 @@ fn is_more(menu: &Menu, own: i32, bundle: &Bundle) -> bool
 
 // The bundle without one section.
 fn but_for(bundle: &Bundle, section: SectionNo) -> Bundle
-    ensures { sections_of result ≡ but_for section.0 (sections_of bundle.now) }
+    ensures { sections_of result ≡ without_section section.0 (sections_of bundle.now) }
 {
     let mut rest = Bundle::empty();
     for other in bundle.sections() {
@@ -92,7 +93,7 @@ fn best_out_of(menu: &Menu, bundle: &Bundle) -> Bundle
 // all are tried, but for those with a part that the student may not take.
 fn best_from(menu: &Menu, later: &[SectionNo], chosen: Bundle) -> Bundle
     requires chosen { IsFeasible (wishes_of menu.now) (sections_of chosen) }
-    requires few { length (sections_of chosen) + length later.now ≤ 8 }
+    requires few { length (sections_of chosen) + length later.now ≤ MAX_COURSES }
     requires later { IsAscending (sections_of chosen ++ ordinals later.now) }
     ensures { IsBestOfThese (wishes_of menu.now) (sections_of chosen) (ordinals later.now)
         (sections_of result) }
@@ -118,7 +119,7 @@ fn best_from(menu: &Menu, later: &[SectionNo], chosen: Bundle) -> Bundle
 
 // The bundle with one more section, where the student may take that.
 fn extended(menu: &Menu, chosen: Bundle, section: SectionNo) -> Option<Bundle>
-    requires room { length (sections_of chosen) < 8 }
+    requires room { length (sections_of chosen) < MAX_COURSES }
     requires above { IsAscending (sections_of chosen ++ section.0 ∷ []) }
     ensures value { IfSome result
         (λ wider. sections_of wider ≡ sections_of chosen ++ section.0 ∷ []) }

@@ -1,7 +1,7 @@
 // The whole text.
 ghost use Rattle.std.specs.Prelude.{◌≡◌, ◌≤◌, ◌++◌, IfOk, OnOk, length, map};
 ghost use Rattle.market_certificate.specs.Lines.{joined};
-ghost use Rattle.market_certificate.specs.Tables.{section_names};
+ghost use Rattle.course_catalog.specs.Sections.{section_names};
 ghost use Rattle.student_roll.specs.Students.{names_of};
 ghost use Rattle.fairness_audit.specs.Texts.{AreRowsAmong, IsRowAmong, audit_text, part_lines, row_lines};
 ghost use Rattle.fairness_audit.specs.Views.{row_of};
@@ -16,9 +16,9 @@ use student_roll::Roll;
 
 /// The text of an audit: for each student of the roll in file order a line with its three counts,
 /// and where it envies someone a line with what it sees in the bundle of the first; behind them the
-/// sums of the counts. First come the rows of the settled bundles of stage two, then those of the
-/// last ones. Each has a row for each student, which names students of the roll and sections of the
-/// catalogue. `NoMemory` is the only error.
+/// sums of the counts. First come the rows of the settled bundles of the second stage, then those
+/// of the last ones. Each has a row for each student, which names students of the roll and sections
+/// of the catalogue. `NoMemory` is the only error.
 pub fn put_rows(
     alloc: Global,
     catalog: &Catalog,

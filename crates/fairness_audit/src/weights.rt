@@ -1,26 +1,30 @@
 // Which bundles need no search, since all that could be seen in them is worth too little.
-ghost use Rattle.std.specs.Prelude.{◌≡◌, ◌≤◌, ◌<◌, ◌*◌, ◌+◌, ◌-◌, All, IsTrue, false, length, slice_index};
+ghost use Rattle.std.specs.Prelude.{◌≡◌, ◌≤◌, ◌<◌, ◌*◌, ◌+◌, ◌-◌, All, unsigned_abs, IsTrue, false, length, slice_index};
 ghost use Rattle.market_units.specs.Totals.{total};
 ghost use Rattle.bundle_rules.specs.Bundles.{sections_of};
 ghost use Rattle.bundle_rules.specs.Menus.{IsMenu, adjustment_in, wishes_of};
 ghost use Rattle.bundle_rules.specs.Ordinals.{ordinals};
 ghost use Rattle.fairness_audit.specs.Envy.{is_more};
-ghost use Rattle.fairness_audit.specs.Weights.{AreWeights, gain, gains, weight_at};
+ghost use Rattle.bundle_bounds.specs.Opens.{above_zero};
+ghost use Rattle.fairness_audit.specs.Weights.{AreWeights, gains, weight_at};
 
 use bundle_rules::{Bundle, Menu};
-use market_units::SectionNo;
+use market_units::{MAX_ADJUSTMENT, MAX_COURSES, MAX_SECTIONS, SectionNo};
 
 // What each section can at most add to a bundle of a student, by ordinal. A section that the
 // student does not rate adds nothing.
-pub(crate) type Weights = [u32; 400];
+pub(crate) type Weights = [u32; SECTIONS];
 
-// The weights of the sections of a menu: the rating, and all adjustments with later sections that
-// are not negative.
+const SECTIONS: usize = MAX_SECTIONS as usize;
+
+/// For each section of the menu its rating and all its adjustments with later sections that are not
+/// negative, at most 20,000: no more than this does it add to a bundle with later sections.
+/// Sections that are not on the menu have 0.
 pub(crate) fn weights_of(menu: &Menu) -> Weights
     ensures weights { AreWeights (wishes_of menu.now) result }
     ensures few { All (λ weight. weight ≤ 20000) result }
 {
-    let mut weights = [0; 400];
+    let mut weights = [0; SECTIONS];
     'places: for place in 0..menu.len() {
         let rated = menu.rated(place);
         weights[usize::from(rated.section.0)] = u32::from(rated.rating)
@@ -37,7 +41,7 @@ fn gains(menu: &Menu, place: u8, other: u8) -> u32
     requires other { other ≤ length menu.now.places }
     ensures value { result
         ≡ gains (adjustment_in menu.now.pairs place) other (length menu.now.places - other) }
-    ensures few { result ≤ 200 * (length menu.now.places - other) }
+    ensures few { result ≤ unsigned_abs MAX_ADJUSTMENT * (length menu.now.places - other) }
 {
     if other >= menu.len() {
         return 0;
@@ -47,12 +51,13 @@ fn gains(menu: &Menu, place: u8, other: u8) -> u32
 
 // The adjustment where it is not negative.
 fn gain(adjustment: i16) -> u32
-    ensures { result ≡ gain adjustment }
+    ensures { result ≡ above_zero adjustment }
 {
     if adjustment > 0 { adjustment as u32 } else { 0 }
 }
 
-// Whether what is seen in the bundle may be worth more than this: the weights of its sections are.
+/// Whether the bundle may bring the student more utility than its own: the weights of its sections
+/// sum to more. Where not, nothing that it sees there is worth more.
 pub(crate) fn may_be_more(menu: &Menu, weights: &Weights, own: i32, bundle: &Bundle) -> bool
     requires weights { AreWeights (wishes_of menu.now) weights.now }
     requires few { All (λ weight. weight ≤ 20000) weights.now }
@@ -64,7 +69,7 @@ pub(crate) fn may_be_more(menu: &Menu, weights: &Weights, own: i32, bundle: &Bun
 // The weights of at most 8 sections, added up.
 fn sum_of(weights: &Weights, sections: &[SectionNo]) -> u32
     requires weights { All (λ weight. weight ≤ 20000) weights.now }
-    requires few { length sections.now ≤ 8 }
+    requires few { length sections.now ≤ MAX_COURSES }
     ensures value { result ≡ total (slice_index weights.now) (ordinals sections.now) }
     ensures few { result ≤ 20000 * length sections.now }
 {

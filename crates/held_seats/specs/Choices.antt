@@ -1,7 +1,7 @@
 -- What a student may choose of the sections' seats, and whether these suffice, where students hold
 -- bundles, in file order.
 use Rattle.std.specs.Prelude.{ℕ, ◌<◌, ◌≤◌, ◌||◌, Bool, nat_lt, List, [], slice_index, slice_index_or}
-use Rattle.bundle_rules.specs.Sets.{has}
+use Rattle.market_units.specs.Members.{has}
 use Rattle.demand_api.specs.Crowds.{holders}
 
 -- a section is free when fewer students hold it than it has seats

@@ -1,7 +1,7 @@
 -- What is held, as it is kept: how many students hold each section, and which sections are free.
 use Rattle.std.specs.Prelude.{ℕ, ◌<◌, ◌≡◌, nat_lt, true, List, All, length, map, slice_index}
 use Rattle.std.specs.FinSet as set
-use Rattle.bundle_rules.specs.Sets.{has}
+use Rattle.market_units.specs.Members.{has}
 use Rattle.bundle_rules.specs.Bundles.{sections_of}
 use Rattle.demand_api.specs.Counting.{AreCounts}
 use Rattle.held_seats.specs.declared.floor.Floor.{Floor}

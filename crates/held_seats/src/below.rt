@@ -1,7 +1,7 @@
 // Whether bundles have only sections of a market.
 ghost use Rattle.std.specs.Prelude.{◌≡◌, ◌↔◌, ◌<◌, ℕ, true, IsTrue, All, map};
 ghost use Rattle.bundle_rules.specs.Bundles.{sections_of};
-ghost use Rattle.bundle_rules.specs.Sets.{has};
+ghost use Rattle.market_units.specs.Members.{has};
 ghost use Rattle.held_seats.specs.Floors.{AreBelow};
 
 use bundle_rules::Bundle;
@@ -21,6 +21,7 @@ fn each_is_below(sections: usize, bundles: &[Bundle]) -> bool
     bundles.iter().all(|bundle| is_below(sections, bundle))
 }
 
+/// Whether each section of the bundle has an ordinal below this number of sections.
 pub(crate) fn is_below(sections: usize, bundle: &Bundle) -> bool
     ensures { IsTrue result ↔ ((s : ℕ) → has (sections_of bundle.now) s ≡ true → s < sections) }
 {

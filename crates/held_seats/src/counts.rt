@@ -1,7 +1,7 @@
 // How many students hold each section, and which sections are free.
 ghost use Rattle.std.specs.Prelude.{◌≡◌, ◌<◌, ◌≤◌, ◌||◌, ℕ, IfOk, All, length, map, nat_lt, slice_index, if◌then◌else◌};
 ghost use Rattle.std.specs.FinSet as set;
-ghost use Rattle.bundle_rules.specs.Sets.{has};
+ghost use Rattle.market_units.specs.Members.{has};
 ghost use Rattle.bundle_rules.specs.Ordinals.{ordinals};
 ghost use Rattle.bundle_rules.specs.Bundles.{sections_of};
 ghost use Rattle.demand_api.specs.Counting.{AreCounts};
@@ -9,16 +9,17 @@ ghost use Rattle.held_seats.specs.Floors.{AreBelow};
 
 use bundle_rules::Bundle;
 use demand_api::count_bundle;
-use market_units::{NoMemory, SectionNo, SectionSet};
+use market_units::{MAX_SECTIONS, MAX_STUDENTS, NoMemory, SectionNo, SectionSet};
 use std::alloc::Global;
 
-// How many of these bundles have each section.
+/// How many of these bundles have each section, by ordinal. The only error is that memory was
+/// wanted and not given.
 pub(crate) fn count_all(
     alloc: Global,
     sections: usize,
     bundles: &[Bundle],
 ) -> Result<Vec<u32>, NoMemory>
-    requires few { length bundles.now ≤ 2000 }
+    requires few { length bundles.now ≤ MAX_STUDENTS }
     requires below { AreBelow sections (map sections_of bundles.now) }
     ensures { IfOk result
         (λ counts. AreCounts sections (map sections_of bundles.now) counts.items) }
@@ -30,9 +31,9 @@ pub(crate) fn count_all(
     Ok(counts)
 }
 
-// The free sections: those with fewer holders than seats.
+/// The sections that have a free seat: fewer students hold them than they have seats.
 pub(crate) fn free_sections(counts: &[u32], seats: &[u16]) -> SectionSet
-    requires few { length seats.now ≤ 400 }
+    requires few { length seats.now ≤ MAX_SECTIONS }
     requires same { length counts.now ≡ length seats.now }
     ensures { (s : ℕ)
         → set.contains result s ≡ nat_lt (slice_index counts.now s) (slice_index seats.now s) }
@@ -46,14 +47,15 @@ pub(crate) fn free_sections(counts: &[u32], seats: &[u16]) -> SectionSet
     free
 }
 
-// The free sections, where the counts of these sections have changed.
+/// The sections with a free seat, where only the counts of the listed sections have changed since
+/// the given set was right. The other sections are taken over from the set.
 pub(crate) fn freed(
     free: SectionSet,
     counts: &[u32],
     seats: &[u16],
     sections: &[SectionNo],
 ) -> SectionSet
-    requires few { length seats.now ≤ 400 }
+    requires few { length seats.now ≤ MAX_SECTIONS }
     requires same { length counts.now ≡ length seats.now }
     requires range { All (λ section. section.0 < length seats.now) sections.now }
     ensures { (s : ℕ)
@@ -76,9 +78,9 @@ pub(crate) fn freed(
     }
 }
 
-// The set with these sections too.
+/// The set with each listed section put in. One that is in it already changes nothing.
 pub(crate) fn with_all(free: SectionSet, sections: &[SectionNo]) -> SectionSet
-    requires { All (λ section. section.0 < 400) sections.now }
+    requires { All (λ section. section.0 < MAX_SECTIONS) sections.now }
     ensures { (s : ℕ)
         → set.contains result s ≡ (has (ordinals sections.now) s || set.contains free s) }
 {

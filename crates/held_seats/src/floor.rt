@@ -1,7 +1,7 @@
 // What is held in the aftermarket.
 ghost use Rattle.std.specs.Prelude.{◌≡◌, ◌≢◌, ◌<◌, ◌≤◌, ℕ, List, true, false, IfOk, length, map, slice_get, slice_set, Some};
 ghost use Rattle.std.specs.FinSet as set;
-ghost use Rattle.bundle_rules.specs.Sets.{has};
+ghost use Rattle.market_units.specs.Members.{has};
 ghost use Rattle.bundle_rules.specs.Bundles.{sections_of};
 ghost use Rattle.held_seats.specs.Choices.{may_choose};
 ghost use Rattle.held_seats.specs.Floors.{AreBelow, IsFloor, held_on};
@@ -9,7 +9,7 @@ ghost use Rattle.held_seats.specs.Floors.{AreBelow, IsFloor, held_on};
 use crate::counts::{count_all, free_sections, freed, with_all};
 use bundle_rules::Bundle;
 use demand_api::{count_bundle, uncount_bundle};
-use market_units::{NoMemory, SectionSet};
+use market_units::{MAX_SECTIONS, MAX_STUDENTS, NoMemory, SectionSet};
 use std::alloc::Global;
 
 /// What each student holds, how many students hold each section, and which sections are free.
@@ -27,8 +27,8 @@ impl Floor {
     /// The floor on which these bundles are held, where each section has so many seats. The one
     /// error is the want of memory.
     pub fn open(alloc: Global, seats: &[u16], bundles: &[Bundle]) -> Result<Floor, NoMemory>
-        requires sections { length seats.now ≤ 400 }
-        requires few { length bundles.now ≤ 2000 }
+        requires sections { length seats.now ≤ MAX_SECTIONS }
+        requires few { length bundles.now ≤ MAX_STUDENTS }
         requires below { AreBelow (length seats.now) (map sections_of bundles.now) }
         ensures held { IfOk result (λ floor. held_on floor ≡ map sections_of bundles.now) }
         ensures floor { IfOk result (λ floor. IsFloor seats.now floor) }
@@ -46,7 +46,7 @@ impl Floor {
     /// are free.
     pub fn choices(&self, place: usize) -> SectionSet
         requires place { place < length (held_on self.now) }
-        requires below { AreBelow 400 (held_on self.now) }
+        requires below { AreBelow MAX_SECTIONS (held_on self.now) }
         ensures { (seats : List ℕ) → IsFloor seats self.now → (s : ℕ)
             → set.contains result s ≡ may_choose seats (held_on self.now) place s }
     {
@@ -56,8 +56,8 @@ impl Floor {
     /// The student at this place holds the bundle from now on; whether it held another one.
     pub fn give(&mut self, seats: &[u16], place: usize, bundle: Bundle) -> bool
         requires place { place < length (held_on self.old) }
-        requires sections { length seats.now ≤ 400 }
-        requires few { length (held_on self.old) ≤ 2000 }
+        requires sections { length seats.now ≤ MAX_SECTIONS }
+        requires few { length (held_on self.old) ≤ MAX_STUDENTS }
         requires floor { IsFloor seats.now self.old }
         requires below { AreBelow (length seats.now) (held_on self.old) }
         requires within { (s : ℕ) → has (sections_of bundle) s ≡ true → s < length seats.now }
@@ -78,8 +78,8 @@ impl Floor {
     // The student at this place holds the bundle from now on.
     fn hold(&mut self, seats: &[u16], place: usize, bundle: Bundle)
         requires place { place < length (held_on self.old) }
-        requires sections { length seats.now ≤ 400 }
-        requires few { length (held_on self.old) ≤ 2000 }
+        requires sections { length seats.now ≤ MAX_SECTIONS }
+        requires few { length (held_on self.old) ≤ MAX_STUDENTS }
         requires floor { IsFloor seats.now self.old }
         requires below { AreBelow (length seats.now) (held_on self.old) }
         requires within { (s : ℕ) → has (sections_of bundle) s ≡ true → s < length seats.now }

@@ -9,6 +9,3 @@ mod floor;
 
 pub use below::are_below;
 pub use floor::Floor;
-
-#[cfg(test)]
-mod tests;

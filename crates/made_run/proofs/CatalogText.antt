@@ -15,7 +15,7 @@ use Rattle.made_run.specs.Tables.{made_catalog, made_meeting, made_section}
 use Rattle.made_run.proofs.Fields.{day_letters, plain_decimal, plain_meeting, row_plain}
 use Rattle.made_run.proofs.Names.{no_earlier, numbered_name}
 use Rattle.made_run.proofs.Records.{all_answered, answered, read_back_rows, records_written, rows_lines}
-use Rattle.market_maker.specs.Catalogs.{catalog_header, catalog_text, clock, course_name, meeting_of, section_name, start_of}
+use Rattle.market_maker.specs.Catalogs.{catalog_header, catalog_text, course_name, meeting_of, section_name, start_of}
 use Rattle.market_maker.specs.Lines.{ended, numbers_to, row_of}
 use Rattle.table_records.proofs.ColumnFacts.{is_name-true, number_of-spelled}
 use Rattle.table_records.proofs.LawFacts.{rows_where_all_are_good_law}
@@ -25,7 +25,7 @@ use Rattle.table_records.specs.Records.{records_of}
 use Rattle.timetable_rules.proofs.Guesses.{spelled-relation}
 use Rattle.timetable_rules.specs.Meeting.{IsMeeting}
 use Rattle.timetable_rules.specs.Spelled.{spelled}
-use Rattle.timetable_rules.specs.Spelling.{Spells}
+use Rattle.timetable_rules.specs.Spelling.{Spells, clock}
 
 -- the fields of section j's row
 abbrev fields_of_section : ℕ → ℕ → List (List ℕ)

@@ -1,5 +1,6 @@
 -- The laws of made markets that are run: what is told of them is a function of their numbers.
 use Rattle.std.specs.Prelude.{ℕ, ◌≡◌, ◌≤◌, ◌<◌, ◌^◌, List, ◌+◌, Ok, length}
+use Rattle.market_units.specs.declared.limits.TheConstants.{MAX_ACCEPT, MAX_COMMANDS, MAX_SECTIONS, MAX_STUDENTS}
 use Rattle.made_run.specs.Made.{IsMadeSummary, IsMadeUnpriced}
 use Rattle.course_catalog.specs.Reading.{catalog_of}
 use Rattle.made_run.specs.Settings.{made_settings}
@@ -20,10 +21,10 @@ use Rattle.made_run.specs.Apart.{AreApart}
 -- the numbers of made markets
 pub record AreNumbers (seed students sections accept : ℕ) : Type 0 where
   pub seed_fits : seed < 2 ^ 64
-  pub few_students : students ≤ 2000
+  pub few_students : students ≤ MAX_STUDENTS
   pub some_sections : 1 ≤ sections
-  pub few_sections : sections ≤ 400
-  pub accept_fits : accept ≤ 10 ^ 12
+  pub few_sections : sections ≤ MAX_SECTIONS
+  pub accept_fits : accept ≤ MAX_ACCEPT
 
 -- a made market has one summary
 abbrev pub OneMadeSummary : Type 0
@@ -54,13 +55,14 @@ pub record AreOfTheirGrammars (seed students sections accept : ℕ) : Type 0 whe
   pub settings : settings_of (settings_text seed accept) ≡ Ok (made_settings seed accept)
   pub commands : length (command_lines (first_text seed students sections))
       + length (command_lines (second_text seed students sections))
-      ≤ 200000
+      ≤ MAX_COMMANDS
 
 -- so it is with every made market
 abbrev pub MadeTextsAreOfTheirGrammars : Type 0
 MadeTextsAreOfTheirGrammars =
-    (seed students sections accept : ℕ) → seed < 2 ^ 64 → students ≤ 2000 → 1 ≤ sections
-    → sections ≤ 400 → accept ≤ 10 ^ 12 → AreOfTheirGrammars seed students sections accept
+    (seed students sections accept : ℕ) → seed < 2 ^ 64 → students ≤ MAX_STUDENTS → 1 ≤ sections
+    → sections ≤ MAX_SECTIONS → accept ≤ MAX_ACCEPT
+    → AreOfTheirGrammars seed students sections accept
 
 -- two journals that merge such streams close with the same preferences
 abbrev pub OrdersCloseAlike : Type 0

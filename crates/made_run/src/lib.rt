@@ -12,6 +12,3 @@ mod summary;
 
 pub use market::{MadeMarket, make_market};
 pub use summary::made_summary;
-
-#[cfg(test)]
-mod tests;

@@ -1,5 +1,5 @@
 // A made market as its texts say it.
-ghost use Rattle.std.specs.Prelude.{◌≡◌, ◌≤◌, ◌^◌, ℕ, Vec, IfOk, map};
+ghost use Rattle.std.specs.Prelude.{◌≡◌, ◌≤◌, ℕ, Vec, IfOk, map};
 ghost use Rattle.std.proofs.Common.{Global};
 ghost use Rattle.std.specs.List.{AllZip};
 ghost use Rattle.std.specs.Vec.{vec_len};
@@ -15,7 +15,7 @@ use crate::reading::{catalog_in, roll_in, settings_in, streams_in};
 use course_catalog::Catalog;
 use market_maker::make;
 use market_settings::Settings;
-use market_units::NoMemory;
+use market_units::{MAX_ACCEPT, MAX_COMMANDS, MAX_SECTIONS, MAX_STUDENTS, NoMemory};
 use std::alloc::Global;
 use student_roll::Roll;
 use utility_language::Command;
@@ -45,10 +45,10 @@ pub fn make_market(
     accept: u64,
 ) -> Result<MadeMarket, NoMemory>
     requires some_students { 1 ≤ students }
-    requires few_students { students ≤ 2000 }
+    requires few_students { students ≤ MAX_STUDENTS }
     requires some_sections { 1 ≤ sections }
-    requires few_sections { sections ≤ 400 }
-    requires accept { accept ≤ 10 ^ 12 }
+    requires few_sections { sections ≤ MAX_SECTIONS }
+    requires accept { accept ≤ MAX_ACCEPT }
     ensures catalog { IfOk result (λ made. made.catalog ≡ made_catalog students sections) }
     ensures roll { IfOk result (λ made. made.roll ≡ made_roll students) }
     ensures settings { IfOk result (λ made. made.settings ≡ made_settings seed accept) }
@@ -56,7 +56,7 @@ pub fn make_market(
     ensures streams { IfOk result
         (λ made. AllZip AreCommands (session_texts seed students sections)
         (map (λ (stream : Vec Command Global). stream.items) made.streams.items)) }
-    ensures few { IfOk result (λ made. total vec_len made.streams.items ≤ 200000) }
+    ensures few { IfOk result (λ made. total vec_len made.streams.items ≤ MAX_COMMANDS) }
 {
     let made = make(alloc, seed, students, sections, accept)?;
     Ok(MadeMarket {

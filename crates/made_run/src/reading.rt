@@ -20,7 +20,7 @@ use std::alloc::Global;
 use student_roll::{Roll, RollRefusal, read_roll};
 use utility_language::{Command, StreamEnd, read_stream};
 
-// The catalogue that the text is.
+/// Reads a text that is known to be a catalogue. The only error is that memory was not given.
 pub(crate) fn catalog_in(alloc: Global, text: &[u8]) -> Result<Catalog, NoMemory>
     requires grammar { (catalog : CatalogData) × (catalog_of text.now ≡ Ok catalog) }
     requires short { length text.now < 2 ^ 32 - 1 }
@@ -33,7 +33,7 @@ pub(crate) fn catalog_in(alloc: Global, text: &[u8]) -> Result<Catalog, NoMemory
     }
 }
 
-// The roll that the text is.
+/// Reads a text that is known to be a roll. The only error is that memory was not given.
 pub(crate) fn roll_in(alloc: Global, text: &[u8]) -> Result<Roll, NoMemory>
     requires grammar { (roll : RollData) × (roll_of text.now ≡ Ok roll) }
     requires short { length text.now < 2 ^ 32 - 1 }
@@ -46,7 +46,7 @@ pub(crate) fn roll_in(alloc: Global, text: &[u8]) -> Result<Roll, NoMemory>
     }
 }
 
-// The settings that the text is.
+/// Reads a text that is known to be settings. The only error is that memory was not given.
 pub(crate) fn settings_in(alloc: Global, text: &[u8]) -> Result<Settings, NoMemory>
     requires grammar { (settings : Settings) × (settings_of text.now ≡ Ok settings) }
     ensures read { IfOk result (λ settings. settings_of text.now ≡ Ok settings) }
@@ -73,17 +73,18 @@ fn stream_in(alloc: Global, session: &[u8], room: u32) -> Result<Vec<Command>, N
     }
 }
 
-// The commands of both sessions.
+/// The commands of both sessions, the first session's first. Together they have at most 200,000
+/// lines of commands; the only error is that memory was not given.
 pub(crate) fn streams_in(
     alloc: Global,
     first: &[u8],
     second: &[u8],
 ) -> Result<Vec<Vec<Command>>, NoMemory>
-    requires { length (command_lines first.now) + length (command_lines second.now) ≤ 200000 }
+    requires { length (command_lines first.now) + length (command_lines second.now) ≤ MAX_COMMANDS }
     ensures commands { IfOk result
         (λ streams. AllZip AreCommands (first.now ∷ second.now ∷ [])
         (map (λ (stream : Vec Command Global). stream.items) streams.items)) }
-    ensures few { IfOk result (λ streams. total vec_len streams.items ≤ 200000) }
+    ensures few { IfOk result (λ streams. total vec_len streams.items ≤ MAX_COMMANDS) }
 {
     let mut streams = Vec::with_capacity(alloc, 2)?;
     let first = stream_in(alloc, first, MAX_COMMANDS)?;

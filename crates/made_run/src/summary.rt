@@ -1,10 +1,11 @@
 // The summary of a made market.
-ghost use Rattle.std.specs.Prelude.{◌≡◌, ◌≤◌, ◌^◌, ℕ, Err, IfOk};
+ghost use Rattle.std.specs.Prelude.{◌≡◌, ◌≤◌, ℕ, Err, IfOk};
 ghost use Rattle.made_run.specs.Made.{IsMadeSummary, IsMadeUnpriced};
 
 use crate::make_market;
 use market_edge::Gate;
 use market_run::held_summary;
+use market_units::{MAX_ACCEPT, MAX_SECTIONS, MAX_STUDENTS, MAX_WORKERS};
 use published_market::PublishEnd;
 use std::alloc::Global;
 use std::sync::Wait;
@@ -24,10 +25,10 @@ pub fn made_summary<R: Threads + Wait + Sync>(
     accept: u64,
     gate: &(dyn Gate + Sync),
 ) -> Result<Vec<u8>, PublishEnd>
-    requires workers { (1 ≤ workers) × (workers ≤ 16) }
-    requires students { (1 ≤ students) × (students ≤ 2000) }
-    requires sections { (1 ≤ sections) × (sections ≤ 400) }
-    requires accept { accept ≤ 10 ^ 12 }
+    requires workers { (1 ≤ workers) × (workers ≤ MAX_WORKERS) }
+    requires students { (1 ≤ students) × (students ≤ MAX_STUDENTS) }
+    requires sections { (1 ≤ sections) × (sections ≤ MAX_SECTIONS) }
+    requires accept { accept ≤ MAX_ACCEPT }
     ensures text { IfOk result (λ text. IsMadeSummary seed students sections accept text.items) }
     ensures no_prices { (least : ℕ) → result ≡ Err (PublishEnd.NoPrices least)
         → IsMadeUnpriced seed students sections accept least }

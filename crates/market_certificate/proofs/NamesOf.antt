@@ -14,10 +14,10 @@ use Rattle.market_units.specs.Name.{name_bytes}
 use Rattle.market_units.specs.Names.{IsName}
 use Rattle.course_catalog.specs.Catalog.{CatalogData, IsCatalog}
 use Rattle.course_catalog.specs.Catalog as catalogs
-use Rattle.course_catalog.specs.Sections.{Section, section_at, no_section}
+use Rattle.course_catalog.specs.Sections.{Section, section_at, no_section, section_names}
 use Rattle.student_roll.specs.Students.{RollData, Student, IsRoll, names_of, no_student}
 use Rattle.student_roll.specs.Students as rolls
-use Rattle.market_certificate.specs.Tables.{AreNames, AreTables, name_at, section_names}
+use Rattle.market_certificate.specs.Tables.{AreNames, AreTables, name_at}
 
 pub roll_names : (roll : RollData) → IsRoll roll → AreNames (names_of roll.students)
 roll_names roll is = record {

@@ -2,8 +2,8 @@
 use Rattle.std.proofs.Common.{ℕ, ◌≡◌, ◌==◌, ◌+◌, ◌<◌, List, [], ◌∷◌, ◌++◌, cond, length, map, take, get_or, ap, sym, ◌∙◌}
 use Rattle.std.specs.List.{join_with_byte}
 use Rattle.std.proofs.lemmas.List.{get_or-map}
-use Rattle.course_catalog.specs.Sections.{Section, no_section, section_at}
-use Rattle.market_certificate.specs.Tables.{name_at, section_names}
+use Rattle.course_catalog.specs.Sections.{Section, no_section, section_at, section_names}
+use Rattle.market_certificate.specs.Tables.{name_at}
 use Rattle.market_certificate.proofs.Joins.{bundle_more}
 use Rattle.market_units.specs.declared.units.SectionNo.{SectionNo}
 

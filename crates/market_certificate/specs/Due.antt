@@ -125,8 +125,9 @@ outcome_lines tables bundles turns allocation used =
     ++ (each_line used_line tables.sections used
     ++ end_line ∷ [])))
 
--- These values, in their ranges, are in front of the rest of a text: with lines behind them it is
--- the text, and the first defect behind them is the first defect of the text.
+-- A text begins with the lines of these values, each in its range, and goes on with the rest: where
+-- the rest is lines, the text is these lines and then those; and the first defect of the rest is
+-- that of the text.
 pub record ArePrices (tables : Tables) (budgets start : List ℕ) (error : ℕ) (prices : List ℕ)
     (number : ℕ) (text : List ℕ) (next : ℕ) (rest : List ℕ) : Type 0 where
   pub each_budget : AreFor tables.students (λ tokens. tokens ≤ most_of amount.Budget) budgets

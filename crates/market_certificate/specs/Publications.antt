@@ -1,5 +1,6 @@
 -- Publications, and their ranges.
 use Rattle.std.specs.Prelude.{ℕ, ◌≡◌, ◌<◌, ◌≤◌, ◌^◌, List, All, length}
+use Rattle.market_units.specs.declared.limits.TheConstants.{MAX_BUDGET, MAX_PRICE, MAX_SEATS, MAX_SESSIONS}
 use Rattle.bundle_rules.specs.Ordinals.{IsBundle}
 use Rattle.proof_tree.specs.Alphabets.{AreTreeBytes}
 use Rattle.market_certificate.specs.Tables.{Tables}
@@ -17,10 +18,10 @@ pub record ProvedTurn : Type 0 where
   pub bundle : List ℕ
   pub tree : List ℕ
 
--- the session of each journal entry; each student's budget; each section's price in stage one; the
--- clearing error; each section's price in stage two; each student's bundle at these prices; the
--- turns of the aftermarket; each student's bundle after them; of each section how many seats are
--- used, and how many there are
+-- the session of each journal entry; each student's budget; each section's price that the search
+-- found, and the clearing error; each section's price in the second stage; each student's bundle at
+-- these prices; the turns of the aftermarket; each student's bundle after them; of each section how
+-- many seats are used, and how many there are
 pub record Publication : Type 0 where
   pub order : List ℕ
   pub budgets : List ℕ
@@ -35,7 +36,7 @@ pub record Publication : Type 0 where
 -- the number of a session
 pub record IsSession (session : ℕ) : Type 0 where
   pub least : 1 ≤ session
-  pub most : session ≤ 64
+  pub most : session ≤ MAX_SESSIONS
 
 -- at most 8 sections of a catalogue with these names, strictly ascending
 pub record IsBundleOf (sections : List (List ℕ)) (bundle : List ℕ) : Type 0 where
@@ -57,8 +58,8 @@ pub record IsTurn (students sections : List (List ℕ)) (turn : ProvedTurn) : Ty
 
 -- seats that are used, and seats
 pub record IsUsed (seats : ℕ × ℕ) : Type 0 where
-  pub used : seats.0 ≤ 9999
-  pub all : seats.1 ≤ 9999
+  pub used : seats.0 ≤ MAX_SEATS
+  pub all : seats.1 ≤ MAX_SEATS
 
 -- one value for each of the names, each of this kind
 pub record AreFor {V : Type 0} (names : List (List ℕ)) (P : V → Type 0)
@@ -69,10 +70,10 @@ pub record AreFor {V : Type 0} (names : List (List ℕ)) (P : V → Type 0)
 -- a publication of these tables, in the ranges of the text
 pub record IsPublication (tables : Tables) (p : Publication) : Type 0 where
   pub order : All IsSession p.order
-  pub budgets : AreFor tables.students (λ budget. budget ≤ 1000000) p.budgets
-  pub start : AreFor tables.sections (λ price. price ≤ 1000001) p.start
+  pub budgets : AreFor tables.students (λ budget. budget ≤ MAX_BUDGET) p.budgets
+  pub start : AreFor tables.sections (λ price. price ≤ MAX_PRICE) p.start
   pub error : p.error < 2 ^ 64
-  pub prices : AreFor tables.sections (λ price. price ≤ 1000001) p.prices
+  pub prices : AreFor tables.sections (λ price. price ≤ MAX_PRICE) p.prices
   pub bundles : AreFor tables.students (IsProved tables.sections) p.bundles
   pub turns : All (IsTurn tables.students tables.sections) p.turns
   pub allocation : AreFor tables.students (IsBundleOf tables.sections) p.allocation

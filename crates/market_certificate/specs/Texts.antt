@@ -2,6 +2,7 @@
 use Rattle.std.specs.Prelude.{ℕ, ◌≡◌, List, [], ◌∷◌, ◌++◌, codes, map, zip}
 use Rattle.std.specs.List.{join_with_byte}
 use Rattle.std.specs.Fmt.{decimal}
+use Rattle.market_units.specs.declared.limits.TheConstants.{MAX_BUDGET, MAX_PRICE}
 use Rattle.market_certificate.specs.declared.amounts.Amount.{Amount}
 use Rattle.market_certificate.specs.declared.amounts.Amount.TheVariants as amount
 use Rattle.market_certificate.specs.Lines.{joined, spaced}
@@ -32,9 +33,9 @@ word_of amount.Price = codes "price"
 
 -- the greatest amount of each kind
 abbrev pub most_of : Amount → ℕ
-most_of amount.Budget = 1000000
-most_of amount.Start = 1000001
-most_of amount.Price = 1000001
+most_of amount.Budget = MAX_BUDGET
+most_of amount.Start = MAX_PRICE
+most_of amount.Price = MAX_PRICE
 
 -- an amount behind its word and the name whose it is
 abbrev pub amount_line : Amount → List ℕ → ℕ → List ℕ
@@ -44,7 +45,7 @@ amount_line kind name tokens = spaced (word_of kind ∷ name ∷ decimal tokens 
 abbrev pub error_line : ℕ → List ℕ
 error_line error = spaced (codes "error" ∷ decimal error ∷ [])
 
--- the line of a student's bundle at the prices of stage two, with its tree
+-- the line of a student's bundle at the prices of the second stage, with its tree
 abbrev pub bundle_line : List (List ℕ) → List ℕ → Proved → List ℕ
 bundle_line sections name proved = spaced (codes "bundle" ∷ name ∷ bundle_text sections proved.bundle ∷ proved.tree ∷ [])
 

@@ -10,13 +10,13 @@ use market_units::{MAX_BUDGET, MAX_PRICE};
 pub(crate) enum Amount {
     /// The students' budgets.
     Budget,
-    /// The sections' prices of stage one.
+    /// The sections' prices that the search found.
     Start,
-    /// The sections' prices of stage two.
+    /// The sections' prices of the second stage.
     Price,
 }
 
-// The word in front of each amount.
+/// The word with which the line of such an amount begins.
 pub(crate) fn word_of(kind: Amount) -> &'static [u8]
     ensures { result.now ≡ word_of kind }
 {
@@ -27,7 +27,7 @@ pub(crate) fn word_of(kind: Amount) -> &'static [u8]
     }
 }
 
-// The greatest amount.
+/// The greatest amount of this kind that a published text may have, in tokens.
 pub(crate) fn most_of(kind: Amount) -> u32
     ensures { result ≡ most_of kind }
 {

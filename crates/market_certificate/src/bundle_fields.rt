@@ -1,7 +1,7 @@
 // Bundles by the names of their sections.
 ghost use Rattle.std.specs.Prelude.{◌≡◌, ◌==◌, ◌<◌, ◌++◌, ◌∷◌, [], All, OnOk, cond, length};
 ghost use Rattle.bundle_rules.specs.Bundles.{sections_of};
-ghost use Rattle.market_certificate.specs.Tables.{section_names};
+ghost use Rattle.course_catalog.specs.Sections.{section_names};
 ghost use Rattle.market_certificate.specs.Texts.{bundle_text};
 
 use bundle_rules::Bundle;

@@ -31,13 +31,13 @@ pub struct Publication {
     pub order: Vec<u8>,
     /// Each student's budget, at most 1,000,000.
     pub budgets: Vec<Tokens>,
-    /// Each section's price of stage one, at most 1,000,001.
+    /// Each section's price that the search found, at most 1,000,001.
     pub start: Vec<Tokens>,
-    /// The clearing error of stage one.
+    /// The clearing error at these prices.
     pub error: u64,
-    /// Each section's price of stage two, at most 1,000,001.
+    /// Each section's price of the second stage, at most 1,000,001.
     pub prices: Vec<Tokens>,
-    /// Each student's best bundle at the prices of stage two.
+    /// Each student's best bundle at the prices of the second stage.
     pub bundles: Vec<Proved>,
     /// The turns of the aftermarket, in the order in which they were made.
     pub turns: Vec<ProvedTurn>,

@@ -4,7 +4,8 @@ ghost use Rattle.std.proofs.Props.{props};
 ghost use Rattle.market_units.specs.Name.{name_bytes};
 ghost use Rattle.course_catalog.specs.Catalog.{IsCatalog};
 ghost use Rattle.student_roll.specs.Students.{IsRoll, names_of};
-ghost use Rattle.market_certificate.specs.Tables.{AreTables, name_at, section_names, tables_of};
+ghost use Rattle.course_catalog.specs.Sections.{section_names};
+ghost use Rattle.market_certificate.specs.Tables.{AreTables, name_at, tables_of};
 
 use course_catalog::Catalog;
 use market_units::{Name, NoMemory, SectionNo, StudentNo, read_name};

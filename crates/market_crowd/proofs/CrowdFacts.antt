@@ -11,8 +11,9 @@ use Rattle.bundle_rules.specs.Menus.{MenuData}
 use Rattle.bundle_rules.specs.declared.menu.Rated.{Rated}
 use Rattle.course_catalog.specs.Catalog.{CatalogData, IsCatalog}
 use Rattle.course_catalog.specs.Sections.{Section}
-use Rattle.demand_api.specs.Crowds.{CrowdData, IsWithin, Student as CrowdStudent}
-use Rattle.demand_api.specs.Made.{MakeCrowd, crowd_of, students_of}
+use Rattle.demand_api.specs.Crowds.{CrowdData, IsCrowd, IsWithin, Student as CrowdStudent}
+use Rattle.demand_api.specs.Parts.{of_parts, students_of}
+use Rattle.demand_api.proofs.Parts.{parts_whole}
 use Rattle.market_menus.specs.MenusOf.{AreMenusOf, IsMenuOf, rated_of}
 use Rattle.market_units.specs.declared.units.Tokens.{Tokens}
 use Rattle.preference_desk.specs.DeskNames.{DeskNames}
@@ -73,7 +74,8 @@ budgets_length students seed spread = length-map (enumerate_from 0 students) _ �
 -- the menus and budgets of a market
 module _ (catalog : CatalogData) (roll : RollData) (wanted : List StudentPreferences) (menus : List MenuData) (budgets : List Tokens) (seed spread : ℕ)
     (are : AreMenusOf catalog.sections roll.students wanted menus) (drawn : amounts budgets ≡ budgets_of roll.students seed spread) where
-  same : length budgets ≡ length menus
+  -- a budget for each menu
+  pub same : length budgets ≡ length menus
   same =
       let mapped : length (amounts budgets) ≡ length budgets = length-map budgets (λ (one : Tokens). one.0) in
       let all : length (amounts budgets) ≡ length (budgets_of roll.students seed spread) = ap length drawn in
@@ -82,17 +84,13 @@ module _ (catalog : CatalogData) (roll : RollData) (wanted : List StudentPrefere
 
   -- they make a crowd
   pub crowd_is_whole : IsCatalog catalog → IsRoll roll → All (SectionsBelow (length catalog.sections)) wanted
-      → All (λ (budget : Tokens). budget.0 ≤ 997951) budgets → MakeCrowd menus budgets (length catalog.sections)
-  crowd_is_whole listed enrolled below high = record {
-    same = same;
-    few = omega (arith, enrolled.few, menus_length catalog.sections roll.students wanted menus are);
-    high = λ k d inside. omega (arith, high k d inside);
-    sections_few = listed.few;
-    within = menus_within catalog.sections roll.students wanted menus are below;
-  }
+      → All (λ (budget : Tokens). budget.0 ≤ 997951) budgets → IsCrowd (of_parts menus budgets (length catalog.sections))
+  crowd_is_whole listed enrolled below high =
+      parts_whole menus budgets (length catalog.sections) same (omega (arith, enrolled.few, menus_length catalog.sections roll.students wanted menus are))
+      (λ k d inside. omega (arith, high k d inside)) listed.few (menus_within catalog.sections roll.students wanted menus are below)
 
   -- which is that of the market
-  pub crowd_is_markets : IsCrowdOf catalog.sections roll.students wanted seed spread (crowd_of menus budgets (length catalog.sections))
+  pub crowd_is_markets : IsCrowdOf catalog.sections roll.students wanted seed spread (of_parts menus budgets (length catalog.sections))
   crowd_is_markets = record {
     menus = subst (AreMenusOf catalog.sections roll.students wanted) (sym (menus_of_crowd menus budgets same)) are;
     budgets = budgets_of_crowd menus budgets same ∙ drawn;

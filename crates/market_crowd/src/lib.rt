@@ -5,6 +5,3 @@
 mod making;
 
 pub use making::make_crowd;
-
-#[cfg(test)]
-mod tests;

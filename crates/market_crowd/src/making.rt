@@ -1,6 +1,6 @@
 // A crowd from what was read and said.
 ghost use Rattle.std.specs.Prelude.{◌≡◌, ◌≤◌, All, IfOk, length};
-ghost use Rattle.demand_api.specs.Made.{MakeCrowd, crowd_of};
+ghost use Rattle.demand_api.specs.Views.{data_of};
 ghost use Rattle.market_crowd.specs.Crowds.{IsCrowdOf};
 ghost use Rattle.preference_desk.specs.PreferencesView.{preferences_of};
 ghost use Rattle.preference_desk.specs.StudentPreferences.{SectionsBelow};
@@ -9,7 +9,7 @@ use budget_draw::draw;
 use course_catalog::Catalog;
 use demand_api::Crowd;
 use market_menus::menus;
-use market_units::NoMemory;
+use market_units::{MAX_SPREAD, NoMemory};
 use preference_desk::Preferences;
 use std::alloc::Global;
 use student_roll::Roll;
@@ -28,12 +28,10 @@ pub fn make_crowd(
     requires students { length (preferences_of preferences.now) ≡ length roll.now.students }
     requires sections { All (SectionsBelow (length catalog.now.sections))
         (preferences_of preferences.now) }
-    requires spread { spread ≤ 49 }
-    ensures crowd { IfOk result
+    requires spread { spread ≤ MAX_SPREAD }
+    ensures { IfOk result
         (λ crowd. IsCrowdOf catalog.now.sections roll.now.students (preferences_of preferences.now)
-        seed spread (crowd_of crowd.menus.items crowd.budgets.items crowd.sections)) }
-    ensures whole { IfOk result
-        (λ crowd. MakeCrowd crowd.menus.items crowd.budgets.items crowd.sections) }
+        seed spread (data_of crowd)) }
 {
     let _few_students = roll.len();
     let menus = menus(alloc, catalog, roll, preferences)?;

@@ -7,7 +7,7 @@ use Rattle.std.specs.Str.{bytes_eq}
 use Rattle.std.specs.String.{string_bytes}
 use Rattle.std.specs.FinMap.{from_entries}
 use Rattle.market_edge.specs.declared.memory_files.Place.{Place}
-use Rattle.market_edge.specs.Faults.{raised}
+use Rattle.market_units.specs.Counts.{one_more}
 use Rattle.market_edge.specs.Holdings.{Holding}
 use Rattle.market_edge.specs.Openings.{Opening}
 
@@ -67,7 +67,7 @@ count_of files counts others name =
 -- one more fault of each of these names, and of no other
 abbrev pub Raises : (List ℕ → Bool) → (List ℕ → ℕ) → (List ℕ → ℕ) → Type 0
 Raises is_raised before after =
-    (name : List ℕ) → after name ≡ (if is_raised name then raised (before name) else before name)
+    (name : List ℕ) → after name ≡ (if is_raised name then one_more (before name) else before name)
 
 -- the name of the file at a place
 abbrev pub name_at : List File → ℕ → List ℕ

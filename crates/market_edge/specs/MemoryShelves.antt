@@ -1,7 +1,7 @@
 -- What a shelf in memory shows.
 use Rattle.std.specs.Prelude.{ℕ, Bool, List, Option, Some, Contains, is_some}
 use Rattle.market_edge.specs.declared.memory_shelf.MemoryShelf.{MemoryShelf}
-use Rattle.market_edge.specs.Faults.{raised}
+use Rattle.market_units.specs.Counts.{one_more}
 use Rattle.market_edge.specs.Holdings.{Holding}
 use Rattle.market_edge.specs.BegunLists.{told_texts}
 use Rattle.market_edge.specs.MemoryFiles.{File, count_of, holding_of, left_of, openings_of, serves_name}
@@ -21,7 +21,7 @@ calls_of shelf = shelf.calls
 
 -- the next call is to fail by its number
 abbrev pub FailsNext : MemoryShelf → Type 0
-FailsNext shelf = Contains (failing_of shelf) (raised (calls_of shelf))
+FailsNext shelf = Contains (failing_of shelf) (one_more (calls_of shelf))
 
 -- it tells what it holds
 abbrev pub told_holding : MemoryShelf → Option Holding

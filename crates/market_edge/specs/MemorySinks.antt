@@ -1,7 +1,7 @@
 -- What a sink in memory shows.
 use Rattle.std.specs.Prelude.{ℕ, ◌≡◌, ◌⊎◌, List, length, Contains}
 use Rattle.market_edge.specs.declared.memory_sink.MemorySink.{MemorySink}
-use Rattle.market_edge.specs.Faults.{raised}
+use Rattle.market_units.specs.Counts.{one_more}
 
 -- the bytes that it has taken
 abbrev pub bytes_of : MemorySink → List ℕ
@@ -26,4 +26,4 @@ faults_of sink = sink.faults
 -- no room is left, or the next write is to fail by its number
 abbrev pub IsRefused : MemorySink → Type 0
 IsRefused sink =
-    (length sink.bytes.items ≡ sink.size) ⊎ Contains sink.failing.items (raised sink.writes)
+    (length sink.bytes.items ≡ sink.size) ⊎ Contains sink.failing.items (one_more sink.writes)

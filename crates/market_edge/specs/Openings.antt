@@ -5,7 +5,8 @@ use Rattle.std.specs.Prelude.{ℕ, ◌≡◌, Bool, true, false, List, [], ◌�
 abbrev pub Opening : Type 0
 Opening = List ℕ × Bool
 
--- What is told after a call was told before it, and is this of that. The telling may end.
+-- Where a shelf tells its begun texts after a call, it told them before it too, and the call
+-- changed the list so. It may stop telling.
 abbrev pub Changes : Option (List Opening) → Option (List Opening) → (List Opening → List Opening)
     → Type 0
 Changes old None change = ⊤

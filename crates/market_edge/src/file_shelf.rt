@@ -2,7 +2,8 @@
 ghost use Rattle.std.specs.Prelude.{◌≡◌, ◌<◌, ◌≤◌, None, List, ℕ, false, length, is_some, IsTrue, IfOk, OnOk, OnErr};
 ghost use Rattle.std.specs.Io.KnownBytes.{ReadConsumes};
 ghost use Rattle.market_edge.specs.Openings.{Changes, as_before, with_begun, with_end};
-ghost use Rattle.market_edge.specs.Faults.{Rose, raised};
+ghost use Rattle.market_units.specs.Counts.{one_more};
+ghost use Rattle.market_edge.specs.Faults.{Rose};
 ghost use Rattle.market_edge.specs.Holdings.{Begins};
 
 use crate::{Failed, Shelf};
@@ -78,7 +79,7 @@ impl<'r, R: Files> Shelf for FileShelf<'r, R> {
         ensures counted { OnErr result
             ((other : List ℕ)
             → ⟦<FileShelf<'r, R> as Shelf>⟧.faults self.new other
-            ≡ raised (⟦<FileShelf<'r, R> as Shelf>⟧.faults self.old other)) }
+            ≡ one_more (⟦<FileShelf<'r, R> as Shelf>⟧.faults self.old other)) }
     {
         self.file = None;
         match fs::open(self.rt, name) {
@@ -137,7 +138,7 @@ impl<'r, R: Files> Shelf for FileShelf<'r, R> {
         ensures counted { OnErr result
             ((other : List ℕ)
             → ⟦<FileShelf<'r, R> as Shelf>⟧.faults self.new other
-            ≡ raised (⟦<FileShelf<'r, R> as Shelf>⟧.faults self.old other)) }
+            ≡ one_more (⟦<FileShelf<'r, R> as Shelf>⟧.faults self.old other)) }
     {
         let Some(file) = &mut self.file else {
             unreachable!()

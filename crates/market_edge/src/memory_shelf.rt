@@ -3,7 +3,8 @@ ghost use Rattle.std.specs.Prelude.{◌≡◌, ◌<◌, ◌≤◌, ◌+◌, ◌�
 ghost use Rattle.std.specs.Io.KnownBytes.{ReadConsumes};
 ghost use Rattle.std.specs.Option.{ForSome};
 ghost use Rattle.market_edge.specs.Openings.{Changes, as_before, with_begun, with_end};
-ghost use Rattle.market_edge.specs.Faults.{Rose, raised};
+ghost use Rattle.market_units.specs.Counts.{one_more};
+ghost use Rattle.market_edge.specs.Faults.{Rose};
 ghost use Rattle.market_edge.specs.Holdings.{Begins};
 ghost use Rattle.market_edge.specs.MemoryFiles.{IsPlace, Raises, count_of, has_place_of, holding_of, left_of, place_of, serves_name};
 
@@ -104,7 +105,7 @@ impl Shelf for MemoryShelf {
             (Raises (has_place_of (files_of self.old) name.now) (faults_of self.old)
             (faults_of self.new)) }
 
-        ensures calls { calls_of self.new ≡ raised (calls_of self.old) }
+        ensures calls { calls_of self.new ≡ one_more (calls_of self.old) }
         ensures files { files_of self.new ≡ files_of self.old }
         ensures failing { failing_of self.new ≡ failing_of self.old }
     {
@@ -150,7 +151,7 @@ impl Shelf for MemoryShelf {
         ensures counted { OnErr result
             (Raises (serves_of self.old) (faults_of self.old) (faults_of self.new)) }
 
-        ensures calls { calls_of self.new ≡ raised (calls_of self.old) }
+        ensures calls { calls_of self.new ≡ one_more (calls_of self.old) }
         ensures files { files_of self.new ≡ files_of self.old }
         ensures failing { failing_of self.new ≡ failing_of self.old }
     {
@@ -173,7 +174,7 @@ impl Shelf for MemoryShelf {
 
 // Counts a call, and says whether it is to fail.
 fn next_fails(calls: &mut u64, failing: &[u64]) -> bool
-    ensures counted { calls.new ≡ raised calls.old }
+    ensures counted { calls.new ≡ one_more calls.old }
     ensures fails { IsTrue result ↔ Contains failing.now calls.new }
 {
     *calls = calls.saturating_add(1);

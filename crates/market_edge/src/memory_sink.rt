@@ -1,6 +1,7 @@
 // A sink in memory, for tests.
 ghost use Rattle.std.specs.Prelude.{◌≡◌, ◌<◌, ◌≤◌, ◌⊎◌, ◌↔◌, ◌-◌, [], Some, length, take, min, IfOk, OnOk, OnErr, IsErr, IsTrue, Contains, vec_capacity};
-ghost use Rattle.market_edge.specs.Faults.{Rose, raised};
+ghost use Rattle.market_units.specs.Counts.{one_more};
+ghost use Rattle.market_edge.specs.Faults.{Rose};
 ghost use Rattle.market_edge.specs.Sinks.{Takes};
 
 use crate::{Failed, Sink};
@@ -80,9 +81,9 @@ impl Sink for MemorySink {
         ensures fails { IsErr result ↔ IsRefused self.old }
         ensures most { IfOk result
             (λ n. n ≡ min (length piece.now) (size_of self.old - length (bytes_of self.old))) }
-        ensures counted { OnErr result (faults_of self.new ≡ raised (faults_of self.old)) }
+        ensures counted { OnErr result (faults_of self.new ≡ one_more (faults_of self.old)) }
 
-        ensures writes { writes_of self.new ≡ raised (writes_of self.old) }
+        ensures writes { writes_of self.new ≡ one_more (writes_of self.old) }
         ensures size { size_of self.new ≡ size_of self.old }
         ensures failing { failing_of self.new ≡ failing_of self.old }
     {

@@ -1,7 +1,8 @@
 // A writer of std, as standard output. What it takes is not told: this is the trusted edge.
 ghost use Rattle.std.specs.Prelude.{◌≡◌, ◌<◌, ◌≤◌, [], None, length, take, IfOk, OnOk, OnErr};
 ghost use Rattle.std.specs.Io.KnownBytes.{WriteAppends};
-ghost use Rattle.market_edge.specs.Faults.{Rose, raised};
+ghost use Rattle.market_units.specs.Counts.{one_more};
+ghost use Rattle.market_edge.specs.Faults.{Rose};
 ghost use Rattle.market_edge.specs.Sinks.{Takes};
 
 use crate::{Failed, Sink};
@@ -62,7 +63,7 @@ impl<W: Write + Drop> Sink for StdoutSink<W> {
         // Each failure is counted.
         ensures counted { OnErr result
             (⟦<StdoutSink<W> as Sink>⟧.faults self.new
-            ≡ raised (⟦<StdoutSink<W> as Sink>⟧.faults self.old)) }
+            ≡ one_more (⟦<StdoutSink<W> as Sink>⟧.faults self.old)) }
     {
         match self.writer.write(piece) {
             Ok(count) if count > 0 => Ok(count),

@@ -5,7 +5,7 @@ use Rattle.std.specs.String.{string_bytes}
 use Rattle.std.proofs.lemmas.List.{length-map}
 use Rattle.course_catalog.specs.Catalog.{CatalogData}
 use Rattle.course_catalog.specs.Reading.{catalog_of}
-use Rattle.course_catalog.specs.Sections.{Section}
+use Rattle.course_catalog.specs.Sections.{Section, section_names}
 use Rattle.demand_api.specs.Crowds.{CrowdData}
 use Rattle.demand_text.specs.Taken.{TakenData, taken_at}
 use Rattle.demand_text.specs.Texts.{demand_text}
@@ -21,7 +21,7 @@ use Rattle.preference_desk.specs.Journals.{IsLegalJournal, MergesStreams, closed
 use Rattle.preference_desk.specs.DeskNames.{DeskNames}
 use Rattle.preference_desk.specs.MarketNames.{market_names}
 use Rattle.preference_desk.specs.StudentPreferences.{StudentPreferences}
-use Rattle.price_sheet.specs.Sheets.{Priced, names_of, price_in as price_listed, price_rules, prices_of}
+use Rattle.price_sheet.specs.Sheets.{Priced, price_in as price_listed, price_rules, prices_of}
 use Rattle.price_sheet.specs.declared.refusal.PriceRefusal.{PriceRefusal}
 use Rattle.table_records.specs.Columns.{◌>>=◌}
 use Rattle.table_records.specs.Reading.{TableData, reading}
@@ -76,18 +76,18 @@ inputs-demand words workers a b c d some p q r s =
     (word_at words 5 d (omega arith) s ∙ ap (λ (more : List (List ℕ)). string_bytes d ∷ more) (words_behind words 6))
 
 as_many : (sections : List Section) (prices : List Tokens) (read : Result (TableData Priced) PriceRefusal)
-    → (read >>= (λ rows. Ok (map (price_listed rows.rows) (names_of sections)))) ≡ Ok (map (λ price. price.0) prices)
+    → (read >>= (λ rows. Ok (map (price_listed rows.rows) (section_names sections)))) ≡ Ok (map (λ price. price.0) prices)
     → length prices ≡ length sections
 as_many sections prices (Ok rows) is =
-    let same : map (price_listed rows.rows) (names_of sections) ≡ map (λ (price : Tokens). price.0) prices = cc in
-    sym (length-map prices (λ (price : Tokens). price.0)) ∙ sym (ap length same) ∙ length-map (names_of sections) (price_listed rows.rows)
+    let same : map (price_listed rows.rows) (section_names sections) ≡ map (λ (price : Tokens). price.0) prices = cc in
+    sym (length-map prices (λ (price : Tokens). price.0)) ∙ sym (ap length same) ∙ length-map (section_names sections) (price_listed rows.rows)
     ∙ length-map sections (λ (section : Section). section.name)
 as_many sections prices (Err refusal) is = absurd cc
 
 -- a price is listed for each section
 pub prices_length : (sections : List Section) (text : List ℕ) (prices : List Tokens) → prices_of sections text ≡ Ok (map (λ price. price.0) prices)
     → length prices ≡ length sections
-prices_length sections text prices is = as_many sections prices (reading (price_rules (names_of sections)) (records_of text)) is
+prices_length sections text prices is = as_many sections prices (reading (price_rules (section_names sections)) (records_of text)) is
 
 -- the prices were read behind the market
 pub prices_fourth : (workers : ℕ) (held : Option Holding) (a b c d : List ℕ) (offered : CatalogData) (enrolled : RollData) (rules : SettingsData)

@@ -9,7 +9,7 @@ use Rattle.std.proofs.lemmas.List.{length-map}
 use Rattle.bundle_bounds.specs.Offers.{Offer}
 use Rattle.bundle_rules.specs.Given.{SomeHas}
 use Rattle.bundle_rules.specs.Menus.{wishes_of}
-use Rattle.bundle_rules.specs.Sets.{has}
+use Rattle.market_units.specs.Members.{has}
 use Rattle.certificate_checker.specs.Students.{offer_in, proved_in}
 use Rattle.course_catalog.specs.Catalog.{CatalogData}
 use Rattle.course_catalog.specs.Reading.{catalog_of}
@@ -19,7 +19,8 @@ use Rattle.explain_desk.specs.Explanations.{ExplainedData, IsExplained}
 use Rattle.explain_desk.specs.Reasons.{stage, tells_best}
 use Rattle.explain_desk.specs.Texts.{explained_text}
 use Rattle.explain_desk.proofs.Leaving.{reasons_leave_a_bundle}
-use Rattle.market_certificate.specs.Tables.{name_at, section_names}
+use Rattle.course_catalog.specs.Sections.{section_names}
+use Rattle.market_certificate.specs.Tables.{name_at}
 use Rattle.market_certificate.proofs.NamesOf.{found_named, found_none, found_within}
 use Rattle.market_settings.specs.declared.reader.Settings.{Settings as SettingsData}
 use Rattle.market_settings.specs.Settings.{settings_of}

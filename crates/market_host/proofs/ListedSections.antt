@@ -8,7 +8,7 @@ use Rattle.bundle_rules.specs.Existence.Members.{all_of_has}
 use Rattle.bundle_rules.specs.Existence.Places.{section_at-place_in}
 use Rattle.bundle_rules.specs.Menus.{MenuData, place_in, section_at, wishes_of}
 use Rattle.bundle_rules.specs.Ordinals.{ordinals}
-use Rattle.bundle_rules.specs.Sets.{has}
+use Rattle.market_units.specs.Members.{has}
 use Rattle.bundle_rules.specs.Wishes.{IsFeasible}
 use Rattle.bundle_rules.proofs.Feasibility.{place_of_rated}
 use Rattle.course_catalog.specs.Sections.{Section}

@@ -6,8 +6,8 @@ use Rattle.utility_language.specs.declared.commands.Command.{Command}
 use Rattle.market_host.specs.Markets.{IsMarketOf}
 
 -- The published text is accepted for the market that the other texts stand for, and for what its
--- sessions say; and the text tells the rows of its bundles of stage two, none of which counts lower
--- envy, and of its final bundles. No number of workers occurs in it.
+-- sessions say; and the text tells the rows of its bundles of the second stage, none of which
+-- counts lower envy, and of its final bundles. No number of workers occurs in it.
 abbrev pub IsEnvyOf : List ℕ → List ℕ → List ℕ → List ℕ → List (List ℕ) → List ℕ → Type 0
 IsEnvyOf catalog roll settings published sessions text =
     (market : Market) × (streams : List (List Command))

@@ -1,5 +1,6 @@
 -- What `check` answers to a text that `run` wrote, where it is given the same inputs.
 use Rattle.std.specs.Prelude.{ℕ, ⊤, ◌≡◌, ◌<◌, List, ◌∷◌, ◌++◌, length}
+use Rattle.market_units.specs.declared.limits.TheConstants.{MAX_TEXT_BYTES}
 use Rattle.market_edge.specs.Faults.{Rose}
 use Rattle.market_words.specs.declared.words.Form.TheVariants.{Check, Run}
 use Rattle.market_words.specs.Forms.{HasForm, inputs_of}
@@ -36,7 +37,7 @@ HasFaultOf seen inputs =
 abbrev pub Confirms : List (List ℕ) → Sight → List ℕ → Status → Type 0
 Confirms check seen text Done = ⊤
 Confirms check seen text (ShelfFault number) = HasFaultOf seen (inputs_of Check check)
-Confirms check seen text (TooLong number) = (number ≡ 4) × (67108864 < length text)
+Confirms check seen text (TooLong number) = (number ≡ 4) × (MAX_TEXT_BYTES < length text)
 Confirms check seen text OutOfMemory = ⊤
 Confirms check seen text Usage = ⊥
 Confirms check seen text (Refused number row cause) = ⊥

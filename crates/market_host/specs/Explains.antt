@@ -3,7 +3,7 @@
 use Rattle.std.specs.Prelude.{ℕ, ◌≡◌, ◌<◌, ◌⊎◌, ◌↔◌, true, false, List, ◌∷◌, length, is_some}
 use Rattle.bundle_rules.specs.Given.{SomeHas}
 use Rattle.bundle_rules.specs.Menus.{wishes_of}
-use Rattle.bundle_rules.specs.Sets.{has}
+use Rattle.market_units.specs.Members.{has}
 use Rattle.certificate_checker.specs.declared.findings.Finding.{Finding}
 use Rattle.certificate_checker.specs.Certificates.{HoldsBy, IsAccepted, IsTextOf}
 use Rattle.certificate_checker.specs.Findings.{IsFirstFinding}
@@ -13,7 +13,8 @@ use Rattle.demand_api.specs.Crowds.{CrowdData}
 use Rattle.explain_desk.specs.Explanations.{ExplainedData, IsExplained}
 use Rattle.explain_desk.specs.Texts.{explained_text}
 use Rattle.market_certificate.specs.Publications.{Publication}
-use Rattle.market_certificate.specs.Tables.{name_at, section_names}
+use Rattle.course_catalog.specs.Sections.{section_names}
+use Rattle.market_certificate.specs.Tables.{name_at}
 use Rattle.published_parts.specs.Markets.{Market, tables_in}
 use Rattle.student_roll.specs.Students.{names_of}
 use Rattle.utility_language.specs.declared.commands.Command.{Command}
@@ -47,10 +48,10 @@ IsFirstUnknown market student section word =
     ⊎ ((word ≡ 7) × IsEnrolled market student × ¬ IsListed market section)
 
 -- The published text is that of a publication of which the certificate holds, and the text tells
--- why the student does not have the section: at the published prices of stage two, within the
--- budget that the student draws, beside the published bundle of stage two, the first reason that
--- applies. The best bundle with the section, with its forced tree, is told exactly where the
--- student does not have the section and some bundle with it can be had.
+-- why the student does not have the section: at the published prices of the second stage, within
+-- the budget that the student draws, beside the published bundle of the second stage, the first
+-- reason that applies. The best bundle with the section, with its forced tree, is told exactly
+-- where the student does not have the section and some bundle with it can be had.
 pub record IsReasonOf (market : Market) (streams : List (List Command))
     (published student section text : List ℕ) : Type 0 where
   pub publication : Publication

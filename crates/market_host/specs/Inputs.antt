@@ -1,6 +1,7 @@
 -- What the inputs of a call may say. A text is judged behind the texts of the inputs before it.
 use Rattle.std.specs.Prelude.{ℕ, ◌≡◌, ◌≤◌, List, [], ◌∷◌, ◌++◌, length, drop, Option, Some, Ok, ⊤}
 use Rattle.std.specs.List.{AllZip}
+use Rattle.market_units.specs.declared.limits.TheConstants.{MAX_COMMANDS}
 use Rattle.course_catalog.specs.Catalog.{CatalogData}
 use Rattle.course_catalog.specs.Reading.{catalog_of}
 use Rattle.student_roll.specs.Rolls.{roll_of}
@@ -65,7 +66,7 @@ HasFault Session earlier row cause text = ⊥
 -- its bytes, the commands of all streams up to and with it, and what it says.
 pub record IsInOrder (form : Form) (earlier : List (List ℕ)) (text : List ℕ) : Type 0 where
   pub within : length text ≤ limit_of (kind_of form (length earlier))
-  pub room : commands_among form (earlier ++ text ∷ []) ≤ 200000
+  pub room : commands_among form (earlier ++ text ∷ []) ≤ MAX_COMMANDS
   pub grammar : IsOfGrammar (kind_of form (length earlier)) earlier text
 
 -- each of the texts of a form's next inputs, behind these others, is in order

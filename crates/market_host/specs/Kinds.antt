@@ -1,6 +1,7 @@
 -- The kinds of inputs. Limits, grammars and faults go by kind; a form says which kinds its inputs
 -- have.
 use Rattle.std.specs.Prelude.{ℕ, ◌≡◌, zero, suc, List, [], ◌∷◌}
+use Rattle.market_units.specs.declared.limits.TheConstants.{MAX_INPUT_BYTES, MAX_TEXT_BYTES}
 use Rattle.market_words.specs.declared.words.Form.{Form}
 use Rattle.market_words.specs.declared.words.Form.TheVariants.{Audit, Check, Demand, Explain, Hall, Make, Prefer, Quote, Run}
 
@@ -58,9 +59,9 @@ kind_of form count = kind_behind (front_of form) (streams_of form) count
 
 -- the most bytes that an input of this kind may have
 abbrev pub limit_of : Kind → ℕ
-limit_of Catalog = 16777216
-limit_of Roll = 16777216
-limit_of Settings = 16777216
-limit_of Prices = 16777216
-limit_of Published = 67108864
-limit_of Session = 16777216
+limit_of Catalog = MAX_INPUT_BYTES
+limit_of Roll = MAX_INPUT_BYTES
+limit_of Settings = MAX_INPUT_BYTES
+limit_of Prices = MAX_INPUT_BYTES
+limit_of Published = MAX_TEXT_BYTES
+limit_of Session = MAX_INPUT_BYTES

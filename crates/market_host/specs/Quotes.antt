@@ -2,6 +2,7 @@
 use Rattle.std.specs.Prelude.{ℕ, ℤ, ◌≡◌, ◌++◌, List, [], ◌∷◌, map, codes, nat_lt, Ok}
 use Rattle.std.specs.List.{join_with_byte}
 use Rattle.std.specs.Fmt.{signed_decimal}
+use Rattle.market_units.specs.declared.limits.TheConstants.{MAX_SECTIONS}
 use Rattle.bundle_rules.specs.Demand.{IsBest}
 use Rattle.bundle_rules.specs.Menus.{MenuData, wishes_of}
 use Rattle.bundle_rules.specs.Wishes.{utility}
@@ -51,7 +52,7 @@ quoted_text sections name bundle worth =
 abbrev pub IsQuote : List Section → Student → List Command → List ℕ → Type 0
 IsQuote sections student commands text =
     (menu : MenuData) × IsMenuOf sections student (wanted_after sections student commands) menu
-    × (bundle : List ℕ) × IsBest (wishes_of menu) (λ _. 0) 0 (λ s. nat_lt s 400) bundle
+    × (bundle : List ℕ) × IsBest (wishes_of menu) (λ _. 0) 0 (λ s. nat_lt s MAX_SECTIONS) bundle
     × (text ≡ quoted_text sections student.name bundle (utility (wishes_of menu) bundle))
 
 -- the text is what is told of the catalogue and the commands that these inputs stand for

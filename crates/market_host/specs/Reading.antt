@@ -2,6 +2,7 @@
 use Rattle.std.specs.Prelude.{ℕ, ◌≡◌, ◌+◌, ◌<◌, ◌≤◌, List, ◌∷◌, ◌++◌, length, map, Option, Vec, ⊤}
 use Rattle.std.proofs.Common.{Global}
 use Rattle.std.specs.List.{AllZip}
+use Rattle.market_units.specs.declared.limits.TheConstants.{MAX_COMMANDS}
 use Rattle.course_catalog.specs.Catalog.{CatalogData}
 use Rattle.market_edge.specs.Holdings.{Holding, IsTextOf, TakesExactly}
 use Rattle.market_units.specs.Totals.{total}
@@ -82,7 +83,7 @@ abbrev pub IsTroubleOfSession : Sight → ℕ → List ℕ → ℕ → Trouble �
 IsTroubleOfSession seen room name number trouble =
     (form : Form) (earlier texts later : List (List ℕ)) → AreRead form seen.held earlier texts
     → streams_of form ≡ Session → length (front_of form) ≤ length earlier
-    → number ≡ length earlier + 1 → commands_among form texts + room ≡ 200000
+    → number ≡ length earlier + 1 → commands_among form texts + room ≡ MAX_COMMANDS
     → HasTrouble form seen (earlier ++ name ∷ later) trouble
 
 -- the same of some of the sessions of these names, which stand behind all other inputs
@@ -101,7 +102,7 @@ pub record AreReadStreams {A : Type 0} (IsItemOf : List (List ℕ) → A → Typ
   pub each : AllZip (λ name text. IsTextOf held name text × (length text ≤ limit_of Session)) names
       texts
   pub items : AreItems IsItemOf texts (map (λ (stream : Vec A Global). stream.items) streams)
-  pub count : total command_count texts + room ≡ 200000
+  pub count : total command_count texts + room ≡ MAX_COMMANDS
 
 -- the same of sessions whose items are commands
 abbrev pub AreReadSessions : Option Holding → List (List ℕ) → List (List ℕ)

@@ -1,5 +1,6 @@
 -- The row and the cause that are told of a refused input.
-use Rattle.std.specs.Prelude.{ℕ, ◌≡◌, List, Err}
+use Rattle.std.specs.Prelude.{ℕ, ◌≡◌, ◌+◌, List, Err}
+use Rattle.market_units.specs.declared.limits.TheConstants.{MAX_SECTIONS, MAX_STUDENTS}
 use Rattle.course_catalog.specs.declared.refusal.CatalogRefusal.{CatalogRefusal}
 use Rattle.course_catalog.specs.declared.refusal.CatalogRefusal.TheVariants as of_catalog
 use Rattle.course_catalog.specs.Reading.{catalog_of}
@@ -17,8 +18,8 @@ use Rattle.market_host.specs.declared.cause.Cause.{Cause}
 use Rattle.market_host.specs.declared.cause.Cause.TheVariants as cause
 use Rattle.market_host.specs.Marks.{without_mark}
 
--- The row and the cause of a refused catalogue. The header is row 1, and the section too many is
--- the record of row 402.
+-- The row and the cause of a refused catalogue. The header is row 1, and behind it each section has
+-- a row; that of the section too many is told.
 abbrev pub IsTold : CatalogRefusal → ℕ → Cause → Type 0
 IsTold of_catalog.Header row told = (row ≡ 1) × (told ≡ cause.Header)
 IsTold (of_catalog.Fields at) row told = (row ≡ at) × (told ≡ cause.Fields)
@@ -27,18 +28,18 @@ IsTold (of_catalog.Repeated at earlier) row told = (row ≡ at) × (told ≡ cau
 IsTold (of_catalog.Number at column) row told = (row ≡ at) × (told ≡ cause.Number column)
 IsTold (of_catalog.Meetings at) row told = (row ≡ at) × (told ≡ cause.Meetings)
 IsTold (of_catalog.Parts at) row told = (row ≡ at) × (told ≡ cause.Parts)
-IsTold of_catalog.TooMany row told = (row ≡ 402) × (told ≡ cause.TooMany)
+IsTold of_catalog.TooMany row told = (row ≡ MAX_SECTIONS + 2) × (told ≡ cause.TooMany)
 IsTold of_catalog.NoMemory row told = ⊥
 
--- The row and the cause of a refused roll. The header is row 1, and the student too many is the
--- record of row 2002.
+-- The row and the cause of a refused roll. The header is row 1, and behind it each student has a
+-- row; that of the student too many is told.
 abbrev pub IsToldOfRoll : RollRefusal → ℕ → Cause → Type 0
 IsToldOfRoll of_roll.Header row told = (row ≡ 1) × (told ≡ cause.Header)
 IsToldOfRoll (of_roll.Fields at) row told = (row ≡ at) × (told ≡ cause.Fields)
 IsToldOfRoll (of_roll.Name at column) row told = (row ≡ at) × (told ≡ cause.Name column)
 IsToldOfRoll (of_roll.Repeated at earlier) row told = (row ≡ at) × (told ≡ cause.Repeated earlier)
 IsToldOfRoll (of_roll.Number at column) row told = (row ≡ at) × (told ≡ cause.Number column)
-IsToldOfRoll of_roll.TooMany row told = (row ≡ 2002) × (told ≡ cause.TooMany)
+IsToldOfRoll of_roll.TooMany row told = (row ≡ MAX_STUDENTS + 2) × (told ≡ cause.TooMany)
 IsToldOfRoll of_roll.NoMemory row told = ⊥
 
 -- The row and the cause of refused settings. No fault of settings has a row, which is told as row

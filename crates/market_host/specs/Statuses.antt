@@ -5,14 +5,14 @@ use Rattle.market_host.specs.declared.status.Status.TheVariants.{Done, Usage, Sh
 use Rattle.market_host.specs.declared.trouble.Trouble.{Trouble}
 use Rattle.market_host.specs.declared.trouble.Trouble.TheVariants as trouble
 
--- with which a call ends that this stops
+-- the status of a call that this trouble stops
 abbrev pub status_of : Trouble → Status
 status_of (trouble.ShelfFault number) = ShelfFault number
 status_of (trouble.Refused number row cause) = Refused number row cause
 status_of (trouble.TooLong number) = TooLong number
 status_of trouble.OutOfMemory = OutOfMemory
 
--- with which the process ends
+-- the number with which the process ends at a status
 abbrev pub number_of : Status → ℕ
 number_of Done = 0
 number_of Usage = 1

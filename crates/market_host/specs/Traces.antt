@@ -49,9 +49,10 @@ CountsStand (trouble.Refused n row cause) before after = after ≡ before
 CountsStand (trouble.TooLong n) before after = after ≡ before
 CountsStand trouble.OutOfMemory before after = after ≡ before
 
--- What stops the call is told of the input that was begun last, where the number of the next input
--- is this one once all that are read to their ends are counted, and so many others are begun. An
--- input that can't be begun is the next one. Want of memory is told of no input.
+-- The input that stops the call is the last begun one, or the next one, which could not be begun.
+-- `next` is the number behind the inputs that were read to their ends, and `begun` counts the begun
+-- ones behind those: at most one. A refused input is the last that was read to its end; one that is
+-- too long is that too, or the begun one behind it. Want of memory is told of no input.
 abbrev pub IsLastBegun : Trouble → ℕ → ℕ → Type 0
 IsLastBegun (trouble.ShelfFault n) next begun = (n ≡ next) × (begun ≤ 1)
 IsLastBegun (trouble.Refused n row cause) next begun = (n + 1 ≡ next) × (begun ≡ 0)

@@ -1,5 +1,6 @@
 -- What stops a call at one of its inputs.
 use Rattle.std.specs.Prelude.{ℕ, ◌≡◌, ◌+◌, ◌<◌, ◌≤◌, ◌⊎◌, IsTrue, List, [], ◌∷◌, ◌++◌, length, ⊤}
+use Rattle.market_units.specs.declared.limits.TheConstants.{MAX_COMMANDS}
 use Rattle.market_edge.specs.Faults.{Rose}
 use Rattle.market_edge.specs.Holdings.{IsReadOut, IsTextOf, TakesAtMost, TakesExactly}
 use Rattle.market_words.specs.declared.words.Form.{Form}
@@ -38,7 +39,7 @@ HasSurplus form seen earlier name =
     IsAtEnd seen name
     × (text : List ℕ) × IsTextOf seen.held name text
     × (length text ≤ limit_of (kind_of form (length earlier)))
-    × (200000 < commands_among form (earlier ++ text ∷ []))
+    × (MAX_COMMANDS < commands_among form (earlier ++ text ∷ []))
 
 -- of the text of this name, behind these others, exactly one byte more than its limit was taken,
 -- where the shelf tells

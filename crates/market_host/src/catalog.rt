@@ -10,12 +10,13 @@ use crate::Cause;
 use crate::input::Input;
 use crate::trouble::Trouble;
 use course_catalog::{Catalog, CatalogRefusal, read_catalog};
+use market_units::MAX_SECTIONS;
 use std::alloc::Global;
 
 // The header is row 1, and a table has at most 400 sections behind it.
 const HEADER_ROW: u32 = 1;
 
-const SURPLUS_ROW: u32 = 402;
+const SURPLUS_ROW: u32 = MAX_SECTIONS as u32 + 2;
 
 impl Input for Catalog {
     ghost kind = { kinds.Catalog };

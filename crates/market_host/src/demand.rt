@@ -1,7 +1,7 @@
 // What the students take at given prices.
 ghost use Rattle.std.specs.Prelude.{◌≡◌, ◌≤◌, List, ℕ, length, map, MatchResult, IfOk};
 ghost use Rattle.std.specs.String.{string_bytes};
-ghost use Rattle.demand_api.specs.Made.{MakeCrowd, crowd_of};
+ghost use Rattle.demand_api.specs.Views.{data_of};
 ghost use Rattle.demand_api.specs.Crowds.{CrowdData};
 ghost use Rattle.demand_text.specs.Taken.{IsTakenBy, taken_at};
 ghost use Rattle.demand_text.specs.Texts as texts;
@@ -26,10 +26,10 @@ use crate::sessions::take_sessions;
 use crate::trouble::Trouble;
 use demand_api::Crowd;
 use demand_text::{Taken, demand_text};
-use demand_workers::{Bench, PooledDemands};
+use demand_workers::{Pool, PooledDemands};
 use market_crowd::make_crowd;
 use market_edge::{Gate, Passed, Shelf};
-use market_units::{NoMemory, Tokens};
+use market_units::{MAX_COMMANDS, MAX_SESSIONS, NoMemory, Tokens};
 use market_words::Form;
 use session_hall::hold;
 use std::alloc::Global;
@@ -86,8 +86,8 @@ fn text_of<R: Threads + Wait + Sync>(
     requires workers { AreWorkers workers }
     requires in_range { AreInRange market.now.settings }
     requires prices { length prices.now ≡ length market.now.catalog.sections }
-    requires sessions { (1 ≤ length streams.now) × (length streams.now ≤ 64) }
-    requires commands { command_count streams.now ≤ 200000 }
+    requires sessions { (1 ≤ length streams.now) × (length streams.now ≤ MAX_SESSIONS) }
+    requires commands { command_count streams.now ≤ MAX_COMMANDS }
     ensures { IfOk result (λ text. (journal : List Entry) × IsLegalJournal (market_names market.now.catalog.sections market.now.roll.students) journal
         × MergesStreams (command_lists streams.now) journal
         × (crowd : CrowdData) × IsCrowdIn (market_of market.now.catalog market.now.roll market.now.settings) journal crowd
@@ -125,20 +125,14 @@ fn taken_by<R: Threads + Wait + Sync>(
     gate: &(dyn Gate + Sync),
 ) -> Result<Taken, NoMemory>
     requires workers { AreWorkers workers }
-    requires crowd { MakeCrowd crowd.menus.items crowd.budgets.items crowd.sections }
     requires seats { length seats.now ≡ crowd.sections }
     requires prices { length prices.now ≡ crowd.sections }
-    ensures value { IfOk result
-        (λ taken. taken
-        ≡ taken_at (crowd_of crowd.menus.items crowd.budgets.items crowd.sections) seats.now
-        prices.now) }
+    ensures value { IfOk result (λ taken. taken ≡ taken_at (data_of crowd) seats.now prices.now) }
     ensures by { IfOk result
-        (λ taken. IsTakenBy
-        (length (crowd_of crowd.menus.items crowd.budgets.items crowd.sections).students)
-        crowd.sections taken) }
+        (λ taken. IsTakenBy (length (data_of crowd).students) crowd.sections taken) }
 {
     let crowd = Arc::new(alloc, crowd)?;
-    let bench = Bench::reserve(alloc, workers)?;
-    let mut demands = PooledDemands::make(bench, crowd, gate);
+    let pool = Pool::reserve(alloc, workers)?;
+    let mut demands = PooledDemands::make(pool, crowd, gate);
     Taken::at(rt, alloc, &mut demands, seats, prices)
 }

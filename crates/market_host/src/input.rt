@@ -1,5 +1,6 @@
 // One input of a call that is read by itself.
 ghost use Rattle.std.specs.Prelude.{◌≡◌, ◌<◌, ◌≤◌, ◌-◌, ◌^◌, List, ℕ, length, IfOk, IfErr, [], ◌∷◌};
+ghost use Rattle.market_units.specs.declared.limits.TheConstants.{MAX_INPUT_BYTES};
 ghost use Rattle.market_host.specs.declared.cause.Cause.{Cause};
 ghost use Rattle.market_host.specs.Inputs.{HasFault};
 ghost use Rattle.market_host.specs.Kinds.{Kind, limit_of};
@@ -35,7 +36,7 @@ pub trait Input: Drop {
         ensures refused { IfErr result (IsRefusal (is_faulty bytes.now) input) };
 
     /// The limit of the kind is that of a table.
-    ghost within: { limit_of kind ≡ 16777216 };
+    ghost within: { limit_of kind ≡ MAX_INPUT_BYTES };
 
     /// A fault is one of the kind, whatever inputs stand before.
     ghost faults: { (earlier : List (List ℕ)) (text : List ℕ) (row : ℕ) (cause : Cause)

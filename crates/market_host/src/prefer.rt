@@ -19,7 +19,7 @@ use crate::sessions::take_sessions;
 use crate::trouble::Trouble;
 use course_catalog::Catalog;
 use market_edge::{Gate, Passed, Shelf};
-use market_units::NoMemory;
+use market_units::{MAX_COMMANDS, MAX_SESSIONS, NoMemory};
 use market_words::Form;
 use preference_desk::Entry;
 use preference_text::preferences_text;
@@ -67,8 +67,8 @@ fn text_of<R: Threads + Wait + Sync>(
     streams: &[Vec<Command>],
     gate: &(dyn Gate + Sync),
 ) -> Result<Vec<u8>, NoMemory>
-    requires sessions { (1 ≤ length streams.now) × (length streams.now ≤ 64) }
-    requires commands { command_count streams.now ≤ 200000 }
+    requires sessions { (1 ≤ length streams.now) × (length streams.now ≤ MAX_SESSIONS) }
+    requires commands { command_count streams.now ≤ MAX_COMMANDS }
     requires told { (sessions : List (List ℕ)) × AreStreams sessions (command_lists streams.now) }
     ensures { IfOk result (λ text. (journal : List Entry) × IsLegalJournal (market_names catalog.now.sections roll.now.students) journal
         × MergesStreams (command_lists streams.now) journal × (text.items ≡ texts.preferences_text catalog.now.sections roll.now.students journal)) }

@@ -17,7 +17,7 @@ use crate::market::{Market, take_market};
 use crate::sessions::take_sessions;
 use crate::trouble::Trouble;
 use market_edge::Shelf;
-use market_units::MAX_TEXT_BYTES;
+use market_units::{MAX_SESSIONS, MAX_TEXT_BYTES};
 use std::alloc::Global;
 use utility_language::Command;
 
@@ -41,7 +41,7 @@ pub fn take_published<H: Shelf>(
     text: &str,
     sessions: &[String],
 ) -> Result<Published, Trouble>
-    requires count { (1 ≤ length sessions.now) × (length sessions.now ≤ 64) }
+    requires count { (1 ≤ length sessions.now) × (length sessions.now ≤ MAX_SESSIONS) }
     ensures catalog { IfOk result
         (λ published. IsRead kind.Catalog (H.holds shelf.old) catalog.now
         (λ bytes. catalog_of bytes ≡ Ok published.market.catalog)) }

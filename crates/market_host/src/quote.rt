@@ -26,12 +26,16 @@ use course_catalog::Catalog;
 use demand_oracle::{Workspace, demand};
 use market_edge::Shelf;
 use market_menus::menus;
-use market_units::{MAX_COMMANDS, MAX_SECTIONS, Name, NoMemory, SectionSet, Tokens};
+use market_units::{
+    MAX_COMMANDS, MAX_COURSES, MAX_CREDITS, MAX_SECTIONS, Name, NoMemory, SectionSet, Tokens,
+};
 use market_words::Form;
 use preference_desk::Desk;
 use std::alloc::Global;
 use student_roll::Roll;
 use utility_language::Command;
+
+const SECTIONS: usize = MAX_SECTIONS as usize;
 
 /// The text of `quote`, or why there is none.
 pub fn quote<H: Shelf>(
@@ -70,9 +74,9 @@ fn best_text(
     credits: u16,
     courses: u8,
 ) -> Result<Vec<u8>, NoMemory>
-    requires few { length commands.now ≤ 200000 }
-    requires credits { credits ≤ 800 }
-    requires courses { courses ≤ 8 }
+    requires few { length commands.now ≤ MAX_COMMANDS }
+    requires credits { credits ≤ MAX_CREDITS }
+    requires courses { courses ≤ MAX_COURSES }
     ensures { IfOk result
         (λ text. IsQuote catalog.now.sections (single_student (name_bytes name) credits courses)
         commands.now text.items) }
@@ -89,12 +93,12 @@ fn best_text(
 // The best bundle of the menu where nothing has a price and every section is allowed.
 fn best_of(alloc: Global, menu: &Menu) -> Result<Bundle, NoMemory>
     ensures { IfOk result
-        (λ bundle. IsBest (wishes_of menu.now) (λ _. 0) 0 (λ s. nat_lt s 400)
+        (λ bundle. IsBest (wishes_of menu.now) (λ _. 0) 0 (λ s. nat_lt s MAX_SECTIONS)
         (sections_of bundle)) }
 {
     let mut workspace = Workspace::reserve(alloc)?;
     let _few_places = menu.len();
-    let prices = [Tokens(0); 400];
+    let prices = [Tokens(0); SECTIONS];
     let allowed = SectionSet::full(MAX_SECTIONS);
     Ok(demand(&mut workspace, menu, &prices, Tokens(0), &allowed))
 }
@@ -106,7 +110,7 @@ fn desk_after(
     roll: &Roll,
     commands: &[Command],
 ) -> Result<Desk, NoMemory>
-    requires { length commands.now ≤ 200000 }
+    requires { length commands.now ≤ MAX_COMMANDS }
     ensures names { IfOk result
         (λ desk. names_of desk ≡ market_names catalog.now.sections roll.now.students) }
     ensures state { IfOk result

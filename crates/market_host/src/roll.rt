@@ -8,13 +8,14 @@ ghost use Rattle.market_host.specs.Refusals.{IsNoRoll};
 use crate::Cause;
 use crate::input::Input;
 use crate::trouble::Trouble;
+use market_units::MAX_STUDENTS;
 use std::alloc::Global;
 use student_roll::{Roll, RollRefusal, read_roll};
 
 // The header is row 1, and a table has at most 2,000 students behind it.
 const HEADER_ROW: u32 = 1;
 
-const SURPLUS_ROW: u32 = 2002;
+const SURPLUS_ROW: u32 = MAX_STUDENTS as u32 + 2;
 
 impl Input for Roll {
     ghost kind = { kinds.Roll };

@@ -10,7 +10,7 @@ use crate::session::take_session;
 use crate::stream_item::StreamItem;
 use crate::trouble::Trouble;
 use market_edge::Shelf;
-use market_units::MAX_COMMANDS;
+use market_units::{MAX_COMMANDS, MAX_SESSIONS};
 use std::alloc::Global;
 
 /// What the sessions of these names say, which are numbered from `first` on: a stream for each, at
@@ -21,7 +21,7 @@ pub fn take_sessions<H: Shelf, S: StreamItem>(
     names: &[String],
     first: u16,
 ) -> Result<Vec<Vec<S>>, Trouble>
-    requires count { (1 ≤ length names.now) × (length names.now ≤ 64) }
+    requires count { (1 ≤ length names.now) × (length names.now ≤ MAX_SESSIONS) }
     requires first { first ≤ 100 }
     ensures read { IfOk result
         (λ streams. (texts : List (List ℕ)) × (room : ℕ)

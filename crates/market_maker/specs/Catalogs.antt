@@ -1,6 +1,7 @@
 -- The catalogue of a made market. Its sections are numbered from 1.
 use Rattle.std.specs.Prelude.{ℕ, ◌+◌, ◌*◌, ◌/◌, ◌%◌, List, [], ◌∷◌, ◌++◌, codes, map, slice_index}
 use Rattle.std.specs.Fmt.{decimal}
+use Rattle.timetable_rules.specs.Spelling.{clock}
 use Rattle.market_maker.specs.Lines.{numbers_to, row_of, text_of}
 
 -- `C1`, `C2` ..
@@ -10,14 +11,6 @@ section_name j = codes "C" ++ decimal j
 -- two sections a course: `K1`, `K1`, `K2`, `K2` ..
 abbrev pub course_name : ℕ → List ℕ
 course_name j = codes "K" ++ decimal ((j + 1) / 2)
-
--- a number below 100 with two digits
-abbrev pub two_digits : ℕ → List ℕ
-two_digits n = (48 + n / 10) ∷ (48 + n % 10) ∷ []
-
--- the hour and the minute, so many minutes after midnight
-abbrev pub clock : ℕ → List ℕ
-clock minutes = two_digits (minutes / 60) ++ two_digits (minutes % 60)
 
 -- the first letter of the day of a section's meeting, from Monday to Friday, where R is Thursday
 abbrev pub day_of : ℕ → ℕ

@@ -7,7 +7,7 @@ use crate::lines::{put_clock, put_name_field, put_number_field};
 use market_units::NoMemory;
 use std::alloc::Global;
 
-// The catalogue of so many sections, where there are so many students.
+/// The text of a catalogue of so many sections. Their seats go by the number of students.
 pub(crate) fn catalog_text(alloc: Global, students: u16, sections: u16) -> Result<Vec<u8>, NoMemory>
     requires { sections < 65535 }
     ensures { IfOk result (λ text. text.items ≡ catalog_text students sections) }

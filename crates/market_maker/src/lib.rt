@@ -17,6 +17,3 @@ mod settings;
 mod wishes;
 
 pub use market::{Made, make};
-
-#[cfg(test)]
-mod tests;

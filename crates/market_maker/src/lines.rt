@@ -1,11 +1,11 @@
 // Parts of lines, written behind a text.
 ghost use Rattle.std.specs.Prelude.{◌≡◌, ◌<◌, [], ◌∷◌, ◌++◌, OnOk};
 ghost use Rattle.std.specs.Fmt.{decimal, signed_decimal};
-ghost use Rattle.market_maker.specs.Catalogs.{clock, two_digits};
+ghost use Rattle.timetable_rules.specs.Spelling.{clock, two_digits};
 
 use market_units::{NoMemory, put_number};
 
-// Puts the number behind the text.
+/// Puts the number in decimal digits behind the text, without leading zeros.
 pub(crate) fn put_decimal(text: &mut Vec<u8>, n: u64) -> Result<(), NoMemory>
     ensures { OnOk result (text.new.items ≡ text.old.items ++ decimal n) }
 {
@@ -15,7 +15,7 @@ pub(crate) fn put_decimal(text: &mut Vec<u8>, n: u64) -> Result<(), NoMemory>
     Ok(())
 }
 
-// Puts the number behind the text, with a minus sign where it is below 0.
+/// Puts the number in decimal digits behind the text, with a minus sign where it is below 0.
 pub(crate) fn put_signed(text: &mut Vec<u8>, n: i8) -> Result<(), NoMemory>
     ensures { OnOk result (text.new.items ≡ text.old.items ++ signed_decimal n) }
 {
@@ -26,7 +26,7 @@ pub(crate) fn put_signed(text: &mut Vec<u8>, n: i8) -> Result<(), NoMemory>
     put_decimal(text, u64::from(n.unsigned_abs()))
 }
 
-// Puts the name behind the text: this letter and this number.
+/// Puts a made name behind the text: a letter that tells what it names, and a number.
 pub(crate) fn put_name(text: &mut Vec<u8>, letter: u8, number: u16) -> Result<(), NoMemory>
     ensures { OnOk result (text.new.items ≡ text.old.items ++ letter ∷ decimal number) }
 {
@@ -34,7 +34,7 @@ pub(crate) fn put_name(text: &mut Vec<u8>, letter: u8, number: u16) -> Result<()
     put_decimal(text, u64::from(number))
 }
 
-// Puts a space and the name behind the text.
+/// Puts a space and a made name behind the text.
 pub(crate) fn put_name_word(text: &mut Vec<u8>, letter: u8, number: u16) -> Result<(), NoMemory>
     ensures { OnOk result (text.new.items ≡ text.old.items ++ 32 ∷ letter ∷ decimal number) }
 {
@@ -42,7 +42,7 @@ pub(crate) fn put_name_word(text: &mut Vec<u8>, letter: u8, number: u16) -> Resu
     put_name(text, letter, number)
 }
 
-// Puts the name and a comma behind the text.
+/// Puts a made name and a comma behind the text, as a field of a table's row.
 pub(crate) fn put_name_field(text: &mut Vec<u8>, letter: u8, number: u16) -> Result<(), NoMemory>
     ensures { OnOk result
         (text.new.items ≡ text.old.items ++ (letter ∷ decimal number) ++ 44 ∷ []) }
@@ -52,7 +52,7 @@ pub(crate) fn put_name_field(text: &mut Vec<u8>, letter: u8, number: u16) -> Res
     Ok(())
 }
 
-// Puts the number and a comma behind the text.
+/// Puts a number and a comma behind the text, as a field of a table's row.
 pub(crate) fn put_number_field(text: &mut Vec<u8>, n: u16) -> Result<(), NoMemory>
     ensures { OnOk result (text.new.items ≡ text.old.items ++ decimal n ++ 44 ∷ []) }
 {
@@ -61,7 +61,8 @@ pub(crate) fn put_number_field(text: &mut Vec<u8>, n: u16) -> Result<(), NoMemor
     Ok(())
 }
 
-// Puts the time of day behind the text.
+/// Puts a time of day, given in minutes after midnight, behind the text: two digits of the hour and
+/// two of the minute.
 pub(crate) fn put_clock(text: &mut Vec<u8>, minutes: u16) -> Result<(), NoMemory>
     requires { minutes < 1440 }
     ensures { OnOk result (text.new.items ≡ text.old.items ++ clock minutes) }

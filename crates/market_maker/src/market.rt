@@ -1,5 +1,5 @@
 // The five texts together.
-ghost use Rattle.std.specs.Prelude.{◌≤◌, ◌≡◌, ◌^◌, IfOk};
+ghost use Rattle.std.specs.Prelude.{◌≤◌, ◌≡◌, IfOk};
 ghost use Rattle.market_maker.specs.Catalogs.{catalog_text};
 ghost use Rattle.market_maker.specs.Rolls.{roll_text};
 ghost use Rattle.market_maker.specs.Sessions.{first_text, second_text};
@@ -9,7 +9,7 @@ use crate::catalog::catalog_text;
 use crate::roll::roll_text;
 use crate::sessions::{first_text, second_text};
 use crate::settings::settings_text;
-use market_units::NoMemory;
+use market_units::{MAX_ACCEPT, MAX_SECTIONS, MAX_STUDENTS, NoMemory};
 use std::alloc::Global;
 
 /// A made market: its inputs, each as a text that begins without a byte order mark.
@@ -38,10 +38,10 @@ pub fn make(
     accept: u64,
 ) -> Result<Made, NoMemory>
     requires some_students { 1 ≤ students }
-    requires few_students { students ≤ 2000 }
+    requires few_students { students ≤ MAX_STUDENTS }
     requires some_sections { 1 ≤ sections }
-    requires few_sections { sections ≤ 400 }
-    requires accept { accept ≤ 10 ^ 12 }
+    requires few_sections { sections ≤ MAX_SECTIONS }
+    requires accept { accept ≤ MAX_ACCEPT }
     ensures catalog { IfOk result (λ made. made.catalog.items ≡ catalog_text students sections) }
     ensures roll { IfOk result (λ made. made.roll.items ≡ roll_text students) }
     ensures settings { IfOk result (λ made. made.settings.items ≡ settings_text seed accept) }

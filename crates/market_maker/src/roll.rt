@@ -7,7 +7,7 @@ use crate::lines::put_name;
 use market_units::NoMemory;
 use std::alloc::Global;
 
-// The roll of so many students.
+/// The text of a roll of so many students.
 pub(crate) fn roll_text(alloc: Global, students: u16) -> Result<Vec<u8>, NoMemory>
     ensures { IfOk result (λ text. text.items ≡ roll_text students) }
 {

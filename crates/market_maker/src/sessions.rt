@@ -7,7 +7,7 @@ use crate::wishes::{put_adjustment, put_ratings};
 use market_units::NoMemory;
 use std::alloc::Global;
 
-// The session of the students of odd number.
+/// The commands of the students of odd number, in the order of their numbers: the first session.
 pub(crate) fn first_text(
     alloc: Global,
     seed: u64,
@@ -20,7 +20,7 @@ pub(crate) fn first_text(
     session_text(alloc, seed, students, sections, 1)
 }
 
-// The session of the students of even number.
+/// The commands of the students of even number, in the order of their numbers: the second session.
 pub(crate) fn second_text(
     alloc: Global,
     seed: u64,

@@ -6,7 +6,8 @@ use crate::lines::put_decimal;
 use market_units::NoMemory;
 use std::alloc::Global;
 
-// The settings with this seed and this accepted error.
+/// The text of the settings with this seed and this accepted clearing error. The others are the
+/// same in each made market.
 pub(crate) fn settings_text(alloc: Global, seed: u64, accept: u64) -> Result<Vec<u8>, NoMemory>
     ensures { IfOk result (λ text. text.items ≡ settings_text seed accept) }
 {

@@ -12,7 +12,8 @@ use market_units::NoMemory;
 // A student rates at most so many sections.
 const MOST_RATED: u16 = 20;
 
-// Puts the lines of the student's ratings behind the text.
+/// Puts a line behind the text for each section that the student rates. How it rates them goes by
+/// the seed.
 pub(crate) fn put_ratings(
     text: &mut Vec<u8>,
     seed: u64,
@@ -38,7 +39,8 @@ pub(crate) fn put_ratings(
     Ok(())
 }
 
-// Puts the line of the student's adjustment behind the text, where at least two sections are rated.
+/// Puts the line of the student's one adjustment behind the text: of the first two sections that it
+/// rates. Where it rates fewer, nothing is put.
 pub(crate) fn put_adjustment(
     text: &mut Vec<u8>,
     seed: u64,

@@ -4,18 +4,18 @@ ghost use Rattle.market_menus.specs.ClashWords.{AreClashWords, IsClashWord, word
 
 use bundle_rules::Rated;
 use course_catalog::Catalog;
-use market_units::{NoMemory, SectionNo};
+use market_units::{MAX_RATINGS, NoMemory, SectionNo};
 use std::alloc::Global;
 
-// The word of each place: its bit t tells whether the catalogue lets the place's section clash with
-// that of place t. Bits above the last place are not set, so that a student has one menu, and an
-// order one publication.
+/// The word of each place: its bit t tells whether the catalogue lets the place's section clash
+/// with that of place t. Bits above the last place are not set, so that a student has one menu, and
+/// an order one publication.
 pub(crate) fn clashes_of(
     alloc: Global,
     catalog: &Catalog,
     places: &[Rated],
 ) -> Result<Vec<u64>, NoMemory>
-    requires few { length places.now ≤ 60 }
+    requires few { length places.now ≤ MAX_RATINGS }
     requires sections { All (λ rated. rated.section.0 < length catalog.now.sections) places.now }
     ensures { IfOk result (λ words. AreClashWords catalog.now.sections places.now words.items) }
 {
@@ -28,7 +28,7 @@ pub(crate) fn clashes_of(
 
 // The word of a section: its bit t tells whether it clashes with the section of place t.
 fn clash_word(catalog: &Catalog, places: &[Rated], section: SectionNo) -> u64
-    requires few { length places.now ≤ 60 }
+    requires few { length places.now ≤ MAX_RATINGS }
     requires section { section.0 < length catalog.now.sections }
     requires sections { All (λ rated. rated.section.0 < length catalog.now.sections) places.now }
     ensures { IsClashWord catalog.now.sections places.now section.0 result }

@@ -9,6 +9,3 @@ mod pairs;
 mod places;
 
 pub use menu::menus;
-
-#[cfg(test)]
-mod tests;

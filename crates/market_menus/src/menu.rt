@@ -10,10 +10,13 @@ use crate::pairs::pairs_of;
 use crate::places::places_of;
 use bundle_rules::Menu;
 use course_catalog::Catalog;
-use market_units::{NoMemory, StudentNo};
+use market_units::{MAX_RATINGS, NoMemory, StudentNo};
 use preference_desk::Preferences;
 use std::alloc::Global;
 use student_roll::Roll;
+
+// At most this many places are on a menu.
+const PLACES: u8 = MAX_RATINGS as u8;
 
 /// The menu of each student of the roll, in file order: the sections that the student rates, with
 /// the catalogue's courses, credits and clashes, the adjustments of the pairs both of whose
@@ -67,6 +70,6 @@ fn menu_of(
         roll.credits(student),
         roll.courses(student),
     )?;
-    prove!(menu.len() <= 60);
+    prove!(menu.len() <= PLACES);
     Ok(menu)
 }

@@ -5,16 +5,17 @@ ghost use Rattle.preference_desk.specs.Rows.{pair_entry};
 ghost use Rattle.market_menus.specs.PairPlaces.{place_among, pair_among};
 
 use bundle_rules::{Rated, place_among};
-use market_units::{NoMemory, SectionNo};
+use market_units::{MAX_RATINGS, NoMemory, SectionNo};
 use std::alloc::Global;
 
-// The pairs whose sections both have places, by these places.
+/// The adjustments of those pairs whose two sections both have places, in their order; each names
+/// the two places instead of the sections. The only error is that memory was not given.
 pub(crate) fn pairs_of(
     alloc: Global,
     places: &[Rated],
     pairs: &[(SectionNo, SectionNo, i16)],
 ) -> Result<Vec<(u8, u8, i16)>, NoMemory>
-    requires { length places.now ≤ 60 }
+    requires { length places.now ≤ MAX_RATINGS }
     ensures { IfOk result
         (λ kept. kept.items
         ≡ filter_map (λ pair. pair_among places.now (pair_entry pair)) pairs.now) }
@@ -30,7 +31,7 @@ pub(crate) fn pairs_of(
 
 // The places of the two sections, with their adjustment, where both have one.
 fn pair_among(places: &[Rated], pair: (SectionNo, SectionNo, i16)) -> Option<(u8, u8, i16)>
-    requires { length places.now ≤ 60 }
+    requires { length places.now ≤ MAX_RATINGS }
     ensures { result ≡ pair_among places.now (pair_entry pair) }
 {
     let (first, second, adjustment) = pair;
@@ -41,7 +42,7 @@ fn pair_among(places: &[Rated], pair: (SectionNo, SectionNo, i16)) -> Option<(u8
 
 // The place of the section, where it has one.
 fn place_of(places: &[Rated], section: SectionNo) -> Option<u8>
-    requires { length places.now ≤ 60 }
+    requires { length places.now ≤ MAX_RATINGS }
     ensures { result ≡ place_among places.now section.0 }
 {
     let place = place_among(places, section);

@@ -8,8 +8,8 @@ use course_catalog::Catalog;
 use market_units::{NoMemory, SectionNo};
 use std::alloc::Global;
 
-// The places of a menu: the rated sections in their order, with the catalogue's courses and
-// credits.
+/// The places of a menu: the rated sections in their order, with the catalogue's courses and
+/// credits. The only error is that memory was not given.
 pub(crate) fn places_of(
     alloc: Global,
     catalog: &Catalog,

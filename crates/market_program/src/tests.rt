@@ -27,6 +27,7 @@ mod prefer;
 mod quote;
 mod runs;
 mod shelf;
+mod words;
 mod workers;
 
 use cases::{assert_told, try_cases, try_run};

@@ -7,8 +7,10 @@ use Rattle.market_units.specs.declared.units.Tokens.{Tokens}
 use Rattle.bundle_rules.specs.Demand.{price_in}
 use Rattle.bundle_rules.specs.Menus.{MenuData, wishes_of}
 use Rattle.bundle_rules.specs.Wishes.{AllRated, utility}
+use Rattle.demand_api.specs.declared.crowd.Crowd.{Crowd}
 use Rattle.demand_api.specs.Crowds.{CrowdData, Student}
-use Rattle.demand_api.specs.Made.{students_of}
+use Rattle.demand_api.specs.Parts.{students_of}
+use Rattle.demand_api.specs.Views.{data_of}
 use Rattle.aftermarket_stage.specs.Turns.{TurnData}
 use Rattle.market_settings.specs.declared.reader.Settings.{Settings}
 use Rattle.market_certificate.specs.Publications.{Proved, ProvedTurn, Publication}
@@ -73,12 +75,10 @@ by_menus (menu ∷ menus) [] bundles same are = absurd (omega arith)
 by_menus (menu ∷ menus) (budget ∷ budgets) [] same are = absurd are
 by_menus (menu ∷ menus) (budget ∷ budgets) (bundle ∷ bundles) same are = (are.0, by_menus menus budgets bundles (omega arith) are.1)
 
-pub rated_last : (menus : List MenuData) (budgets : List Tokens) (sections : ℕ) (seats : List ℕ) (settings : Settings) (lengths : Lengths) (p : Publication)
-    → length budgets ≡ length menus
-    → IsOutcome (record { students = students_of menus budgets; sections = sections }) seats settings lengths p → AreRatedBy menus p.allocation
-rated_last menus budgets sections seats settings lengths p same is =
-    by_menus menus budgets p.allocation same
-    (allocation_rated (record { students = students_of menus budgets; sections = sections }) seats settings lengths p is)
+pub rated_last : (crowd : Crowd) (seats : List ℕ) (settings : Settings) (lengths : Lengths) (p : Publication)
+    → IsOutcome (data_of crowd) seats settings lengths p → AreRatedBy crowd.menus.items p.allocation
+rated_last crowd seats settings lengths p is =
+    by_menus crowd.menus.items crowd.budgets.items p.allocation crowd.same (allocation_rated (data_of crowd) seats settings lengths p is)
 
 -- what they are worth, by the menus
 pub worth_told : (menus : List MenuData) (budgets : List Tokens) (bundles : List (List ℕ)) → length budgets ≡ length menus

@@ -3,20 +3,16 @@ use Rattle.std.specs.Prelude.{ℕ, ◌+◌, ℤ, List, [], ◌∷◌, ◌++◌, 
 use Rattle.std.specs.Fmt.{decimal, signed_decimal}
 use Rattle.std.specs.List.{zip}
 use Rattle.market_units.specs.Totals.{signed_total, total}
-use Rattle.bundle_rules.specs.Menus.{wishes_of}
-use Rattle.bundle_rules.specs.Wishes.{utility}
+use Rattle.bundle_rules.specs.Menus.{worth}
 use Rattle.demand_api.specs.Crowds.{CrowdData, Student}
 use Rattle.market_certificate.specs.Publications.{Proved, ProvedTurn, Publication}
 use Rattle.market_settings.specs.declared.reader.Settings.{Settings}
 use Rattle.published_market.specs.Publishing.{IsOutcome, Lengths}
 
--- what the student has of the bundle
-abbrev pub worth : Student × List ℕ → ℤ
-worth held = utility (wishes_of held.0.menu) held.1
-
 -- what all students have of their bundles, added up
 abbrev pub worth_of : List Student → List (List ℕ) → ℤ
-worth_of students bundles = signed_total worth (zip students bundles)
+worth_of students bundles =
+    signed_total (λ (held : Student × List ℕ). worth held.0.menu held.1) (zip students bundles)
 
 -- the bytes of all trees: those of the bundles and those of the turns
 abbrev pub tree_bytes : Publication → ℕ

@@ -6,7 +6,7 @@ ghost use Rattle.market_run.specs.Summaries.{line};
 use market_units::NoMemory;
 use std::alloc::Global;
 
-// Puts a line of a word and a number behind the text.
+/// Puts a line behind the text: a word, a space, and a number that is spelled already.
 pub(crate) fn put_line(text: &mut Vec<u8>, word: &[u8], number: &[u8]) -> Result<(), NoMemory>
     ensures { OnOk result (text.new.items ≡ text.old.items ++ line word.now number.now) }
 {
@@ -17,7 +17,7 @@ pub(crate) fn put_line(text: &mut Vec<u8>, word: &[u8], number: &[u8]) -> Result
     Ok(())
 }
 
-// The same with the spelling of a count.
+/// Puts a line behind the text: a word, a space, and a count in decimal digits.
 pub(crate) fn put_count(
     alloc: Global,
     text: &mut Vec<u8>,
@@ -30,7 +30,8 @@ pub(crate) fn put_count(
     put_line(text, word, number.as_bytes())
 }
 
-// The same with the spelling of a signed number.
+/// Puts a line behind the text: a word, a space, and a number in decimal digits, with a minus sign
+/// where it is below 0.
 pub(crate) fn put_signed(
     alloc: Global,
     text: &mut Vec<u8>,

@@ -1,6 +1,6 @@
 // The whole summary.
 ghost use Rattle.std.specs.Prelude.{◌≡◌, IfOk};
-ghost use Rattle.demand_api.specs.Made.{MakeCrowd, crowd_of};
+ghost use Rattle.demand_api.specs.Views.{data_of};
 ghost use Rattle.market_certificate.specs.Views.{publication_of};
 ghost use Rattle.published_market.specs.Publishing.{lengths_of};
 ghost use Rattle.market_run.specs.Summaries.{IsSomeOutcome, summary_text};
@@ -21,11 +21,14 @@ pub fn summary_text(
     crowd: &Crowd,
     published: &Published,
 ) -> Result<Vec<u8>, NoMemory>
-    requires crowd { MakeCrowd crowd.now.menus.items crowd.now.budgets.items crowd.now.sections }
-    requires outcome { IsSomeOutcome (crowd_of crowd.now.menus.items crowd.now.budgets.items crowd.now.sections)
-        (lengths_of published.now.turns published.now.rounds published.now.passes) (publication_of published.now.publication) }
-    ensures { IfOk result (λ text. text.items ≡ summary_text (crowd_of crowd.now.menus.items crowd.now.budgets.items crowd.now.sections)
-        (lengths_of published.now.turns published.now.rounds published.now.passes) (publication_of published.now.publication)) }
+    requires { IsSomeOutcome (data_of crowd.now)
+        (lengths_of published.now.turns published.now.rounds published.now.passes)
+        (publication_of published.now.publication) }
+    ensures { IfOk result
+        (λ text. text.items
+        ≡ summary_text (data_of crowd.now)
+        (lengths_of published.now.turns published.now.rounds published.now.passes)
+        (publication_of published.now.publication)) }
 {
     let publication = &published.publication;
     let seats = used_seats(&publication.used);

@@ -8,8 +8,9 @@ ghost use Rattle.market_run.specs.Sums.{AreRatedBy, worth_by_menus};
 
 use bundle_rules::{Bundle, Menu, utility};
 use market_certificate::{Proved, ProvedTurn};
+use market_units::MAX_STUDENTS;
 
-// The seats that are used, of all sections.
+/// The used seats of all sections together. Of each pair the used seats come first.
 pub(crate) fn used_seats(used: &[(u16, u16)]) -> u128
     ensures { result ≡ total (λ seats. seats.0) used.now }
 {
@@ -20,7 +21,7 @@ pub(crate) fn used_seats(used: &[(u16, u16)]) -> u128
     count
 }
 
-// The bytes of the trees of bundles.
+/// How many bytes the trees of these bundles have together.
 pub(crate) fn bundle_trees(bundles: &[Proved]) -> u128
     ensures value { result ≡ total (λ proved. length proved.tree) (map proved_of bundles.now) }
     ensures most { result ≤ 2 ^ 64 * length bundles.now }
@@ -32,7 +33,7 @@ pub(crate) fn bundle_trees(bundles: &[Proved]) -> u128
     bytes
 }
 
-// The bytes of the trees of turns.
+/// How many bytes the trees of these turns have together.
 pub(crate) fn turn_trees(turns: &[ProvedTurn]) -> u128
     ensures value { result ≡ total (λ turn. length turn.tree) (map turn_of turns.now) }
     ensures most { result ≤ 2 ^ 64 * length turns.now }
@@ -44,9 +45,9 @@ pub(crate) fn turn_trees(turns: &[ProvedTurn]) -> u128
     bytes
 }
 
-// What the students with these menus have of their bundles, added up.
+/// The utilities of the bundles, added up, each by the menu at the same place.
 pub(crate) fn worth(menus: &[Menu], bundles: &[Bundle]) -> i64
-    requires few { length menus.now ≤ 2000 }
+    requires few { length menus.now ≤ MAX_STUDENTS }
     requires rated { AreRatedBy menus.now (map sections_of bundles.now) }
     ensures value { result ≡ worth_by_menus menus.now (map sections_of bundles.now) }
     ensures low { neg_ℤ (pos (2 ^ 31 * length menus.now)) ≤ℤ result }

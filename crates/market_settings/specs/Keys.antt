@@ -1,6 +1,7 @@
 -- The settings by name, in the order in which they are looked for.
 use Rattle.std.specs.Prelude.{ℕ, ◌^◌, ◌-◌, Bool, List, [], ◌∷◌, codes, bytes_eq}
 use Rattle.std.specs.List.{list_any}
+use Rattle.market_units.specs.declared.limits.TheConstants.{MAX_ACCEPT, MAX_PATIENCE, MAX_RAISE, MAX_SPREAD, MAX_STEP, MAX_TABU, MAX_TURNS}
 use Rattle.market_settings.specs.declared.keys.Key.{Key}
 use Rattle.market_settings.specs.declared.keys.Key.TheVariants.{Seed, Spread, Accept, Turns, Tabu, Patience, Steps, Raise}
 
@@ -37,10 +38,10 @@ least_of Raise = 0
 -- the greatest number of a setting; for the steps, of each step
 abbrev pub greatest_of : Key → ℕ
 greatest_of Seed = 2 ^ 64 - 1
-greatest_of Spread = 49
-greatest_of Accept = 1000000000000
-greatest_of Turns = 10000
-greatest_of Tabu = 1000
-greatest_of Patience = 10000
-greatest_of Steps = 100000
-greatest_of Raise = 50
+greatest_of Spread = MAX_SPREAD
+greatest_of Accept = MAX_ACCEPT
+greatest_of Turns = MAX_TURNS
+greatest_of Tabu = MAX_TABU
+greatest_of Patience = MAX_PATIENCE
+greatest_of Steps = MAX_STEP
+greatest_of Raise = MAX_RAISE

@@ -1,6 +1,7 @@
 -- What settings are in a JSON value.
 use Rattle.std.specs.Prelude.{ℕ, ◌&&◌, ◌||◌, List, [], ◌∷◌, Option, Some, None, option_map, option_and_then, if◌then◌else◌, Bool, false, not, nat_le}
 use Rattle.std.specs.Str.{is_utf8}
+use Rattle.market_units.specs.declared.limits.TheConstants.{MAX_STEPS}
 use Rattle.serde_json.specs.Data.{Data, Members, no_members, member, Items, no_items, item}
 use Rattle.serde_json.specs.Events.{items_len}
 use Rattle.serde_json.specs.Read.{read}
@@ -42,7 +43,7 @@ number_at key d =
 -- the step sizes that an array of 1 to 16 items is
 abbrev pub step_sizes_of : Items → Option (List ℕ)
 step_sizes_of items =
-    if nat_le 1 (items_len items) && nat_le (items_len items) 16
+    if nat_le 1 (items_len items) && nat_le (items_len items) MAX_STEPS
     then numbers_within (least_of Steps) (greatest_of Steps) items else None
 
 -- the step sizes of the settings, if they are in range

@@ -47,7 +47,7 @@ impl Key {
         }
     }
 
-    // The least number of the setting; for the steps, of each step.
+    /// The least number that the setting may have; for the steps, that each step may have.
     pub(crate) fn least(self) -> u64
         ensures { result ≡ least_of self }
     {
@@ -57,7 +57,7 @@ impl Key {
         }
     }
 
-    // The greatest number of the setting; for the steps, of each step.
+    /// The greatest number that the setting may have; for the steps, that each step may have.
     pub(crate) fn greatest(self) -> u64
         ensures { result ≡ greatest_of self }
     {
@@ -74,7 +74,7 @@ impl Key {
     }
 }
 
-// Whether a setting has this name.
+/// Whether a setting has this name. Capital and small letters differ.
 pub(crate) fn is_setting(name: &str) -> bool
     ensures { result ≡ is_setting name.now }
 {

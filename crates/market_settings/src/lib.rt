@@ -9,6 +9,3 @@ mod values;
 pub use keys::Key;
 pub use reader::{Settings, SettingsRefusal, read_settings};
 pub use step_sizes::{StepSizes, are_step_sizes};
-
-#[cfg(test)]
-mod tests;

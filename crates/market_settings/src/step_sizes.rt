@@ -56,9 +56,9 @@ pub fn are_step_sizes(sizes: &[u32]) -> bool
     is_step_count(sizes.len()) && sizes.iter().all(|&size| 1 <= size && size <= MAX_STEP)
 }
 
-// Whether this is a number of step sizes.
+/// Whether a list of step sizes may be so long: from 1 to 16.
 pub(crate) fn is_step_count(count: usize) -> bool
-    ensures { result ≡ (nat_le 1 count && nat_le count 16) }
+    ensures { result ≡ (nat_le 1 count && nat_le count MAX_STEPS) }
 {
     1 <= count && count <= MAX_STEPS
 }

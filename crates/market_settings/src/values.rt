@@ -9,10 +9,12 @@ ghost use Rattle.market_settings.specs.Values.{reading, whole_within, numbers_wi
 use crate::keys::is_setting;
 use crate::step_sizes::is_step_count;
 use crate::{Key, SettingsRefusal, StepSizes};
+use market_units::MAX_STEP;
 use serde_json::{Map, Value};
 use std::alloc::Global;
 
-// The value that the bytes read as.
+/// The JSON value that the bytes are; `NotJson` where they are none, `NoMemory` where memory was
+/// not given.
 pub(crate) fn read_value(alloc: Global, bytes: &[u8]) -> Result<Value, SettingsRefusal>
     ensures value { IfOk result (λ value. reading bytes.now ≡ Some (view value)) }
     ensures only { IfErr result
@@ -31,7 +33,7 @@ pub(crate) fn read_value(alloc: Global, bytes: &[u8]) -> Result<Value, SettingsR
     }
 }
 
-// Whether some member is no setting.
+/// Whether the object has a member whose name is not that of a setting.
 pub(crate) fn has_unknown(object: &Map<String, Value>) -> bool
     ensures { result ≡ has_unknown (members_view object.now.entries) }
 {
@@ -55,7 +57,8 @@ fn whole_within(value: &Value, least: u64, greatest: u64) -> Option<u64>
     Some(number)
 }
 
-// The number of a setting, which is in its range.
+/// The number that the object has for a setting. `Range` with the setting, where the member is
+/// missing, or is not a whole number from the least to the greatest that the setting may have.
 pub(crate) fn number_at(value: &Value, key: Key) -> Result<u64, SettingsRefusal>
     ensures value { MatchResult result (λ n. number_at key (view value.now) ≡ Some n)
         (λ e. (e ≡ SettingsRefusal.Range key) × (number_at key (view value.now) ≡ None)) }
@@ -70,7 +73,9 @@ pub(crate) fn number_at(value: &Value, key: Key) -> Result<u64, SettingsRefusal>
     Ok(number)
 }
 
-// The step sizes, which are in range.
+/// The step sizes that the object has, in their order. `Range` with the steps, where the member is
+/// missing, is no list, has none or too many, or one is out of range; `NoMemory` where memory was
+/// not given.
 pub(crate) fn step_sizes_at(alloc: Global, value: &Value) -> Result<StepSizes, SettingsRefusal>
     ensures sizes { IfOk result (λ sizes. step_sizes_in (view value.now) ≡ Some sizes) }
     ensures in_range { IfOk result AreStepSizes }
@@ -99,13 +104,14 @@ fn step_items(value: &Value) -> Option<&Vec<Value>>
 // The items as step sizes, if each is one.
 fn sizes_within(alloc: Global, items: &[Value]) -> Result<Vec<u32>, SettingsRefusal>
     ensures sizes { IfOk result
-        (λ sizes. numbers_within 1 100000 (items_view items.now) ≡ Some sizes.items) }
+        (λ sizes. numbers_within 1 MAX_STEP (items_view items.now) ≡ Some sizes.items) }
     ensures count { IfOk result (λ sizes. length sizes.items ≡ length items.now) }
-    ensures within { IfOk result (λ sizes. All (λ size. (1 ≤ size) × (size ≤ 100000)) sizes.items) }
+    ensures within { IfOk result
+        (λ sizes. All (λ size. (1 ≤ size) × (size ≤ MAX_STEP)) sizes.items) }
     ensures only { IfErr result
         (λ e. e ≢ SettingsRefusal.NoMemory
         → (e ≡ SettingsRefusal.Range Key.Steps)
-        × (numbers_within 1 100000 (items_view items.now) ≡ None)) }
+        × (numbers_within 1 MAX_STEP (items_view items.now) ≡ None)) }
 {
     let mut sizes = Vec::new(alloc);
     for item in items {

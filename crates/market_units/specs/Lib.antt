@@ -1,6 +1,8 @@
 pub mod Beginnings
+pub mod Counts
 pub mod EqualNames
 pub mod Laws
+pub mod Members
 pub mod Merges
 pub mod Name
 pub mod Names

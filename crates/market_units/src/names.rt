@@ -16,7 +16,7 @@ use std::hash::{Hash, Hasher};
 pub struct Name {
     // Ghost fields and no model: commands hold names and are passed by value more than once, and a
     // type with a model is `Copy` only with a law that its value gives the fields back.
-    room: [u8; 32],
+    room: [u8; MAX_NAME],
     len: u8,
     // What stands past the name is zeros, so that equal bytes make equal names.
     ghost holds: { HoldsName room len },

@@ -2,7 +2,7 @@
 ghost use Rattle.std.specs.Prelude.{◌≡◌, ◌<◌, ◌≤◌, ℕ, nat_lt};
 ghost use Rattle.std.specs.FinSet as set;
 
-use crate::SectionNo;
+use crate::{MAX_SECTIONS, SectionNo};
 use std::marker::Model;
 
 const WORDS: usize = 7;
@@ -43,7 +43,7 @@ impl SectionSet {
 
     /// The sections with ordinals below this number, which is at most 400.
     pub fn full(sections: u16) -> SectionSet
-        requires { sections ≤ 400 }
+        requires { sections ≤ MAX_SECTIONS }
         ensures { (s : ℕ) → set.contains result s ≡ nat_lt s sections }
     {
         let mut all = SectionSet::empty();
@@ -55,7 +55,7 @@ impl SectionSet {
 
     /// Whether the section, which is below 400, is in the set.
     pub fn has(&self, section: SectionNo) -> bool
-        requires { section.0 < 400 }
+        requires { section.0 < MAX_SECTIONS }
         ensures { result ≡ set.contains self.now section.0 }
     {
         let word = self.words[usize::from(section.0 / 64)];
@@ -65,7 +65,7 @@ impl SectionSet {
     /// The set with this section, which is below 400, and all that were in it.
     #[must_use]
     pub fn with(self, section: SectionNo) -> SectionSet
-        requires { section.0 < 400 }
+        requires { section.0 < MAX_SECTIONS }
         ensures { result ≡ set.insert self section.0 }
     {
         let mut words = self.words;
@@ -76,7 +76,7 @@ impl SectionSet {
     /// The set without this section, which is below 400, and with all others that were in it.
     #[must_use]
     pub fn without(self, section: SectionNo) -> SectionSet
-        requires { section.0 < 400 }
+        requires { section.0 < MAX_SECTIONS }
         ensures { result ≡ set.remove self section.0 }
     {
         let mut words = self.words;

@@ -1,17 +1,18 @@
 -- The forms of the command line. A word is its bytes.
 use Rattle.std.specs.Prelude.{ℕ, ◌≡◌, ◌≤◌, ◌<◌, ◌^◌, List, [], ◌∷◌, codes, drop, ◌++◌, length, take}
 use Rattle.std.specs.Fmt.{decimal}
+use Rattle.market_units.specs.declared.limits.TheConstants.{MAX_ACCEPT, MAX_COURSES, MAX_CREDITS, MAX_SECTIONS, MAX_SESSIONS, MAX_STUDENTS, MAX_WORKERS}
 use Rattle.market_units.specs.Name.{name_bytes}
 use Rattle.market_words.specs.declared.words.Form.{Form}
 use Rattle.market_words.specs.declared.words.Form.TheVariants.{Audit, Check, Demand, Explain, Hall, Make, Prefer, Quote, Run}
 
 -- words that name sessions or streams of requests: 1 to 64
 abbrev pub AreSessions : List (List ℕ) → Type 0
-AreSessions sessions = (1 ≤ length sessions) × (length sessions ≤ 64)
+AreSessions sessions = (1 ≤ length sessions) × (length sessions ≤ MAX_SESSIONS)
 
 -- a number of workers: 1 to 16
 abbrev pub AreWorkers : ℕ → Type 0
-AreWorkers workers = (1 ≤ workers) × (workers ≤ 16)
+AreWorkers workers = (1 ≤ workers) × (workers ≤ MAX_WORKERS)
 
 -- these words ask for this: `quote CAT SES NAME CREDITS COURSES`, `prefer CAT STU SES..`, `demand W
 -- CAT STU SET PRICES SES..`, `run W CAT STU SET SES..`, `make W SEED STUDENTS SECTIONS ACCEPT`,
@@ -21,7 +22,7 @@ abbrev pub HasForm : List (List ℕ) → Form → Type 0
 HasForm words (Quote name credits courses) =
     (catalog : List ℕ) × (session : List ℕ)
     × (words ≡ codes "quote" ∷ catalog ∷ session ∷ name_bytes name ∷ decimal credits ∷ decimal courses ∷ [])
-    × (credits ≤ 800) × (courses ≤ 8)
+    × (credits ≤ MAX_CREDITS) × (courses ≤ MAX_COURSES)
 HasForm words Prefer =
     (catalog : List ℕ) × (roll : List ℕ) × (sessions : List (List ℕ))
     × (words ≡ codes "prefer" ∷ catalog ∷ roll ∷ sessions) × AreSessions sessions
@@ -34,8 +35,8 @@ HasForm words (Run workers) =
     × (words ≡ codes "run" ∷ decimal workers ∷ catalog ∷ roll ∷ settings ∷ sessions) × AreWorkers workers × AreSessions sessions
 HasForm words (Make workers seed students sections accept) =
     (words ≡ codes "make" ∷ decimal workers ∷ decimal seed ∷ decimal students ∷ decimal sections ∷ decimal accept ∷ [])
-    × AreWorkers workers × (seed < 2 ^ 64) × (1 ≤ students) × (students ≤ 2000) × (1 ≤ sections)
-    × (sections ≤ 400) × (accept ≤ 10 ^ 12)
+    × AreWorkers workers × (seed < 2 ^ 64) × (1 ≤ students) × (students ≤ MAX_STUDENTS)
+    × (1 ≤ sections) × (sections ≤ MAX_SECTIONS) × (accept ≤ MAX_ACCEPT)
 HasForm words Check =
     (catalog : List ℕ) × (roll : List ℕ) × (settings : List ℕ) × (text : List ℕ)
     × (sessions : List (List ℕ))

@@ -18,20 +18,20 @@ RoundsRaise =
     → ArePricesFor crowd before → IsRoundAt crowd seats before after s price
     → RaisesWithinTop crowd before after s
 
--- so the elimination ends, from each start
+-- from each start, prices for the crowd, the elimination of oversubscription ends
 abbrev pub EliminationEnds : Type 0
 EliminationEnds =
     (crowd : CrowdData) (seats : List ℕ) (start : List Tokens) → ArePricesFor crowd start
     → (vectors : List (List Tokens)) × IsElimination crowd seats start vectors
 
--- with no section over its seats
+-- at the prices that the elimination leaves, no section has more students than seats
 abbrev pub SettledWithinSeats : Type 0
 SettledWithinSeats =
     (crowd : CrowdData) (seats : List ℕ) (start prices : List Tokens) (rounds : ℕ)
     → IsSettled crowd seats start prices rounds
     → AreCountsWithin crowd.sections (count crowd (price_in prices)) seats
 
--- and it is one
+-- from one start there is one elimination alone
 abbrev pub OneElimination : Type 0
 OneElimination =
     (crowd : CrowdData) (seats : List ℕ) (start : List Tokens) (one other : List (List Tokens))

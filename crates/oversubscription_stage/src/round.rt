@@ -6,17 +6,17 @@ ghost use Rattle.own_price.specs.Holding.{Holds};
 ghost use Rattle.oversubscription_stage.specs.Rounds.{AreCountsWithin, IsMostOver, IsRound};
 
 use demand_api::Demands;
-use market_units::{NoMemory, SectionNo};
+use market_units::{MAX_SECTIONS, NoMemory, SectionNo};
 use own_price::Held;
 use std::alloc::Global;
 use std::sync::Wait;
 use std::thread::Threads;
 
-// The section of greatest excess, the lowest ordinal among equals, or `None` where no count exceeds
-// its seats.
+/// The section with the most students too many, the lowest ordinal among equals; `None` where no
+/// section has more students than seats.
 pub(crate) fn most_over(held: &Held, seats: &[u16]) -> Option<SectionNo>
     requires seats { length seats.now ≡ length held.now.prices }
-    requires few { length seats.now ≤ 400 }
+    requires few { length seats.now ≤ MAX_SECTIONS }
     ensures some { IfSome result
         (λ section. IsMostOver (length seats.now) (λ s. holders s held.now.bundles) seats.now
         section.0) }
@@ -36,8 +36,8 @@ pub(crate) fn most_over(held: &Held, seats: &[u16]) -> Option<SectionNo>
     most
 }
 
-// Raises the price of a section to the least at which at most its seats and half of those who are
-// too many take it.
+/// Raises the price of this section to the least one at which at most its seats and half of those
+/// who are too many, rounded down, take it. The bundles that are held follow.
 pub(crate) fn raise_most<R: Threads + Wait + Sync, D: Demands>(
     rt: &R,
     alloc: Global,

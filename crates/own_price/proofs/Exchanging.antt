@@ -8,7 +8,7 @@ use Rattle.std.proofs.lemmas.List.Elements.{All-append, All-cons}
 use Rattle.market_units.specs.declared.units.StudentNo.{StudentNo}
 use Rattle.bundle_rules.specs.declared.bundle.Bundle.{Bundle}
 use Rattle.bundle_rules.specs.Bundles.{sections_of}
-use Rattle.bundle_rules.specs.Sets.{has}
+use Rattle.market_units.specs.Members.{has}
 use Rattle.own_price.specs.Exchanges.{exchanged, IsListed, AreHolders}
 
 pub exchanged_more : (bundles : List Bundle) (students : List StudentNo) (others : List Bundle) (i : ℕ) (d : StudentNo) (e : Bundle) → i < length students

@@ -8,7 +8,7 @@ use Rattle.market_units.specs.declared.units.StudentNo.{StudentNo}
 use Rattle.market_units.specs.declared.units.Tokens.{Tokens}
 use Rattle.bundle_rules.specs.declared.bundle.Bundle.{Bundle}
 use Rattle.bundle_rules.specs.Bundles.{sections_of}
-use Rattle.bundle_rules.specs.Sets.{has}
+use Rattle.market_units.specs.Members.{has}
 use Rattle.bundle_rules.specs.Menus.{wishes_of}
 use Rattle.bundle_rules.specs.Places.{places_from}
 use Rattle.bundle_rules.specs.Demand.{price_in}

@@ -2,7 +2,7 @@
 use Rattle.std.specs.Prelude.{ℕ, ◌<◌, ◌≤◌, ◌≡◌, ◌⊎◌, true, List, [], ◌∷◌, All, length, slice_index_or, slice_set}
 use Rattle.market_units.specs.declared.units.StudentNo.{StudentNo}
 use Rattle.bundle_rules.specs.declared.bundle.Bundle.{Bundle}
-use Rattle.bundle_rules.specs.Sets.{has}
+use Rattle.market_units.specs.Members.{has}
 
 -- each listed student's bundle is the one at the same place of the other list
 abbrev pub exchanged : List Bundle → List StudentNo → List Bundle → List Bundle

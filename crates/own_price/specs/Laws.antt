@@ -1,6 +1,6 @@
 -- The laws of a section's own price.
 use Rattle.std.specs.Prelude.{ℕ, ◌≤◌, ◌≡◌, Bool, false, List}
-use Rattle.bundle_rules.specs.Sets.{has}
+use Rattle.market_units.specs.Members.{has}
 use Rattle.bundle_rules.specs.Wishes.{Wishes}
 use Rattle.bundle_rules.specs.Demand.{IsBest}
 use Rattle.demand_api.specs.Crowds.{CrowdData, top, count}

@@ -1,22 +1,23 @@
 // Bundles with a count for each section, and bundles that are exchanged for others.
 ghost use Rattle.std.specs.Prelude.{◌≡◌, ◌<◌, ◌≤◌, ℕ, IfOk, All, length, map, true, slice_set};
-ghost use Rattle.bundle_rules.specs.Sets.{has};
+ghost use Rattle.market_units.specs.Members.{has};
 ghost use Rattle.bundle_rules.specs.Bundles.{sections_of};
 ghost use Rattle.own_price.specs.Kept.{AreWithin, IsTally};
 ghost use Rattle.own_price.specs.Exchanges.{exchanged};
 
 use bundle_rules::Bundle;
 use demand_api::{count_bundle, uncount_bundle};
-use market_units::{NoMemory, StudentNo};
+use market_units::{MAX_STUDENTS, NoMemory, StudentNo};
 use std::alloc::Global;
 
-// How many of the bundles have each section.
+/// How many of these bundles have each section, by ordinal. The bundles have no sections beyond the
+/// given number of sections.
 pub(crate) fn tally(
     alloc: Global,
     sections: usize,
     bundles: &[Bundle],
 ) -> Result<Vec<u32>, NoMemory>
-    requires few { length bundles.now ≤ 2000 }
+    requires few { length bundles.now ≤ MAX_STUDENTS }
     requires within { AreWithin sections (map sections_of bundles.now) }
     ensures { IfOk result (λ counts. IsTally sections bundles.now counts.items) }
 {
@@ -27,7 +28,8 @@ pub(crate) fn tally(
     Ok(counts)
 }
 
-// Gives each listed student another bundle.
+/// Gives each listed student the bundle at the same place of the other list, and keeps the counts
+/// of the sections in step. A student who is listed twice has the later bundle.
 pub(crate) fn exchange_all(
     bundles: &mut [Bundle],
     counts: &mut [u32],

@@ -10,7 +10,7 @@ use crate::exchange::{exchange_all, tally};
 use crate::holders::{all_students, holders};
 use bundle_rules::Bundle;
 use demand_api::Demands;
-use market_units::{NoMemory, SectionNo, Tokens};
+use market_units::{MAX_STUDENTS, NoMemory, SectionNo, Tokens};
 use std::alloc::Global;
 use std::marker::Model;
 use std::sync::Wait;
@@ -85,7 +85,7 @@ impl Held {
     pub fn count(&self, section: SectionNo) -> u32
         requires { section.0 < length self.now.prices }
         ensures value { result ≡ holders section.0 self.now.bundles }
-        ensures few { result ≤ 2000 }
+        ensures few { result ≤ MAX_STUDENTS }
     {
         self.counts[usize::from(section.0)]
     }

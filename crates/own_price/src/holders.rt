@@ -5,10 +5,10 @@ ghost use Rattle.bundle_rules.specs.Places.{places_from};
 ghost use Rattle.own_price.specs.Exchanges.{AreHolders};
 
 use bundle_rules::Bundle;
-use market_units::{NoMemory, SectionNo, StudentNo};
+use market_units::{MAX_STUDENTS, NoMemory, SectionNo, StudentNo};
 use std::alloc::Global;
 
-// All students, in file order.
+/// The numbers of so many students, from 0, in file order.
 pub(crate) fn all_students(alloc: Global, count: u16) -> Result<Vec<StudentNo>, NoMemory>
     ensures { IfOk result
         (λ students. map (λ student. student.0) students.items ≡ places_from 0 count) }
@@ -20,14 +20,15 @@ pub(crate) fn all_students(alloc: Global, count: u16) -> Result<Vec<StudentNo>, 
     Ok(students)
 }
 
-// The students whose bundle has the section. One pass over the bundles is little beside the
-// holders' demands, and a table of holders would want memory while bundles are exchanged.
+/// The students whose bundle has the section, in file order. One pass over the bundles is little
+/// beside the holders' demands, and a table of holders would want memory while bundles are
+/// exchanged.
 pub(crate) fn holders(
     alloc: Global,
     bundles: &[Bundle],
     section: SectionNo,
 ) -> Result<Vec<StudentNo>, NoMemory>
-    requires { length bundles.now ≤ 2000 }
+    requires { length bundles.now ≤ MAX_STUDENTS }
     ensures { IfOk result
         (λ students. AreHolders section.0 (map sections_of bundles.now) students.items) }
 {

@@ -2,6 +2,7 @@
 use Rattle.std.specs.Prelude.{ℕ, pos, Bool, true, false, not, ◌&&◌, List, [], ◌∷◌, if◌then◌else◌, nat_lt, nat_le, int_le, slice_index_or, slice_set, unsigned_abs}
 use Rattle.std.specs.FinMap.{contains_key, len}
 use Rattle.std.specs.Str.{bytes_eq}
+use Rattle.market_units.specs.declared.limits.TheConstants.{MAX_ADJUSTMENT, MAX_PAIRS, MAX_RATING, MAX_RATINGS}
 use Rattle.market_units.specs.Name.{name_bytes}
 use Rattle.utility_language.specs.declared.commands.Command.{Command}
 use Rattle.utility_language.specs.declared.commands.Command.TheVariants.{Rate, Pair, Clear, Close, Unreadable}
@@ -57,8 +58,9 @@ pairs_with_itself Unreadable = false
 
 -- a rating is not from 0 to 100, an adjustment not from -200 to 200
 abbrev pub is_out_of_range : Command → Bool
-is_out_of_range (Rate student section n) = not (int_le (pos 0) n && int_le n (pos 100))
-is_out_of_range (Pair student first second n) = nat_lt 200 (unsigned_abs n)
+is_out_of_range (Rate student section n) = not (int_le (pos 0) n && int_le n (pos MAX_RATING))
+is_out_of_range (Pair student first second n) =
+    nat_lt (unsigned_abs MAX_ADJUSTMENT) (unsigned_abs n)
 is_out_of_range (Clear student) = false
 is_out_of_range Close = false
 is_out_of_range Unreadable = false
@@ -67,12 +69,13 @@ is_out_of_range Unreadable = false
 abbrev pub has_no_room_to_rate : StudentPreferences → ℕ → ℕ → Bool
 has_no_room_to_rate preferences section rating =
     nat_lt 0 rating && not (contains_key preferences.ratings section)
-    && nat_le 60 (len preferences.ratings)
+    && nat_le MAX_RATINGS (len preferences.ratings)
 
 -- an adjustment other than 0 for a new pair, where there are 200
 abbrev pub has_no_room_to_pair : StudentPreferences → ℕ × ℕ → ℕ → Bool
 has_no_room_to_pair preferences pair size =
-    nat_lt 0 size && not (contains_key preferences.pairs pair) && nat_le 200 (len preferences.pairs)
+    nat_lt 0 size && not (contains_key preferences.pairs pair)
+    && nat_le MAX_PAIRS (len preferences.pairs)
 
 abbrev pub is_too_many : DeskNames → DeskState → Command → Bool
 is_too_many names state (Rate student section n) =

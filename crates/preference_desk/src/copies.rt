@@ -13,7 +13,7 @@ use market_units::{Name, NoMemory, SectionNo, StudentNo};
 use std::alloc::Global;
 use student_roll::Roll;
 
-// The names of the students, in file order.
+/// A copy of the students' names, in file order. The only error is that memory was not given.
 pub(crate) fn students_of(alloc: Global, roll: &Roll) -> Result<IndexSet<Name>, NoMemory>
     ensures { IfOk result
         (λ names. map name_bytes names.keys
@@ -27,7 +27,7 @@ pub(crate) fn students_of(alloc: Global, roll: &Roll) -> Result<IndexSet<Name>, 
     Ok(names)
 }
 
-// The names of the sections, in file order.
+/// A copy of the sections' names, in file order. The only error is that memory was not given.
 pub(crate) fn sections_of(alloc: Global, catalog: &Catalog) -> Result<IndexSet<Name>, NoMemory>
     ensures { IfOk result
         (λ names. map name_bytes names.keys
@@ -41,7 +41,7 @@ pub(crate) fn sections_of(alloc: Global, catalog: &Catalog) -> Result<IndexSet<N
     Ok(names)
 }
 
-// The names of the catalogue and of the roll, of which these are copies.
+/// The names of a market, from copies of the roll's and the catalogue's names.
 pub(crate) fn names_in_limits(
     catalog: &Catalog,
     roll: &Roll,

@@ -22,6 +22,3 @@ pub use entry::Entry;
 pub use preferences::Preferences;
 pub use reply::Reply;
 pub use shared::{Known, Told};
-
-#[cfg(test)]
-mod tests;

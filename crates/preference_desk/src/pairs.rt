@@ -3,12 +3,13 @@ ghost use Rattle.std.specs.Prelude.{◌≡◌, ◌≤◌, ◌<◌, ◌==◌, Non
 ghost use Rattle.std.specs.List.{position};
 ghost use Rattle.std.specs.Ordering.{is_eq, is_le};
 ghost use Rattle.std.specs.Vec.{vec_capacity};
+ghost use Rattle.market_units.specs.declared.limits.TheConstants.{MAX_PAIRS};
 ghost use Rattle.preference_desk.specs.Places.{place_in, stands};
 ghost use Rattle.preference_desk.specs.Rows.{ArePairs, pair_entry};
 ghost use Rattle.preference_desk.specs.StudentPreferences.{pair_cmp};
 
 use crate::rows;
-use market_units::{MAX_PAIRS, NoMemory, SectionNo};
+use market_units::{MAX_ADJUSTMENT, MAX_PAIRS, NoMemory, SectionNo};
 use std::alloc::Global;
 
 /// The adjustments of one student, pair by pair, in room that was taken once.
@@ -16,7 +17,7 @@ use std::alloc::Global;
 pub(crate) struct Pairs {
     items: Vec<(SectionNo, SectionNo, i16)>,
     ghost kept: { ArePairs items.items },
-    ghost room: { 200 ≤ vec_capacity items },
+    ghost room: { MAX_PAIRS ≤ vec_capacity items },
 }
 
 impl Pairs {
@@ -24,7 +25,8 @@ impl Pairs {
     ghost use Rattle.preference_desk.specs.StudentPreferences.{with_pair};
     ghost use Rattle.preference_desk.specs.PairsView.{pairs_in};
 
-    // No adjustments, with room for 200.
+    /// No adjustments, with room for as many as a student may have. The only error is that memory
+    /// was not given.
     pub(crate) fn new(alloc: Global) -> Result<Pairs, NoMemory>
         ensures { IfOk result (λ pairs. pairs_in pairs ≡ empty) }
     {
@@ -33,7 +35,8 @@ impl Pairs {
         })
     }
 
-    // The pairs and their adjustments, pairs ascending.
+    /// The pairs of sections and their adjustments, ascending by the first section and then by the
+    /// second.
     pub(crate) fn as_slice(&self) -> &[(SectionNo, SectionNo, i16)]
         ensures entries { map pair_entry result.now ≡ entries (pairs_in self.now) }
         ensures kept { ArePairs result.now }
@@ -41,16 +44,16 @@ impl Pairs {
         &self.items
     }
 
-    // The pair's adjustment becomes this, and 0 takes it out; `false`, and nothing changes, where
-    // there is no room for one more.
+    /// The pair's adjustment becomes this, and 0 takes it out; `false`, and nothing changes, where
+    /// there is no room for one more.
     pub(crate) fn set(&mut self, first: SectionNo, second: SectionNo, n: i16) -> bool
         requires order { first.0 < second.0 }
-        requires small { unsigned_abs n ≤ 200 }
+        requires small { unsigned_abs n ≤ unsigned_abs MAX_ADJUSTMENT }
         ensures room { result
             ≡ not
             (nat_lt 0 (unsigned_abs n)
             && not (contains_key (pairs_in self.old) (first.0, second.0))
-            && nat_le 200 (len (pairs_in self.old))) }
+            && nat_le MAX_PAIRS (len (pairs_in self.old))) }
         ensures set { pairs_in self.new
             ≡ (if result then with_pair (pairs_in self.old) (first.0, second.0) n
             else pairs_in self.old) }
@@ -61,6 +64,7 @@ impl Pairs {
         rows::write(&mut self.items, MAX_PAIRS, place, stands, entry)
     }
 
+    /// Takes out all adjustments; the room stays.
     pub(crate) fn clear(&mut self)
         ensures { pairs_in self.new ≡ empty }
     {

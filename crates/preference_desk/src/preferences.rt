@@ -1,7 +1,7 @@
 // What all students want.
 use crate::pairs::Pairs;
 use crate::ratings::Ratings;
-use market_units::{NoMemory, SectionNo, StudentNo};
+use market_units::{MAX_ADJUSTMENT, MAX_RATING, NoMemory, SectionNo, StudentNo};
 use std::alloc::Global;
 
 /// What one student wants.
@@ -48,7 +48,8 @@ impl Preferences {
     ghost use Rattle.preference_desk.specs.Rows.{AreRatings, ArePairs, rating_entry, pair_entry};
     ghost use Rattle.preference_desk.specs.StudentPreferences.{no_preferences, with_rating, with_pair};
 
-    // Nothing is wanted by so many students.
+    /// So many students, of whom none has rated or adjusted anything. All memory for what they may
+    /// want is taken here, and the only error is that it was not given.
     pub(crate) fn new(alloc: Global, students: u16) -> Result<Preferences, NoMemory>
         ensures { IfOk result
             (λ preferences. preferences_of preferences ≡ replicate students no_preferences) }
@@ -95,10 +96,11 @@ impl Preferences {
         self.rows[usize::from(student.0)].pairs.as_slice()
     }
 
-    // Sets a rating; `false`, and nothing changes, where there is no room for it.
+    /// Sets a student's rating of a section, and 0 takes it back; `false`, and nothing changes,
+    /// where the student has no room for one more.
     pub(crate) fn rate(&mut self, student: StudentNo, section: SectionNo, rating: u8) -> bool
         requires student { student.0 < length (preferences_of self.old) }
-        requires small { rating ≤ 100 }
+        requires small { rating ≤ MAX_RATING }
         ensures room { result
             ≡ not (has_no_room_to_rate (wanted_by self.old student.0) section.0 rating) }
         ensures set { preferences_of self.new
@@ -110,7 +112,8 @@ impl Preferences {
         row.ratings.set(section, rating)
     }
 
-    // Sets an adjustment; `false`, and nothing changes, where there is no room for it.
+    /// Sets a student's adjustment of a pair of sections, and 0 takes it back; `false`, and nothing
+    /// changes, where the student has no room for one more.
     pub(crate) fn pair(
         &mut self,
         student: StudentNo,
@@ -120,7 +123,7 @@ impl Preferences {
     ) -> bool
         requires student { student.0 < length (preferences_of self.old) }
         requires order { first.0 < second.0 }
-        requires small { unsigned_abs n ≤ 200 }
+        requires small { unsigned_abs n ≤ unsigned_abs MAX_ADJUSTMENT }
         ensures room { result
             ≡ not
             (has_no_room_to_pair (wanted_by self.old student.0) (first.0, second.0)
@@ -134,7 +137,7 @@ impl Preferences {
         row.pairs.set(first, second, n)
     }
 
-    // Takes all ratings and adjustments of the student back.
+    /// Takes back all ratings and adjustments of a student.
     pub(crate) fn clear(&mut self, student: StudentNo)
         requires { student.0 < length (preferences_of self.old) }
         ensures { preferences_of self.new

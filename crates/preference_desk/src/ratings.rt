@@ -3,11 +3,12 @@ ghost use Rattle.std.specs.Prelude.{◌≡◌, ◌≤◌, ◌==◌, None, Some, 
 ghost use Rattle.std.specs.List.{position};
 ghost use Rattle.std.specs.Ordering.{nat_cmp};
 ghost use Rattle.std.specs.Vec.{vec_capacity};
+ghost use Rattle.market_units.specs.declared.limits.TheConstants.{MAX_RATINGS};
 ghost use Rattle.preference_desk.specs.Places.{place_in, stands};
 ghost use Rattle.preference_desk.specs.Rows.{AreRatings, rating_entry};
 
 use crate::rows;
-use market_units::{MAX_RATINGS, NoMemory, SectionNo};
+use market_units::{MAX_RATING, MAX_RATINGS, NoMemory, SectionNo};
 use std::alloc::Global;
 
 /// The ratings of one student, section by section, in room that was taken once.
@@ -15,7 +16,7 @@ use std::alloc::Global;
 pub(crate) struct Ratings {
     items: Vec<(SectionNo, u8)>,
     ghost kept: { AreRatings items.items },
-    ghost room: { 60 ≤ vec_capacity items },
+    ghost room: { MAX_RATINGS ≤ vec_capacity items },
 }
 
 impl Ratings {
@@ -23,7 +24,8 @@ impl Ratings {
     ghost use Rattle.preference_desk.specs.StudentPreferences.{with_rating};
     ghost use Rattle.preference_desk.specs.RatingsView.{ratings_in};
 
-    // No ratings, with room for 60.
+    /// No ratings, with room for as many as a student may give. The only error is that memory was
+    /// not given.
     pub(crate) fn new(alloc: Global) -> Result<Ratings, NoMemory>
         ensures { IfOk result (λ ratings. ratings_in ratings ≡ empty) }
     {
@@ -32,7 +34,7 @@ impl Ratings {
         })
     }
 
-    // The sections and their ratings, sections ascending.
+    /// The rated sections and their ratings, ascending by section.
     pub(crate) fn as_slice(&self) -> &[(SectionNo, u8)]
         ensures entries { map rating_entry result.now ≡ entries (ratings_in self.now) }
         ensures kept { AreRatings result.now }
@@ -40,14 +42,14 @@ impl Ratings {
         &self.items
     }
 
-    // The section's rating becomes this, and 0 takes it out; `false`, and nothing changes, where
-    // there is no room for one more.
+    /// The section's rating becomes this, and 0 takes it out; `false`, and nothing changes, where
+    /// there is no room for one more.
     pub(crate) fn set(&mut self, section: SectionNo, rating: u8) -> bool
-        requires { rating ≤ 100 }
+        requires { rating ≤ MAX_RATING }
         ensures room { result
             ≡ not
             (nat_lt 0 rating && not (contains_key (ratings_in self.old) section.0)
-            && nat_le 60 (len (ratings_in self.old))) }
+            && nat_le MAX_RATINGS (len (ratings_in self.old))) }
         ensures set { ratings_in self.new
             ≡ (if result then with_rating (ratings_in self.old) section.0 rating
             else ratings_in self.old) }
@@ -58,6 +60,7 @@ impl Ratings {
         rows::write(&mut self.items, MAX_RATINGS, place, stands, entry)
     }
 
+    /// Takes out all ratings; the room stays.
     pub(crate) fn clear(&mut self)
         ensures { ratings_in self.new ≡ empty }
     {

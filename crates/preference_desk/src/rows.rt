@@ -3,8 +3,8 @@ ghost use Rattle.std.specs.Prelude.{◌≡◌, ◌≤◌, ◌<◌, true, length,
 ghost use Rattle.std.specs.Vec.{vec_capacity};
 ghost use Rattle.preference_desk.specs.Writes.{written, has_room};
 
-// Writes an entry at its key's place, or takes out what stands there; `false`, and nothing changes,
-// where there is no room for one more.
+/// Writes an entry at its key's place, or takes out what stands there where the entry is `None`;
+/// `false`, and nothing changes, where there is no room for one more.
 pub(crate) fn write<E: Copy>(
     items: &mut Vec<E>,
     limit: usize,

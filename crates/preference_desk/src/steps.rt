@@ -11,7 +11,8 @@ use crate::preferences::Preferences;
 use market_units::{MAX_ADJUSTMENT, MAX_RATING, Name, SectionNo};
 use utility_language::Command;
 
-// A student rates a section.
+/// The reply to a student who rates a section. The rating is set where the reply is `Done`, and
+/// else nothing changes.
 pub(crate) fn rate(
     names: &Names,
     preferences: &mut Preferences,
@@ -43,7 +44,8 @@ pub(crate) fn rate(
     }
 }
 
-// A student adjusts a pair of sections.
+/// The reply to a student who adjusts a pair of sections. The adjustment is set where the reply is
+/// `Done`, and else nothing changes.
 pub(crate) fn pair(
     names: &Names,
     preferences: &mut Preferences,
@@ -84,7 +86,8 @@ pub(crate) fn pair(
     }
 }
 
-// A student takes everything back.
+/// The reply to a student who takes all ratings and adjustments back: `NoStudent` where no student
+/// has the name, else `Done`.
 pub(crate) fn clear(names: &Names, preferences: &mut Preferences, student: &Name) -> Reply
     requires { length (preferences_of preferences.old) ≡ length (names_in names.now).students }
     ensures reply { result
@@ -101,7 +104,8 @@ pub(crate) fn clear(names: &Names, preferences: &mut Preferences, student: &Name
     Reply::Done
 }
 
-// What a command does to what the students want and to the flag, and the reply.
+/// Carries out a command at the desk, and gives the reply. Where the reply is not `Done`, nothing
+/// changes.
 pub(crate) fn carry_out(
     names: &Names,
     preferences: &mut Preferences,

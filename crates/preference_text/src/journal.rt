@@ -6,7 +6,8 @@ use crate::lines::put_entry;
 use market_units::NoMemory;
 use preference_desk::Entry;
 
-// Puts the lines of the entries behind the text.
+/// Puts a line for each entry behind the text, in the entries' order. The only error is that memory
+/// was not given.
 pub(crate) fn put_journal(text: &mut Vec<u8>, journal: &[Entry]) -> Result<(), NoMemory>
     requires { All HasShortCommand journal.now }
     ensures { OnOk result (text.new.items ≡ text.old.items ++ journal_text journal.now) }

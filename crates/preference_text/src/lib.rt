@@ -13,6 +13,3 @@ mod preferences;
 mod text;
 
 pub use text::preferences_text;
-
-#[cfg(test)]
-mod tests;

@@ -10,7 +10,8 @@ use market_units::{Name, NoMemory, put_number};
 use preference_desk::{Entry, Reply};
 use utility_language::{Command, print_command};
 
-// Puts the line of the entry behind the text.
+/// Puts the line of a journal entry behind the text: the session, the reply and the command. The
+/// only error is that memory was not given.
 pub(crate) fn put_entry(text: &mut Vec<u8>, entry: &Entry) -> Result<(), NoMemory>
     requires { HasShortCommand entry.now }
     ensures { OnOk result (text.new.items ≡ text.old.items ++ entry_line entry.now) }
@@ -23,7 +24,8 @@ pub(crate) fn put_entry(text: &mut Vec<u8>, entry: &Entry) -> Result<(), NoMemor
     put_command_line(text, &entry.command)
 }
 
-// Puts the line of the rating behind the text.
+/// Puts the line of a student's rating of a section behind the text. The only error is that memory
+/// was not given.
 pub(crate) fn put_rating(
     text: &mut Vec<u8>,
     student: Name,
@@ -45,7 +47,8 @@ pub(crate) fn put_rating(
     )
 }
 
-// Puts the line of the adjustment behind the text.
+/// Puts the line of a student's adjustment of two sections behind the text. The only error is that
+/// memory was not given.
 pub(crate) fn put_adjustment(
     text: &mut Vec<u8>,
     student: Name,

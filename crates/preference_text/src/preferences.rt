@@ -12,7 +12,8 @@ use market_units::{Name, NoMemory, SectionNo, StudentNo};
 use preference_desk::Preferences;
 use student_roll::Roll;
 
-// Puts the lines of all students behind the text.
+/// Puts the lines of what each student wants behind the text, in the roll's order. The only error
+/// is that memory was not given.
 pub(crate) fn put_students(
     text: &mut Vec<u8>,
     catalog: &Catalog,

@@ -1,57 +1,118 @@
--- What the posted bundles of settled versions decide.
-use Rattle.std.proofs.Common.{ℕ, zero, suc, ◌≡◌, ◌≤◌, ◌<◌, ◌+◌, ◌||◌, ◌∙◌, true, false, List, [], ◌∷◌, Some, None, Option, length, refl, ap, sym, subst, arith, slice_index_or, nat_lt, nat_le, inl, inr, if◌then◌else◌}
-use Rattle.std.specs.Prelude.{IsSome, IfSome}
-use Rattle.std.proofs.lemmas.Bool.{cases_Bool}
+-- What the posted bundles decide.
+use Rattle.std.proofs.Common.{ℕ, zero, suc, ◌≡◌, ◌≤◌, ◌<◌, ◌+◌, ◌==◌, ◌||◌, ◌∙◌, ◌⊎◌, Bool, true, false, List, [], ◌∷◌, Some, None, Option, length, take, drop, refl, ap, sym, subst, arith, slice_index_or, nat_lt, nat_le, cond, inl, inr, if◌then◌else◌}
+use Rattle.std.specs.Prelude.{IsSome, is_none}
+use Rattle.std.specs.List.{count_by}
+use Rattle.std.proofs.lemmas.Bool.{cases_Bool, false≢true}
 use Rattle.std.proofs.lemmas.Bool.Decides.{nat_tests}
-use Rattle.std.proofs.lemmas.List.{length-map}
+use Rattle.std.proofs.lemmas.List.{get_or-map, get_or_past, length-map}
+use Rattle.std.proofs.lemmas.List.Sums.{sum_by-cons, get_or-le-sum_by}
 use Rattle.bundle_rules.specs.declared.bundle.Bundle.{Bundle}
 use Rattle.bundle_rules.specs.Bundles.{sections_of}
-use Rattle.bundle_rules.specs.Sets.{has}
+use Rattle.market_units.specs.Members.{has}
 use Rattle.demand_api.specs.Crowds.{CrowdData, demands, demand, holders}
-use Rattle.price_board.specs.declared.place.Place.{Place}
-use Rattle.price_board.specs.declared.place.Place.TheVariants.{Open}
+use Rattle.task_board.specs.declared.mark.Mark.{Mark}
+use Rattle.task_board.specs.declared.mark.Mark.TheVariants.{Open}
+use Rattle.task_board.specs.Kept.{AreRight}
+use Rattle.task_board.specs.Kept.{AreSettled as AreTasksSettled}
+use Rattle.task_board.specs.Marks.{mark_at, answer_in, answers_in}
 use Rattle.price_board.specs.declared.round.Ask.{Ask}
 use Rattle.price_board.specs.declared.round.Ask.TheVariants.{Counts, Exceeds}
-use Rattle.price_board.specs.declared.shared.Terms.{Terms}
-use Rattle.price_board.specs.Closings.{AreSettled, exceeds_in, exceeds_at, exceeds_of}
-use Rattle.price_board.specs.Places.{row_of, place_of, bundle_in}
-use Rattle.price_board.specs.Rights.{AreRows, AreRight}
-use Rattle.price_board.specs.Settling.{ask_of, is_settled, one_if_with, one_if_none, unfilled_in, with_section}
-use Rattle.price_board.specs.Tallies.{tally_of, exceeds_by}
-use Rattle.price_board.specs.Terms.{version_count, student_count, prices_of, count_of}
-use Rattle.price_board.proofs.Tallying.{unfilled_open}
+use Rattle.price_board.specs.declared.tally.Tally.{Tally}
+use Rattle.price_board.specs.declared.terms.Terms.{Terms}
+use Rattle.price_board.specs.Asked.{round_rules, version_at}
+use Rattle.price_board.specs.Closings.{AreSettled, exceeds_at, exceeds_of}
+use Rattle.price_board.specs.Lasting.{row-at}
+use Rattle.price_board.specs.Rows.{number_of, row_of, mark_of}
+use Rattle.price_board.specs.Settling.{ask_of, count_for, is_asked, is_decided, is_settled, is_with, unfilled_in}
+use Rattle.price_board.specs.Tallies.{tally_of, exceeds_by, HaveTallied}
+use Rattle.price_board.specs.Terms.{student_count, task_count, version_count, prices_of, count_of, demand_of}
+use Rattle.price_board.proofs.Numbering.{number-below, version-at, row-length, right_bundle}
 
-low_of : (v k : ℕ) → suc v < suc k → v < k
-low_of v k below = omega arith
+count-cons : {X : Type 0} (p : X → Bool) (x : X) (xs : List X) → count_by p (x ∷ xs) ≡ cond (p x) 1 0 + count_by p xs
+count-cons p x xs = sum_by-cons (λ y. cond (p y) 1 0) x xs
 
--- past the end of a list
-pub past_end : {X : Type 0} (xs : List X) (n : ℕ) (d : X) → length xs ≤ n → slice_index_or xs n d ≡ d
-past_end [] n d past = refl
-past_end (x ∷ xs) zero d past = absurd (omega arith)
-past_end (x ∷ xs) (suc n) d past = past_end xs n d (let k : ℕ = length xs in let b : suc k ≤ suc n = past in let goal : k ≤ n = omega arith in goal)
+-- ---- rows of which all are posted
 
-pub no_version : (rows : List (List Place)) (v s : ℕ) → length rows ≤ v → None ≡ bundle_in (place_of rows v s)
-no_version rows v s past = sym (ap (λ row. bundle_in (slice_index_or row s Open)) (past_end rows v [] past))
+some_is : (b : Option Bundle) → IsSome b → is_none b ≡ false
+some_is None some = absurd (false≢true some)
+some_is (Some bundle) some = refl
 
-pub no_student : (rows : List (List Place)) (v s : ℕ) → length (row_of rows v) ≤ s → None ≡ bundle_in (place_of rows v s)
-no_student rows v s past = sym (ap bundle_in (past_end (row_of rows v) s Open past))
+none_unfilled : (row : List (Option Bundle)) → ((s : ℕ) (d : Option Bundle) → s < length row → IsSome (slice_index_or row s d)) → unfilled_in row ≡ 0
+none_unfilled [] filled = refl
+none_unfilled (b ∷ row) filled =
+    let k : ℕ = length row in
+    let a : ℕ = unfilled_in (b ∷ row) in
+    let c : ℕ = unfilled_in row in
+    let x : ℕ = cond (is_none b) 1 0 in
+    let rest : c ≡ 0 = none_unfilled row (λ s d below. filled (suc s) d (let l : s < k = below in let goal : suc s < suc k = omega arith in goal)) in
+    let here : x ≡ 0 = ap (λ t. cond t 1 0) (some_is b (filled zero b (let goal : zero < suc k = omega arith in goal))) in
+    let sum : a ≡ x + c = count-cons is_none b row in
+    let goal : a ≡ 0 = omega arith in goal
 
--- a fact of an option, by its value
-pub if_right : (o : Option Bundle) (right : List ℕ) → ((b : Bundle) → o ≡ Some b → sections_of b ≡ right) → IfSome o (λ b. sections_of b ≡ right)
-if_right None right fact = tt
-if_right (Some b) right fact = fact b refl
+full_settled : (ask : Ask) (row : List (Option Bundle)) → unfilled_in row ≡ 0 → is_settled ask row ≡ true
+full_settled Counts row none = let n : ℕ = unfilled_in row in let h : n ≡ 0 = none in let goal : (n == 0) ≡ true = grind (arith, nat_tests) in goal
+full_settled (Exceeds section limit) row none =
+    let c : ℕ = count_for (Exceeds section limit) row in
+    ap (λ u. nat_lt limit c || nat_le (c + u) limit) none
+    ∙ elim (cases_Bool (nat_lt limit c)) [
+      | inl over ↦ rw over refl
+      | inr under ↦ let all : nat_le (c + 0) limit ≡ true = grind (arith, nat_tests) in rw (under, all) refl
+    ]
 
-pub some_unless : (o : Option Bundle) → (o ≡ None → ⊥) → IsSome o
-some_unless None some = absurd (some refl)
-some_unless (Some b) some = refl
+module _ (terms : Terms) (marks : List (Mark Bundle)) (each : length marks ≡ task_count terms) where
+  each_answer : length (answers_in marks) ≡ task_count terms
+  each_answer = length-map marks answer_in ∙ each
 
-pub exceeds_by-is : (ask : Ask) (row : List Place) → exceeds_by ask (tally_of ask row) ≡ exceeds_in ask row
-exceeds_by-is Counts row = refl
-exceeds_by-is (Exceeds section limit) row = refl
+  -- what was posted for a student
+  pub answer_there : (v s : ℕ) (d : Option Bundle) → v < version_count terms → s < student_count terms
+      → slice_index_or (row_of terms (answers_in marks) v) s d ≡ answer_in (mark_at marks (number_of terms v s))
+  answer_there v s d low within =
+      row-at terms (answers_in marks) v s d within
+      ∙ get_or-map answer_in marks (number_of terms v s) Open d (subst (λ n. number_of terms v s < n) (sym each) (number-below terms v s low within))
 
--- what a filled place tells of one student's demand
+  -- where each task is answered or of a settled version, each version is settled
+  pub all_settled : AreTasksSettled round_rules terms marks → AreSettled terms marks
+  all_settled settled v low =
+      let row : List (Option Bundle) = row_of terms (answers_in marks) v in
+      let long : length row ≡ student_count terms = row-length terms (answers_in marks) v each_answer low in
+      elim (cases_Bool (is_settled (ask_of terms.asks v) row)) [
+        | inl settled_there ↦ settled_there
+        | inr more ↦
+            full_settled (ask_of terms.asks v) row
+            (none_unfilled row (λ s d below.
+            let within : s < student_count terms = subst (λ n. s < n) long below in
+            subst (λ (b : Option Bundle). IsSome b) (sym (answer_there v s d low within))
+            (elim (settled (number_of terms v s) (number-below terms v s low within)) [
+              | inl some ↦ some
+              | inr over ↦
+                  let at_version : is_settled (ask_of terms.asks v) row ≡ true =
+                  subst (λ w. is_settled (ask_of terms.asks w) (row_of terms (answers_in marks) w) ≡ true) (version-at terms v s within) over in
+                  absurd (false≢true (sym more ∙ at_version))
+            ])))
+      ]
+
+  -- each student of a `Counts` version is answered
+  pub counts_filled : AreSettled terms marks → (v s : ℕ) → v < version_count terms → s < student_count terms → ask_of terms.asks v ≡ Counts
+      → IsSome (answer_in (mark_at marks (number_of terms v s)))
+  counts_filled settled v s low within counts =
+      let row : List (Option Bundle) = row_of terms (answers_in marks) v in
+      let u : ℕ = unfilled_in row in
+      let all : (u == 0) ≡ true = subst (λ a. is_settled a row ≡ true) counts (settled v low) in
+      let none : u ≡ 0 = grind (arith, nat_tests) in
+      let inside : s < length row = subst (λ n. s < n) (sym (row-length terms (answers_in marks) v each_answer low)) within in
+      let one : cond (is_none (slice_index_or row s None)) 1 0 ≤ u = get_or-le-sum_by (λ (b : Option Bundle). cond (is_none b) 1 0) row s None inside in
+      subst (λ (b : Option Bundle). IsSome b) (answer_there v s None low within) (some_of (slice_index_or row s None) u none one)
+    where
+      some_of : (b : Option Bundle) (u : ℕ) → u ≡ 0 → cond (is_none b) 1 0 ≤ u → IsSome b
+      some_of None u none one = absurd (let h : 1 ≤ u = one in omega arith)
+      some_of (Some bundle) u none one = refl
+
+-- ---- what the posted bundles with the section decide
+
+-- what a posted bundle tells of one student's demand
 one_between : (section : ℕ) (b : Option Bundle) (sections : List ℕ) → ((c : Bundle) → b ≡ Some c → sections_of c ≡ sections)
-    → (one_if_with section b ≤ (if has sections section then 1 else 0)) × ((if has sections section then 1 else 0) ≤ one_if_with section b + one_if_none b)
+    → (cond (is_with section b) 1 0 ≤ (if has sections section then 1 else 0))
+    × ((if has sections section then 1 else 0) ≤ cond (is_with section b) 1 0 + cond (is_none b) 1 0)
 one_between section None sections right =
     elim (cases_Bool (has sections section)) [
       | inl it ↦ rw it ((let goal : 0 ≤ 1 = omega arith in goal), (let goal : 1 ≤ 0 + 1 = omega arith in goal))
@@ -62,30 +123,34 @@ one_between section (Some c) sections right =
     subst (λ l. (x ≤ (if has l section then 1 else 0)) × ((if has l section then 1 else 0) ≤ x + 0)) (right c refl)
     ((let goal : x ≤ x = omega arith in goal), (let goal : x ≤ x + 0 = omega arith in goal))
 
--- how many take the section is between the posted bundles with it and these with the unfilled places
-between : (section : ℕ) (row : List Place) (list : List (List ℕ)) → length row ≡ length list
-    → ((s : ℕ) (b : Bundle) → bundle_in (slice_index_or row s Open) ≡ Some b → sections_of b ≡ slice_index_or list s [])
-    → (with_section section row ≤ holders section list) × (holders section list ≤ with_section section row + unfilled_in row)
+-- how many take the section is between the posted bundles with it and these with those of whom none is posted
+between : (section : ℕ) (row : List (Option Bundle)) (list : List (List ℕ)) → length row ≡ length list
+    → ((s : ℕ) (b : Bundle) → slice_index_or row s None ≡ Some b → sections_of b ≡ slice_index_or list s [])
+    → (count_by (is_with section) row ≤ holders section list) × (holders section list ≤ count_by (is_with section) row + unfilled_in row)
 between section [] [] same right = ((let goal : 0 ≤ 0 = omega arith in goal), (let goal : 0 ≤ 0 + 0 = omega arith in goal))
 between section [] (sections ∷ list) same right = absurd (let k : ℕ = length list in let h : 0 ≡ suc k = same in omega arith)
-between section (p ∷ row) [] same right = absurd (let k : ℕ = length row in let h : suc k ≡ 0 = same in omega arith)
-between section (p ∷ row) (sections ∷ list) same right =
+between section (b ∷ row) [] same right = absurd (let k : ℕ = length row in let h : suc k ≡ 0 = same in omega arith)
+between section (b ∷ row) (sections ∷ list) same right =
     let j : ℕ = length row in
     let k : ℕ = length list in
     let more : suc j ≡ suc k = same in
-    let rest = between section row list (let goal : j ≡ k = omega arith in goal) (λ s b is. right (suc s) b is) in
-    let first = one_between section (bundle_in p) sections (λ c is. right zero c is) in
-    let a : ℕ = with_section section row in
-    let b : ℕ = unfilled_in row in
-    let c : ℕ = holders section list in
-    let x : ℕ = one_if_with section (bundle_in p) in
-    let y : ℕ = one_if_none (bundle_in p) in
+    let rest = between section row list (let goal : j ≡ k = omega arith in goal) (λ s c is. right (suc s) c is) in
+    let first = one_between section b sections (λ c is. right zero c is) in
+    let a : ℕ = count_by (is_with section) row in
+    let u : ℕ = unfilled_in row in
+    let h : ℕ = holders section list in
+    let x : ℕ = cond (is_with section b) 1 0 in
+    let y : ℕ = cond (is_none b) 1 0 in
     let z : ℕ = if has sections section then 1 else 0 in
-    let low : a ≤ c = rest.0 in
-    let high : c ≤ a + b = rest.1 in
+    let all : ℕ = count_by (is_with section) (b ∷ row) in
+    let all_of : all ≡ x + a = count-cons (is_with section) b row in
+    let left : ℕ = unfilled_in (b ∷ row) in
+    let left_of : left ≡ y + u = count-cons is_none b row in
+    let low : a ≤ h = rest.0 in
+    let high : h ≤ a + u = rest.1 in
     let low_first : x ≤ z = first.0 in
     let high_first : z ≤ x + y = first.1 in
-    ((let goal : x + a ≤ z + c = omega arith in goal), (let goal : z + c ≤ (x + a) + (y + b) = omega arith in goal))
+    ((let goal : all ≤ z + h = omega arith in goal), (let goal : z + h ≤ all + left = omega arith in goal))
 
 decided : (limit h g c : ℕ) → (nat_lt limit h || nat_le (h + g) limit) ≡ true → h ≤ c → c ≤ h + g → nat_lt limit h ≡ nat_lt limit c
 decided limit h g c settled low high =
@@ -100,36 +165,53 @@ as_many : (crowd : CrowdData) (price : ℕ → ℕ) → length (demands crowd pr
 unfolding demands
 as_many crowd price = length-map crowd.students (demand crowd.sections price)
 
-module _ (terms : Terms) (rows : List (List Place)) (shape : AreRows terms rows) (right : AreRight terms rows) (settled : AreSettled terms rows) where
-  row_wide : (v : ℕ) → v < version_count terms → length (row_of rows v) ≡ student_count terms
-  row_wide v low = shape.students v [] (subst (λ n. v < n) (sym shape.versions) low)
-
-  decides : (v : ℕ) (ask : Ask) → v < version_count terms → is_settled ask (row_of rows v) ≡ true → exceeds_in ask (row_of rows v) ≡ exceeds_at terms v ask
-  decides v Counts low is = refl
-  decides v (Exceeds section limit) low is =
-      let both =
-      between section.0 (row_of rows v) (demands terms.crowd (prices_of terms v)) (row_wide v low ∙ sym (as_many terms.crowd (prices_of terms v)))
-      (λ s b there. right v s b there) in
-      ap Some (decided limit (with_section section.0 (row_of rows v)) (unfilled_in (row_of rows v)) (count_of terms v section.0) is both.0 both.1)
-
-  -- what the posted bundles say is what the crowd's demand says
-  pub exceeds_right : (v : ℕ) → length terms.asks ≡ version_count terms → exceeds_in (ask_of terms.asks v) (row_of rows v) ≡ exceeds_of terms v
-  exceeds_right v asks =
-      let n : ℕ = version_count terms in
-      elim (cases_Bool (nat_lt v n)) [
-        | inl low ↦
-            decides v (ask_of terms.asks v) (let goal : v < n = grind (arith, nat_tests) in goal)
-            (settled v (let goal : v < n = grind (arith, nat_tests) in goal))
-        | inr high ↦
-            let past : n ≤ v = grind (arith, nat_tests) in
-            let none : ask_of terms.asks v ≡ Counts = past_end terms.asks v Counts (subst (λ k. k ≤ v) (sym asks) past) in
-            ap (λ a. exceeds_in a (row_of rows v)) none ∙ sym (ap (exceeds_at terms v) none)
+module _ (terms : Terms) (marks : List (Mark Bundle)) (each : length marks ≡ task_count terms) (right : AreRight round_rules terms marks)
+    (settled : AreSettled terms marks) where
+  -- past the last student of a row nothing is posted
+  posted_right : (v s : ℕ) (bundle : Bundle) → v < version_count terms → slice_index_or (row_of terms (answers_in marks) v) s None ≡ Some bundle
+      → sections_of bundle ≡ demand_of terms v s
+  posted_right v s bundle low is =
+      elim (cases_Bool (nat_lt s (student_count terms))) [
+        | inl under ↦
+            let n : ℕ = student_count terms in
+            let within : s < n = grind (arith, nat_tests) in
+            right_bundle terms v s bundle within
+            (right (number_of terms v s) bundle (sym (answer_there terms marks each v s None low within) ∙ is))
+        | inr past ↦
+            let n : ℕ = student_count terms in
+            let k : ℕ = length (row_of terms (answers_in marks) v) in
+            let long : k ≡ n = row-length terms (answers_in marks) v (each_answer terms marks each) low in
+            let beyond : k ≤ s = grind (arith, nat_tests) in
+            let none : None ≡ Some bundle = sym (get_or_past (row_of terms (answers_in marks) v) s None beyond) ∙ is in cc
       ]
 
--- each place of a Counts version is filled
-pub counts_filled : (terms : Terms) (rows : List (List Place)) → AreRows terms rows → AreSettled terms rows → (v s : ℕ) → v < version_count terms
-    → s < student_count terms → ask_of terms.asks v ≡ Counts → IsSome (bundle_in (place_of rows v s))
-counts_filled terms rows shape settled v s low within counts =
-    let wide : length (row_of rows v) ≡ student_count terms = shape.students v [] (subst (λ n. v < n) (sym shape.versions) low) in
-    some_unless (bundle_in (place_of rows v s))
-    (λ none. unfilled_open (ask_of terms.asks v) (row_of rows v) s counts (subst (λ n. s < n) (sym wide) within) (settled v low) none)
+  decides : (v : ℕ) (ask : Ask) → v < version_count terms → is_settled ask (row_of terms (answers_in marks) v) ≡ true
+      → exceeds_by ask (tally_of ask (row_of terms (answers_in marks) v)) ≡ exceeds_at terms v ask
+  decides v Counts low is = refl
+  decides v (Exceeds section limit) low is =
+      let row : List (Option Bundle) = row_of terms (answers_in marks) v in
+      let both =
+      between section.0 row (demands terms.crowd (prices_of terms v))
+      (row-length terms (answers_in marks) v (each_answer terms marks each) low ∙ sym (as_many terms.crowd (prices_of terms v)))
+      (λ s b there. posted_right v s b low there) in
+      ap Some (decided limit (count_by (is_with section.0) row) (unfilled_in row) (count_of terms v section.0) is both.0 both.1)
+
+  -- what the tallies say is what the crowd's demand says
+  pub exceeds_right : (tallies : List Tally) (v : ℕ) (result : Option Bool) → HaveTallied terms tallies (answers_in marks)
+      → length terms.asks ≡ version_count terms → (length tallies ≤ v → result ≡ None)
+      → ((d : Tally) → v < length tallies → result ≡ exceeds_by (ask_of terms.asks v) (slice_index_or tallies v d)) → result ≡ exceeds_of terms v
+  exceeds_right tallies v result have asked none some =
+      let n : ℕ = version_count terms in
+      let k : ℕ = length tallies in
+      let all : k ≡ n = have.each in
+      elim (cases_Bool (nat_lt v n)) [
+        | inl under ↦
+            let low : v < n = grind (arith, nat_tests) in
+            let d : Tally = tally_of (ask_of terms.asks v) (row_of terms (answers_in marks) v) in
+            some d (let goal : v < k = omega arith in goal) ∙ ap (exceeds_by (ask_of terms.asks v)) (have.tallied v d low)
+            ∙ decides v (ask_of terms.asks v) low (settled v low)
+        | inr past ↦
+            let beyond : n ≤ v = grind (arith, nat_tests) in
+            let counts : ask_of terms.asks v ≡ Counts = get_or_past terms.asks v Counts (subst (λ m. m ≤ v) (sym asked) beyond) in
+            none (let goal : k ≤ v = omega arith in goal) ∙ sym (ap (exceeds_at terms v) counts)
+      ]

@@ -1,15 +1,3 @@
-pub mod Beginnings
-pub mod BoardKeeping
-pub mod CursorMoves
 pub mod Deciding
-pub mod Endings
-pub mod GridRows
-pub mod Histories
-pub mod Holdings
-pub mod MarkRows
-pub mod Overs
-pub mod PlaceChanges
-pub mod Shapes
-pub mod SoundCalls
+pub mod Numbering
 pub mod Tallying
-pub mod Turns

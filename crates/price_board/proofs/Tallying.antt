@@ -1,214 +1,183 @@
--- Tallies as places change.
-use Rattle.std.proofs.Common.{◌≡◌, ◌<◌, ◌≤◌, ◌+◌, ◌-◌, ◌==◌, ◌||◌, ◌∙◌, ℕ, zero, suc, true, List, [], ◌∷◌, length, Option, Some, None, refl, sym, ap, subst, arith, slice_index_or, slice_set, nat_lt, nat_le, inl, inr}
-use Rattle.std.proofs.lemmas.Bool.{cases_Bool}
-use Rattle.std.proofs.lemmas.Bool.Decides.{nat_tests}
-use Rattle.market_units.specs.Totals.{total}
+-- Tallies as bundles are posted.
+use Rattle.std.proofs.Common.{ℕ, ◌≡◌, ◌<◌, ◌≤◌, ◌+◌, ◌-◌, ◌*◌, ◌∙◌, Bool, true, false, List, length, Option, Some, None, replicate, take, drop, refl, sym, ap, subst, arith, slice_index_or, slice_set, cond, inl, inr}
+use Rattle.std.specs.Prelude.{is_none}
+use Rattle.std.proofs.lemmas.Bool.{cases_eq}
+use Rattle.std.proofs.lemmas.List.{take-replicate, drop-replicate, get_or-replicate, get_or-map, get_or-set_same, get_or-set_other, get_or_read_under, length-map, length-set, length-replicate}
+use Rattle.std.proofs.lemmas.List.Folds.{sum_by-replicate}
+use Rattle.std.proofs.lemmas.List.Sums.{count_by-le-length}
+use Rattle.std.proofs.lemmas.List.{length-take}
 use Rattle.bundle_rules.specs.declared.bundle.Bundle.{Bundle}
-use Rattle.bundle_rules.specs.Bundles.{sections_of}
-use Rattle.bundle_rules.specs.Sets.{has}
-use Rattle.price_board.specs.declared.place.Place.{Place}
-use Rattle.price_board.specs.declared.place.Place.TheVariants.{Open, Filled}
+use Rattle.task_board.specs.declared.mark.Mark.{Mark}
+use Rattle.task_board.specs.declared.mark.Mark.TheVariants.{Open}
+use Rattle.task_board.specs.Marks.{mark_at, answer_in, answers_in}
+use Rattle.task_board.specs.Openings.{no_answers}
 use Rattle.price_board.specs.declared.round.Ask.{Ask}
 use Rattle.price_board.specs.declared.round.Ask.TheVariants.{Counts, Exceeds}
 use Rattle.price_board.specs.declared.tally.Tally.{Tally}
-use Rattle.price_board.specs.Places.{row_of, bundle_in}
-use Rattle.price_board.specs.Settling.{one_if_none, one_if_with, one_for, unfilled_in, with_section, count_for, is_settled, ask_of}
-use Rattle.price_board.specs.Tallies.{tally_of, tallies_of, settles}
-
-low_of : (v k : ℕ) → suc v < suc k → v < k
-low_of v k below = omega arith
-
--- a sum after one item changes
-pub total-set : {A : Type 0} (f : A → ℕ) (xs : List A) (n : ℕ) (y d : A) → n < length xs
-    → total f (slice_set xs n y) + f (slice_index_or xs n d) ≡ total f xs + f y
-total-set f [] n y d below = absurd (omega arith)
-total-set f (x ∷ xs) zero y d below = let a : ℕ = f x in let b : ℕ = f y in let c : ℕ = total f xs in let goal : b + c + a ≡ a + c + b = omega arith in goal
-total-set f (x ∷ xs) (suc n) y d below =
-    let p : ℕ = total f (slice_set xs n y) in
-    let q : ℕ = f (slice_index_or xs n d) in
-    let r : ℕ = total f xs in
-    let z : ℕ = f y in
-    let rest : p + q ≡ r + z = total-set f xs n y d (low_of n (length xs) below) in
-    let a : ℕ = f x in
-    let goal : a + p + q ≡ a + r + z = omega arith in goal
-
-total-kept : {A : Type 0} (f : A → ℕ) (xs : List A) (n : ℕ) (y d : A) → n < length xs → f y ≡ f (slice_index_or xs n d)
-    → total f (slice_set xs n y) ≡ total f xs
-total-kept f xs n y d below same =
-    let p : ℕ = total f (slice_set xs n y) in
-    let q : ℕ = f (slice_index_or xs n d) in
-    let r : ℕ = total f xs in
-    let z : ℕ = f y in
-    let rest : p + q ≡ r + z = total-set f xs n y d below in
-    let e : z ≡ q = same in
-    let goal : p ≡ r = omega arith in goal
+use Rattle.price_board.specs.declared.terms.Terms.{Terms}
+use Rattle.price_board.specs.Asked.{round_rules, is_over, version_at, student_at}
+use Rattle.price_board.specs.Lasting.{number-is, row-at, row-set, row-other, unfilled-posted, count-posted}
+use Rattle.price_board.specs.Rows.{number_of, row_of}
+use Rattle.price_board.specs.Settling.{ask_of, count_for, is_asked, is_decided, unfilled_in}
+use Rattle.price_board.specs.Tallies.{tally_of, HaveTallied}
+use Rattle.price_board.specs.Terms.{student_count, task_count, version_count}
+use Rattle.price_board.proofs.Numbering.{row_end}
 
 tally-is : (u v m n : ℕ) → u ≡ v → m ≡ n → record { unfilled = u; count = m } ≡ (let t : Tally = record { unfilled = v; count = n } in t)
 tally-is u v m n a b = λ i. record { unfilled = a i; count = b i }
 
--- a change that posts nothing leaves the tally
-pub tally-kept : (ask : Ask) (row : List Place) (s : ℕ) (p : Place) → s < length row → bundle_in (slice_index_or row s Open) ≡ None → bundle_in p ≡ None
-    → tally_of ask (slice_set row s p) ≡ tally_of ask row
-tally-kept ask row s p below was is =
-    tally-is (unfilled_in (slice_set row s p)) (unfilled_in row) (count_for ask (slice_set row s p)) (count_for ask row)
-    (total-kept (λ place. one_if_none (bundle_in place)) row s p Open below (ap one_if_none (is ∙ sym was)))
-    (total-kept (λ place. one_for ask (bundle_in place)) row s p Open below (ap (one_for ask) (is ∙ sym was)))
-
-one_for-none : (ask : Ask) → one_for ask None ≡ 0
-one_for-none Counts = refl
-one_for-none (Exceeds section limit) = refl
-
--- one more bundle
-pub unfilled-filled : (row : List Place) (s seat : ℕ) (bundle : Bundle) → s < length row → bundle_in (slice_index_or row s Open) ≡ None
-    → unfilled_in (slice_set row s (Filled seat bundle)) + 1 ≡ unfilled_in row
-unfilled-filled row s seat bundle below was =
-    let p : ℕ = unfilled_in (slice_set row s (Filled seat bundle)) in
-    let q : ℕ = one_if_none (bundle_in (slice_index_or row s Open)) in
+-- the tally after one more bundle
+posted_tally : (ask : Ask) (row : List (Option Bundle)) (s : ℕ) (bundle : Bundle) → slice_index_or row s (Some bundle) ≡ None
+    → tally_of ask (slice_set row s (Some bundle))
+    ≡ record { unfilled = unfilled_in row - 1; count = count_for ask row + cond (is_asked ask (Some bundle)) 1 0 }
+posted_tally ask row s bundle none =
+    let p : ℕ = unfilled_in (slice_set row s (Some bundle)) in
     let r : ℕ = unfilled_in row in
-    let rest : p + q ≡ r + 0 = total-set (λ place. one_if_none (bundle_in place)) row s (Filled seat bundle) Open below in
-    let e : q ≡ 1 = ap one_if_none was in
-    let goal : p + 1 ≡ r = omega arith in goal
+    let fewer : p + 1 ≡ r = unfilled-posted row s bundle none in
+    tally-is p (r - 1) (count_for ask (slice_set row s (Some bundle))) (count_for ask row + cond (is_asked ask (Some bundle)) 1 0)
+    (let goal : p ≡ r - 1 = omega arith in goal) (count-posted row s bundle none ask)
 
-pub count-filled : (ask : Ask) (row : List Place) (s seat : ℕ) (bundle : Bundle) → s < length row → bundle_in (slice_index_or row s Open) ≡ None
-    → count_for ask (slice_set row s (Filled seat bundle)) ≡ count_for ask row + one_for ask (Some bundle)
-count-filled ask row s seat bundle below was =
-    let p : ℕ = count_for ask (slice_set row s (Filled seat bundle)) in
-    let q : ℕ = one_for ask (bundle_in (slice_index_or row s Open)) in
-    let r : ℕ = count_for ask row in
-    let z : ℕ = one_for ask (Some bundle) in
-    let rest : p + q ≡ r + z = total-set (λ place. one_for ask (bundle_in place)) row s (Filled seat bundle) Open below in
-    let e : q ≡ 0 = ap (one_for ask) was ∙ one_for-none ask in
-    let goal : p ≡ r + z = omega arith in goal
+module _ (terms : Terms) (tallies : List Tally) (answers : List (Option Bundle)) (have : HaveTallied terms tallies answers) where
+  -- a tally is small
+  pub tally_small : (v : ℕ) (tally : Tally) → v < version_count terms → tally ≡ slice_index_or tallies v tally
+      → (tally.unfilled ≤ student_count terms) × (tally.count ≤ student_count terms)
+  tally_small v tally low is =
+      let same = is ∙ have.tallied v tally low in
+      let row = row_of terms answers v in
+      let n : ℕ = student_count terms in
+      let k : ℕ = length row in
+      let short : k ≤ n = short_row n (drop (v * n) answers) in
+      let u : ℕ = unfilled_in row in
+      let c : ℕ = count_for (ask_of terms.asks v) row in
+      let few : u ≤ k = count_by-le-length is_none row in
+      let not_many : c ≤ k = count_by-le-length (is_asked (ask_of terms.asks v)) row in
+      let eu : tally.unfilled ≡ u = ap (λ (t : Tally). t.unfilled) same in
+      let ec : tally.count ≡ c = ap (λ (t : Tally). t.count) same in
+      ((let goal : tally.unfilled ≤ n = omega arith in goal), (let goal : tally.count ≤ n = omega arith in goal))
+    where
+      short_row : {X : Type 0} (n : ℕ) (xs : List X) → length (take n xs) ≤ n
+      short_row n xs = omega (arith, length-take n xs)
 
-pub tally-filled : (ask : Ask) (row : List Place) (s seat : ℕ) (bundle : Bundle) → s < length row → bundle_in (slice_index_or row s Open) ≡ None
-    → tally_of ask (slice_set row s (Filled seat bundle)) ≡ record { unfilled = unfilled_in row - 1; count = count_for ask row + one_for ask (Some bundle) }
-tally-filled ask row s seat bundle below was =
-    let p : ℕ = unfilled_in (slice_set row s (Filled seat bundle)) in
-    let r : ℕ = unfilled_in row in
-    let fewer : p + 1 ≡ r = unfilled-filled row s seat bundle below was in
-    tally-is p (r - 1) (count_for ask (slice_set row s (Filled seat bundle))) (count_for ask row + one_for ask (Some bundle))
-    (let goal : p ≡ r - 1 = omega arith in goal) (count-filled ask row s seat bundle below was)
+  module _ (task : ℕ) (bundle : Bundle) (below : task < task_count terms) (none : slice_index_or answers task (Some bundle) ≡ None) where
+    abbrev v : ℕ
+    v = version_at terms task
 
--- the tallies of rows of which one changes
-pub tallies-set : (asks : List Ask) (k : ℕ) (rows : List (List Place)) (v : ℕ) (row : List Place)
-    → tallies_of asks k (slice_set rows v row) ≡ slice_set (tallies_of asks k rows) v (tally_of (ask_of asks (k + v)) row)
-tallies-set asks k [] v row = refl
-tallies-set asks k (x ∷ rows) zero row = let e : k ≡ k + 0 = omega arith in ap (λ n. tally_of (ask_of asks n) row ∷ tallies_of asks (k + 1) rows) e
-tallies-set asks k (x ∷ rows) (suc v) row =
-    let e : k + 1 + v ≡ k + suc v = omega arith in
-    ap (λ l. tally_of (ask_of asks k) x ∷ l)
-    (tallies-set asks (k + 1) rows v row ∙ ap (λ n. slice_set (tallies_of asks (k + 1) rows) v (tally_of (ask_of asks n) row)) e)
+    abbrev s : ℕ
+    s = student_at terms task
 
-pub tallies-at : (asks : List Ask) (k : ℕ) (rows : List (List Place)) (v : ℕ) (d : Tally) → v < length rows
-    → slice_index_or (tallies_of asks k rows) v d ≡ tally_of (ask_of asks (k + v)) (row_of rows v)
-tallies-at asks k [] v d below = absurd (omega arith)
-tallies-at asks k (x ∷ rows) zero d below = let e : k ≡ k + 0 = omega arith in ap (λ n. tally_of (ask_of asks n) x) e
-tallies-at asks k (x ∷ rows) (suc v) d below =
-    let e : k + 1 + v ≡ k + suc v = omega arith in
-    tallies-at asks (k + 1) rows v d (low_of v (length rows) below) ∙ ap (λ n. tally_of (ask_of asks n) (row_of rows v)) e
+    here : slice_index_or (row_of terms answers v) s (Some bundle) ≡ None
+    here =
+        let place = number-is terms task below in
+        row-at terms answers (version_at terms task) (student_at terms task) (Some bundle) place.0 ∙ ap (λ k. slice_index_or answers k (Some bundle)) place.1
+        ∙ none
 
-pub tallies-length : (asks : List Ask) (k : ℕ) (rows : List (List Place)) → length (tallies_of asks k rows) ≡ length rows
-tallies-length asks k [] = refl
-tallies-length asks k (x ∷ rows) = ap suc (tallies-length asks (k + 1) rows)
+    -- somebody is still to be posted
+    pub some_unfilled : 1 ≤ unfilled_in (row_of terms answers v)
+    some_unfilled =
+        let a : ℕ = unfilled_in (slice_set (row_of terms answers v) s (Some bundle)) in
+        let b : ℕ = unfilled_in (row_of terms answers v) in
+        let fewer : a + 1 ≡ b = unfilled-posted (row_of terms answers v) s bundle here in
+        let goal : 1 ≤ b = omega arith in goal
 
-pub set-kept : {X : Type 0} (xs : List X) (v : ℕ) (d : X) → slice_set xs v (slice_index_or xs v d) ≡ xs
-set-kept [] v d = refl
-set-kept (x ∷ xs) zero d = refl
-set-kept (x ∷ xs) (suc v) d = ap (λ l. x ∷ l) (set-kept xs v d)
+    pub noted : (tally new : Tally) → version_at terms task < version_count terms → tally ≡ slice_index_or tallies (version_at terms task) tally
+        → new
+        ≡ record { unfilled = tally.unfilled - 1; count = tally.count + cond (is_asked (ask_of terms.asks (version_at terms task)) (Some bundle)) 1 0 }
+        → HaveTallied terms (slice_set tallies (version_at terms task) new) (slice_set answers task (Some bundle))
+    noted tally new low is put =
+        let w : ℕ = version_at terms task in
+        let t : ℕ = student_at terms task in
+        let place = number-is terms task below in
+        let ask = ask_of terms.asks w in
+        let after : List (Option Bundle) = slice_set answers (number_of terms w t) (Some bundle) in
+        let was : tally ≡ tally_of ask (row_of terms answers w) = is ∙ have.tallied w tally low in
+        let now : new ≡ tally_of ask (row_of terms after w) =
+        put ∙ (λ i. record { unfilled = (was i).unfilled - 1; count = (was i).count + cond (is_asked ask (Some bundle)) 1 0 })
+        ∙ sym (posted_tally ask (row_of terms answers w) t bundle here) ∙ ap (tally_of ask) (sym (row-set terms answers w t (Some bundle) place.0)) in
+        let all : HaveTallied terms (slice_set tallies w new) after = record {
+          each = length-set tallies w new ∙ have.each;
+          tallied = λ x d within. elim (cases_eq x w) [
+            | inl same ↦
+                subst (λ k. slice_index_or (slice_set tallies w new) k d ≡ tally_of (ask_of terms.asks k) (row_of terms after k)) (sym same)
+                (get_or-set_same tallies w new d (subst (λ n. w < n) (sym have.each) low) ∙ now)
+            | inr apart ↦
+                get_or-set_other tallies w x new d apart ∙ have.tallied x d within
+                ∙ ap (tally_of (ask_of terms.asks x)) (sym (row-other terms answers w x t (Some bundle) place.0 apart))
+          ];
+        } in
+        subst (λ k. HaveTallied terms (slice_set tallies w new) (slice_set answers k (Some bundle))) place.1 all
 
--- what the tally says of its row
-pub settles_is : (ask : Ask) (row : List Place) → settles ask (tally_of ask row) ≡ is_settled ask row
-settles_is Counts row = refl
-settles_is (Exceeds section limit) row = refl
+-- nothing is posted at first
+pub nothing_tallied : (terms : Terms) (tallies : List Tally) → tallies ≡ replicate (version_count terms) (record { unfilled = student_count terms; count = 0 })
+    → HaveTallied terms tallies (no_answers round_rules terms)
+nothing_tallied terms tallies are = record {
+  each = ap length are ∙ length-replicate (version_count terms) _;
+  tallied = λ v d low.
+      let n : ℕ = student_count terms in
+      let row : row_of terms (no_answers round_rules terms) v ≡ replicate n None =
+      ap (take n) (drop-replicate (v * n) (task_count terms) None)
+      ∙ take-replicate n (task_count terms - v * n) None
+      (let a : ℕ = v * n in
+      let b : ℕ = task_count terms in let ends : a + n ≤ b = row_end v (version_count terms) n low in let goal : n ≤ b - a = omega arith in goal) in
+      let unfilled : unfilled_in (replicate n None) ≡ n =
+      (let a : ℕ = unfilled_in (replicate n None) in
+      let all : a ≡ n * 1 = sum_by-replicate (λ (o : Option Bundle). cond (is_none o) 1 0) n None in let goal : a ≡ n = omega arith in goal) in
+      ap (λ l. slice_index_or l v d) are ∙ get_or-replicate (version_count terms) v _ d low
+      ∙ tally-is n (unfilled_in (replicate n None)) 0 (count_for (ask_of terms.asks v) (replicate n None)) (sym unfilled)
+      (sym (none_counted (ask_of terms.asks v) n))
+      ∙ ap (tally_of (ask_of terms.asks v)) (sym row);
+}
+  where
+    none_counted : (ask : Ask) (n : ℕ) → count_for ask (replicate n None) ≡ 0
+    none_counted Counts n =
+        let a : ℕ = count_for Counts (replicate n None) in
+        let all : a ≡ n * 0 = sum_by-replicate (λ (o : Option Bundle). cond (is_asked Counts o) 1 0) n None in
+        let goal : a ≡ 0 = omega arith in goal
+    none_counted (Exceeds section limit) n =
+        let a : ℕ = count_for (Exceeds section limit) (replicate n None) in
+        let all : a ≡ n * 0 = sum_by-replicate (λ (o : Option Bundle). cond (is_asked (Exceeds section limit) o) 1 0) n None in
+        let goal : a ≡ 0 = omega arith in goal
 
-one_small : (section : ℕ) (b : Option Bundle) → one_if_with section b + one_if_none b ≤ 1
-one_small section None = let goal : 0 + 1 ≤ 1 = omega arith in goal
-one_small section (Some bundle) = elim (cases_Bool (has (sections_of bundle) section)) [
-  | inl it ↦ rw it (let goal : 1 + 0 ≤ 1 = omega arith in goal)
-  | inr other ↦ rw other (let goal : 0 + 0 ≤ 1 = omega arith in goal)
-]
+-- ---- a task whose version's tally and ask were read
 
-pub for_small : (ask : Ask) (b : Option Bundle) → one_for ask b + one_if_none b ≤ 1
-for_small Counts None = let goal : 0 + 1 ≤ 1 = omega arith in goal
-for_small Counts (Some bundle) = let goal : 0 + 0 ≤ 1 = omega arith in goal
-for_small (Exceeds section limit) b = one_small section.0 b
+module _ (terms : Terms) (tallies : List Tally) (answers : List (Option Bundle)) (have : HaveTallied terms tallies answers)
+    (asked : length terms.asks ≡ version_count terms) (task v : ℕ) (tally : Tally) (ask : Ask)
+    (at_version : v ≡ version_at terms task) (low : v < length tallies) (is : tally ≡ slice_index_or tallies v tally)
+    (asks : ask ≡ slice_index_or terms.asks v ask) where
+  low_there : version_at terms task < version_count terms
+  low_there = subst (λ n. n < version_count terms) at_version (subst (λ n. v < n) have.each low)
 
-pub tally_small : (ask : Ask) (row : List Place) → count_for ask row + unfilled_in row ≤ length row
-tally_small ask [] = let goal : 0 + 0 ≤ 0 = omega arith in goal
-tally_small ask (p ∷ row) =
-    let a : ℕ = one_for ask (bundle_in p) in
-    let b : ℕ = one_if_none (bundle_in p) in
-    let c : ℕ = count_for ask row in
-    let d : ℕ = unfilled_in row in
-    let k : ℕ = length row in
-    let first : a + b ≤ 1 = for_small ask (bundle_in p) in
-    let rest : c + d ≤ k = tally_small ask row in
-    let goal : (a + c) + (b + d) ≤ suc k = omega arith in goal
+  is_there : tally ≡ slice_index_or tallies (version_at terms task) tally
+  is_there = is ∙ ap (λ n. slice_index_or tallies n tally) at_version
 
--- a settled version stays so, whatever comes to a place that is not filled
-settled_numbers : (limit h g i j : ℕ) → (nat_lt limit h || nat_le (h + g) limit) ≡ true → h ≤ i → i + j ≤ h + g
-    → (nat_lt limit i || nat_le (i + j) limit) ≡ true
-settled_numbers limit h g i j was more less =
-    elim (cases_Bool (nat_lt limit h)) [
-      | inl over ↦ let a : nat_lt limit i ≡ true = grind (arith, nat_tests) in rw a refl
-      | inr under ↦
-          let b : nat_le (h + g) limit ≡ true = rw under at was in
-          let c : nat_le (i + j) limit ≡ true = grind (arith, nat_tests) in
-          elim (cases_Bool (nat_lt limit i)) [
-            | inl over ↦ rw over refl
-            | inr still ↦ rw still c
-          ]
-    ]
+  ask_there : ask ≡ ask_of terms.asks (version_at terms task)
+  ask_there =
+      get_or_read_under terms.asks v (version_count terms) ask Counts asks (subst (λ n. v < n) have.each low) (sym asked)
+      ∙ ap (ask_of terms.asks) at_version
 
-settled_at : (ask : Ask) (row : List Place) (s : ℕ) (p : Place) → s < length row → bundle_in (slice_index_or row s Open) ≡ None
-    → (count_for ask row ≤ count_for ask (slice_set row s p))
-    × (count_for ask (slice_set row s p) + unfilled_in (slice_set row s p) ≤ count_for ask row + unfilled_in row)
-settled_at ask row s p below was =
-    let h : ℕ = count_for ask row in
-    let g : ℕ = unfilled_in row in
-    let i : ℕ = count_for ask (slice_set row s p) in
-    let j : ℕ = unfilled_in (slice_set row s p) in
-    let a : ℕ = one_for ask (bundle_in (slice_index_or row s Open)) in
-    let b : ℕ = one_if_none (bundle_in (slice_index_or row s Open)) in
-    let x : ℕ = one_for ask (bundle_in p) in
-    let y : ℕ = one_if_none (bundle_in p) in
-    let hits : i + a ≡ h + x = total-set (λ place. one_for ask (bundle_in place)) row s p Open below in
-    let gaps : j + b ≡ g + y = total-set (λ place. one_if_none (bundle_in place)) row s p Open below in
-    let ea : a ≡ 0 = ap (one_for ask) was ∙ one_for-none ask in
-    let eb : b ≡ 1 = ap one_if_none was in
-    let few : x + y ≤ 1 = for_small ask (bundle_in p) in
-    ((let goal : h ≤ i = omega arith in goal), (let goal : i + j ≤ h + g = omega arith in goal))
+  -- they say whether the task is over
+  pub over_found : (found : Bool) → found ≡ is_decided ask tally.unfilled tally.count → found ≡ is_over terms answers task
+  over_found found told =
+      told ∙ ap (λ (a : Ask). is_decided a tally.unfilled tally.count) ask_there
+      ∙ ap (λ (t : Tally). is_decided (ask_of terms.asks (version_at terms task)) t.unfilled t.count)
+      (is_there ∙ have.tallied (version_at terms task) tally low_there)
 
--- no place of a version of which all are filled is empty
-pub none_left : (row : List Place) (s : ℕ) → s < length row → bundle_in (slice_index_or row s Open) ≡ None → 1 ≤ unfilled_in row
-none_left [] s below was = absurd (omega arith)
-none_left (q ∷ row) zero below was =
-    let a : ℕ = one_if_none (bundle_in q) in let b : ℕ = unfilled_in row in let e : a ≡ 1 = ap one_if_none was in let goal : 1 ≤ a + b = omega arith in goal
-none_left (q ∷ row) (suc s) below was =
-    let a : ℕ = one_if_none (bundle_in q) in
-    let b : ℕ = unfilled_in row in
-    let rest : 1 ≤ b = none_left row s (low_of s (length row) below) was in
-    let goal : 1 ≤ a + b = omega arith in goal
+  module _ (bundle : Bundle) (below : task < task_count terms) (none : slice_index_or answers task (Some bundle) ≡ None) where
+    -- some student of the version is still to be posted
+    pub may_note : 1 ≤ tally.unfilled
+    may_note =
+        subst (λ n. 1 ≤ n) (sym (ap (λ (t : Tally). t.unfilled) (is_there ∙ have.tallied (version_at terms task) tally low_there)))
+        (some_unfilled terms tallies answers have task bundle below none)
 
-pub stays_settled : (ask : Ask) (row : List Place) (s : ℕ) (p : Place) → s < length row → bundle_in (slice_index_or row s Open) ≡ None
-    → is_settled ask row ≡ true → is_settled ask (slice_set row s p) ≡ true
-stays_settled Counts row s p below was settled =
-    let g : ℕ = unfilled_in row in
-    let is : (g == 0) ≡ true = settled in
-    let none : g ≡ 0 = grind (arith, nat_tests) in
-    let some : 1 ≤ g = none_left row s below was in
-    absurd (omega arith)
-stays_settled (Exceeds section limit) row s p below was settled =
-    let both = settled_at (Exceeds section limit) row s p below was in
-    settled_numbers limit (with_section section.0 row) (unfilled_in row) (with_section section.0 (slice_set row s p)) (unfilled_in (slice_set row s p)) settled
-    both.0 both.1
+    -- the tallies with the noted one
+    pub noted_there : (new : Tally) → new ≡ record { unfilled = tally.unfilled - 1; count = tally.count + cond (is_asked ask (Some bundle)) 1 0 }
+        → HaveTallied terms (slice_set tallies v new) (slice_set answers task (Some bundle))
+    noted_there new put =
+        subst (λ n. HaveTallied terms (slice_set tallies n new) (slice_set answers task (Some bundle))) (sym at_version)
+        (noted terms tallies answers have task bundle below none tally new low_there is_there
+        (put ∙ ap (λ (a : Ask). record { unfilled = tally.unfilled - 1; count = tally.count + cond (is_asked a (Some bundle)) 1 0 }) ask_there))
 
--- a Counts version with a place that is not filled is not settled
-pub unfilled_open : (ask : Ask) (row : List Place) (s : ℕ) → ask ≡ Counts → s < length row → is_settled ask row ≡ true
-    → bundle_in (slice_index_or row s Open) ≡ None → ⊥
-unfilled_open ask row s is below settled was =
-    let g : ℕ = unfilled_in row in
-    let all : (g == 0) ≡ true = subst (λ a. is_settled a row ≡ true) is settled in
-    let none : g ≡ 0 = grind (arith, nat_tests) in
-    let some : 1 ≤ g = none_left row s below was in
-    absurd (omega arith)
+-- a task of which no answer was posted
+pub unanswered_there : (terms : Terms) (marks : List (Mark Bundle)) (task : ℕ) (bundle : Bundle) → length marks ≡ task_count terms
+    → task < task_count terms → answer_in (mark_at marks task) ≡ None → slice_index_or (answers_in marks) task (Some bundle) ≡ None
+unanswered_there terms marks task bundle each below none =
+    get_or-map answer_in marks task Open (Some bundle) (subst (λ n. task < n) (sym each) below) ∙ none

@@ -1,48 +1,41 @@
--- When the posted bundles of a version decide what is asked of it.
-use Rattle.std.specs.Prelude.{ℕ, ◌+◌, ◌==◌, ◌||◌, Bool, Option, Some, None, List, slice_index_or, nat_lt, nat_le, if◌then◌else◌}
-use Rattle.market_units.specs.Totals.{total}
+-- When the posted bundles of a version decide what is asked of it. A row has what was posted for
+-- each student.
+use Rattle.std.specs.Prelude.{ℕ, ◌+◌, ◌==◌, ◌||◌, Bool, false, Option, Some, None, is_none, List, slice_index_or, nat_lt, nat_le}
+use Rattle.std.specs.List.{count_by}
 use Rattle.bundle_rules.specs.declared.bundle.Bundle.{Bundle}
 use Rattle.bundle_rules.specs.Bundles.{sections_of}
-use Rattle.bundle_rules.specs.Sets.{has}
-use Rattle.price_board.specs.declared.place.Place.{Place}
+use Rattle.market_units.specs.Members.{has}
 use Rattle.price_board.specs.declared.round.Ask.{Ask}
 use Rattle.price_board.specs.declared.round.Ask.TheVariants.{Counts, Exceeds}
-use Rattle.price_board.specs.Places.{bundle_in}
 
--- 1 where a bundle with the section was posted, else 0
-abbrev pub one_if_with : ℕ → Option Bundle → ℕ
-one_if_with section None = 0
-one_if_with section (Some bundle) = if has (sections_of bundle) section then 1 else 0
+-- a bundle with the section was posted
+abbrev pub is_with : ℕ → Option Bundle → Bool
+is_with section None = false
+is_with section (Some bundle) = has (sections_of bundle) section
 
--- 1 where none was posted, else 0
-abbrev pub one_if_none : Option Bundle → ℕ
-one_if_none None = 1
-one_if_none (Some bundle) = 0
+-- a bundle with the section that is asked of was posted
+abbrev pub is_asked : Ask → Option Bundle → Bool
+is_asked Counts bundle = false
+is_asked (Exceeds section limit) bundle = is_with section.0 bundle
 
--- how many places are still to be filled
-abbrev pub unfilled_in : List Place → ℕ
-unfilled_in row = total (λ place. one_if_none (bundle_in place)) row
-
--- how many posted bundles have the section
-abbrev pub with_section : ℕ → List Place → ℕ
-with_section section row = total (λ place. one_if_with section (bundle_in place)) row
-
--- 1 where a bundle with the section that is asked of was posted, else 0
-abbrev pub one_for : Ask → Option Bundle → ℕ
-one_for Counts bundle = 0
-one_for (Exceeds section limit) bundle = one_if_with section.0 bundle
+-- for how many students none was posted
+abbrev pub unfilled_in : List (Option Bundle) → ℕ
+unfilled_in row = count_by is_none row
 
 -- how many posted bundles have the section that is asked of
-abbrev pub count_for : Ask → List Place → ℕ
-count_for ask row = total (λ place. one_for ask (bundle_in place)) row
+abbrev pub count_for : Ask → List (Option Bundle) → ℕ
+count_for ask row = count_by (is_asked ask) row
 
--- all places are filled; or more than the limit have the section, or no more than the limit can
--- have it
-abbrev pub is_settled : Ask → List Place → Bool
-is_settled Counts row = unfilled_in row == 0
-is_settled (Exceeds section limit) row =
-    nat_lt limit (with_section section.0 row)
-    || nat_le (with_section section.0 row + unfilled_in row) limit
+-- so many students of whom none was posted, and so many posted bundles with the section, decide it:
+-- all are posted; or more than the limit have the section, or no more than the limit can have it
+abbrev pub is_decided : Ask → ℕ → ℕ → Bool
+is_decided Counts unfilled count = unfilled == 0
+is_decided (Exceeds section limit) unfilled count =
+    nat_lt limit count || nat_le (count + unfilled) limit
+
+-- the row decides it
+abbrev pub is_settled : Ask → List (Option Bundle) → Bool
+is_settled ask row = is_decided ask (unfilled_in row) (count_for ask row)
 
 -- what is asked of a version
 abbrev pub ask_of : List Ask → ℕ → Ask

@@ -1,26 +1,25 @@
 -- What each version's posted bundles add up to.
-use Rattle.std.specs.Prelude.{ℕ, ◌+◌, ◌==◌, ◌||◌, Bool, Option, Some, None, List, [], ◌∷◌, nat_lt, nat_le}
-use Rattle.price_board.specs.declared.place.Place.{Place}
+use Rattle.std.specs.Prelude.{ℕ, ◌≡◌, ◌<◌, Bool, Option, Some, None, List, length, slice_index_or, nat_lt}
+use Rattle.bundle_rules.specs.declared.bundle.Bundle.{Bundle}
 use Rattle.price_board.specs.declared.round.Ask.{Ask}
 use Rattle.price_board.specs.declared.round.Ask.TheVariants.{Counts, Exceeds}
 use Rattle.price_board.specs.declared.tally.Tally.{Tally}
+use Rattle.price_board.specs.declared.terms.Terms.{Terms}
+use Rattle.price_board.specs.Rows.{row_of}
 use Rattle.price_board.specs.Settling.{ask_of, count_for, unfilled_in}
+use Rattle.price_board.specs.Terms.{version_count}
 
 -- the tally of a row
-abbrev pub tally_of : Ask → List Place → Tally
+abbrev pub tally_of : Ask → List (Option Bundle) → Tally
 tally_of ask row = record { unfilled = unfilled_in row; count = count_for ask row }
 
--- the tallies of the rows of this version and the later ones
-abbrev pub tallies_of : List Ask → ℕ → List (List Place) → List Tally
-tallies_of asks version [] = []
-tallies_of asks version (row ∷ rows) =
-    tally_of (ask_of asks version) row ∷ tallies_of asks (version + 1) rows
-
--- whether a version with this tally is settled
-abbrev pub settles : Ask → Tally → Bool
-settles Counts tally = tally.unfilled == 0
-settles (Exceeds section limit) tally =
-    nat_lt limit tally.count || nat_le (tally.count + tally.unfilled) limit
+-- there is a tally for each version, that of its row
+pub record HaveTallied (terms : Terms) (tallies : List Tally)
+    (answers : List (Option Bundle)) : Type 0 where
+  pub each : length tallies ≡ version_count terms
+  pub tallied : (version : ℕ) (d : Tally) → version < version_count terms
+      → slice_index_or tallies version d
+      ≡ tally_of (ask_of terms.asks version) (row_of terms answers version)
 
 -- whether a version with this tally has more bundles with the section than the limit, where that is
 -- asked

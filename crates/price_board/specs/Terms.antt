@@ -2,7 +2,7 @@
 use Rattle.std.specs.Prelude.{ℕ, ◌*◌, ◌==◌, ◌&&◌, Bool, true, false, List, [], ◌∷◌, length, slice_index_or}
 use Rattle.bundle_rules.specs.Demand.{price_in}
 use Rattle.demand_api.specs.Crowds.{demand_of as crowd_demand, count}
-use Rattle.price_board.specs.declared.shared.Terms.{Terms}
+use Rattle.price_board.specs.declared.terms.Terms.{Terms}
 
 -- how many students there are
 abbrev pub student_count : Terms → ℕ

@@ -1,56 +1,63 @@
 // What a closed board answers.
-use crate::state::BoardState;
+use crate::tasks::RoundTasks;
 use bundle_rules::Bundle;
 use chronicle::Journal;
 use market_units::StudentNo;
 use std::marker::Model;
+use task_board::{Answers as TaskAnswers, BoardState};
 
 /// The answers of a round whose versions are all settled, with the history that they are read from.
 #[derive(Drop)]
 pub struct Answers {
-    pub(crate) state: BoardState,
-    pub(crate) journal: Journal<BoardState>,
+    pub(crate) answers: TaskAnswers<RoundTasks>,
+    pub(crate) students: u32,
 }
 
 impl Model for Answers {
-    ghost use Rattle.std.specs.Coded.{codes};
-    ghost use Rattle.chronicle.specs.contracts.journal.StepOf as step;
-    ghost use Rattle.price_board.specs.contracts.calls.BoardCall as call;
-    ghost use Rattle.price_board.specs.contracts.calls.BoardReply as reply;
-    ghost use Rattle.price_board.specs.contracts.place.Place as place;
-    ghost use Rattle.price_board.specs.contracts.shared.Terms as terms;
-    ghost use Rattle.price_board.specs.Closings.{AnswersData, AreSettled};
+    ghost use Rattle.std.specs.Prelude.{◌≡◌, length};
+    ghost use Rattle.bundle_rules.specs.declared.bundle.Bundle.{Bundle};
+    ghost use Rattle.bundle_rules.specs.contracts.bundle.Bundle as bundle;
+    ghost use Rattle.task_board.specs.declared.data.AnswersData.{AnswersData};
+    ghost use Rattle.task_board.specs.contracts.data.AnswersData as ended;
+    ghost use Rattle.price_board.specs.declared.terms.Terms.{Terms};
+    ghost use Rattle.price_board.specs.contracts.terms.Terms as terms;
+    ghost use Rattle.price_board.specs.Closings.{IsEnded};
 
-    ghost Value = { AnswersData };
+    ghost Value = { AnswersData Terms Bundle };
 
-    ghost coded = { Prim.hlevel (codes, place.the_row.coded, terms.the_row.coded, call.the_row.coded, reply.the_row.coded) };
+    ghost coded = { (ended.the_row terms.the_row bundle.the_row).coded };
 
-    ghost view = { λ a. record { terms = a.state.terms; rows = a.state.rows; history = a.journal } };
+    ghost view = { λ a. a.answers };
 
-    ghost invariant = { λ a. AreSettled a.state.terms a.state.rows };
+    ghost invariant = { λ a. IsEnded a.answers.terms a.answers.marks a.students };
 }
 
 impl Answers {
     ghost use Rattle.std.specs.Prelude.{◌≡◌, ◌<◌, IsSome, IfSome};
     ghost use Rattle.bundle_rules.specs.Bundles.{sections_of};
+    ghost use Rattle.task_board.specs.Marks.{answer_in};
     ghost use Rattle.price_board.specs.declared.round.Ask.TheVariants as ask;
     ghost use Rattle.price_board.specs.Closings.{exceeds_of};
-    ghost use Rattle.price_board.specs.Places.{place_of, bundle_in};
+    ghost use Rattle.price_board.specs.Rows.{mark_of};
     ghost use Rattle.price_board.specs.Settling.{ask_of};
-    ghost use Rattle.price_board.specs.Terms.{version_count, student_count, demand_of};
+    ghost use Rattle.price_board.specs.Terms.{demand_of, student_count, version_count};
 
     /// What the student takes at the prices of the version, where it was posted: for every student
     /// of a `Counts` version.
     pub fn bundle(&self, version: u8, student: StudentNo) -> Option<Bundle>
-        ensures posted { result ≡ bundle_in (place_of self.now.rows version student.0) }
+        ensures posted { result
+            ≡ answer_in (mark_of self.now.terms self.now.marks version student.0) }
         ensures some { version < version_count self.now.terms
             → student.0 < student_count self.now.terms
             → ask_of self.now.terms.asks version ≡ ask.Counts → IsSome result }
         ensures right { IfSome result
             (λ bundle. sections_of bundle ≡ demand_of self.now.terms version student.0) }
     {
-        self.state
-            .bundle(usize::from(version), usize::from(student.0))
+        if u32::from(student.0) >= self.students {
+            return None;
+        }
+        let number = u32::from(version) * self.students + u32::from(student.0);
+        self.answers.answer(number)
     }
 
     /// Of an `Exceeds` version, and of no other, whether more students than the limit take the
@@ -58,13 +65,13 @@ impl Answers {
     pub fn exceeds(&self, version: u8) -> Option<bool>
         ensures { result ≡ exceeds_of self.now.terms version }
     {
-        self.state.exceeds(usize::from(version))
+        self.answers.tasks().exceeds(usize::from(version))
     }
 
     /// The history of all calls on the board.
-    pub fn journal(&self) -> &Journal<BoardState>
+    pub fn journal(&self) -> &Journal<BoardState<RoundTasks>>
         ensures { result.now ≡ self.now.history }
     {
-        &self.journal
+        self.answers.journal()
     }
 }

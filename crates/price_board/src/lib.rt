@@ -7,18 +7,15 @@
 mod answers;
 mod board;
 mod calls;
-mod grid;
-mod place;
-mod places;
 mod round;
-mod shared;
-mod state;
 mod tally;
+mod tasks;
+mod terms;
 
 pub use answers::Answers;
 pub use board::{Board, BoardSeat};
-pub use calls::{BoardCall, BoardReply, Draw, Posted, Task};
-pub use place::Place;
+pub use calls::{Draw, Task};
 pub use round::{Ask, Round};
-pub use shared::{Progress, Terms};
-pub use state::BoardState;
+pub use task_board::Posted;
+pub use tasks::RoundTasks;
+pub use terms::Terms;

@@ -1,14 +1,13 @@
 // What the posted bundles of one version add up to.
-ghost use Rattle.std.specs.Prelude.{◌≡◌, ◌≤◌, ◌+◌, ◌-◌};
-ghost use Rattle.bundle_rules.specs.declared.bundle.Bundle.{Bundle};
-ghost use Rattle.std.specs.Prelude.{Some};
-ghost use Rattle.price_board.specs.Settling.{one_for};
-ghost use Rattle.price_board.specs.Tallies.{settles, exceeds_by};
+ghost use Rattle.std.specs.Prelude.{◌≡◌, ◌≤◌, ◌+◌, ◌-◌, if◌then◌else◌, Some};
+ghost use Rattle.price_board.specs.Settling.{is_asked, is_decided};
+ghost use Rattle.price_board.specs.Tallies.{exceeds_by};
 
 use crate::round::Ask;
 use bundle_rules::Bundle;
+use market_units::MAX_STUDENTS;
 
-/// How many places of a version are still to be filled, and how many of its posted bundles have the
+/// For how many students of a version none was posted, and how many of its posted bundles have the
 /// section that is asked of.
 #[derive(Clone, Copy)]
 pub struct Tally {
@@ -16,10 +15,10 @@ pub struct Tally {
     pub count: u32,
 }
 
-// Whether the version of this tally is settled.
+/// Whether the version of this tally is settled.
 pub(crate) fn settles(ask: Ask, tally: Tally) -> bool
-    requires { tally.count + tally.unfilled ≤ 2000 }
-    ensures { result ≡ settles ask tally }
+    requires { (tally.unfilled ≤ MAX_STUDENTS) × (tally.count ≤ MAX_STUDENTS) }
+    ensures { result ≡ is_decided ask tally.unfilled tally.count }
 {
     match ask {
         Ask::Counts => tally.unfilled == 0,
@@ -29,13 +28,13 @@ pub(crate) fn settles(ask: Ask, tally: Tally) -> bool
     }
 }
 
-// The tally after one more bundle.
+/// The tally after one more bundle.
 pub(crate) fn with_bundle(ask: Ask, tally: Tally, bundle: &Bundle) -> Tally
-    requires { (1 ≤ tally.unfilled) × (tally.count ≤ 2000) }
+    requires { (1 ≤ tally.unfilled) × (tally.count ≤ MAX_STUDENTS) }
     ensures { result
         ≡ record {
           unfilled = tally.unfilled - 1;
-          count = tally.count + one_for ask (Some bundle.now);
+          count = tally.count + (if is_asked ask (Some bundle.now) then 1 else 0);
         } }
 {
     let has_it = match ask {
@@ -48,7 +47,7 @@ pub(crate) fn with_bundle(ask: Ask, tally: Tally, bundle: &Bundle) -> Tally
     }
 }
 
-// Whether more of the posted bundles than the limit have the section, where that is asked.
+/// Whether more of the posted bundles than the limit have the section, where that is asked.
 pub(crate) fn exceeds_by(ask: Ask, tally: Tally) -> Option<bool>
     ensures { result ≡ exceeds_by ask tally }
 {

@@ -8,7 +8,7 @@ ghost use Rattle.price_neighbours.specs.Neighbours.{with_alone, least_fewer, alo
 ghost use Rattle.price_neighbours.specs.Asked.{is_over, pair_of};
 
 use demand_api::Demands;
-use market_units::{NoMemory, SectionNo, Tokens};
+use market_units::{MAX_SECTIONS, NoMemory, SectionNo, Tokens};
 use std::alloc::Global;
 use std::sync::Wait;
 use std::thread::Threads;
@@ -20,7 +20,7 @@ fn pairs_over(
     counts: &[u32],
     seats: &[u16],
 ) -> Result<Vec<(SectionNo, u32)>, NoMemory>
-    requires few { length counts.now ≤ 400 }
+    requires few { length counts.now ≤ MAX_SECTIONS }
     requires seats { length seats.now ≡ length counts.now }
     ensures { IfOk result
         (λ pairs. pairs.items
@@ -53,8 +53,10 @@ fn with_alone(
     Ok(vector)
 }
 
-// By ordinal, the vectors in which one section alone has another price. All least prices are asked
-// for at once.
+/// Puts behind the vectors those in which one section alone has another price, by its ordinal. One
+/// with too many students gets the least price at which fewer take it; one with free seats and a
+/// price above 0 gets price 0; for any other there is no vector. All least prices are asked for at
+/// once.
 pub(crate) fn push_alone<R: Threads + Wait + Sync, D: Demands>(
     rt: &R,
     alloc: Global,
@@ -64,7 +66,7 @@ pub(crate) fn push_alone<R: Threads + Wait + Sync, D: Demands>(
     counts: &[u32],
     seats: &[u16],
 ) -> Result<(), NoMemory>
-    requires few { (D.crowd demands.old).sections ≤ 400 }
+    requires few { (D.crowd demands.old).sections ≤ MAX_SECTIONS }
     requires seats { length seats.now ≡ (D.crowd demands.old).sections }
     requires prices { ArePricesFor (D.crowd demands.old) prices.now }
     requires counts { counts.now ≡ counts_of (D.crowd demands.old) (price_in prices.now) }

@@ -13,7 +13,7 @@ fn amounts(alloc: Global, prices: &[Tokens]) -> Result<Vec<u32>, NoMemory>
     Ok(prices.iter().map(|price| price.0).collect(alloc)?)
 }
 
-// Each vector once, at its first place.
+/// The vectors without repetitions: of equal ones the first stays at its place.
 pub(crate) fn once(alloc: Global, vectors: Vec<Vec<Tokens>>) -> Result<Vec<Vec<Tokens>>, NoMemory>
     ensures { IfOk result
         (λ kept. map (λ vector. vector.items) kept.items

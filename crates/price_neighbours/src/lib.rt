@@ -11,6 +11,3 @@ mod neighbourhood;
 mod steps;
 
 pub use neighbourhood::neighbours;
-
-#[cfg(test)]
-mod tests;

@@ -4,12 +4,12 @@ ghost use Rattle.clearing_error.specs.Errors.{excess};
 ghost use Rattle.price_neighbours.specs.Neighbours.{stepped_price, stepped};
 
 use clearing_error::excess;
-use market_units::{NoMemory, Tokens};
+use market_units::{MAX_STUDENTS, NoMemory, Tokens};
 use std::alloc::Global;
 
 // So many times the section's excess.
 fn change(count: u32, seats: u16, step: u32) -> i64
-    requires { count ≤ 2000 }
+    requires { count ≤ MAX_STUDENTS }
     ensures value { result ≡ pos step *ℤ excess count seats }
     ensures small { nat_abs result ≤ 281470681677825 }
 {
@@ -18,7 +18,7 @@ fn change(count: u32, seats: u16, step: u32) -> i64
 
 // The price plus so many times the section's excess, cut to the range 0 to the top.
 fn stepped_price(top: Tokens, price: Tokens, count: u32, seats: u16, step: u32) -> Tokens
-    requires { count ≤ 2000 }
+    requires { count ≤ MAX_STUDENTS }
     ensures { result.0 ≡ stepped_price top.0 price.0 count seats step }
 {
     let moved = i64::from(price.0) + change(count, seats, step);
@@ -34,7 +34,7 @@ fn stepped(
     seats: &[u16],
     step: u32,
 ) -> Result<Vec<Tokens>, NoMemory>
-    requires few { All (λ count. count ≤ 2000) counts.now }
+    requires few { All (λ count. count ≤ MAX_STUDENTS) counts.now }
     requires counts { length counts.now ≡ length prices.now }
     requires seats { length seats.now ≡ length prices.now }
     ensures { IfOk result
@@ -48,7 +48,9 @@ fn stepped(
     Ok(moved)
 }
 
-// For each step, in order, the vector in which every price makes it.
+/// Puts one vector behind the others for each step, in order: every price is raised by so many
+/// tokens for each student too many, or lowered by so many for each free seat. What would leave the
+/// range from 0 to the top is cut to it.
 pub(crate) fn push_stepped(
     alloc: Global,
     vectors: &mut Vec<Vec<Tokens>>,
@@ -58,7 +60,7 @@ pub(crate) fn push_stepped(
     seats: &[u16],
     steps: &[u32],
 ) -> Result<(), NoMemory>
-    requires few { All (λ count. count ≤ 2000) counts.now }
+    requires few { All (λ count. count ≤ MAX_STUDENTS) counts.now }
     requires counts { length counts.now ≡ length prices.now }
     requires seats { length seats.now ≡ length prices.now }
     ensures { IfOk result

@@ -8,8 +8,8 @@ use Rattle.std.proofs.lemmas.List.Quantifiers.{position-Some}
 use Rattle.std.proofs.Math.Seq.{take-suc}
 use Rattle.std.proofs.lemmas.Iterator.Adapters.{position_from-zero}
 use Rattle.std.proofs.lemmas.List.{get_or-map, length-map, map-append}
-use Rattle.course_catalog.specs.Sections.{Section}
-use Rattle.price_sheet.specs.Sheets.{Priced, names_of, price_in}
+use Rattle.course_catalog.specs.Sections.{Section, section_names}
+use Rattle.price_sheet.specs.Sheets.{Priced, price_in}
 
 -- the section's name of each row
 abbrev pub sections_of : List Priced → List (List ℕ)
@@ -44,10 +44,11 @@ price_in-none rows name is = nowhere rows name 0 (sym (position_from-zero (bytes
 
 -- the names of the first sections, and of one more
 pub prices-more : (rows : List Priced) (sections : List Section) (i : ℕ) (d : Section) → i < length sections
-    → map (price_in rows) (take (i + 1) (names_of sections)) ≡ map (price_in rows) (take i (names_of sections)) ++ price_in rows (get_or sections i d).name ∷ []
+    → map (price_in rows) (take (i + 1) (section_names sections))
+    ≡ map (price_in rows) (take i (section_names sections)) ++ price_in rows (get_or sections i d).name ∷ []
 prices-more rows sections i d within =
     let many = length-map sections (λ (section : Section). section.name) in
-    let last : get_or (names_of sections) i [] ≡ (get_or sections i d).name = get_or-map (λ (section : Section). section.name) sections i d [] within in
-    let cut : take (i + 1) (names_of sections) ≡ take i (names_of sections) ++ (get_or sections i d).name ∷ [] =
-    rw add-one (take-suc (names_of sections) i [] (omega (arith, many)) ∙ ap (λ (n : List ℕ). take i (names_of sections) ++ n ∷ []) last) in
-    ap (map (price_in rows)) cut ∙ map-append (price_in rows) (take i (names_of sections)) ((get_or sections i d).name ∷ [])
+    let last : get_or (section_names sections) i [] ≡ (get_or sections i d).name = get_or-map (λ (section : Section). section.name) sections i d [] within in
+    let cut : take (i + 1) (section_names sections) ≡ take i (section_names sections) ++ (get_or sections i d).name ∷ [] =
+    rw add-one (take-suc (section_names sections) i [] (omega (arith, many)) ∙ ap (λ (n : List ℕ). take i (section_names sections) ++ n ∷ []) last) in
+    ap (map (price_in rows)) cut ∙ map-append (price_in rows) (take i (section_names sections)) ((get_or sections i d).name ∷ [])

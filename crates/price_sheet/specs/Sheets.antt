@@ -1,7 +1,8 @@
 -- What the bytes of a price sheet say.
 use Rattle.std.specs.Prelude.{ℕ, List, [], ◌∷◌, None, is_some, if◌then◌else◌, map, position, Result, Ok, codes}
 use Rattle.std.specs.Str.{bytes_eq}
-use Rattle.course_catalog.specs.Sections.{Section}
+use Rattle.market_units.specs.declared.limits.TheConstants.{MAX_PRICE}
+use Rattle.course_catalog.specs.Sections.{Section, section_names}
 use Rattle.table_records.specs.declared.fault.Fault.{Fault}
 use Rattle.table_records.specs.declared.fault.Fault.TheVariants as fault
 use Rattle.table_records.specs.Columns.{◌>>=◌, number_or}
@@ -15,10 +16,6 @@ pub record Priced : Type 0 where
   pub section : List ℕ
   pub price : ℕ
 
--- the names of sections, in order
-abbrev pub names_of : List Section → List (List ℕ)
-names_of sections = map (λ section. section.name) sections
-
 -- the refusal of a fault in no later column than the section's
 abbrev pub refusal_of : Fault → PriceRefusal
 refusal_of fault.Header = refusal.Header
@@ -29,7 +26,7 @@ refusal_of (fault.Repeated row earlier) = refusal.Repeated row earlier
 -- the price of this row, in the one version of a sheet: column 2 is a number up to 1,000,001
 abbrev pub priced_of : ℕ → ℕ → List (List ℕ) → Result Priced PriceRefusal
 priced_of version row fields = do
-  price ← number_or (refusal.Number row 2) 1000001 (field_in 2 fields)
+  price ← number_or (refusal.Number row 2) MAX_PRICE (field_in 2 fields)
   Ok (record { section = first_field fields; price = price })
 
 -- the rules of a price sheet, where the catalogue has these names: any number of rows, each of a
@@ -52,5 +49,5 @@ price_in (row ∷ more) name = if bytes_eq name row.section then row.price else 
 -- first refusal
 abbrev pub prices_of : List Section → List ℕ → Result (List ℕ) PriceRefusal
 prices_of sections bytes = do
-  read ← reading (price_rules (names_of sections)) (records_of bytes)
-  Ok (map (price_in read.rows) (names_of sections))
+  read ← reading (price_rules (section_names sections)) (records_of bytes)
+  Ok (map (price_in read.rows) (section_names sections))

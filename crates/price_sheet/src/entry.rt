@@ -22,12 +22,14 @@ impl Model for Entry {
 }
 
 impl Entry {
+    /// The row of a section, by its name, and its price in tokens.
     pub fn new(section: Name, price: u32) -> Entry
         ensures { result ≡ record { section = name_bytes section; price = price } }
     {
         Entry { section, price }
     }
 
+    /// The price of the section, in tokens.
     pub fn price(&self) -> u32
         ensures { result ≡ self.now.price }
     {

@@ -9,6 +9,3 @@ mod rules;
 
 pub use reading::read_prices;
 pub use refusal::PriceRefusal;
-
-#[cfg(test)]
-mod tests;

@@ -1,6 +1,8 @@
 // The columns of a price sheet.
 ghost use Rattle.std.specs.Prelude.{◌≡◌, ◌≤◌};
-ghost use Rattle.price_sheet.specs.Sheets.{names_of, price_rules};
+ghost use Rattle.market_units.specs.declared.limits.TheConstants.{MAX_PRICE};
+ghost use Rattle.course_catalog.specs.Sections.{section_names};
+ghost use Rattle.price_sheet.specs.Sheets.{price_rules};
 
 use crate::PriceRefusal;
 use crate::entry::Entry;
@@ -20,11 +22,11 @@ impl Table for PriceRules<'_> {
 
     type Refusal = PriceRefusal;
 
-    ghost rules = { λ table. price_rules (names_of table.catalog.now.sections) };
+    ghost rules = { λ table. price_rules (section_names table.catalog.now.sections) };
 
     ghost name_of = { λ row. row.section };
 
-    ghost is_row = { λ _ row. row.price ≤ 1000001 };
+    ghost is_row = { λ _ row. row.price ≤ MAX_PRICE };
 
     fn headers(&self) -> &[&[&[u8]]] {
         &[&[b"section", b"price"]]

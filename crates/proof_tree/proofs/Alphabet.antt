@@ -12,7 +12,7 @@ use Rattle.bundle_rules.specs.Menus.{IsMenu}
 use Rattle.bundle_bounds.specs.declared.nodes.Leaf.{Leaf}
 use Rattle.bundle_bounds.specs.declared.nodes.Leaf.TheVariants.{Plain, Budget, Credits, Number}
 use Rattle.bundle_bounds.specs.Offers.{Offer, places_of}
-use Rattle.proof_tree.specs.declared.signs.Sign.TheVariants.{Closed}
+use Rattle.proof_tree.specs.declared.signs.Sign.TheVariants.{Pruned}
 use Rattle.proof_tree.specs.Trees.{Tree, Wins, Bars, Cuts, Takes, Splits, Passes, IsTree}
 use Rattle.proof_tree.specs.Texts.{IsShort, spelled, symbol}
 use Rattle.proof_tree.specs.Alphabets.{AreTreeBytes, TreesHaveTreeBytes, is_tree_byte}
@@ -41,7 +41,7 @@ number_bytes place low k d inside =
     let digit = digit_at (decimal place) k (decimal_is_IsNumeral place small).0.1 inside in
     subst (λ b. IsTrue (is_tree_byte b)) (sym (get_or_default (decimal place) k d 0 inside)) (digit_is (get_or (decimal place) k 0) digit.0 digit.1)
 
-leaf_bytes : (leaf : Leaf) → IsShort (Closed leaf) → AreTreeBytes (symbol (Closed leaf))
+leaf_bytes : (leaf : Leaf) → IsShort (Pruned leaf) → AreTreeBytes (symbol (Pruned leaf))
 leaf_bytes Plain short = one_byte 110 refl
 leaf_bytes (Budget place) short = behind (98 ∷ []) (decimal place) (one_byte 98 refl) (number_bytes place (short place refl))
 leaf_bytes (Credits place) short = behind (99 ∷ []) (decimal place) (one_byte 99 refl) (number_bytes place (short place refl))
@@ -51,7 +51,7 @@ module _ (offer : Offer) (menu : IsMenu offer.menu) (champion : List ℕ) where
   tree_bytes : (tree : Tree) (k : ℕ) (chosen : List ℕ) → k ≤ length offer.menu.places → IsTree offer None champion k chosen tree → AreTreeBytes (spelled tree)
   tree_bytes Wins k chosen within is = one_byte 42 refl
   tree_bytes Bars k chosen within is = absurd (cc is.1.1)
-  tree_bytes (Cuts leaf) k chosen within is = leaf_bytes leaf (short_sign offer None champion k chosen (Closed leaf) menu within is)
+  tree_bytes (Cuts leaf) k chosen within is = leaf_bytes leaf (short_sign offer None champion k chosen (Pruned leaf) menu within is)
   tree_bytes (Takes with_it) k chosen within is = absurd (cc is.0.1)
   tree_bytes (Splits with_it without) k chosen within is =
       let next : k + 1 ≤ length offer.menu.places = let left = is.0.0.left in omega arith in

@@ -3,7 +3,8 @@ use Rattle.std.proofs.Common.{◌≡◌, ◌≢◌, ◌<◌, ◌≤◌, ◌+◌,
 use Rattle.std.specs.Prelude.{ℤ, pos, ◌+ℤ◌, ◌*ℤ◌, ◌<ℤ◌}
 use Rattle.std.proofs.lemmas.Int.{ints}
 use Rattle.std.proofs.lemmas.Bool.{cases_Bool, cases_lt, cases_order, false≢true}
-use Rattle.bundle_rules.specs.Sets.{has, DiffersFirstIn}
+use Rattle.market_units.specs.Members.{has}
+use Rattle.bundle_rules.specs.Sets.{DiffersFirstIn}
 use Rattle.bundle_rules.specs.Wishes.{utility}
 use Rattle.bundle_rules.specs.Menus.{IsMenu, wishes_of, by_place, section_at, place_in}
 use Rattle.bundle_rules.specs.Preferences.{IsPreferred}
@@ -14,13 +15,13 @@ use Rattle.bundle_rules.proofs.PlacesFirst.{section_at-rises}
 use Rattle.bundle_bounds.specs.declared.nodes.Leaf.{Leaf}
 use Rattle.bundle_bounds.specs.Offers.{Offer, places_of}
 use Rattle.bundle_bounds.specs.Opens.{budget_left, credits_left, courses_left, is_open, open_places, opens_from, prospects}
-use Rattle.bundle_bounds.specs.Bounds.{base_of, bounds, bounds_over, IsFirstClosing, NoneCloses}
+use Rattle.bundle_bounds.specs.Bounds.{base_of, bounds, bounds_over, IsFirstPruning, NonePrunes}
 use Rattle.bundle_bounds.specs.Limits.{NoneBelow, IsFirstBelow}
 use Rattle.bundle_rules.specs.Ahead.{IsAhead, is_ahead}
 use Rattle.bundle_bounds.specs.Ahead.{limit_of}
 use Rattle.bundle_bounds.specs.Laws.{IsTakable, IsNode}
 use Rattle.bundle_bounds.proofs.ByPlace.{places-has, has_by_place, on_menu, taken_places}
-use Rattle.bundle_bounds.proofs.BelowLimit.{some_closes, none_closes}
+use Rattle.bundle_bounds.proofs.BelowLimit.{some_prunes, none_prunes}
 use Rattle.bundle_bounds.proofs.NodeFacts.{nothing_chosen}
 use Rattle.bundle_bounds.proofs.Openings.{node_without}
 use Rattle.proof_tree.specs.Trees.{Tree, Wins, Bars, Cuts, Takes, Splits, Passes, IsTree, IsShut, IsChampionsEnd, GoesOn}
@@ -80,12 +81,12 @@ first_or_none limit (b ∷ bs) = elim (int_order b.1 limit) [
 
 module _ (offer : Offer) (menu : IsMenu offer.menu) (required : Option ℕ) (on : IsOnMenu offer required) (champion : List ℕ)
     (takable : IsTakable offer champion) where
-  -- a bound closes a node, or none does
-  closed_or_not : (k : ℕ) (chosen : List ℕ) → IsNode offer k chosen
+  -- a bound prunes a node, or none does
+  pruned_or_not : (k : ℕ) (chosen : List ℕ) → IsNode offer k chosen
       →
-      ((leaf : Leaf) × IsFirstClosing offer k (places_of offer.menu chosen) (places_of offer.menu champion) (bounds offer k (places_of offer.menu chosen)) leaf)
-      ⊎ NoneCloses offer k (places_of offer.menu chosen) (places_of offer.menu champion) (bounds offer k (places_of offer.menu chosen))
-  closed_or_not k chosen node =
+      ((leaf : Leaf) × IsFirstPruning offer k (places_of offer.menu chosen) (places_of offer.menu champion) (bounds offer k (places_of offer.menu chosen)) leaf)
+      ⊎ NonePrunes offer k (places_of offer.menu chosen) (places_of offer.menu champion) (bounds offer k (places_of offer.menu chosen))
+  pruned_or_not k chosen node =
       let cs = places_of offer.menu chosen in
       let ch = places_of offer.menu champion in
       let up = (taken_places offer champion menu takable).ascending in
@@ -95,13 +96,13 @@ module _ (offer : Offer) (menu : IsMenu offer.menu) (required : Option ℕ) (on 
         | inl first ↦
             inl (
               first.0,
-              some_closes offer k cs ch up up' (places_low offer menu k chosen node) (base_of offer cs) most (budget_left offer cs)
+              some_prunes offer k cs ch up up' (places_low offer menu k chosen node) (base_of offer cs) most (budget_left offer cs)
                   (credits_left offer cs) (courses_left offer cs) (prospects offer cs (open_places offer k cs)) refl refl refl refl refl refl
                   (Some first.0) first.1,
             )
         | inr none ↦
             inr
-            (none_closes offer k cs ch up up' (places_low offer menu k chosen node) (base_of offer cs) most (budget_left offer cs) (credits_left offer cs)
+            (none_prunes offer k cs ch up up' (places_low offer menu k chosen node) (base_of offer cs) most (budget_left offer cs) (credits_left offer cs)
             (courses_left offer cs) (prospects offer cs (open_places offer k cs)) refl refl refl refl refl refl None none)
       ]
 
@@ -127,14 +128,14 @@ module _ (offer : Offer) (menu : IsMenu offer.menu) (required : Option ℕ) (on 
             of_champion t (omega arith) ∙ differs.3 (section_at offer.menu.places t) (omega arith) ∙ sym (of_chosen t (omega arith)),
       )
 
-  closed_at_end : (k : ℕ) (chosen : List ℕ) → k ≡ length offer.menu.places → IsTakable offer chosen → IsPreferred (wishes_of offer.menu) champion chosen
-      → NoneCloses offer k (places_of offer.menu chosen) (places_of offer.menu champion) (bounds offer k (places_of offer.menu chosen)) → ⊥
-  closed_at_end k chosen all may preferred none =
+  pruned_at_end : (k : ℕ) (chosen : List ℕ) → k ≡ length offer.menu.places → IsTakable offer chosen → IsPreferred (wishes_of offer.menu) champion chosen
+      → NonePrunes offer k (places_of offer.menu chosen) (places_of offer.menu champion) (bounds offer k (places_of offer.menu chosen)) → ⊥
+  pruned_at_end k chosen all may preferred none =
       let cs = places_of offer.menu chosen in
       let ch = places_of offer.menu champion in
       let zero_left : length offer.menu.places - k ≡ 0 = omega arith in
       let no_open : open_places offer k (places_of offer.menu chosen) ≡ [] = ap (opens_from offer (places_of offer.menu chosen) k) zero_left in
-      let none' = subst (λ os. NoneCloses offer k cs ch (bounds_over offer cs (prospects offer cs os))) no_open none in
+      let none' = subst (λ os. NonePrunes offer k cs ch (bounds_over offer cs (prospects offer cs os))) no_open none in
       let u : ℤ = utility (by_place offer.menu) (places_of offer.menu chosen) in
       let m : ℤ = utility (by_place offer.menu) (places_of offer.menu champion) in
       let u' : ℤ = utility (wishes_of offer.menu) chosen in
@@ -198,11 +199,11 @@ module _ (offer : Offer) (menu : IsMenu offer.menu) (required : Option ℕ) (on 
               let no_end : IsChampionsEnd offer (places_of offer.menu champion) k (places_of offer.menu chosen) → ⊥ = λ end. other end.1 in
               elim (shut_or_not offer required k (places_of offer.menu chosen)) [
                 | inl shut ↦ (Bars, (no_end, shut))
-                | inr not_shut ↦ elim (closed_or_not k chosen node) [
-                  | inl closed ↦ (Cuts closed.0, (record { no_end = no_end; not_shut = not_shut }, closed.1))
+                | inr not_shut ↦ elim (pruned_or_not k chosen node) [
+                  | inl pruned ↦ (Cuts pruned.0, (record { no_end = no_end; not_shut = not_shut }, pruned.1))
                   | inr none ↦
                       let at_end : k ≡ length offer.menu.places = omega arith in
-                      absurd (closed_at_end k chosen at_end node.takable (mutual_end k chosen at_end node kept other) none)
+                      absurd (pruned_at_end k chosen at_end node.takable (mutual_end k chosen at_end node kept other) none)
                 ]
               ]
         ]
@@ -213,11 +214,11 @@ module _ (offer : Offer) (menu : IsMenu offer.menu) (required : Option ℕ) (on 
         λ end. let e : k ≡ length offer.menu.places = end.0 in absurd (omega arith) in
         elim (shut_or_not offer required k (places_of offer.menu chosen)) [
           | inl shut ↦ (Bars, (no_end, shut))
-          | inr not_shut ↦ elim (closed_or_not k chosen node) [
-            | inl closed ↦ (Cuts closed.0, (record { no_end = no_end; not_shut = not_shut }, closed.1))
+          | inr not_shut ↦ elim (pruned_or_not k chosen node) [
+            | inl pruned ↦ (Cuts pruned.0, (record { no_end = no_end; not_shut = not_shut }, pruned.1))
             | inr none ↦
                 let goes : GoesOn offer required (places_of offer.menu champion) k (places_of offer.menu chosen) =
-                record { unsettled = record { no_end = no_end; not_shut = not_shut }; none_closes = none; left = low } in
+                record { unsettled = record { no_end = no_end; not_shut = not_shut }; none_prunes = none; left = low } in
                 elim (cases_Bool (is_open offer (places_of offer.menu chosen) k)) [
                   | inl open_ ↦
                       let with_it =

@@ -4,7 +4,7 @@ use Rattle.std.specs.Prelude.{⊤}
 use Rattle.bundle_rules.specs.Menus.{IsMenu}
 use Rattle.bundle_bounds.specs.Offers.{Offer, places_of}
 use Rattle.proof_tree.specs.declared.signs.Sign.{Sign}
-use Rattle.proof_tree.specs.declared.signs.Sign.TheVariants.{Champion, Shut, Closed, Forced, Open, Passed}
+use Rattle.proof_tree.specs.declared.signs.Sign.TheVariants.{Champion, Shut, Pruned, Forced, Open, Passed}
 use Rattle.proof_tree.specs.declared.defects.TreeDefect.TheVariants.{Syntax, NotClosed, Redundant, WrongLeaf, WrongBranch, Rest}
 use Rattle.proof_tree.specs.Trees.{sign_of, IsSign, HasNoSign}
 use Rattle.proof_tree.specs.Texts.{NoDigitFirst, Stands, IsTreeText}
@@ -29,7 +29,7 @@ module _ (offer : Offer) (menu : IsMenu offer.menu) (required : Option ℕ) (cha
       → AreWithin (below sign k cs ++ nodes)
   within_below Champion k cs nodes is within = within
   within_below Shut k cs nodes is within = within
-  within_below (Closed leaf) k cs nodes is within = within
+  within_below (Pruned leaf) k cs nodes is within = within
   within_below Forced k cs nodes is within = (low_next k (length offer.menu.places) is.0.left, within)
   within_below Open k cs nodes is within = (low_next k (length offer.menu.places) is.0.left, (low_next k (length offer.menu.places) is.0.left, within))
   within_below Passed k cs nodes is within = (low_next k (length offer.menu.places) is.0.left, within)
@@ -66,7 +66,7 @@ module _ (offer : Offer) (menu : IsMenu offer.menu) (required : Option ℕ) (cha
 canonical_sign : (offer : Offer) (champion : List ℕ) (k : ℕ) (cs : List ℕ) (sign : Sign) → IsSign offer None champion k cs sign → IsCanonical sign
 canonical_sign offer champion k cs Champion is = tt
 canonical_sign offer champion k cs Shut is = absurd (cc is.1.1)
-canonical_sign offer champion k cs (Closed leaf) is = tt
+canonical_sign offer champion k cs (Pruned leaf) is = tt
 canonical_sign offer champion k cs Forced is = absurd (cc is.1)
 canonical_sign offer champion k cs Open is = tt
 canonical_sign offer champion k cs Passed is = tt

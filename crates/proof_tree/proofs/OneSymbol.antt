@@ -5,7 +5,7 @@ use Rattle.std.proofs.lemmas.Bool.{false≢true}
 use Rattle.std.specs.Fmt.{decimal}
 use Rattle.bundle_bounds.specs.declared.nodes.Leaf.TheVariants.{Plain, Budget, Credits, Number}
 use Rattle.proof_tree.specs.declared.signs.Sign.{Sign}
-use Rattle.proof_tree.specs.declared.signs.Sign.TheVariants.{Champion, Shut, Closed, Forced, Open, Passed}
+use Rattle.proof_tree.specs.declared.signs.Sign.TheVariants.{Champion, Shut, Pruned, Forced, Open, Passed}
 use Rattle.proof_tree.specs.Texts.{NoDigitFirst, Stands, symbol, number_of}
 use Rattle.proof_tree.proofs.Digits.{same_place}
 
@@ -13,10 +13,10 @@ use Rattle.proof_tree.proofs.Digits.{same_place}
 pub letter_of : Sign → ℕ
 letter_of Champion = 42
 letter_of Shut = 120
-letter_of (Closed Plain) = 110
-letter_of (Closed (Budget place)) = 98
-letter_of (Closed (Credits place)) = 99
-letter_of (Closed (Number place)) = 109
+letter_of (Pruned Plain) = 110
+letter_of (Pruned (Budget place)) = 98
+letter_of (Pruned (Credits place)) = 99
+letter_of (Pruned (Number place)) = 109
 letter_of Forced = 33
 letter_of Open = 43
 letter_of Passed = 45
@@ -31,12 +31,12 @@ is_lettered byte = byte == 98 || (byte == 99 || byte == 109)
 single_by : ℕ → Sign
 single_by byte =
     if byte == 42 then Champion
-    else (if byte == 120 then Shut else (if byte == 110 then Closed Plain else (if byte == 33 then Forced else (if byte == 43 then Open else Passed))))
+    else (if byte == 120 then Shut else (if byte == 110 then Pruned Plain else (if byte == 33 then Forced else (if byte == 43 then Open else Passed))))
 
 -- the sign of a letter and a number
 sign_by : ℕ → Option ℕ → Sign
 sign_by byte None = single_by byte
-sign_by byte (Some place) = Closed (if byte == 98 then Budget place else (if byte == 99 then Credits place else Number place))
+sign_by byte (Some place) = Pruned (if byte == 98 then Budget place else (if byte == 99 then Credits place else Number place))
 
 -- a sign is spelled by its letter and its digits, the letter tells whether digits follow, and both together tell the sign
 record IsLettered (sign : Sign) : Type 0 where
@@ -48,10 +48,10 @@ lettered : (sign : Sign) → IsLettered sign
 unfolding letter_of digits_of is_lettered sign_by single_by
 lettered Champion = record { spelled = refl; numbered = refl; back = refl }
 lettered Shut = record { spelled = refl; numbered = refl; back = refl }
-lettered (Closed Plain) = record { spelled = refl; numbered = refl; back = refl }
-lettered (Closed (Budget place)) = record { spelled = refl; numbered = refl; back = refl }
-lettered (Closed (Credits place)) = record { spelled = refl; numbered = refl; back = refl }
-lettered (Closed (Number place)) = record { spelled = refl; numbered = refl; back = refl }
+lettered (Pruned Plain) = record { spelled = refl; numbered = refl; back = refl }
+lettered (Pruned (Budget place)) = record { spelled = refl; numbered = refl; back = refl }
+lettered (Pruned (Credits place)) = record { spelled = refl; numbered = refl; back = refl }
+lettered (Pruned (Number place)) = record { spelled = refl; numbered = refl; back = refl }
 lettered Forced = record { spelled = refl; numbered = refl; back = refl }
 lettered Open = record { spelled = refl; numbered = refl; back = refl }
 lettered Passed = record { spelled = refl; numbered = refl; back = refl }
@@ -88,10 +88,10 @@ not_digit : (sign : Sign) → letter_of sign ≤ 47 ⊎ 58 ≤ letter_of sign
 unfolding letter_of
 not_digit Champion = inl (omega arith)
 not_digit Shut = inr (omega arith)
-not_digit (Closed Plain) = inr (omega arith)
-not_digit (Closed (Budget place)) = inr (omega arith)
-not_digit (Closed (Credits place)) = inr (omega arith)
-not_digit (Closed (Number place)) = inr (omega arith)
+not_digit (Pruned Plain) = inr (omega arith)
+not_digit (Pruned (Budget place)) = inr (omega arith)
+not_digit (Pruned (Credits place)) = inr (omega arith)
+not_digit (Pruned (Number place)) = inr (omega arith)
 not_digit Forced = inl (omega arith)
 not_digit Open = inl (omega arith)
 not_digit Passed = inl (omega arith)

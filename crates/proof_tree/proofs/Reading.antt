@@ -4,7 +4,7 @@ use Rattle.std.specs.Fmt.{decimal}
 use Rattle.bundle_bounds.specs.declared.nodes.Leaf.{Leaf}
 use Rattle.bundle_bounds.specs.declared.nodes.Leaf.TheVariants.{Plain, Budget, Credits, Number}
 use Rattle.proof_tree.specs.declared.signs.Sign.{Sign}
-use Rattle.proof_tree.specs.declared.signs.Sign.TheVariants.{Champion, Shut, Closed, Forced, Open, Passed}
+use Rattle.proof_tree.specs.declared.signs.Sign.TheVariants.{Champion, Shut, Pruned, Forced, Open, Passed}
 use Rattle.proof_tree.specs.Texts.{NoDigitFirst, Stands, symbol, leaf_text, number_of}
 use Rattle.proof_tree.proofs.Digits.{NoPlace}
 
@@ -32,11 +32,11 @@ numbered sign letter byte place text rest some is stands whole =
 pub begins : (sign : Sign) (letter : ℕ) (text rest : List ℕ) → Stands sign (letter ∷ text) rest → Begins sign letter text rest
 begins Champion letter text rest stands = single Champion letter 42 text rest refl refl stands.spelled
 begins Shut letter text rest stands = single Shut letter 120 text rest refl refl stands.spelled
-begins (Closed Plain) letter text rest stands = single (Closed Plain) letter 110 text rest refl refl stands.spelled
-begins (Closed (Budget place)) letter text rest stands = numbered (Closed (Budget place)) letter 98 place text rest refl (inl refl) stands stands.spelled
-begins (Closed (Credits place)) letter text rest stands =
-    numbered (Closed (Credits place)) letter 99 place text rest refl (inr (inl refl)) stands stands.spelled
-begins (Closed (Number place)) letter text rest stands = numbered (Closed (Number place)) letter 109 place text rest refl (inr (inr refl)) stands stands.spelled
+begins (Pruned Plain) letter text rest stands = single (Pruned Plain) letter 110 text rest refl refl stands.spelled
+begins (Pruned (Budget place)) letter text rest stands = numbered (Pruned (Budget place)) letter 98 place text rest refl (inl refl) stands stands.spelled
+begins (Pruned (Credits place)) letter text rest stands =
+    numbered (Pruned (Credits place)) letter 99 place text rest refl (inr (inl refl)) stands stands.spelled
+begins (Pruned (Number place)) letter text rest stands = numbered (Pruned (Number place)) letter 109 place text rest refl (inr (inr refl)) stands stands.spelled
 begins Forced letter text rest stands = single Forced letter 33 text rest refl refl stands.spelled
 begins Open letter text rest stands = single Open letter 43 text rest refl refl stands.spelled
 begins Passed letter text rest stands = single Passed letter 45 text rest refl refl stands.spelled
@@ -45,10 +45,10 @@ begins Passed letter text rest stands = single Passed letter 45 text rest refl r
 pub none_stands_in_nothing : (sign : Sign) (rest : List ℕ) → Stands sign [] rest → ⊥
 none_stands_in_nothing Champion rest stands = cc stands.spelled
 none_stands_in_nothing Shut rest stands = cc stands.spelled
-none_stands_in_nothing (Closed Plain) rest stands = cc stands.spelled
-none_stands_in_nothing (Closed (Budget place)) rest stands = cc stands.spelled
-none_stands_in_nothing (Closed (Credits place)) rest stands = cc stands.spelled
-none_stands_in_nothing (Closed (Number place)) rest stands = cc stands.spelled
+none_stands_in_nothing (Pruned Plain) rest stands = cc stands.spelled
+none_stands_in_nothing (Pruned (Budget place)) rest stands = cc stands.spelled
+none_stands_in_nothing (Pruned (Credits place)) rest stands = cc stands.spelled
+none_stands_in_nothing (Pruned (Number place)) rest stands = cc stands.spelled
 none_stands_in_nothing Forced rest stands = cc stands.spelled
 none_stands_in_nothing Open rest stands = cc stands.spelled
 none_stands_in_nothing Passed rest stands = cc stands.spelled
@@ -77,8 +77,8 @@ single_stands sign letter text rest is none whole = record {
 }
 
 pub numbered_stands : (leaf : Leaf) (letter place : ℕ) (text more rest : List ℕ) → leaf_text leaf ≡ letter ∷ decimal place
-    → number_of (Closed leaf) ≡ Some place → text ≡ letter ∷ more → more ≡ decimal place ++ rest → place < 100 → NoDigitFirst rest
-    → Stands (Closed leaf) text rest
+    → number_of (Pruned leaf) ≡ Some place → text ≡ letter ∷ more → more ≡ decimal place ++ rest → place < 100 → NoDigitFirst rest
+    → Stands (Pruned leaf) text rest
 numbered_stands leaf letter place text more rest is some whole later low ends = record {
   spelled = whole ∙ ap (λ l. letter ∷ l) later ∙ ap (λ s. s ++ rest) (sym is);
   short = λ other some'. (let e : Some place ≡ Some other = sym some ∙ some' in let same : place ≡ other = cc e in subst (λ n. n < 100) same low);

@@ -1,14 +1,14 @@
 -- A champion with a tree is as good as all that completes the node.
 use Rattle.std.proofs.Common.{◌≡◌, ◌<◌, ◌≤◌, ◌+◌, ◌++◌, ℕ, true, Option, Some, List, [], ◌∷◌, length, refl, sym, ◌∙◌, subst, inl, inr, arith}
 use Rattle.std.proofs.lemmas.Bool.{cases_Bool, false≢true}
-use Rattle.bundle_rules.specs.Sets.{has}
+use Rattle.market_units.specs.Members.{has}
 use Rattle.bundle_rules.specs.Menus.{IsMenu, section_at}
 use Rattle.bundle_bounds.specs.Offers.{Offer, places_of}
 use Rattle.bundle_bounds.specs.Opens.{is_open}
 use Rattle.bundle_bounds.specs.Laws.{IsTakable, IsNode, Completes}
-use Rattle.bundle_bounds.specs.Closings.{IsAsGood}
+use Rattle.bundle_bounds.specs.Prunings.{IsAsGood}
 use Rattle.bundle_bounds.proofs.Openings.{open_facts, takable_where_open, node_with, node_without}
-use Rattle.bundle_bounds.proofs.ClosesSoundly.{bounds_close_soundly}
+use Rattle.bundle_bounds.proofs.PrunesSoundly.{bounds_prune_soundly}
 use Rattle.proof_tree.specs.Trees.{Tree, Wins, Bars, Cuts, Takes, Splits, Passes, IsTree}
 use Rattle.proof_tree.proofs.Nodes.{same_bundle, places_with, open_where_more, chosen_where_none_left, completes_with, completes_without}
 
@@ -36,7 +36,7 @@ module _ (offer : Offer) (menu : IsMenu offer.menu) (required : Option ℕ) (on 
   tree_is_sound Bars k chosen node within is bundle may has_it completes =
       absurd (false≢true (sym is.1.3 ∙ open_where_more offer menu k chosen node bundle may completes is.1.0 is.1.2 (on is.1.0 is.1.1) (has_it is.1.0 is.1.1)))
   tree_is_sound (Cuts leaf) k chosen node within is bundle may has_it completes =
-      bounds_close_soundly offer (λ b. true) k chosen champion leaf menu node takable is.1 bundle may refl completes
+      bounds_prune_soundly offer (λ b. true) k chosen champion leaf menu node takable is.1 bundle may refl completes
   tree_is_sound (Takes with_it) k chosen node within is bundle may has_it completes =
       let low : k < length offer.menu.places = is.0.0.left in
       let open_ : is_open offer (places_of offer.menu chosen) k ≡ true =

@@ -4,7 +4,7 @@ use Rattle.std.proofs.lemmas.List.{append-nil}
 use Rattle.bundle_bounds.specs.Offers.{Offer, places_of}
 use Rattle.bundle_bounds.specs.Bounds.{bounds}
 use Rattle.proof_tree.specs.declared.signs.Sign.{Sign}
-use Rattle.proof_tree.specs.declared.signs.Sign.TheVariants.{Champion, Shut, Closed, Forced, Open, Passed}
+use Rattle.proof_tree.specs.declared.signs.Sign.TheVariants.{Champion, Shut, Pruned, Forced, Open, Passed}
 use Rattle.proof_tree.specs.Trees.{Tree, Wins, Bars, Cuts, Takes, Splits, Passes, sign_of, IsSign, IsTree, HasNoSign}
 use Rattle.proof_tree.specs.Texts.{symbol, spelled, Stands, IsTreeText}
 use Rattle.proof_tree.specs.Walks.{below, ComesTo}
@@ -54,7 +54,7 @@ module _ (offer : Offer) (required : Option ℕ) (champion : List ℕ) (k : ℕ)
       → AreSpelled offer required champion (below sign k chosen ++ nodes) rest → AreSpelled offer required champion ((k, chosen) ∷ nodes) (symbol sign ++ rest)
   join_node Champion rest is are = (Wins, is, (rest, refl, are))
   join_node Shut rest is are = (Bars, is, (rest, refl, are))
-  join_node (Closed leaf) rest is are = (Cuts leaf, is, (rest, refl, are))
+  join_node (Pruned leaf) rest is are = (Cuts leaf, is, (rest, refl, are))
   join_node Forced rest is are = (Takes are.0, (is, are.1), (are.2.0, ap (λ t. 33 ∷ t) are.2.1, are.2.2))
   join_node Open rest is are =
       let with_it = are.0 in
@@ -73,7 +73,7 @@ module _ (offer : Offer) (required : Option ℕ) (champion : List ℕ) (k : ℕ)
   pub no_sign : (sign : Sign) → HasNoSign offer required champion k chosen → IsSign offer required champion k chosen sign → ⊥
   no_sign Champion none is = none.unsettled.no_end is
   no_sign Shut none is = none.unsettled.not_shut is.1
-  no_sign (Closed leaf) none is = not_none offer required champion k chosen (bounds offer k chosen) leaf is.1 none.none_closes
+  no_sign (Pruned leaf) none is = not_none offer required champion k chosen (bounds offer k chosen) leaf is.1 none.none_prunes
   no_sign Forced none is = absurd (omega (arith, is.0.left, none.all))
   no_sign Open none is = absurd (omega (arith, is.0.left, none.all))
   no_sign Passed none is = absurd (omega (arith, is.0.left, none.all))

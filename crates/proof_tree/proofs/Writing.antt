@@ -4,12 +4,13 @@ use Rattle.std.proofs.lemmas.List.{append-nil, drop-drop}
 use Rattle.std.specs.Prelude.{IfNone}
 use Rattle.bundle_bounds.specs.Offers.{Offer, places_of}
 use Rattle.proof_tree.specs.declared.signs.Sign.{Sign}
-use Rattle.proof_tree.specs.declared.signs.Sign.TheVariants.{Champion, Shut, Closed, Forced, Open, Passed}
+use Rattle.proof_tree.specs.declared.signs.Sign.TheVariants.{Champion, Shut, Pruned, Forced, Open, Passed}
 use Rattle.proof_tree.specs.declared.walk.Step.TheVariants.{Signed, Unsigned}
 use Rattle.proof_tree.specs.Trees.{Tree, IsSign, IsTree}
 use Rattle.proof_tree.specs.Texts.{symbol, spelled, IsTreeText}
 use Rattle.proof_tree.specs.Walks.{below}
-use Rattle.proof_tree.specs.Steps.{IsStep, nodes_below, nodes_left}
+use Rattle.bundle_bounds.specs.Below.{nodes_below}
+use Rattle.proof_tree.specs.Steps.{IsStep, nodes_left}
 use Rattle.proof_tree.specs.Laws.{HasTree}
 use Rattle.proof_tree.proofs.Uniqueness.{same_tree}
 use Rattle.proof_tree.proofs.Spelling.{AreSpelled, split_node, no_tree, text_spelled}
@@ -96,7 +97,7 @@ fewer_below offer required ch k cs Champion later is =
     let some : 0 < nodes_below (length offer.menu.places - k) = one_at_least (length offer.menu.places - k) in omega arith
 fewer_below offer required ch k cs Shut later is =
     let some : 0 < nodes_below (length offer.menu.places - k) = one_at_least (length offer.menu.places - k) in omega arith
-fewer_below offer required ch k cs (Closed leaf) later is =
+fewer_below offer required ch k cs (Pruned leaf) later is =
     let some : 0 < nodes_below (length offer.menu.places - k) = one_at_least (length offer.menu.places - k) in omega arith
 fewer_below offer required ch k cs Forced later is = rw (left_less k (length offer.menu.places) is.0.left) (omega arith)
 fewer_below offer required ch k cs Open later is = rw (left_less k (length offer.menu.places) is.0.left) (omega arith)

@@ -2,7 +2,7 @@
 use Rattle.std.specs.Prelude.{ℕ, ◌-◌, ◌≡◌, ◌≢◌, ◌⊎◌, ◌^◌, min, ⊤, Option, None, List, [], ◌∷◌, length}
 use Rattle.bundle_bounds.specs.Offers.{Offer, places_of}
 use Rattle.proof_tree.specs.declared.signs.Sign.{Sign}
-use Rattle.proof_tree.specs.declared.signs.Sign.TheVariants.{Shut, Closed, Forced}
+use Rattle.proof_tree.specs.declared.signs.Sign.TheVariants.{Shut, Pruned, Forced}
 use Rattle.proof_tree.specs.declared.defects.TreeDefect.{TreeDefect}
 use Rattle.proof_tree.specs.declared.defects.TreeDefect.TheVariants.{Syntax, NotClosed, Redundant, WrongLeaf, WrongBranch, Rest}
 use Rattle.proof_tree.specs.Trees.{IsSign, HasNoSign}
@@ -15,7 +15,7 @@ offset text rest = min (length text - length rest) (2 ^ 32 - 1)
 
 -- a leaf: n, b, c, m with their places
 abbrev pub IsLeaf : Sign → Type 0
-IsLeaf (Closed leaf) = ⊤
+IsLeaf (Pruned leaf) = ⊤
 IsLeaf sign = ⊥
 
 -- a sign of canonical trees: one of *, n, b, c, m, +, -
@@ -38,16 +38,18 @@ FailsAt offer champion text at fault =
     × ((rest : List ℕ) × HasCome offer None champion text ((k, chosen) ∷ nodes) rest
     × (at ≡ offset text rest) × fault k chosen rest)))
 
--- another symbol stands first than that of the canonical sign, and the two are so
+-- the sign whose symbol stands first is not the canonical one, and this relation holds of the two
 abbrev pub Differs : Offer → List ℕ → (Sign → Sign → Type 0) → ℕ → List ℕ → List ℕ → Type 0
 Differs offer champion are k chosen rest =
     (read : Sign) × Reads rest read
     × ((canonical : Sign) × IsSign offer None (places_of offer.menu champion) k chosen canonical
     × (read ≢ canonical) × are read canonical)
 
--- the first defect of a text: no symbol stands; the node has no canonical sign, or a leaf stands
--- and the canonical sign is none; none stands and it is one; another leaf; another of *, +, -; or
--- the walk ends and bytes are left
+-- The first defect of a text, at the node where the walk fails. `Syntax`: no symbol stands there.
+-- `NotClosed`: one stands and the node has no canonical sign, or a leaf stands and the canonical
+-- sign is no leaf. `Redundant`: the canonical sign is a leaf and what stands is none. `WrongLeaf`,
+-- `WrongBranch`: another leaf, another of *, +, -. `Rest`: the walk is at its end, and bytes are
+-- left.
 abbrev pub IsDefect : Offer → List ℕ → List ℕ → TreeDefect → Type 0
 IsDefect offer champion text (Syntax at) =
     FailsAt offer champion text at (λ k chosen rest. (read : Sign) → ¬ Reads rest read)

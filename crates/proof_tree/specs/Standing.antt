@@ -1,5 +1,6 @@
 -- The stems of the nodes that wait.
 use Rattle.std.specs.Prelude.{ℕ, ◌+◌, ◌<◌, ◌≡◌, ⊤, List, [], ◌∷◌, ◌++◌, length, slice_index_or}
+use Rattle.market_units.specs.declared.limits.TheConstants.{MAX_COURSES}
 use Rattle.bundle_rules.specs.Bundles.{sections_of}
 use Rattle.bundle_rules.specs.Menus.{section_at}
 use Rattle.bundle_bounds.specs.declared.nodes.Node.{Node}
@@ -17,7 +18,7 @@ IsStemAt offer champion stems at k chosen =
 
 -- each waiting node has its stem
 pub record HaveStems (offer : Offer) (champion : List ℕ) (walk : Walk) : Type 0 where
-  pub whole : length walk.stems ≡ 9
+  pub whole : length walk.stems ≡ MAX_COURSES + 1
   pub each : (i : ℕ) (d : Node) → i < walk.count
       → IsStemAt offer champion walk.stems i (slice_index_or walk.waiting i d).place
       (sections_of (slice_index_or walk.waiting i d).chosen)

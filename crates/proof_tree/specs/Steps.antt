@@ -1,8 +1,10 @@
 -- One step of the walk of a tree.
-use Rattle.std.specs.Prelude.{ℕ, zero, suc, ◌+◌, ◌-◌, ◌≤◌, ◌≡◌, ⊤, Option, List, [], ◌∷◌, ◌++◌, length, map, reverse, take}
+use Rattle.std.specs.Prelude.{ℕ, ◌+◌, ◌-◌, ◌≤◌, ◌≡◌, ⊤, Option, List, [], ◌∷◌, ◌++◌, length, map, reverse, take}
+use Rattle.market_units.specs.declared.limits.TheConstants.{MAX_COURSES}
 use Rattle.bundle_rules.specs.Bundles.{sections_of}
 use Rattle.bundle_rules.specs.Menus.{MenuData}
 use Rattle.bundle_bounds.specs.declared.nodes.Node.{Node}
+use Rattle.bundle_bounds.specs.Below.{nodes_below}
 use Rattle.bundle_bounds.specs.Offers.{Offer, places_of}
 use Rattle.bundle_bounds.specs.Laws.{IsNode}
 use Rattle.proof_tree.specs.declared.walk.Walk.{Walk}
@@ -33,7 +35,7 @@ MayWait offer (node ∷ under) =
 
 -- what waits in a walk
 pub record AreWaiting (offer : Offer) (walk : Walk) : Type 0 where
-  pub few : walk.count ≤ 9
+  pub few : walk.count ≤ MAX_COURSES + 1
   pub nodes : MayWait offer (waiting_of walk)
 
 -- the step from these nodes to those: the first of them with its canonical sign and the nodes below
@@ -50,11 +52,6 @@ IsStep offer required champion before Unsigned after =
     × ((later : List (ℕ × List ℕ)) × (before ≡ node ∷ later)
     × HasNoSign offer required champion node.0 node.1)
 IsStep offer required champion before Ended after = before ≡ []
-
--- how many nodes a node with so many undecided places has below it at most, with itself
-abbrev pub nodes_below : ℕ → ℕ
-nodes_below zero = 1
-nodes_below (suc undecided) = suc (nodes_below undecided + nodes_below undecided)
 
 -- how many nodes are left to visit at most
 abbrev pub nodes_left : Offer → List (ℕ × List ℕ) → ℕ

@@ -5,7 +5,7 @@ use Rattle.bundle_bounds.specs.declared.nodes.Leaf.{Leaf}
 use Rattle.bundle_bounds.specs.Offers.{Offer, places_of}
 use Rattle.bundle_bounds.specs.declared.nodes.Leaf.TheVariants.{Plain, Budget, Credits, Number}
 use Rattle.proof_tree.specs.declared.signs.Sign.{Sign}
-use Rattle.proof_tree.specs.declared.signs.Sign.TheVariants.{Champion, Shut, Closed, Forced, Open, Passed}
+use Rattle.proof_tree.specs.declared.signs.Sign.TheVariants.{Champion, Shut, Pruned, Forced, Open, Passed}
 use Rattle.proof_tree.specs.Trees.{Tree, Wins, Bars, Cuts, Takes, Splits, Passes, IsTree}
 
 -- a bound by a letter and its place: n, b, c, m
@@ -19,7 +19,7 @@ leaf_text (Number place) = 109 ∷ decimal place
 abbrev pub symbol : Sign → List ℕ
 symbol Champion = 42 ∷ []
 symbol Shut = 120 ∷ []
-symbol (Closed leaf) = leaf_text leaf
+symbol (Pruned leaf) = leaf_text leaf
 symbol Forced = 33 ∷ []
 symbol Open = 43 ∷ []
 symbol Passed = 45 ∷ []
@@ -29,7 +29,7 @@ symbol Passed = 45 ∷ []
 abbrev pub spelled : Tree → List ℕ
 spelled Wins = symbol Champion
 spelled Bars = symbol Shut
-spelled (Cuts leaf) = symbol (Closed leaf)
+spelled (Cuts leaf) = symbol (Pruned leaf)
 spelled (Takes with_it) = symbol Forced ++ spelled with_it
 spelled (Splits with_it without) = symbol Open ++ (spelled with_it ++ spelled without)
 spelled (Passes without) = symbol Passed ++ spelled without
@@ -52,9 +52,9 @@ NoDigitFirst (byte ∷ bytes) = ¬ IsDigit byte
 
 -- the number in a sign's symbol, where it has one
 abbrev pub number_of : Sign → Option ℕ
-number_of (Closed (Budget place)) = Some place
-number_of (Closed (Credits place)) = Some place
-number_of (Closed (Number place)) = Some place
+number_of (Pruned (Budget place)) = Some place
+number_of (Pruned (Credits place)) = Some place
+number_of (Pruned (Number place)) = Some place
 number_of sign = None
 
 -- that number has one or two digits

@@ -4,9 +4,9 @@ use Rattle.std.specs.Prelude.{ℕ, ◌+◌, ◌≤◌, ◌<◌, ◌≡◌, ◌�
 use Rattle.bundle_bounds.specs.declared.nodes.Leaf.{Leaf}
 use Rattle.bundle_bounds.specs.Offers.{Offer}
 use Rattle.proof_tree.specs.declared.signs.Sign.{Sign}
-use Rattle.proof_tree.specs.declared.signs.Sign.TheVariants.{Champion, Shut, Closed, Forced, Open, Passed}
+use Rattle.proof_tree.specs.declared.signs.Sign.TheVariants.{Champion, Shut, Pruned, Forced, Open, Passed}
 use Rattle.bundle_bounds.specs.Opens.{is_open}
-use Rattle.bundle_bounds.specs.Bounds.{bounds, IsFirstClosing, NoneCloses}
+use Rattle.bundle_bounds.specs.Bounds.{bounds, IsFirstPruning, NonePrunes}
 
 -- a tree, by the sign of its first node and the trees below it: with the next place, without it
 pub data Tree : Type 0 where
@@ -21,7 +21,7 @@ pub data Tree : Type 0 where
 abbrev pub sign_of : Tree → Sign
 sign_of Wins = Champion
 sign_of Bars = Shut
-sign_of (Cuts leaf) = Closed leaf
+sign_of (Cuts leaf) = Pruned leaf
 sign_of (Takes with_it) = Forced
 sign_of (Splits with_it without) = Open
 sign_of (Passes without) = Passed
@@ -41,11 +41,11 @@ pub record IsUnsettled (offer : Offer) (required : Option ℕ) (champion : List 
   pub no_end : ¬ IsChampionsEnd offer champion k chosen
   pub not_shut : ¬ IsShut offer required k chosen
 
--- nor does a bound close the node, and a place is left
+-- nor does a bound prune the node, and a place is left
 pub record GoesOn (offer : Offer) (required : Option ℕ) (champion : List ℕ) (k : ℕ)
     (chosen : List ℕ) : Type 0 where
   pub unsettled : IsUnsettled offer required champion k chosen
-  pub none_closes : NoneCloses offer k chosen champion (bounds offer k chosen)
+  pub none_prunes : NonePrunes offer k chosen champion (bounds offer k chosen)
   pub left : k < length offer.menu.places
 
 -- the canonical sign of a node: the first that fits, also where a node below it has no tree
@@ -53,9 +53,9 @@ abbrev pub IsSign : Offer → Option ℕ → List ℕ → ℕ → List ℕ → S
 IsSign offer required champion k chosen Champion = IsChampionsEnd offer champion k chosen
 IsSign offer required champion k chosen Shut =
     (¬ IsChampionsEnd offer champion k chosen) × IsShut offer required k chosen
-IsSign offer required champion k chosen (Closed leaf) =
+IsSign offer required champion k chosen (Pruned leaf) =
     IsUnsettled offer required champion k chosen
-    × IsFirstClosing offer k chosen champion (bounds offer k chosen) leaf
+    × IsFirstPruning offer k chosen champion (bounds offer k chosen) leaf
 IsSign offer required champion k chosen Forced =
     GoesOn offer required champion k chosen × (required ≡ Some k)
 IsSign offer required champion k chosen Open =
@@ -69,7 +69,7 @@ abbrev pub IsTree : Offer → Option ℕ → List ℕ → ℕ → List ℕ → T
 IsTree offer required champion k chosen Wins = IsSign offer required champion k chosen Champion
 IsTree offer required champion k chosen Bars = IsSign offer required champion k chosen Shut
 IsTree offer required champion k chosen (Cuts leaf) =
-    IsSign offer required champion k chosen (Closed leaf)
+    IsSign offer required champion k chosen (Pruned leaf)
 IsTree offer required champion k chosen (Takes with_it) =
     IsSign offer required champion k chosen Forced
     × IsTree offer required champion (k + 1) (chosen ++ k ∷ []) with_it
@@ -82,9 +82,9 @@ IsTree offer required champion k chosen (Passes without) =
     × IsTree offer required champion (k + 1) chosen without
 
 -- a node without a sign: all places are decided, the chosen ones are not the champion's, and no
--- bound closes it
+-- bound prunes it
 pub record HasNoSign (offer : Offer) (required : Option ℕ) (champion : List ℕ) (k : ℕ)
     (chosen : List ℕ) : Type 0 where
   pub unsettled : IsUnsettled offer required champion k chosen
-  pub none_closes : NoneCloses offer k chosen champion (bounds offer k chosen)
+  pub none_prunes : NonePrunes offer k chosen champion (bounds offer k chosen)
   pub all : k ≡ length offer.menu.places

@@ -2,7 +2,7 @@
 use Rattle.std.specs.Prelude.{ℕ, ◌+◌, ◌≡◌, Option, List, [], ◌∷◌, ◌++◌}
 use Rattle.bundle_bounds.specs.Offers.{Offer, places_of}
 use Rattle.proof_tree.specs.declared.signs.Sign.{Sign}
-use Rattle.proof_tree.specs.declared.signs.Sign.TheVariants.{Champion, Shut, Closed, Forced, Open, Passed}
+use Rattle.proof_tree.specs.declared.signs.Sign.TheVariants.{Champion, Shut, Pruned, Forced, Open, Passed}
 use Rattle.proof_tree.specs.Trees.{IsSign}
 use Rattle.proof_tree.specs.Texts.{Stands}
 
@@ -11,7 +11,7 @@ use Rattle.proof_tree.specs.Texts.{Stands}
 abbrev pub below : Sign → ℕ → List ℕ → List (ℕ × List ℕ)
 below Champion k chosen = []
 below Shut k chosen = []
-below (Closed leaf) k chosen = []
+below (Pruned leaf) k chosen = []
 below Forced k chosen = (k + 1, chosen ++ k ∷ []) ∷ []
 below Open k chosen = (k + 1, chosen ++ k ∷ []) ∷ (k + 1, chosen) ∷ []
 below Passed k chosen = (k + 1, chosen) ∷ []

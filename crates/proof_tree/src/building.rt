@@ -11,7 +11,7 @@ ghost use Rattle.proof_tree.specs.Texts.{IsTreeText};
 ghost use Rattle.proof_tree.specs.Laws.{HasTree};
 
 use crate::symbols::spell;
-use crate::walk::{Step, Walk};
+use crate::walk::{PLACES, Step, Walk};
 use bundle_rules::{Bundle, Menu};
 use market_units::{NoMemory, SectionNo, SectionSet, Tokens};
 use std::alloc::Global;
@@ -33,7 +33,7 @@ pub fn build(
         (λ text. IsTreeText (offer_of menu.now prices.now budget.0 allowed.now) None
         (sections_of champion.now) text.items) }
 {
-    prove!(menu.len() <= 60);
+    prove!(menu.len() <= PLACES);
     written(alloc, menu, prices, budget, allowed, None, champion)
 }
 
@@ -56,7 +56,7 @@ pub fn build_forced(
         (λ text. IsTreeText (offer_of menu.now prices.now budget.0 allowed.now)
         (Some (place_in menu.now.places section.0)) (sections_of champion.now) text.items) }
 {
-    prove!(menu.len() <= 60);
+    prove!(menu.len() <= PLACES);
     let place = menu.place(section);
     written(alloc, menu, prices, budget, allowed, Some(place), champion)
 }
@@ -134,7 +134,7 @@ pub fn build_into(
         (sections_of champion.now) text
         → length room.old < length text) }
 {
-    prove!(menu.len() <= 60);
+    prove!(menu.len() <= PLACES);
     let mut count = 0;
     let mut walk = Walk::start(menu, prices, budget, allowed, champion);
     'nodes: loop {

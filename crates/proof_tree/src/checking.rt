@@ -2,7 +2,7 @@
 ghost use Rattle.std.specs.Prelude.{◌≡◌, ◌≢◌, ◌<◌, ◌↔◌, [], ℕ, List, Some, None, true, IsTrue, IsOk, IfOk, IfErr, IfSome, OnOk, length};
 ghost use Rattle.proof_tree.specs.declared.defects.TreeDefect.TheVariants.{Rest};
 ghost use Rattle.std.specs.FinSet as set;
-ghost use Rattle.bundle_rules.specs.Sets.{has};
+ghost use Rattle.market_units.specs.Members.{has};
 ghost use Rattle.bundle_rules.specs.Bundles.{sections_of};
 ghost use Rattle.bundle_rules.specs.Demand.{HasPrices, IsBest, price_in};
 ghost use Rattle.bundle_rules.specs.Given.{IsBestWith};
@@ -16,7 +16,7 @@ ghost use Rattle.proof_tree.specs.Mismatches.{IsOther, IsMismatch, IsUnsigned, o
 use crate::defects::TreeDefect;
 use crate::signs::Sign;
 use crate::symbols::read_symbol;
-use crate::walk::{Step, Walk};
+use crate::walk::{PLACES, Step, Walk};
 use bundle_rules::{Bundle, Menu};
 use market_units::{SectionNo, SectionSet, Tokens};
 
@@ -33,7 +33,7 @@ fn is_leaf(sign: Sign) -> bool
     ensures { IsTrue result ↔ IsLeaf sign }
 {
     match sign {
-        Sign::Closed(_) => true,
+        Sign::Pruned(_) => true,
         Sign::Champion | Sign::Shut | Sign::Forced | Sign::Open | Sign::Passed => false,
     }
 }
@@ -44,7 +44,7 @@ fn is_canonical(sign: Sign) -> bool
 {
     match sign {
         Sign::Shut | Sign::Forced => false,
-        Sign::Champion | Sign::Closed(_) | Sign::Open | Sign::Passed => true,
+        Sign::Champion | Sign::Pruned(_) | Sign::Open | Sign::Passed => true,
     }
 }
 
@@ -185,7 +185,7 @@ pub fn check_tree(
         (IsDefect (offer_of menu.now prices.now budget.0 allowed.now) (sections_of champion.now)
         text.now) }
 {
-    prove!(menu.len() <= 60);
+    prove!(menu.len() <= PLACES);
     follow(menu, prices, budget, allowed, None, champion, text)
 }
 
@@ -216,7 +216,7 @@ pub fn check_forced(
         (FirstFailsAt (offer_of menu.now prices.now budget.0 allowed.now)
         (Some (place_in menu.now.places section.0)) (sections_of champion.now) text.now) }
 {
-    prove!(menu.len() <= 60);
+    prove!(menu.len() <= PLACES);
     let place = menu.place(section);
     match follow(menu, prices, budget, allowed, Some(place), champion, text) {
         Ok(()) => Ok(()),

@@ -6,10 +6,10 @@
 pub enum TreeDefect {
     /// No symbol stands there.
     Syntax(u32),
-    /// No bound closes the node: a leaf stands there and the canonical symbol is none, or all
+    /// No bound prunes the node: a leaf stands there and the canonical symbol is no leaf, or all
     /// places are decided, and the chosen sections are not the champion.
     NotClosed(u32),
-    /// A bound closes the node, and no leaf stands there.
+    /// A bound prunes the node, and no leaf stands there.
     Redundant(u32),
     /// Another leaf stands there.
     WrongLeaf(u32),

@@ -10,7 +10,7 @@ ghost use Rattle.bundle_bounds.specs.declared.stems.Stem.{Stem};
 ghost use Rattle.proof_tree.specs.Standing.{IsStemAt};
 ghost use Rattle.proof_tree.specs.Trees.{IsShut, IsSign, GoesOn, HasNoSign};
 
-use crate::standing::{closing_at, is_open_at};
+use crate::standing::{is_open_at, pruning_at};
 use bundle_bounds::{Leaf, Node, Stem, is_open};
 use bundle_rules::{Bundle, Menu};
 use market_units::{SectionSet, Tokens};
@@ -22,8 +22,8 @@ pub enum Sign {
     Champion,
     /// The required place is undecided and not open: `x`, of forced trees alone.
     Shut,
-    /// A bound closes the node: `n`, or `b`, `c`, `m` with a place.
-    Closed(Leaf),
+    /// A bound prunes the node: `n`, or `b`, `c`, `m` with a place.
+    Pruned(Leaf),
     /// The next place is the required one: `!`, of forced trees alone.
     Forced,
     /// The next place is open: `+`.
@@ -98,8 +98,8 @@ fn is_place(required: Option<u8>, place: u8) -> bool
     }
 }
 
-// The canonical sign of a node, or `None` where it has none: all places are decided, the chosen
-// sections are not the champion, and no bound closes it.
+/// The canonical sign of a node, or `None` where it has none: all places are decided, the chosen
+/// sections are not the champion, and no bound prunes it.
 #[inline(always)]
 pub(crate) fn sign_at(
     menu: &Menu,
@@ -143,9 +143,9 @@ pub(crate) fn sign_at(
     if is_shut(menu, prices, budget, allowed, required, node) {
         return Some(Sign::Shut);
     }
-    let closing = closing_at(stems, at, menu, prices, budget, allowed, champion, node);
-    if let Some(leaf) = closing {
-        return Some(Sign::Closed(leaf));
+    let pruning = pruning_at(stems, at, menu, prices, budget, allowed, champion, node);
+    if let Some(leaf) = pruning {
+        return Some(Sign::Pruned(leaf));
     }
     if node.place >= menu.len() {
         return None;

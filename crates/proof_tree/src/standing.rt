@@ -6,7 +6,7 @@ ghost use Rattle.bundle_rules.specs.Bundles.{sections_of};
 ghost use Rattle.bundle_bounds.specs.declared.stems.Stem.{Stem};
 ghost use Rattle.bundle_bounds.specs.Offers.{offer_of, places_of};
 ghost use Rattle.bundle_bounds.specs.Opens.{is_open};
-ghost use Rattle.bundle_bounds.specs.Bounds.{bounds, IsFirstClosing, NoneCloses};
+ghost use Rattle.bundle_bounds.specs.Bounds.{bounds, IsFirstPruning, NonePrunes};
 ghost use Rattle.bundle_bounds.specs.Laws.{IsNode};
 ghost use Rattle.proof_tree.specs.Standing.{IsStemAt};
 
@@ -14,9 +14,10 @@ use bundle_bounds::{Leaf, Node, Stem};
 use bundle_rules::{Bundle, Menu};
 use market_units::{SectionSet, Tokens};
 
-// The first bound that closes the node.
+/// The leaf of the first bound that prunes the node; `None` where none does. The stem at this place
+/// is that of the node, and keeps what is computed.
 #[inline(always)]
-pub(crate) fn closing_at(
+pub(crate) fn pruning_at(
     stems: &mut [Stem],
     at: usize,
     menu: &Menu,
@@ -32,9 +33,9 @@ pub(crate) fn closing_at(
     requires champion { IsFeasible (wishes_of menu.now) (sections_of champion.now) }
     requires stem { IsStemAt (offer_of menu.now prices.now budget.0 allowed.now)
         (sections_of champion.now) stems.old at node.now.place (sections_of node.now.chosen) }
-    ensures first { IfSome result (IsFirstClosing (offer_of menu.now prices.now budget.0 allowed.now) node.now.place (places_of menu.now (sections_of node.now.chosen)) (places_of menu.now (sections_of champion.now))
+    ensures first { IfSome result (IsFirstPruning (offer_of menu.now prices.now budget.0 allowed.now) node.now.place (places_of menu.now (sections_of node.now.chosen)) (places_of menu.now (sections_of champion.now))
         (bounds (offer_of menu.now prices.now budget.0 allowed.now) node.now.place (places_of menu.now (sections_of node.now.chosen)))) }
-    ensures none { IfNone result (NoneCloses (offer_of menu.now prices.now budget.0 allowed.now) node.now.place (places_of menu.now (sections_of node.now.chosen)) (places_of menu.now (sections_of champion.now))
+    ensures none { IfNone result (NonePrunes (offer_of menu.now prices.now budget.0 allowed.now) node.now.place (places_of menu.now (sections_of node.now.chosen)) (places_of menu.now (sections_of champion.now))
         (bounds (offer_of menu.now prices.now budget.0 allowed.now) node.now.place (places_of menu.now (sections_of node.now.chosen)))) }
     ensures size { length stems.new ≡ length stems.old }
     ensures stem { IsStemAt (offer_of menu.now prices.now budget.0 allowed.now)
@@ -42,10 +43,10 @@ pub(crate) fn closing_at(
     ensures others { (i : ℕ) (d : Stem) → i ≢ at
         → slice_index_or stems.new i d ≡ slice_index_or stems.old i d }
 {
-    stems[at].closing(menu, prices, budget, allowed, champion, node)
+    stems[at].pruning(menu, prices, budget, allowed, champion, node)
 }
 
-// The stem goes on without the next place.
+/// The stem at this place becomes that of the node without the next place.
 #[inline(always)]
 pub(crate) fn pass_at(
     stems: &mut [Stem],
@@ -70,7 +71,7 @@ pub(crate) fn pass_at(
     stems[at].pass(menu, prices, budget, allowed, champion, node);
 }
 
-// The stem with the next place, which is open, is written behind the stem.
+/// Writes the stem of the node with the next place, which is open, behind the node's own stem.
 #[inline(always)]
 pub(crate) fn take_at(
     stems: &mut [Stem],
@@ -102,7 +103,7 @@ pub(crate) fn take_at(
     front[at].take(menu, prices, budget, allowed, champion, node, &mut back[0]);
 }
 
-// The stem behind it takes its place.
+/// The stem behind this place is copied to it.
 pub(crate) fn put_back(stems: &mut [Stem], at: usize)
     requires { at + 1 < length stems.old }
     ensures size { length stems.new ≡ length stems.old }
@@ -114,7 +115,7 @@ pub(crate) fn put_back(stems: &mut [Stem], at: usize)
     stems[at] = stems[at + 1];
 }
 
-// Whether the next place of the node is open.
+/// Whether the next place of the node is open. The stem at this place is that of the node.
 pub(crate) fn is_open_at(
     stems: &[Stem],
     at: usize,

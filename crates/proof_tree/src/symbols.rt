@@ -3,7 +3,7 @@ ghost use Rattle.std.specs.Prelude.{◌≡◌, ◌≢◌, ◌<◌, ◌≤◌, �
 ghost use Rattle.std.specs.Fmt.{decimal};
 ghost use Rattle.bundle_bounds.specs.declared.nodes.Leaf.{Leaf};
 ghost use Rattle.proof_tree.specs.declared.signs.Sign.{Sign};
-ghost use Rattle.proof_tree.specs.declared.signs.Sign.TheVariants.{Closed};
+ghost use Rattle.proof_tree.specs.declared.signs.Sign.TheVariants.{Pruned};
 ghost use Rattle.proof_tree.specs.Spellings.{bytes_of};
 ghost use Rattle.proof_tree.specs.Texts.{IsDigit, NoDigitFirst, IsShort, Stands, leaf_text, number_of, symbol};
 
@@ -88,7 +88,7 @@ fn single_sign(byte: u8) -> Option<Sign>
     match byte {
         b'*' => Some(Sign::Champion),
         b'x' => Some(Sign::Shut),
-        b'n' => Some(Sign::Closed(Leaf::Plain)),
+        b'n' => Some(Sign::Pruned(Leaf::Plain)),
         b'!' => Some(Sign::Forced),
         b'+' => Some(Sign::Open),
         b'-' => Some(Sign::Passed),
@@ -100,7 +100,7 @@ fn single_sign(byte: u8) -> Option<Sign>
 fn numbered_leaf(letter: u8, place: u8) -> Option<Leaf>
     ensures some { IfSome result
         (λ leaf. (leaf_text leaf ≡ letter ∷ decimal place)
-        × (number_of (Closed leaf) ≡ Some place)) }
+        × (number_of (Pruned leaf) ≡ Some place)) }
     ensures none { IfNone result ((letter ≢ 98) × (letter ≢ 99) × (letter ≢ 109)) }
 {
     match letter {
@@ -111,7 +111,8 @@ fn numbered_leaf(letter: u8, place: u8) -> Option<Leaf>
     }
 }
 
-// The sign whose symbol stands first in the text, and what is left of the text.
+/// The sign whose symbol stands first in the text, and what is left of the text behind it; `None`
+/// where no symbol stands first.
 pub(crate) fn read_symbol(text: &[u8]) -> Option<(Sign, &[u8])>
     ensures some { IfSome result (λ read. Stands read.0 text.now read.1.now) }
     ensures none { IfNone result ((sign : Sign) (rest : List ℕ) → ¬ Stands sign text.now rest) }
@@ -124,7 +125,7 @@ pub(crate) fn read_symbol(text: &[u8]) -> Option<(Sign, &[u8])>
             }
             let (place, later) = read_place(rest)?;
             let leaf = numbered_leaf(*letter, place)?;
-            Some((Sign::Closed(leaf), later))
+            Some((Sign::Pruned(leaf), later))
         }
     }
 }
@@ -140,7 +141,7 @@ impl Symbol {
     ghost use Rattle.std.specs.Prelude.{◌≡◌, ◌≤◌};
     ghost use Rattle.proof_tree.specs.Spellings.{bytes_of};
 
-    // Its bytes.
+    /// The bytes of the symbol, 1 to 3.
     pub(crate) fn as_slice(&self) -> &[u8]
         requires { self.now.len ≤ 3 }
         ensures { result.now ≡ bytes_of self.now }
@@ -180,7 +181,7 @@ fn numbered(letter: u8, place: u8) -> Symbol
 
 // The symbol of a leaf.
 fn spell_leaf(leaf: Leaf) -> Symbol
-    requires { IsShort (Closed leaf) }
+    requires { IsShort (Pruned leaf) }
     ensures len { result.len ≤ 3 }
     ensures bytes { bytes_of result ≡ leaf_text leaf }
 {
@@ -192,7 +193,7 @@ fn spell_leaf(leaf: Leaf) -> Symbol
     }
 }
 
-// The symbol of a sign.
+/// The symbol of a sign, as it stands in the text of a tree.
 pub(crate) fn spell(sign: Sign) -> Symbol
     requires { IsShort sign }
     ensures len { result.len ≤ 3 }
@@ -201,7 +202,7 @@ pub(crate) fn spell(sign: Sign) -> Symbol
     match sign {
         Sign::Champion => single(b'*'),
         Sign::Shut => single(b'x'),
-        Sign::Closed(leaf) => spell_leaf(leaf),
+        Sign::Pruned(leaf) => spell_leaf(leaf),
         Sign::Forced => single(b'!'),
         Sign::Open => single(b'+'),
         Sign::Passed => single(b'-'),

@@ -22,10 +22,13 @@ use crate::signs::{Sign, sign_at};
 use crate::standing::{pass_at, put_back, take_at};
 use bundle_bounds::{Node, Stem};
 use bundle_rules::{Bundle, Menu};
-use market_units::{SectionSet, Tokens};
+use market_units::{MAX_COURSES, MAX_RATINGS, SectionSet, Tokens};
 
 // Under a node at most as many nodes wait as it has chosen sections, and these are at most 8.
-const ROOM: usize = 9;
+const ROOM: usize = MAX_COURSES as usize + 1;
+
+// At most this many places are on a menu.
+pub(crate) const PLACES: u8 = MAX_RATINGS as u8;
 
 /// What the walk comes to: a node with its canonical sign, a node that has none, or the end.
 #[derive(Clone, Copy, Debug)]
@@ -46,7 +49,7 @@ pub(crate) struct Walk {
 impl Walk {
     ghost use Rattle.proof_tree.specs.Steps.{waiting_of, spots_of};
 
-    // The walk that begins at the root.
+    /// The walk that begins at the root: no place is decided, and no section is chosen.
     pub(crate) fn start(
         menu: &Menu,
         prices: &[Tokens],
@@ -73,8 +76,8 @@ impl Walk {
         }
     }
 
-    // Visits the next node, where one is left: its canonical sign, where it has one, and then the
-    // nodes below it wait.
+    /// Visits the next node: `Signed` with its canonical sign, and then the nodes below it wait;
+    /// `Unsigned` where it has no such sign; `Ended` where no node is left.
     #[inline(always)]
     pub(crate) fn step(
         &mut self,
@@ -133,7 +136,7 @@ impl Walk {
         requires required { IfSome required (λ place. place < length menu.now.places) }
         requires champion { IsTakable (offer_of menu.now prices.now budget.0 allowed.now)
             (sections_of champion.now) }
-        requires count { self.old.count < 9 }
+        requires count { self.old.count < MAX_COURSES + 1 }
         requires stems { HaveStems (offer_of menu.now prices.now budget.0 allowed.now)
             (sections_of champion.now) self.old }
         requires stem { IsStemAt (offer_of menu.now prices.now budget.0 allowed.now)
@@ -184,7 +187,7 @@ impl Walk {
     )
         requires node { IsNode (offer_of menu.now prices.now budget.0 allowed.now) node.now.place
             (sections_of node.now.chosen) }
-        requires few { self.old.count ≤ 8 }
+        requires few { self.old.count ≤ MAX_COURSES }
         requires count { self.old.count ≤ length (sections_of node.now.chosen) }
         requires sign { (required : Option ℕ)
             × IsSign (offer_of menu.now prices.now budget.0 allowed.now) required
@@ -202,11 +205,11 @@ impl Walk {
         ensures below { AreStanding (offer_of menu.now prices.now budget.0 allowed.now)
             (sections_of champion.now) node.now sign self.new.stems self.new.count }
     {
-        prove!(menu.len() <= 60);
+        prove!(menu.len() <= PLACES);
         let at = self.count;
         let stems = &mut self.stems;
         match sign {
-            Sign::Champion | Sign::Shut | Sign::Closed(_) => {}
+            Sign::Champion | Sign::Shut | Sign::Pruned(_) => {}
             Sign::Forced => {
                 take_at(stems, at, menu, prices, budget, allowed, champion, node);
                 put_back(stems, at);
@@ -221,9 +224,9 @@ impl Walk {
 
     // Takes the next node, and `None` exactly where none waits.
     fn take(&mut self) -> Option<Node>
-        requires { self.old.count ≤ 9 }
+        requires { self.old.count ≤ MAX_COURSES + 1 }
         ensures some { IfSome result (λ node. waiting_of self.old ≡ node ∷ waiting_of self.new) }
-        ensures few { OnSome result (self.new.count ≤ 8) }
+        ensures few { OnSome result (self.new.count ≤ MAX_COURSES) }
         ensures one { OnSome result (self.old.count ≡ self.new.count + 1) }
         ensures node { IfSome result
             (λ node. node ≡ slice_index_or self.old.waiting self.new.count node) }
@@ -241,9 +244,9 @@ impl Walk {
 
     // Lets a node wait, which is the next that is visited.
     fn put(&mut self, node: Node)
-        requires { self.old.count < 9 }
+        requires { self.old.count < MAX_COURSES + 1 }
         ensures count { self.new.count ≡ self.old.count + 1 }
-        ensures whole { length self.new.waiting ≡ 9 }
+        ensures whole { length self.new.waiting ≡ MAX_COURSES + 1 }
         ensures waiting { waiting_of self.new ≡ node ∷ waiting_of self.old }
         ensures here { (d : Node) → slice_index_or self.new.waiting self.old.count d ≡ node }
         ensures others { (i : ℕ) (d : Node) → i ≢ self.old.count
@@ -257,7 +260,7 @@ impl Walk {
     // Lets the nodes below a node wait.
     #[inline(always)]
     fn put_below(&mut self, menu: &Menu, node: &Node, sign: Sign)
-        requires few { self.old.count ≤ 8 }
+        requires few { self.old.count ≤ MAX_COURSES }
         requires sign { (prices : List Tokens) × (budget : ℕ) × (allowed : set.FinSet nat_cmp) × (required : Option ℕ) × (champion : List ℕ)
             × MayWait (offer_of menu.now prices budget allowed) (node.now ∷ waiting_of self.old) × IsSign (offer_of menu.now prices budget allowed) required champion node.now.place (places_of menu.now (sections_of node.now.chosen)) sign }
         ensures may_wait { (prices : List Tokens) (budget : ℕ) (allowed : set.FinSet nat_cmp) (required : Option ℕ) (champion : List ℕ)
@@ -272,7 +275,7 @@ impl Walk {
         match sign {
             Sign::Champion => {}
             Sign::Shut => {}
-            Sign::Closed(_) => {}
+            Sign::Pruned(_) => {}
             Sign::Forced => self.put(with_next(menu, node)),
             Sign::Open => {
                 self.put(without_next(menu, node));
@@ -283,7 +286,7 @@ impl Walk {
     }
 }
 
-// The node with the section of the next place, where that is open.
+/// The node with the section of the next place, which is open.
 pub(crate) fn with_next(menu: &Menu, node: &Node) -> Node
     requires left { node.now.place < length menu.now.places }
     requires open { (prices : List Tokens) × (budget : ℕ) × (allowed : set.FinSet nat_cmp)
@@ -293,7 +296,7 @@ pub(crate) fn with_next(menu: &Menu, node: &Node) -> Node
         (places_of menu.now (sections_of node.now.chosen)) node.now.place
         ≡ true) }
     ensures menu { IsMenu menu.now }
-    ensures room { length (sections_of node.now.chosen) < 8 }
+    ensures room { length (sections_of node.now.chosen) < MAX_COURSES }
     ensures place { result.place ≡ node.now.place + 1 }
     ensures chosen { sections_of result.chosen
         ≡ sections_of node.now.chosen ++ section_at menu.now.places node.now.place ∷ [] }

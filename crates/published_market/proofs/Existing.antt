@@ -13,7 +13,7 @@ use Rattle.budget_draw.specs.Budgets.{amounts, budgets_of}
 use Rattle.course_catalog.specs.Catalog.{IsCatalog}
 use Rattle.course_catalog.specs.Sections.{Section}
 use Rattle.demand_api.specs.Crowds.{CrowdData, IsCrowd, Student, demand, demands}
-use Rattle.demand_api.specs.Made.{crowd_of}
+use Rattle.demand_api.specs.Parts.{of_parts}
 use Rattle.proof_tree.specs.Laws.{HasTree, TreesProveTheBest}
 use Rattle.proof_tree.specs.Texts.{spelled}
 use Rattle.tabu_search.specs.Laws.{SearchEnds}
@@ -193,7 +193,7 @@ crowd_there : EachHasAMenu → (market : Market) (journal : List Entry) → IsCa
 crowd_there law market journal catalog roll =
     let menus = law market.catalog market.roll (wanted_in market journal) catalog roll (wanted_long market journal) (wanted_limited market journal) in
     let budgets : List ℕ = budgets_of market.roll.students market.settings.seed market.settings.spread in (
-      crowd_of menus.0 (as_tokens budgets) (length market.catalog.sections),
+      of_parts menus.0 (as_tokens budgets) (length market.catalog.sections),
       crowd_is_markets market.catalog market.roll (wanted_in market journal) menus.0 (as_tokens budgets) market.settings.seed market.settings.spread menus.1
           (amounts_back budgets),
     )

@@ -2,11 +2,10 @@
 use Rattle.std.proofs.Common.{ℕ, ◌≡◌, List, subst, sym}
 use Rattle.market_units.specs.declared.units.Tokens.{Tokens}
 use Rattle.bundle_rules.specs.Demand.{price_in}
-use Rattle.demand_api.specs.Asking.{ArePricesFor}
+use Rattle.demand_api.specs.Asking.{ArePricesFor, AreSectionPrices}
 use Rattle.demand_api.specs.Crowds.{CrowdData, IsCrowd, demands}
 use Rattle.oversubscription_stage.specs.Rounds.{IsSettled}
 use Rattle.oversubscription_stage.proofs.Eliminations.{settled_within_seats}
-use Rattle.aftermarket_stage.specs.After.{AreSectionPrices}
 use Rattle.held_seats.specs.Choices.{AreHeldWithin}
 use Rattle.published_market.proofs.Ranges.{prices_in_range}
 use Rattle.published_market.proofs.Settled.{settled_prices}

@@ -23,6 +23,7 @@ use Rattle.course_catalog.specs.Catalog.{IsCatalog}
 use Rattle.course_catalog.specs.Sections.{Section}
 use Rattle.student_roll.specs.Students.{IsListed, IsRoll, Student, no_student}
 use Rattle.demand_api.specs.Crowds.{CrowdData, IsCrowd, IsWithin, Student as Asked, holders}
+use Rattle.demand_api.proofs.Parts.{parts_within}
 use Rattle.market_menus.specs.MenusOf.{AreMenusOf}
 use Rattle.market_settings.specs.Settings.{AreInRange}
 use Rattle.market_settings.specs.declared.reader.Settings.{Settings}
@@ -119,7 +120,9 @@ crowd_known market journal crowd catalog roll settings is =
       sections = let few = catalog.few in let same = is.sections in omega arith;
       menus =
           unmapped (IsWithin crowd.sections) (λ (student : Asked). student.menu) crowd.students
-          (subst (λ n. All (IsWithin n) menus) (sym is.sections) whole.within);
+          (subst (λ n. All (IsWithin n) menus) (sym is.sections)
+          (parts_within menus (as_tokens crowd.students) (length market.catalog.sections)
+          (long ∙ sym (length-map crowd.students (λ (student : Asked). student.menu))) whole));
     }
 
 -- each student has a menu in its limits

@@ -12,14 +12,13 @@ use Rattle.bundle_rules.specs.declared.menu.Rated.{Rated}
 use Rattle.bundle_rules.specs.Existence.Members.{has-here, has-there}
 use Rattle.bundle_rules.specs.Menus.{MenuData, wishes_of}
 use Rattle.bundle_rules.specs.Places.{places_from}
-use Rattle.bundle_rules.specs.Sets.{has}
+use Rattle.market_units.specs.Members.{has}
 use Rattle.bundle_rules.specs.Wishes.{AllRated}
 use Rattle.bundle_rules.proofs.Feasibility.{among_sections}
 use Rattle.budget_draw.specs.AfterOrder.{after_order_of}
-use Rattle.demand_api.specs.Asking.{ArePricesFor}
+use Rattle.demand_api.specs.Asking.{ArePricesFor, AreSectionPrices}
 use Rattle.demand_api.specs.Crowds.{CrowdData, IsCrowd, IsWithin, Student, holders, top}
 use Rattle.oversubscription_stage.proofs.Raises.{top_high}
-use Rattle.aftermarket_stage.specs.After.{AreSectionPrices}
 use Rattle.aftermarket_stage.specs.Passes.{ArePasses, IsMadeOf}
 use Rattle.aftermarket_stage.specs.Turns.{TurnData, after_turns}
 use Rattle.held_seats.specs.Choices.{AreHeldWithin}
@@ -50,7 +49,7 @@ proved_form n sections price student proved same is form = record {
   tree = form.bytes;
 }
 
--- the bundles of stage two are in range
+-- the bundles of the second stage are in range
 pub bundles_in_range : (n : ℕ) (sections : List (List ℕ)) (price : ℕ → ℕ) (students : List Student) (bundles : List Proved) → n ≡ length sections
     → AllZip (IsProvedDemand n price) students bundles → All (λ (proved : Proved). HasForm proved.bundle proved.tree) bundles
     → All (IsProved sections) bundles

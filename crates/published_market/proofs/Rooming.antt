@@ -12,7 +12,7 @@ use Rattle.bundle_rules.specs.Menus.{MenuData}
 use Rattle.bundle_bounds.specs.Offers.{offer_of}
 use Rattle.budget_draw.specs.Budgets.{raised_by}
 use Rattle.demand_api.specs.declared.crowd.Crowd.{Crowd}
-use Rattle.demand_api.specs.Made.{crowd_of, students_of}
+use Rattle.demand_api.specs.Views.{data_of}
 use Rattle.aftermarket_stage.specs.declared.turns.Turn.{Turn}
 use Rattle.aftermarket_stage.specs.After.{turn_of, turns_of}
 use Rattle.aftermarket_stage.specs.Turns.{TurnData}
@@ -87,12 +87,12 @@ one_longer all one later more = ap length more ∙ length-append all (one ∷ []
 
 -- one more student's bundle is shown with its tree
 pub proved_more : (crowd : Crowd) (prices : List Tokens) (all : List proved.Proved) (one : proved.Proved) (later : List proved.Proved)
-    → length all < length (students_of crowd.menus.items crowd.budgets.items) → later ≡ all ++ one ∷ [] → AreProved crowd prices all
-    → IsProvedDemand crowd.sections (price_in prices) (get_or (students_of crowd.menus.items crowd.budgets.items) (length all) nobody) (proved_of one)
+    → length all < length (data_of crowd).students → later ≡ all ++ one ∷ [] → AreProved crowd prices all
+    → IsProvedDemand crowd.sections (price_in prices) (get_or (data_of crowd).students (length all) nobody) (proved_of one)
     → HasForm (sections_of one.bundle) one.tree.items
     → AreProved crowd prices later
 proved_more crowd prices all one later low more are is form =
-    let students = students_of crowd.menus.items crowd.budgets.items in
+    let students = (data_of crowd).students in
     record {
       proved =
           subst (λ n. AllZip (IsProvedDemand crowd.sections (price_in prices)) (take n students) (map proved_of later)) (sym (one_longer all one later more))
@@ -104,11 +104,11 @@ proved_more crowd prices all one later low more are is form =
 pub turns_more : (crowd : Crowd) (prices : List Tokens) (raise : ℕ) (turns : List Turn) (d : TurnData) (all : List turn.ProvedTurn) (one : turn.ProvedTurn)
     (later : List turn.ProvedTurn)
     → length all < length (turns_of turns) → later ≡ all ++ one ∷ [] → AreProvedTurns crowd prices raise turns all
-    → IsPublishedTurn (crowd_of crowd.menus.items crowd.budgets.items crowd.sections) prices raise (get_or (turns_of turns) (length all) d) (published_of one)
+    → IsPublishedTurn (data_of crowd) prices raise (get_or (turns_of turns) (length all) d) (published_of one)
     → HasTurnForm (published_of one)
     → AreProvedTurns crowd prices raise turns later
 turns_more crowd prices raise turns d all one later low more are is form =
-    let wanted = IsPublishedTurn (crowd_of crowd.menus.items crowd.budgets.items crowd.sections) prices raise in
+    let wanted = IsPublishedTurn (data_of crowd) prices raise in
     record {
       published =
           subst (λ n. AllZip wanted (take n (turns_of turns)) (map published_of later)) (sym (one_longer all one later more))

@@ -140,7 +140,7 @@ best_at_its_turn market streams order p journal is so earlier later proved split
     (best_agrees (wishes_of (get_or crowd.students proved.student nobody).menu) (wishes_in market journal proved.student) agrees (price_in prices)
     (raised_by raise there.who.budget) turn.allowed turn.bundle best)
 
--- the bundles of stage two are the crowd's demands
+-- the bundles of the second stage are the crowd's demands
 pub demands_published : (sections : ℕ) (price : ℕ → ℕ) (students : List Student) (bundles : List Proved)
     → AllZip (IsProvedDemand sections price) students bundles → map (λ (proved : Proved). proved.bundle) bundles ≡ map (demand sections price) students
 demands_published sections price [] [] are = refl

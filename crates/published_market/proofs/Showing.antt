@@ -11,9 +11,12 @@ use Rattle.bundle_rules.specs.Bundles.{sections_of}
 use Rattle.bundle_rules.specs.Demand.{IsBest, price_in}
 use Rattle.bundle_rules.specs.Menus.{MenuData, wishes_of}
 use Rattle.bundle_rules.proofs.BestValue.{best-is}
+use Rattle.demand_api.specs.declared.crowd.Crowd.{Crowd}
 use Rattle.demand_api.specs.Crowds.{Student, demand, demand_of}
-use Rattle.demand_api.specs.Made.{crowd_of, students_of}
-use Rattle.demand_api.proofs.Takers.{demand_at, demands_length, students_length}
+use Rattle.demand_api.specs.Parts.{students_of}
+use Rattle.demand_api.specs.Views.{data_of}
+use Rattle.demand_api.proofs.Parts.{students_length}
+use Rattle.demand_api.proofs.Takers.{demand_at, demands_length}
 use Rattle.oversubscription_stage.specs.Rounds.{AreTaken}
 use Rattle.aftermarket_stage.specs.Turns.{TurnData}
 use Rattle.published_parts.specs.Offers.{IsProvedBest, all_sections, offer_to}
@@ -32,46 +35,45 @@ asked_at (x ∷ xs) (y ∷ ys) zero d menu budget same low is has_it = λ k. rec
 asked_at (x ∷ xs) (y ∷ ys) (suc i) d menu budget same low is has_it = asked_at xs ys i d menu budget (omega arith) (omega arith) is has_it
 
 -- there is a bundle for each menu
-pub taken_count : (menus : List MenuData) (budgets : List Tokens) (sections : ℕ) (prices : List Tokens) (bundles : List Bundle) → length budgets ≡ length menus
-    → AreTaken (crowd_of menus budgets sections) prices bundles → length bundles ≡ length menus
-taken_count menus budgets sections prices bundles same taken =
-    sym (length-map bundles sections_of) ∙ ap (λ (all : List (List ℕ)). length all) taken ∙ demands_length menus budgets sections (price_in prices) same
+pub taken_count : (crowd : Crowd) (prices : List Tokens) (bundles : List Bundle)
+    → AreTaken (data_of crowd) prices bundles → length bundles ≡ length crowd.menus.items
+taken_count crowd prices bundles taken =
+    sym (length-map bundles sections_of) ∙ ap (λ (all : List (List ℕ)). length all) taken ∙ demands_length crowd (price_in prices)
 
 -- the bundle at a place is the best of the menu and the budget at that place
-pub taken_best : (menus : List MenuData) (budgets : List Tokens) (sections : ℕ) (prices : List Tokens) (bundles : List Bundle) (i : ℕ) (menu : MenuData)
+pub taken_best : (crowd : Crowd) (prices : List Tokens) (bundles : List Bundle) (i : ℕ) (menu : MenuData)
     (budget : Tokens) (bundle : Bundle) (allowed : ℕ → Bool)
-    → length budgets ≡ length menus
-    → AreTaken (crowd_of menus budgets sections) prices bundles → i < length bundles → menu ≡ get_or menus i menu → budget ≡ get_or budgets i budget
-    → bundle ≡ get_or bundles i bundle → ((s : ℕ) → allowed s ≡ nat_lt s sections)
+    → AreTaken (data_of crowd) prices bundles → i < length bundles → menu ≡ get_or crowd.menus.items i menu → budget ≡ get_or crowd.budgets.items i budget
+    → bundle ≡ get_or bundles i bundle → ((s : ℕ) → allowed s ≡ nat_lt s crowd.sections)
     → IsBest (wishes_of menu) (price_in prices) budget.0 allowed (sections_of bundle)
-taken_best menus budgets sections prices bundles i menu budget bundle allowed same taken low is has_it at told =
-    let count : length bundles ≡ length menus = taken_count menus budgets sections prices bundles same taken in
+taken_best crowd prices bundles i menu budget bundle allowed taken low is has_it at told =
+    let count : length bundles ≡ length crowd.menus.items = taken_count crowd prices bundles taken in
     let there : sections_of bundle ≡ get_or (map sections_of bundles) i [] = ap sections_of at ∙ sym (get_or-map sections_of bundles i bundle [] low) in
-    let demanded : get_or (map sections_of bundles) i [] ≡ demand_of (crowd_of menus budgets sections) (price_in prices) i =
+    let demanded : get_or (map sections_of bundles) i [] ≡ demand_of (data_of crowd) (price_in prices) i =
     ap (λ all. get_or all i []) taken in
-    let whose : demand_of (crowd_of menus budgets sections) (price_in prices) i
-    ≡ demand sections (price_in prices) (asked (get_or menus i menu) (get_or budgets i budget)) =
-    demand_at menus budgets sections (price_in prices) i menu budget same (omega arith) in
-    let own : demand sections (price_in prices) (asked (get_or menus i menu) (get_or budgets i budget))
-    ≡ demand sections (price_in prices) (asked menu budget) =
-    λ k. demand sections (price_in prices) (asked (sym is k) (sym has_it k)) in
-    let best : IsBest (wishes_of menu) (price_in prices) budget.0 (λ s. nat_lt s sections) (demand sections (price_in prices) (asked menu budget)) =
-    best-is menu (price_in prices) budget.0 (λ s. nat_lt s sections) in
-    let sections_are : (λ s. nat_lt s sections) ≡ allowed = λ k s. sym (told s) k in
+    let whose : demand_of (data_of crowd) (price_in prices) i
+    ≡ demand crowd.sections (price_in prices) (asked (get_or crowd.menus.items i menu) (get_or crowd.budgets.items i budget)) =
+    demand_at crowd (price_in prices) i menu budget (omega arith) in
+    let own : demand crowd.sections (price_in prices) (asked (get_or crowd.menus.items i menu) (get_or crowd.budgets.items i budget))
+    ≡ demand crowd.sections (price_in prices) (asked menu budget) =
+    λ k. demand crowd.sections (price_in prices) (asked (sym is k) (sym has_it k)) in
+    let best : IsBest (wishes_of menu) (price_in prices) budget.0 (λ s. nat_lt s crowd.sections) (demand crowd.sections (price_in prices) (asked menu budget)) =
+    best-is menu (price_in prices) budget.0 (λ s. nat_lt s crowd.sections) in
+    let sections_are : (λ s. nat_lt s crowd.sections) ≡ allowed = λ k s. sym (told s) k in
     subst (IsBest (wishes_of menu) (price_in prices) budget.0 allowed) (sym (there ∙ demanded ∙ whose ∙ own))
-    (subst (λ among. IsBest (wishes_of menu) (price_in prices) budget.0 among (demand sections (price_in prices) (asked menu budget))) sections_are best)
+    (subst (λ among. IsBest (wishes_of menu) (price_in prices) budget.0 among (demand crowd.sections (price_in prices) (asked menu budget))) sections_are best)
 
 -- what is proved of the menu and the budget at a place is proved of the student
-pub proved_at : (menus : List MenuData) (budgets : List Tokens) (sections : ℕ) (price : ℕ → ℕ) (i : ℕ) (d : Student) (menu : MenuData) (budget : Tokens)
+pub proved_at : (crowd : Crowd) (price : ℕ → ℕ) (i : ℕ) (d : Student) (menu : MenuData) (budget : Tokens)
     (allowed : ℕ → Bool) (bundle tree : List ℕ)
-    → length budgets ≡ length menus → i < length menus
-    → menu ≡ get_or menus i menu → budget ≡ get_or budgets i budget → ((s : ℕ) → allowed s ≡ nat_lt s sections)
+    → i < length crowd.menus.items
+    → menu ≡ get_or crowd.menus.items i menu → budget ≡ get_or crowd.budgets.items i budget → ((s : ℕ) → allowed s ≡ nat_lt s crowd.sections)
     → IsProvedBest (record { menu = menu; price = price; budget = budget.0; allowed = allowed }) bundle tree
-    → IsProvedBest (offer_to (get_or (students_of menus budgets) i d) price (get_or (students_of menus budgets) i d).budget (all_sections sections)) bundle tree
-proved_at menus budgets sections price i d menu budget allowed bundle tree same low is has_it told proved =
-    let sections_are : allowed ≡ all_sections sections = λ k s. told s k in
-    subst (λ (student : Student). IsProvedBest (offer_to student price student.budget (all_sections sections)) bundle tree)
-    (sym (asked_at menus budgets i d menu budget same low is has_it))
+    → IsProvedBest (offer_to (get_or (data_of crowd).students i d) price (get_or (data_of crowd).students i d).budget (all_sections crowd.sections)) bundle tree
+proved_at crowd price i d menu budget allowed bundle tree low is has_it told proved =
+    let sections_are : allowed ≡ all_sections crowd.sections = λ k s. told s k in
+    subst (λ (student : Student). IsProvedBest (offer_to student price student.budget (all_sections crowd.sections)) bundle tree)
+    (sym (asked_at crowd.menus.items crowd.budgets.items i d menu budget crowd.same low is has_it))
     (subst (λ among. IsProvedBest (offer_to (asked menu budget) price budget.0 among) bundle tree) sections_are proved)
 
 zip_push : {A B : Type 0} (R : A → B → Type 0) (xs : List A) (ys : List B) (x : A) (y : B) → AllZip R xs ys → R x y → AllZip R (xs ++ x ∷ []) (ys ++ y ∷ [])
@@ -103,20 +105,20 @@ zip_next (x ∷ xs) (y ∷ ys) (suc i) low small =
     rw one_more (ap (λ rest. (x, y) ∷ rest) (zip_next xs ys i (omega arith) (omega arith)))
 
 -- the student of a turn is at its place
-pub turn_inside : (menus : List MenuData) (budgets : List Tokens) (sections : ℕ) (prices : List Tokens) (raise i : ℕ) (turn : TurnData)
-    → length budgets ≡ length menus → i ≡ turn.student → IsBestTurn (crowd_of menus budgets sections) prices raise turn → i < length menus
-turn_inside menus budgets sections prices raise i turn same at is =
-    let inside : turn.student < length (students_of menus budgets) = slice_get_within (students_of menus budgets) turn.student is.who is.listed in
-    let count : length (students_of menus budgets) ≡ length menus = students_length menus budgets same in
+pub turn_inside : (crowd : Crowd) (prices : List Tokens) (raise i : ℕ) (turn : TurnData)
+    → i ≡ turn.student → IsBestTurn (data_of crowd) prices raise turn → i < length crowd.menus.items
+turn_inside crowd prices raise i turn at is =
+    let inside : turn.student < length (data_of crowd).students = slice_get_within (data_of crowd).students turn.student is.who is.listed in
+    let count : length (data_of crowd).students ≡ length crowd.menus.items = students_length crowd in
     omega arith
 
 -- and has the menu and the budget there
-pub turn_student : (menus : List MenuData) (budgets : List Tokens) (sections : ℕ) (prices : List Tokens) (raise i : ℕ) (turn : TurnData) (menu : MenuData)
+pub turn_student : (crowd : Crowd) (prices : List Tokens) (raise i : ℕ) (turn : TurnData) (menu : MenuData)
     (budget : Tokens)
-    → length budgets ≡ length menus → i ≡ turn.student → menu ≡ get_or menus i menu
-    → budget ≡ get_or budgets i budget → (is : IsBestTurn (crowd_of menus budgets sections) prices raise turn) → is.who ≡ asked menu budget
-turn_student menus budgets sections prices raise i turn menu budget same at here has_it is =
-    let listed : slice_get (students_of menus budgets) i ≡ Some is.who =
-    subst (λ n. slice_get (students_of menus budgets) n ≡ Some is.who) (sym at) is.listed in
-    sym (get_or_from_slice_get (students_of menus budgets) i is.who is.who listed)
-    ∙ asked_at menus budgets i is.who menu budget same (turn_inside menus budgets sections prices raise i turn same at is) here has_it
+    → i ≡ turn.student → menu ≡ get_or crowd.menus.items i menu
+    → budget ≡ get_or crowd.budgets.items i budget → (is : IsBestTurn (data_of crowd) prices raise turn) → is.who ≡ asked menu budget
+turn_student crowd prices raise i turn menu budget at here has_it is =
+    let listed : slice_get (data_of crowd).students i ≡ Some is.who =
+    subst (λ n. slice_get (data_of crowd).students n ≡ Some is.who) (sym at) is.listed in
+    sym (get_or_from_slice_get (data_of crowd).students i is.who is.who listed)
+    ∙ asked_at crowd.menus.items crowd.budgets.items i is.who menu budget crowd.same (turn_inside crowd prices raise i turn at is) here has_it

@@ -7,7 +7,7 @@ use Rattle.market_units.specs.declared.units.Tokens.{Tokens}
 use Rattle.bundle_rules.specs.Menus.{MenuData}
 use Rattle.bundle_rules.specs.Places.{places_from}
 use Rattle.demand_api.specs.Crowds.{CrowdData, Student, holders}
-use Rattle.demand_api.specs.Made.{students_of}
+use Rattle.demand_api.specs.Parts.{students_of}
 use Rattle.aftermarket_stage.specs.Passes.{IsAftermarket}
 use Rattle.aftermarket_stage.specs.Turns.{EachTurn, IsTurn, TurnData, after_turn}
 use Rattle.course_catalog.specs.Catalog.{CatalogData, IsCatalog}

@@ -1,6 +1,7 @@
 -- The laws of published markets. The first six are the sentences on what a published text says of
 -- students and sections.
 use Rattle.std.specs.Prelude.{ℕ, ◌<◌, ◌≤◌, ◌≡◌, ◌^◌, ◌⊎◌, List, [], ◌++◌, length, slice_index, slice_index_or}
+use Rattle.market_units.specs.declared.limits.TheConstants.{MAX_SESSIONS}
 use Rattle.bundle_rules.specs.Demand.{IsBest}
 use Rattle.budget_draw.specs.Budgets.{budgets_of}
 use Rattle.course_catalog.specs.Catalog.{IsCatalog}
@@ -33,9 +34,9 @@ BudgetsAreDrawn =
     → IsPublished market streams order p
     → p.budgets ≡ budgets_of market.roll.students market.settings.seed market.settings.spread
 
--- each student's bundle of stage two is the best that its budget buys at the published prices: the
--- student may take it, its prices sum to at most the budget, and the student prefers it to every
--- other such bundle of the catalogue's sections
+-- each student's bundle of the second stage is the best that its budget buys at the published
+-- prices: the student may take it, its prices sum to at most the budget, and the student prefers it
+-- to every other such bundle of the catalogue's sections
 abbrev pub BestWithinBudget : Type 0
 BestWithinBudget =
     (market : Market) (streams : List (List Command)) (order : List ℕ) (p : Publication)
@@ -65,13 +66,13 @@ AllocatedInPasses =
     → IsPublished market streams order p → IsJournalOf (names_in market) streams order journal
     → IsAllocation market journal p
 
--- no section is above its seats in the bundles of stage two
+-- no section is above its seats in the bundles of the second stage
 abbrev pub StageTwoWithinSeats : Type 0
 StageTwoWithinSeats =
     (market : Market) (streams : List (List Command)) (order : List ℕ) (p : Publication)
     → IsPublished market streams order p → AreWithinSeats market (demanded p)
 
--- nor after any turn
+-- no section is above its seats after any turn
 abbrev pub TurnsWithinSeats : Type 0
 TurnsWithinSeats =
     (market : Market) (streams : List (List Command)) (order : List ℕ) (p : Publication)
@@ -79,7 +80,7 @@ TurnsWithinSeats =
     → (earlier later : List ProvedTurn) → p.turns ≡ earlier ++ later
     → AreWithinSeats market (held_after (demanded p) earlier)
 
--- nor at the end
+-- no section is above its seats in the final bundles
 abbrev pub AllocationWithinSeats : Type 0
 AllocationWithinSeats =
     (market : Market) (streams : List (List Command)) (order : List ℕ) (p : Publication)
@@ -91,7 +92,7 @@ pub record AreInOrder (market : Market) (streams : List (List Command)) : Type 0
   pub catalog : IsCatalog market.catalog
   pub roll : IsRoll market.roll
   pub settings : AreInRange market.settings
-  pub sessions : length streams ≤ 64
+  pub sessions : length streams ≤ MAX_SESSIONS
 
 -- what is published for inputs in order is a publication in the ranges of the text, where its text
 -- is not of 2 ^ 64 bytes or more

@@ -8,7 +8,7 @@ use Rattle.bundle_rules.specs.Ordinals.{IsBundle}
 use Rattle.bundle_bounds.specs.Offers.{Offer}
 use Rattle.demand_api.specs.declared.crowd.Crowd.{Crowd}
 use Rattle.demand_api.specs.Crowds.{CrowdData, Student}
-use Rattle.demand_api.specs.Made.{crowd_of, students_of}
+use Rattle.demand_api.specs.Views.{data_of}
 use Rattle.aftermarket_stage.specs.declared.turns.Turn.{Turn}
 use Rattle.aftermarket_stage.specs.After.{turns_of}
 use Rattle.aftermarket_stage.specs.Turns.{TurnData}
@@ -46,13 +46,13 @@ pub record IsBestTurn (crowd : CrowdData) (prices : List Tokens) (raise : ℕ)
 pub record AreProved (crowd : Crowd) (prices : List Tokens)
     (all : List proved.Proved) : Type 0 where
   pub proved : AllZip (IsProvedDemand crowd.sections (price_in prices))
-      (take (length all) (students_of crowd.menus.items crowd.budgets.items)) (map proved_of all)
+      (take (length all) (data_of crowd).students) (map proved_of all)
   pub form : All (λ (proved : Proved). HasForm proved.bundle proved.tree) (map proved_of all)
 
 -- the first turns, each with the tree of its bundle
 pub record AreProvedTurns (crowd : Crowd) (prices : List Tokens) (raise : ℕ) (turns : List Turn)
     (all : List turn.ProvedTurn) : Type 0 where
   pub published : AllZip
-      (IsPublishedTurn (crowd_of crowd.menus.items crowd.budgets.items crowd.sections) prices raise)
-      (take (length all) (turns_of turns)) (map published_of all)
+      (IsPublishedTurn (data_of crowd) prices raise) (take (length all) (turns_of turns))
+      (map published_of all)
   pub form : All HasTurnForm (map published_of all)

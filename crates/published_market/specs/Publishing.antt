@@ -36,7 +36,7 @@ pub record Lengths : Type 0 where
 abbrev pub lengths_of : ℕ → ℕ → ℕ → Lengths
 lengths_of turns rounds passes = record { turns = turns; rounds = rounds; passes = passes }
 
--- the turns of the aftermarket from the bundles of stage two on, as they are published
+-- the turns of the aftermarket from the bundles of the second stage on, as they are published
 pub record AreTurns (terms : Terms) (passes : ℕ) (p : Publication) : Type 0 where
   pub turns : List TurnData
   pub made : IsAftermarket terms (demanded p) turns passes

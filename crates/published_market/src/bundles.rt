@@ -7,7 +7,7 @@ ghost use Rattle.bundle_rules.specs.Bundles.{sections_of};
 ghost use Rattle.bundle_rules.specs.Demand.{HasPrices, IsBest, price_in};
 ghost use Rattle.bundle_rules.specs.Menus.{wishes_of};
 ghost use Rattle.demand_api.specs.Asking.{ArePricesFor};
-ghost use Rattle.demand_api.specs.Made.{MakeCrowd, crowd_of};
+ghost use Rattle.demand_api.specs.Views.{data_of};
 ghost use Rattle.oversubscription_stage.specs.Rounds.{AreTaken};
 ghost use Rattle.market_certificate.specs.Views.{proved_of};
 ghost use Rattle.published_parts.specs.Offers.{IsProvedBest, IsProvedDemand};
@@ -18,12 +18,18 @@ use crate::rooms::{Room, reserve_rooms, workers_for};
 use bundle_rules::{Bundle, Menu};
 use demand_api::Crowd;
 use market_certificate::Proved;
-use market_units::{NoMemory, SectionSet, Tokens};
+use market_units::{MAX_COURSES, MAX_RATINGS, NoMemory, SectionSet, Tokens};
 use std::alloc::Global;
 use std::thread;
 use std::thread::Threads;
 
-// The best bundle of a menu with its tree, which is in the room where it fits.
+// At most this many places are on a menu, and at most this many sections in a bundle.
+const PLACES: u8 = MAX_RATINGS as u8;
+
+const COURSES: usize = MAX_COURSES as usize;
+
+/// The best bundle of a menu with the tree that proves it: the tree of the room, or one that is
+/// built now, where it did not fit the room. The only error is that memory was not given.
 pub(crate) fn prove_bundle(
     alloc: Global,
     menu: &Menu,
@@ -44,8 +50,8 @@ pub(crate) fn prove_bundle(
         (sections_of proved.bundle) proved.tree.items) }
     ensures form { IfOk result (λ proved. HasForm (sections_of proved.bundle) proved.tree.items) }
 {
-    prove!(menu.len() <= 60);
-    prove!(bundle.sections().len() <= 8);
+    prove!(menu.len() <= PLACES);
+    prove!(bundle.sections().len() <= COURSES);
     let tree = room.tree(alloc, menu, prices, budget, allowed, bundle)?;
     Ok(Proved {
         bundle: *bundle,
@@ -62,13 +68,9 @@ fn fill_room(
     place: usize,
     room: &mut Room,
 )
-    requires crowd { MakeCrowd crowd.now.menus.items crowd.now.budgets.items crowd.now.sections }
-    requires prices { ArePricesFor
-        (crowd_of crowd.now.menus.items crowd.now.budgets.items crowd.now.sections) prices.now }
+    requires prices { ArePricesFor (data_of crowd.now) prices.now }
     requires allowed { (s : ℕ) → set.contains allowed.now s ≡ nat_lt s crowd.now.sections }
-    requires bundles { AreTaken
-        (crowd_of crowd.now.menus.items crowd.now.budgets.items crowd.now.sections) prices.now
-        bundles.now }
+    requires bundles { AreTaken (data_of crowd.now) prices.now bundles.now }
     requires place { place < length bundles.now }
     ensures { IsRoomOfStudent crowd.now prices.now allowed.now bundles.now place room.new }
 {
@@ -90,13 +92,9 @@ fn fill_rooms<R: Threads + Sync>(
     first: usize,
     rooms: &mut [Room],
 )
-    requires crowd { MakeCrowd crowd.now.menus.items crowd.now.budgets.items crowd.now.sections }
-    requires prices { ArePricesFor
-        (crowd_of crowd.now.menus.items crowd.now.budgets.items crowd.now.sections) prices.now }
+    requires prices { ArePricesFor (data_of crowd.now) prices.now }
     requires allowed { (s : ℕ) → set.contains allowed.now s ≡ nat_lt s crowd.now.sections }
-    requires bundles { AreTaken
-        (crowd_of crowd.now.menus.items crowd.now.budgets.items crowd.now.sections) prices.now
-        bundles.now }
+    requires bundles { AreTaken (data_of crowd.now) prices.now bundles.now }
     requires places { first + length rooms.old ≤ length bundles.now }
     ensures count { length rooms.new ≡ length rooms.old }
     ensures rooms { AreRoomsOfStudents crowd.now prices.now allowed.now bundles.now first
@@ -108,10 +106,9 @@ fn fill_rooms<R: Threads + Sync>(
         rooms,
         threads,
         &|n, room|
-            requires { (first + n < length bundles.now) × MakeCrowd crowd.now.menus.items crowd.now.budgets.items crowd.now.sections
-                × ArePricesFor (crowd_of crowd.now.menus.items crowd.now.budgets.items crowd.now.sections) prices.now
+            requires { (first + n < length bundles.now) × ArePricesFor (data_of crowd.now) prices.now
                 × ((s : ℕ) → set.contains allowed.now s ≡ nat_lt s crowd.now.sections)
-                × AreTaken (crowd_of crowd.now.menus.items crowd.now.budgets.items crowd.now.sections) prices.now bundles.now }
+                × AreTaken (data_of crowd.now) prices.now bundles.now }
             ensures { IsRoomOfStudent crowd.entry.now prices.entry.now allowed.entry.now
                 bundles.entry.now (first + n) room.exit.now }
         { fill_room(crowd, prices, allowed, bundles, first + n, room) },
@@ -128,13 +125,9 @@ fn put_bundles(
     rooms: &[Room],
     all: &mut Vec<Proved>,
 ) -> Result<(), NoMemory>
-    requires crowd { MakeCrowd crowd.now.menus.items crowd.now.budgets.items crowd.now.sections }
-    requires prices { ArePricesFor
-        (crowd_of crowd.now.menus.items crowd.now.budgets.items crowd.now.sections) prices.now }
+    requires prices { ArePricesFor (data_of crowd.now) prices.now }
     requires allowed { (s : ℕ) → set.contains allowed.now s ≡ nat_lt s crowd.now.sections }
-    requires bundles { AreTaken
-        (crowd_of crowd.now.menus.items crowd.now.budgets.items crowd.now.sections) prices.now
-        bundles.now }
+    requires bundles { AreTaken (data_of crowd.now) prices.now bundles.now }
     requires places { length all.old.items + length rooms.now ≤ length bundles.now }
     requires rooms { AreRoomsOfStudents crowd.now prices.now allowed.now bundles.now
         (length all.old.items) rooms.now }
@@ -152,8 +145,9 @@ fn put_bundles(
     Ok(())
 }
 
-// What each student of the crowd takes at the prices, with its tree. So many workers write the
-// trees to rooms of this size, group after group; one that does not fit is built afterwards.
+/// What each student of the crowd takes at the prices, with its tree, in file order. At most so
+/// many workers write the trees to rooms of this many bytes, group after group; a tree that does
+/// not fit is built afterwards.
 pub(crate) fn prove_bundles<R: Threads + Sync>(
     rt: &R,
     alloc: Global,
@@ -163,15 +157,11 @@ pub(crate) fn prove_bundles<R: Threads + Sync>(
     prices: &[Tokens],
     bundles: &[Bundle],
 ) -> Result<Vec<Proved>, NoMemory>
-    requires crowd { MakeCrowd crowd.now.menus.items crowd.now.budgets.items crowd.now.sections }
-    requires prices { ArePricesFor
-        (crowd_of crowd.now.menus.items crowd.now.budgets.items crowd.now.sections) prices.now }
-    requires bundles { AreTaken
-        (crowd_of crowd.now.menus.items crowd.now.budgets.items crowd.now.sections) prices.now
-        bundles.now }
+    requires prices { ArePricesFor (data_of crowd.now) prices.now }
+    requires bundles { AreTaken (data_of crowd.now) prices.now bundles.now }
     ensures proved { IfOk result
         (λ all. AllZip (IsProvedDemand crowd.now.sections (price_in prices.now))
-        (crowd_of crowd.now.menus.items crowd.now.budgets.items crowd.now.sections).students
+        (data_of crowd.now).students
         (map proved_of all.items)) }
     ensures form { IfOk result
         (λ all. All (λ proved. HasForm proved.bundle proved.tree) (map proved_of all.items)) }

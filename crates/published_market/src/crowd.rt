@@ -1,6 +1,6 @@
 // The crowd of a market after its desk is closed.
 ghost use Rattle.std.specs.Prelude.{◌≡◌, IfOk};
-ghost use Rattle.demand_api.specs.Made.{MakeCrowd, crowd_of};
+ghost use Rattle.demand_api.specs.Views.{data_of};
 ghost use Rattle.market_settings.specs.Settings.{AreInRange};
 ghost use Rattle.preference_desk.specs.DeskView.{entries_of, names_of};
 ghost use Rattle.published_parts.specs.Crowds.{IsCrowdIn};
@@ -26,11 +26,9 @@ pub fn crowd_after(
 ) -> Result<Crowd, NoMemory>
     requires names { names_of desk.now ≡ names_in (market_of catalog.now roll.now settings.now) }
     requires settings { AreInRange settings.now }
-    ensures crowd { IfOk result
+    ensures { IfOk result
         (λ crowd. IsCrowdIn (market_of catalog.now roll.now settings.now) (entries_of desk.now)
-        (crowd_of crowd.menus.items crowd.budgets.items crowd.sections)) }
-    ensures whole { IfOk result
-        (λ crowd. MakeCrowd crowd.menus.items crowd.budgets.items crowd.sections) }
+        (data_of crowd)) }
 {
     make_crowd(
         alloc,

@@ -19,8 +19,8 @@ pub fn budgets_are_drawn()
     ensures { BudgetsAreDrawn }
 {}
 
-/// Each student's bundle of stage two is the best feasible one within its budget at the published
-/// prices.
+/// Each student's bundle of the second stage is the best feasible one within its budget at the
+/// published prices.
 pub fn best_within_budget()
     ensures { BestWithinBudget }
 {}
@@ -31,7 +31,7 @@ pub fn best_at_its_turn()
     ensures { BestAtItsTurn }
 {}
 
-/// No section is above its seats in stage two.
+/// No section is above its seats in the second stage.
 pub fn stage_two_within_seats()
     ensures { StageTwoWithinSeats }
 {}

@@ -8,7 +8,7 @@ use market_units::NoMemory;
 use preference_desk::Entry;
 use std::alloc::Global;
 
-// The session of each entry, from 1 to 64.
+/// For each entry of the journal, in order, the number of the session that posted it, from 1 to 64.
 pub(crate) fn order_of(alloc: Global, journal: &[Entry]) -> Result<Vec<u8>, NoMemory>
     requires { All (λ entry. IsSession entry.session) journal.now }
     ensures { IfOk result (λ order. order.items ≡ sessions_of journal.now) }

@@ -1,6 +1,6 @@
 // The stages of a market, one after another.
 ghost use Rattle.std.specs.Prelude.{◌≡◌, ◌≤◌, ℕ, Err, IfOk, All, length};
-ghost use Rattle.demand_api.specs.Made.{MakeCrowd, crowd_of};
+ghost use Rattle.demand_api.specs.Views.{data_of};
 ghost use Rattle.market_certificate.specs.Publications.{IsPublication, IsSession};
 ghost use Rattle.market_certificate.specs.Tables.{Tables, tables_of};
 ghost use Rattle.market_certificate.specs.Views.{publication_of};
@@ -22,7 +22,7 @@ use course_catalog::Catalog;
 use demand_api::{Crowd, Demands};
 use market_certificate::Publication;
 use market_settings::Settings;
-use market_units::NoMemory;
+use market_units::{MAX_SEATS, NoMemory};
 use oversubscription_stage::{Settled, settle};
 use preference_desk::Entry;
 use std::alloc::Global;
@@ -93,11 +93,9 @@ pub fn publish<R: Threads + Wait + Sync, D: Demands>(
     demands: &mut D,
 ) -> Result<Published, PublishEnd>
     requires sessions { All (λ entry. IsSession entry.session) journal.now }
-    requires crowd { MakeCrowd crowd.now.menus.items crowd.now.budgets.items crowd.now.sections }
     requires is_crowd { IsCrowdIn (market_of catalog.now roll.now settings.now) journal.now
-        (crowd_of crowd.now.menus.items crowd.now.budgets.items crowd.now.sections) }
-    requires asked { D.crowd demands.old
-        ≡ crowd_of crowd.now.menus.items crowd.now.budgets.items crowd.now.sections }
+        (data_of crowd.now) }
+    requires asked { D.crowd demands.old ≡ data_of crowd.now }
     requires settings { AreInRange settings.now }
     ensures crowd { D.crowd demands.new ≡ D.crowd demands.old }
     ensures published { IfOk result (λ published. IsPublicationOf (market_of catalog.now roll.now settings.now) journal.now
@@ -113,7 +111,9 @@ pub fn publish<R: Threads + Wait + Sync, D: Demands>(
     )
 }
 
-// Publishes the market, where the threads that write trees have rooms of this size.
+/// Publishes the market. Trees are written to rooms of this many bytes by at most so many workers;
+/// neither number changes what is published. There are no prices where the search found none with
+/// an accepted error: then the least error that it found is told.
 pub(crate) fn publish_by<R: Threads + Wait + Sync, D: Demands>(
     rt: &R,
     alloc: Global,
@@ -127,11 +127,9 @@ pub(crate) fn publish_by<R: Threads + Wait + Sync, D: Demands>(
     demands: &mut D,
 ) -> Result<Published, PublishEnd>
     requires sessions { All (λ entry. IsSession entry.session) journal.now }
-    requires crowd { MakeCrowd crowd.now.menus.items crowd.now.budgets.items crowd.now.sections }
     requires is_crowd { IsCrowdIn (market_of catalog.now roll.now settings.now) journal.now
-        (crowd_of crowd.now.menus.items crowd.now.budgets.items crowd.now.sections) }
-    requires asked { D.crowd demands.old
-        ≡ crowd_of crowd.now.menus.items crowd.now.budgets.items crowd.now.sections }
+        (data_of crowd.now) }
+    requires asked { D.crowd demands.old ≡ data_of crowd.now }
     requires settings { AreInRange settings.now }
     ensures crowd { D.crowd demands.new ≡ D.crowd demands.old }
     ensures published { IfOk result (λ published. IsPublicationOf (market_of catalog.now roll.now settings.now) journal.now
@@ -160,18 +158,13 @@ fn hold_stages<R: Threads + Wait + Sync, D: Demands>(
     demands: &mut D,
 ) -> Result<Stages, PublishEnd>
     requires seats { length seats.now ≡ crowd.now.sections }
-    requires crowd { MakeCrowd crowd.now.menus.items crowd.now.budgets.items crowd.now.sections }
-    requires asked { D.crowd demands.old
-        ≡ crowd_of crowd.now.menus.items crowd.now.budgets.items crowd.now.sections }
+    requires asked { D.crowd demands.old ≡ data_of crowd.now }
     requires settings { AreInRange settings.now }
     ensures crowd { D.crowd demands.new ≡ D.crowd demands.old }
     ensures stages { IfOk result
-        (λ stages. AreStages
-        (crowd_of crowd.now.menus.items crowd.now.budgets.items crowd.now.sections) seats.now
-        settings.now (stages_of stages)) }
+        (λ stages. AreStages (data_of crowd.now) seats.now settings.now (stages_of stages)) }
     ensures no_prices { (least : ℕ) → result ≡ Err (PublishEnd.NoPrices least)
-        → FindsNone (crowd_of crowd.now.menus.items crowd.now.budgets.items crowd.now.sections)
-        seats.now settings.now least }
+        → FindsNone (data_of crowd.now) seats.now settings.now least }
 {
     let found = find_prices(rt, alloc, demands, seats, settings)?;
     let settled = settle(rt, alloc, demands, seats, &found.prices)?;
@@ -227,15 +220,12 @@ fn put_together<R: Threads + Sync>(
 ) -> Result<Published, NoMemory>
     requires sessions { All (λ entry. IsSession entry.session) journal.now }
     requires seats { length seats.now ≡ crowd.now.sections }
-    requires low { All (λ count. count ≤ 9999) seats.now }
-    requires crowd { MakeCrowd crowd.now.menus.items crowd.now.budgets.items crowd.now.sections }
+    requires low { All (λ count. count ≤ MAX_SEATS) seats.now }
     requires settings { AreInRange settings.now }
-    requires stages { AreStages
-        (crowd_of crowd.now.menus.items crowd.now.budgets.items crowd.now.sections) seats.now
-        settings.now (stages_of stages) }
+    requires stages { AreStages (data_of crowd.now) seats.now settings.now (stages_of stages) }
     ensures order { IfOk result
         (λ published. published.publication.order.items ≡ sessions_of journal.now) }
-    ensures outcome { IfOk result (λ published. IsOutcome (crowd_of crowd.now.menus.items crowd.now.budgets.items crowd.now.sections) seats.now settings.now
+    ensures outcome { IfOk result (λ published. IsOutcome (data_of crowd.now) seats.now settings.now
         (lengths_of published.turns published.rounds published.passes) (publication_of published.publication)) }
     ensures in_range { IfOk result (λ published. (tables : Tables) → length tables.students ≡ length crowd.now.menus.items → length tables.sections ≡ crowd.now.sections
         → IsPublication tables (publication_of published.publication)) }

@@ -34,7 +34,8 @@ pub(crate) struct Room {
 }
 
 impl Room {
-    // Writes the tree of the best bundle of a menu to the room, where it fits. It takes no memory.
+    /// Writes the tree of the best bundle of a menu to the room. Where it does not fit, the room
+    /// tells that it has none. It takes no memory.
     pub(crate) fn fill(
         &mut self,
         menu: &Menu,
@@ -52,7 +53,8 @@ impl Room {
         self.written = build_into(menu, prices, budget, allowed, bundle, &mut self.bytes);
     }
 
-    // The tree that was written to the room, or the same one built, where it did not fit.
+    /// A copy of the tree that was written to the room. Where it did not fit, the same tree is
+    /// built now.
     pub(crate) fn tree(
         &self,
         alloc: Global,
@@ -78,7 +80,8 @@ impl Room {
     }
 }
 
-// The rooms of a group of so many trees, each of this size: one at least.
+/// The rooms in which so many trees are written, a group of at most 256 at once; each room has this
+/// many bytes. There is at least one room, also for no tree.
 pub(crate) fn reserve_rooms(alloc: Global, trees: usize, size: usize) -> Result<Vec<Room>, NoMemory>
     ensures { IfOk result (λ rooms. 0 < length rooms.items) }
 {
@@ -94,7 +97,8 @@ pub(crate) fn reserve_rooms(alloc: Global, trees: usize, size: usize) -> Result<
     Ok(rooms)
 }
 
-// The workers that so many trees are worth, of those that there are: one at least.
+/// How many of these workers write so many trees: one for each 16 trees, at most all of them, and
+/// at least one.
 pub(crate) fn workers_for(workers: u16, trees: usize) -> usize
     ensures { 0 < result }
 {

@@ -4,7 +4,7 @@ ghost use Rattle.std.specs.Prelude.{◌≡◌, IfOk, length, zip};
 use market_units::NoMemory;
 use std::alloc::Global;
 
-// Of each section how many seats are used, and how many there are.
+/// Of each section how many seats are used, and how many there are, by ordinal.
 pub(crate) fn used_seats(
     alloc: Global,
     used: &[u16],

@@ -2,7 +2,7 @@
 ghost use Rattle.std.specs.Prelude.{◌≡◌, ◌<◌, ◌≤◌, ◌+◌, ◌^◌, IfOk, OnOk, All, length, map};
 ghost use Rattle.std.specs.List.{AllZip};
 ghost use Rattle.bundle_rules.specs.Bundles.{sections_of};
-ghost use Rattle.demand_api.specs.Made.{MakeCrowd, crowd_of};
+ghost use Rattle.demand_api.specs.Views.{data_of};
 ghost use Rattle.demand_api.specs.Asking.{ArePricesFor};
 ghost use Rattle.aftermarket_stage.specs.After.{turn_of, turns_of};
 ghost use Rattle.market_certificate.specs.Views.{turn_of as published_of};
@@ -16,7 +16,7 @@ use aftermarket_stage::Turn;
 use budget_draw::raised;
 use demand_api::Crowd;
 use market_certificate::{Proved, ProvedTurn};
-use market_units::{NoMemory, StudentNo, Tokens};
+use market_units::{MAX_RAISE, NoMemory, StudentNo, Tokens};
 use std::alloc::Global;
 use std::thread;
 use std::thread::Threads;
@@ -49,17 +49,12 @@ fn prove_turn(
     turn: &Turn,
     room: &Room,
 ) -> Result<ProvedTurn, NoMemory>
-    requires crowd { MakeCrowd crowd.now.menus.items crowd.now.budgets.items crowd.now.sections }
-    requires prices { ArePricesFor
-        (crowd_of crowd.now.menus.items crowd.now.budgets.items crowd.now.sections) prices.now }
-    requires raise { raise ≤ 50 }
-    requires best { IsBestTurn
-        (crowd_of crowd.now.menus.items crowd.now.budgets.items crowd.now.sections) prices.now raise
-        (turn_of turn.now) }
+    requires prices { ArePricesFor (data_of crowd.now) prices.now }
+    requires raise { raise ≤ MAX_RAISE }
+    requires best { IsBestTurn (data_of crowd.now) prices.now raise (turn_of turn.now) }
     requires room { IsRoomOfTurn crowd.now prices.now raise turn.now room.now }
     ensures published { IfOk result
-        (λ proved. IsPublishedTurn
-        (crowd_of crowd.now.menus.items crowd.now.budgets.items crowd.now.sections) prices.now
+        (λ proved. IsPublishedTurn (data_of crowd.now) prices.now
         raise (turn_of turn.now) (published_of proved)) }
     ensures form { IfOk result (λ proved. HasTurnForm (published_of proved)) }
 {
@@ -87,14 +82,9 @@ fn fill_room(
     place: usize,
     room: &mut Room,
 )
-    requires crowd { MakeCrowd crowd.now.menus.items crowd.now.budgets.items crowd.now.sections }
-    requires prices { ArePricesFor
-        (crowd_of crowd.now.menus.items crowd.now.budgets.items crowd.now.sections) prices.now }
-    requires raise { raise ≤ 50 }
-    requires best { All
-        (IsBestTurn (crowd_of crowd.now.menus.items crowd.now.budgets.items crowd.now.sections)
-        prices.now raise)
-        (turns_of turns.now) }
+    requires prices { ArePricesFor (data_of crowd.now) prices.now }
+    requires raise { raise ≤ MAX_RAISE }
+    requires best { All (IsBestTurn (data_of crowd.now) prices.now raise) (turns_of turns.now) }
     requires place { place < length turns.now }
     ensures { IsRoomOfTurnAt crowd.now prices.now raise turns.now place room.new }
 {
@@ -116,14 +106,9 @@ fn fill_rooms<R: Threads + Sync>(
     first: usize,
     rooms: &mut [Room],
 )
-    requires crowd { MakeCrowd crowd.now.menus.items crowd.now.budgets.items crowd.now.sections }
-    requires prices { ArePricesFor
-        (crowd_of crowd.now.menus.items crowd.now.budgets.items crowd.now.sections) prices.now }
-    requires raise { raise ≤ 50 }
-    requires best { All
-        (IsBestTurn (crowd_of crowd.now.menus.items crowd.now.budgets.items crowd.now.sections)
-        prices.now raise)
-        (turns_of turns.now) }
+    requires prices { ArePricesFor (data_of crowd.now) prices.now }
+    requires raise { raise ≤ MAX_RAISE }
+    requires best { All (IsBestTurn (data_of crowd.now) prices.now raise) (turns_of turns.now) }
     requires places { first + length rooms.old ≤ length turns.now }
     ensures count { length rooms.new ≡ length rooms.old }
     ensures rooms { AreRoomsOfTurns crowd.now prices.now raise turns.now first rooms.new }
@@ -134,10 +119,9 @@ fn fill_rooms<R: Threads + Sync>(
         rooms,
         threads,
         &|n, room|
-            requires { (first + n < length turns.now) × MakeCrowd crowd.now.menus.items crowd.now.budgets.items crowd.now.sections
-                × ArePricesFor (crowd_of crowd.now.menus.items crowd.now.budgets.items crowd.now.sections) prices.now
-                × (raise ≤ 50)
-                × All (IsBestTurn (crowd_of crowd.now.menus.items crowd.now.budgets.items crowd.now.sections) prices.now raise) (turns_of turns.now) }
+            requires { (first + n < length turns.now) × ArePricesFor (data_of crowd.now) prices.now
+                × (raise ≤ MAX_RAISE)
+                × All (IsBestTurn (data_of crowd.now) prices.now raise) (turns_of turns.now) }
             ensures { IsRoomOfTurnAt crowd.entry.now prices.entry.now raise turns.entry.now
                 (first + n) room.exit.now }
         { fill_room(crowd, prices, raise, turns, first + n, room) },
@@ -154,14 +138,9 @@ fn put_turns(
     rooms: &[Room],
     all: &mut Vec<ProvedTurn>,
 ) -> Result<(), NoMemory>
-    requires crowd { MakeCrowd crowd.now.menus.items crowd.now.budgets.items crowd.now.sections }
-    requires prices { ArePricesFor
-        (crowd_of crowd.now.menus.items crowd.now.budgets.items crowd.now.sections) prices.now }
-    requires raise { raise ≤ 50 }
-    requires best { All
-        (IsBestTurn (crowd_of crowd.now.menus.items crowd.now.budgets.items crowd.now.sections)
-        prices.now raise)
-        (turns_of turns.now) }
+    requires prices { ArePricesFor (data_of crowd.now) prices.now }
+    requires raise { raise ≤ MAX_RAISE }
+    requires best { All (IsBestTurn (data_of crowd.now) prices.now raise) (turns_of turns.now) }
     requires places { length all.old.items + length rooms.now ≤ length turns.now }
     requires rooms { AreRoomsOfTurns crowd.now prices.now raise turns.now (length all.old.items)
         rooms.now }
@@ -177,8 +156,9 @@ fn put_turns(
     Ok(())
 }
 
-// The turns, each with the tree of its bundle. So many workers write the trees to rooms of this
-// size, group after group; one that does not fit is built afterwards.
+/// The turns in their order, each with the tree of its bundle. At most so many workers write the
+/// trees to rooms of this many bytes, group after group; a tree that does not fit is built
+/// afterwards.
 pub(crate) fn prove_turns<R: Threads + Sync>(
     rt: &R,
     alloc: Global,
@@ -189,19 +169,12 @@ pub(crate) fn prove_turns<R: Threads + Sync>(
     raise: u8,
     turns: &[Turn],
 ) -> Result<Vec<ProvedTurn>, NoMemory>
-    requires crowd { MakeCrowd crowd.now.menus.items crowd.now.budgets.items crowd.now.sections }
-    requires prices { ArePricesFor
-        (crowd_of crowd.now.menus.items crowd.now.budgets.items crowd.now.sections) prices.now }
-    requires raise { raise ≤ 50 }
-    requires best { All
-        (IsBestTurn (crowd_of crowd.now.menus.items crowd.now.budgets.items crowd.now.sections)
-        prices.now raise)
-        (turns_of turns.now) }
+    requires prices { ArePricesFor (data_of crowd.now) prices.now }
+    requires raise { raise ≤ MAX_RAISE }
+    requires best { All (IsBestTurn (data_of crowd.now) prices.now raise) (turns_of turns.now) }
     ensures published { IfOk result
         (λ all. AllZip
-        (IsPublishedTurn
-        (crowd_of crowd.now.menus.items crowd.now.budgets.items crowd.now.sections)
-        prices.now raise)
+        (IsPublishedTurn (data_of crowd.now) prices.now raise)
         (turns_of turns.now) (map published_of all.items)) }
     ensures form { IfOk result (λ all. All HasTurnForm (map published_of all.items)) }
 {

@@ -13,8 +13,8 @@ use Rattle.published_parts.specs.Markets.{Market, seats_in}
 use Rattle.published_parts.specs.Passes.{ComeInPasses, IsLastTurn}
 
 -- The bundle is the best that the student may have where all students hold these bundles: the best
--- that its raised budget buys, at the prices of stage two, of the sections that it holds and of
--- those that are free.
+-- that its raised budget buys, at the prices of the second stage, of the sections that it holds and
+-- of those that are free.
 abbrev pub IsBestThere : Market → List Entry → Publication → List (List ℕ) → ℕ → List ℕ → Type 0
 IsBestThere market journal p held student bundle =
     IsBest (wishes_in market journal student) (slice_index p.prices)

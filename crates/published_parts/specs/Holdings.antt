@@ -1,4 +1,4 @@
--- What students hold, from the bundles of stage two on.
+-- What students hold, from the bundles of the second stage on.
 use Rattle.std.specs.Prelude.{ℕ, List, [], ◌∷◌, length, map, slice_set, zip}
 use Rattle.market_units.specs.declared.units.Tokens.{Tokens}
 use Rattle.bundle_rules.specs.Places.{places_from}
@@ -11,7 +11,7 @@ use Rattle.published_parts.specs.Markets.{Market, seats_in}
 abbrev pub tokens : List ℕ → List Tokens
 tokens amounts = map (λ n. record { 0 = n }) amounts
 
--- the bundles at the prices of stage two, in file order
+-- the bundles at the prices of the second stage, in file order
 abbrev pub demanded : Publication → List (List ℕ)
 demanded p = map (λ (proved : Proved). proved.bundle) p.bundles
 

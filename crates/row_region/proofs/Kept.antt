@@ -10,7 +10,8 @@ use Rattle.std.proofs.lemmas.Bool.{cases_Bool, cases_lt, cases_order, false≢tr
 use Rattle.std.proofs.lemmas.List.{get_or-take, length-take-le}
 use Rattle.std.proofs.lemmas.List.Elements.{All-set}
 use Rattle.row_region.specs.Rows.{IsLive, spare_of, with_row, without_row}
-use Rattle.row_region.specs.Fields.{has, rows_of, IsKept}
+use Rattle.market_units.specs.Members.{has}
+use Rattle.row_region.specs.Fields.{rows_of, IsKept}
 use Rattle.row_region.specs.declared.region.Region.TheInside.{Inside}
 use Rattle.row_region.proofs.Numbers.{has_none, has_at, has_push_same}
 use Rattle.row_region.proofs.LiveRows.{nothing, items_at, held, live_of, get_live, live_of-taken, live_of-written, live_of-given}

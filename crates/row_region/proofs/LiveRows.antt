@@ -6,7 +6,8 @@ use Rattle.std.specs.FinMap as map
 use Rattle.std.specs.FinMap.{nat_cmp-IsAntisymmetric}
 use Rattle.std.proofs.lemmas.Cmp.{nat_cmp_total}
 use Rattle.std.proofs.lemmas.Bool.{cases_Bool, cases_order}
-use Rattle.row_region.specs.Fields.{has, live_from}
+use Rattle.market_units.specs.Members.{has}
+use Rattle.row_region.specs.Fields.{live_from}
 use Rattle.row_region.proofs.Numbers.{has_push_same, has_push_other, tie_same, tie_apart}
 
 module _ {T : Type 0} where

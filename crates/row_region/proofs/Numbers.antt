@@ -4,7 +4,7 @@ use Rattle.std.specs.Ordering.{eq_by_cmp}
 use Rattle.std.specs.FinMap.{nat_cmp-IsAntisymmetric}
 use Rattle.std.proofs.lemmas.Cmp.{eq_by_cmp_equiv, nat_cmp_total}
 use Rattle.std.proofs.lemmas.Bool.{cases_Bool, eq-eqb, ne_eqb, or_from, or_left, or_right, false≢true}
-use Rattle.row_region.specs.Fields.{has}
+use Rattle.market_units.specs.Members.{has}
 
 pub has_push_same : (xs : List ℕ) (x : ℕ) → has (xs ++ x ∷ []) x ≡ true
 has_push_same [] x = or_left (x == x) false (eq-eqb x x refl)

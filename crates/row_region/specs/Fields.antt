@@ -1,14 +1,10 @@
 -- How a region keeps its rows.
-use Rattle.std.specs.Prelude.{◌≡◌, ◌≢◌, ◌<◌, ◌+◌, ◌^◌, ◌==◌, ◌||◌, ℕ, Bool, false, List, [], ◌∷◌, length, take, if◌then◌else◌, slice_index, Vec, All}
+use Rattle.std.specs.Prelude.{◌≡◌, ◌≢◌, ◌<◌, ◌+◌, ◌^◌, ℕ, List, [], ◌∷◌, length, take, if◌then◌else◌, slice_index, Vec, All}
 use Rattle.std.specs.declared.alloc.Global.{Global}
 use Rattle.std.specs.FinMap as map
+use Rattle.market_units.specs.Members.{has}
 use Rattle.row_region.specs.Rows.{Rows}
 use Rattle.row_region.specs.declared.region.Region.TheInside.{Inside}
-
--- whether a number is among these
-abbrev pub has : List ℕ → ℕ → Bool
-has [] n = false
-has (x ∷ xs) n = x == n || has xs n
 
 -- the rows from this number on that are not spare, with what they hold
 abbrev pub live_from : {T : Type 0} → ℕ → List (Vec T Global) → List ℕ → List (ℕ × List T)

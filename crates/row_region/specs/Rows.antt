@@ -1,6 +1,6 @@
 -- What a region is seen as: the width and the fill of its rows, how many are reserved, and the live
 -- ones.
-use Rattle.std.specs.Prelude.{ℕ, ◌-◌, List, length, IsSome, refl}
+use Rattle.std.specs.Prelude.{ℕ, ◌-◌, List, [], length, Option, None, Some, IsSome, refl}
 use Rattle.std.specs.List.{refill}
 use Rattle.std.specs.Ordering.{nat_cmp}
 use Rattle.std.specs.FinMap as map
@@ -25,6 +25,11 @@ module _ {T : Type 0} where
   -- the row with this number is handed out
   abbrev pub IsLive : Rows T → ℕ → Type 0
   IsLive region id = IsSome (map.get region.live id)
+
+  -- what a row holds, and nothing where it is spare
+  abbrev pub cells_of : Option (List T) → List T
+  cells_of None = []
+  cells_of (Some row) = row
 
   -- how many rows are not handed out
   abbrev pub spare_of : Rows T → ℕ

@@ -4,6 +4,3 @@
 mod region;
 
 pub use region::{Region, RowId};
-
-#[cfg(test)]
-mod tests;

@@ -57,6 +57,3 @@ pub fn words(alloc: Global, seed: u64, stream: u64, count: usize) -> Result<Vec<
     }
     Ok(drawn)
 }
-
-#[cfg(test)]
-mod tests;

@@ -7,6 +7,3 @@ mod hall;
 mod streams;
 
 pub use hall::{ClosedDesk, hold};
-
-#[cfg(test)]
-mod tests;

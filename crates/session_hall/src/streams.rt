@@ -5,7 +5,7 @@ ghost use Rattle.session_hall.specs.Streams.{command_count};
 use market_units::MAX_COMMANDS;
 use utility_language::Command;
 
-// The commands of all streams together.
+/// How many commands all streams have together.
 pub(crate) fn count_commands(streams: &[Vec<Command>]) -> u32
     requires { command_count streams.now ≤ MAX_COMMANDS }
     ensures { result ≡ command_count streams.now }

@@ -4,6 +4,3 @@
 mod line;
 
 pub use line::{Line, ROOM};
-
-#[cfg(test)]
-mod tests;

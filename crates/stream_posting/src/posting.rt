@@ -4,11 +4,13 @@ ghost use Rattle.stream_posting.specs.Postings.{IsReady, HasPosted};
 
 use chronicle::{Chronicle, Object, Seat};
 use market_edge::{Gate, Stop};
+use market_units::MAX_SESSIONS;
 use std::sync::Wait;
 use std::thread;
 use std::thread::Threads;
 
-// Each session makes its requests, from a thread of its own where one can be started.
+/// Each session makes the requests of its stream in their order, from a thread of its own where one
+/// can be started. The call does not return before all are made.
 pub(crate) fn post_all<R: Threads + Wait + Sync, O: Object + Send, G: Gate + Sync>(
     rt: &R,
     chronicle: &Chronicle<O>,
@@ -20,7 +22,7 @@ where
     O::Request: Send + Sync,
     O::Reply: Send,
     requires count { (length seats.old ≡ length streams.now) × (1 ≤ length streams.now)
-        × (length streams.now ≤ 64) }
+        × (length streams.now ≤ MAX_SESSIONS) }
     requires numbers { (n : ℕ) (d : _) → n < length seats.old
         → (slice_index_or seats.old n d).number ≡ n }
     requires sound { (request : O.Request) → O.sound chronicle.now.base request ≡ true }
@@ -40,7 +42,7 @@ where
         seats,
         threads,
         &|n, seat|
-            requires { (n < length streams.now) × (seat.now.number < 64)
+            requires { (n < length streams.now) × (seat.now.number < MAX_SESSIONS)
                 × ((request : O.Request) → O.sound chronicle.now.base request ≡ true)
                 × ((none : _)
                 → IsReady chronicle.now (slice_index_or streams.now n none).items seat.now) }
@@ -56,7 +58,7 @@ fn post_stream<R: Wait, O: Object, G: Gate>(
     stream: &[O::Request],
     gate: &G,
 )
-    requires number { seat.old.number < 64 }
+    requires number { seat.old.number < MAX_SESSIONS }
     requires sound { (request : O.Request) → O.sound chronicle.now.base request ≡ true }
     requires ready { IsReady chronicle.now stream.now seat.old }
     ensures posted { HasPosted chronicle.now stream.now seat.new }

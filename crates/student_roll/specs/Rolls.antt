@@ -1,5 +1,6 @@
 -- What the bytes of a roll say.
 use Rattle.std.specs.Prelude.{ℕ, ◌-◌, ◌==◌, if◌then◌else◌, true, List, [], ◌∷◌, ◌++◌, Some, Result, Ok, codes}
+use Rattle.market_units.specs.declared.limits.TheConstants.{MAX_BASE, MAX_COURSES, MAX_CREDITS, MAX_STUDENTS}
 use Rattle.table_records.specs.declared.fault.Fault.{Fault}
 use Rattle.table_records.specs.declared.fault.Fault.TheVariants as fault
 use Rattle.table_records.specs.Columns.{◌>>=◌, number_or}
@@ -21,15 +22,15 @@ refusal_of (fault.Repeated row earlier) = refusal.Repeated row earlier
 abbrev pub carry_in : ℕ → ℕ → ℕ → List (List ℕ) → Result ℕ RollRefusal
 carry_in version row base fields =
     if version == 1 then Ok 0
-    else number_or (refusal.Number row 5) (900000 - base) (field_in 5 fields)
+    else number_or (refusal.Number row 5) (MAX_BASE - base) (field_in 5 fields)
 
 -- the student of this row: columns 2 to 4 are numbers up to 900,000, 800 and 8, and then the tokens
 -- that are carried over
 abbrev pub student_of : ℕ → ℕ → List (List ℕ) → Result Student RollRefusal
 student_of version row fields = do
-  base ← number_or (refusal.Number row 2) 900000 (field_in 2 fields)
-  credits ← number_or (refusal.Number row 3) 800 (field_in 3 fields)
-  courses ← number_or (refusal.Number row 4) 8 (field_in 4 fields)
+  base ← number_or (refusal.Number row 2) MAX_BASE (field_in 2 fields)
+  credits ← number_or (refusal.Number row 3) MAX_CREDITS (field_in 3 fields)
+  courses ← number_or (refusal.Number row 4) MAX_COURSES (field_in 4 fields)
   carry ← carry_in version row base fields
   Ok
       (record {
@@ -49,7 +50,7 @@ first_header = codes "student" ∷ codes "budget" ∷ codes "credits" ∷ codes 
 abbrev pub roll_rules : Rules Student RollRefusal
 roll_rules = record {
   headers = first_header ∷ (first_header ++ codes "carry" ∷ []) ∷ [];
-  most = Some (2000, refusal.TooMany);
+  most = Some (MAX_STUDENTS, refusal.TooMany);
   knows = λ name. true;
   refusal = refusal_of;
   row = student_of;

@@ -2,6 +2,7 @@
 use Rattle.std.specs.Prelude.{ℕ, ◌≡◌, ◌+◌, ◌≤◌, List, [], All, length, map}
 use Rattle.std.specs.List.{IsDistinct}
 use Rattle.std.specs.Str.{bytes_eq}
+use Rattle.market_units.specs.declared.limits.TheConstants.{MAX_BASE, MAX_COURSES, MAX_CREDITS, MAX_STUDENTS}
 use Rattle.market_units.specs.Names.{IsName}
 
 -- a student: the name, the base and what is carried over, both in tokens, and the caps on credits
@@ -16,9 +17,9 @@ pub record Student : Type 0 where
 -- the ranges of a student
 pub record IsStudent (student : Student) : Type 0 where
   pub name : IsName student.name
-  pub tokens : student.base + student.carry ≤ 900000
-  pub credits : student.credits ≤ 800
-  pub courses : student.courses ≤ 8
+  pub tokens : student.base + student.carry ≤ MAX_BASE
+  pub credits : student.credits ≤ MAX_CREDITS
+  pub courses : student.courses ≤ MAX_COURSES
 
 -- a student that a table of this version may list: in version 1 nothing is carried over
 pub record IsListed (version : ℕ) (student : Student) : Type 0 where
@@ -49,6 +50,6 @@ pub record RollData : Type 0 where
 pub record IsRoll (roll : RollData) : Type 0 where
   pub some_version : 1 ≤ roll.version
   pub known_version : roll.version ≤ 2
-  pub few : length roll.students ≤ 2000
+  pub few : length roll.students ≤ MAX_STUDENTS
   pub each : All (IsListed roll.version) roll.students
   pub distinct : IsDistinct bytes_eq (names_of roll.students)

@@ -27,6 +27,8 @@ impl Model for Entry {
 }
 
 impl Entry {
+    /// The row of a student: the name, the base budget in tokens, the most credits and the most
+    /// courses that it may take, and the tokens carried over from before.
     pub fn new(name: Name, base: u32, credits: u16, courses: u8, carry: u32) -> Entry
         ensures { result
             ≡ record {
@@ -46,30 +48,35 @@ impl Entry {
         }
     }
 
+    /// The student's name.
     pub fn name(&self) -> Name
         ensures { name_bytes result ≡ self.now.name }
     {
         self.name
     }
 
+    /// The student's base budget, in tokens.
     pub fn base(&self) -> u32
         ensures { result ≡ self.now.base }
     {
         self.base
     }
 
+    /// The most credits that the student may take.
     pub fn credits(&self) -> u16
         ensures { result ≡ self.now.credits }
     {
         self.credits
     }
 
+    /// The most courses that the student may take.
     pub fn courses(&self) -> u8
         ensures { result ≡ self.now.courses }
     {
         self.courses
     }
 
+    /// The tokens that the student carries over from before.
     pub fn carry(&self) -> u32
         ensures { result ≡ self.now.carry }
     {

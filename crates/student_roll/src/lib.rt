@@ -11,6 +11,3 @@ mod rules;
 pub use reading::read_roll;
 pub use refusal::RollRefusal;
 pub use roll::Roll;
-
-#[cfg(test)]
-mod tests;

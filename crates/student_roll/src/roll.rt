@@ -7,7 +7,7 @@ ghost use Rattle.student_roll.specs.Kept.{KeepsStudents};
 
 use crate::entry::Entry;
 use indexmap::IndexSet;
-use market_units::{Name, NoMemory, StudentNo};
+use market_units::{MAX_BASE, MAX_COURSES, MAX_CREDITS, Name, NoMemory, StudentNo};
 use std::alloc::Global;
 use std::marker::Model;
 use table_records::{Rows, place_of};
@@ -36,8 +36,8 @@ impl Roll {
     /// The roll of one student, with these caps, base 0 and nothing carried over, as a table of
     /// version 1 has it.
     pub fn single(alloc: Global, name: Name, credits: u16, courses: u8) -> Result<Roll, NoMemory>
-        requires credits { credits ≤ 800 }
-        requires courses { courses ≤ 8 }
+        requires credits { credits ≤ MAX_CREDITS }
+        requires courses { courses ≤ MAX_COURSES }
         ensures { IfOk result
             (λ roll. roll
             ≡ record {
@@ -58,7 +58,7 @@ impl Roll {
         })
     }
 
-    // The roll of the rows that were read.
+    /// The roll of these rows of a table: its version, and the students in file order.
     pub(crate) fn of_rows(rows: Rows<Entry>) -> Roll
         requires { KeepsStudents rows.names.keys
             (record { version = rows.version; students = rows.rows.items }) }
@@ -109,7 +109,7 @@ impl Roll {
         requires { student.0 < length self.now.students }
         ensures base { option_map (λ s. s.base) (slice_get self.now.students student.0)
             ≡ Some result }
-        ensures range { result ≤ 900000 }
+        ensures range { result ≤ MAX_BASE }
     {
         self.students[usize::from(student.0)].base()
     }
@@ -120,7 +120,7 @@ impl Roll {
         ensures carry { option_map (λ s. s.carry) (slice_get self.now.students student.0)
             ≡ Some result }
         ensures range { (slice_index_or self.now.students student.0 no_student).base + result
-            ≤ 900000 }
+            ≤ MAX_BASE }
     {
         self.students[usize::from(student.0)].carry()
     }
@@ -130,7 +130,7 @@ impl Roll {
         requires { student.0 < length self.now.students }
         ensures credits { option_map (λ s. s.credits) (slice_get self.now.students student.0)
             ≡ Some result }
-        ensures range { result ≤ 800 }
+        ensures range { result ≤ MAX_CREDITS }
     {
         self.students[usize::from(student.0)].credits()
     }
@@ -140,7 +140,7 @@ impl Roll {
         requires { student.0 < length self.now.students }
         ensures courses { option_map (λ s. s.courses) (slice_get self.now.students student.0)
             ≡ Some result }
-        ensures range { result ≤ 8 }
+        ensures range { result ≤ MAX_COURSES }
     {
         self.students[usize::from(student.0)].courses()
     }

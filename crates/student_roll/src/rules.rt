@@ -77,10 +77,10 @@ fn number(fields: &ByteRecord, row: u32, column: u8, max: u64) -> Result<u64, Ro
 // The tokens that a row's student carries over, in a table of this version: with the base at most
 // `MAX_BASE`.
 fn carry_in(version: usize, row: u32, base: u32, fields: &ByteRecord) -> Result<u32, RollRefusal>
-    requires { base ≤ 900000 }
+    requires { base ≤ MAX_BASE }
     ensures value { result ≡ carry_in version row base (fields_of fields.now) }
     ensures fresh { IfOk result (λ carry. version ≡ 1 → carry ≡ 0) }
-    ensures tokens { IfOk result (λ carry. base + carry ≤ 900000) }
+    ensures tokens { IfOk result (λ carry. base + carry ≤ MAX_BASE) }
 {
     if version == 1 {
         return Ok(0);

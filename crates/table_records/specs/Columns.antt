@@ -4,11 +4,13 @@ use Rattle.std.specs.Fmt.{decimal}
 use Rattle.std.specs.List.{list_all}
 use Rattle.std.specs.Str.{bytes_eq}
 use Rattle.std.specs.Str.Parse.{digits_value}
+use Rattle.market_units.specs.declared.limits.TheConstants.{MAX_NAME}
 use Rattle.market_units.specs.Names.{is_name_byte}
 
 -- whether bytes are a name: 1 to 32 letters, digits, dashes, underscores and dots
 abbrev pub is_name : List ℕ → Bool
-is_name bytes = nat_lt 0 (length bytes) && nat_le (length bytes) 32 && list_all is_name_byte bytes
+is_name bytes =
+    nat_lt 0 (length bytes) && nat_le (length bytes) MAX_NAME && list_all is_name_byte bytes
 
 -- the name that bytes are
 abbrev pub name_of : List ℕ → Option (List ℕ)

@@ -63,7 +63,8 @@ fn add_name(names: &mut IndexSet<Name>, name: Name) -> Result<Option<usize>, NoM
     }
 }
 
-// Adds the row that a record is after these rows.
+/// Adds the row that a record makes behind the rows read so far. Else the refusal of the record, or
+/// want of memory.
 pub(crate) fn take_record<T: Table>(
     table: &T,
     fields: &ByteRecord,

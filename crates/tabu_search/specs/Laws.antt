@@ -15,7 +15,7 @@ SearchEnds =
     × IsFound crowd seats settings prices error turns)
     ⊎ ((least : ℕ) × FindsNone crowd seats settings least)
 
--- never both
+-- no search both finds prices and finds none
 abbrev pub NotBothAreSearched : Type 0
 NotBothAreSearched =
     (crowd : CrowdData) (seats : List ℕ) (settings : Settings) (prices : List Tokens)

@@ -62,8 +62,8 @@ candidates crowd seats settings visits =
     filter (λ prices. not (is_tabu crowd settings.tabu visits.visited prices))
     (neighbours crowd seats settings.steps visits.current)
 
--- where a turn moves to: the first candidate of least error; nowhere, where as many turns as there
--- is patience brought nothing better, or there is no candidate
+-- where a turn moves to: the first candidate of least error. Nowhere, where there is no candidate,
+-- or the turns since a better vector or a restart are as many as the patience
 abbrev pub chosen : CrowdData → List ℕ → Settings → Visits → Option (List Tokens)
 chosen crowd seats settings visits =
     if nat_le settings.patience visits.stale then None

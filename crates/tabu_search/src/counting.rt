@@ -9,7 +9,7 @@ use std::alloc::Global;
 use std::sync::Wait;
 use std::thread::Threads;
 
-// The counts at one vector.
+/// How many students take each section at these prices, by ordinal.
 pub(crate) fn count_one<R: Threads + Wait + Sync, D: Demands>(
     rt: &R,
     alloc: Global,
@@ -29,13 +29,14 @@ pub(crate) fn count_one<R: Threads + Wait + Sync, D: Demands>(
 // The next vectors to be counted, as many as are asked for at once.
 fn next_batch(vectors: &[Vec<Tokens>], done: usize) -> &[Vec<Tokens>]
     requires { done ≤ length vectors.now }
-    ensures { result.now ≡ take 16 (drop done vectors.now) }
+    ensures { result.now ≡ take MAX_VERSIONS (drop done vectors.now) }
 {
     let rest = &vectors[done..];
     &rest[..rest.len().min(MAX_VERSIONS)]
 }
 
-// The counts at each vector, in order, of which at most 16 are asked for at once.
+/// How many students take each section at each vector, in the order of the vectors. At most 16 of
+/// them are asked for at once.
 pub(crate) fn count_all<R: Threads + Wait + Sync, D: Demands>(
     rt: &R,
     alloc: Global,

@@ -6,7 +6,8 @@ use market_units::{NoMemory, Tokens};
 use seed_words::words;
 use std::alloc::Global;
 
-// The prices of a restart, by its number from 1.
+/// The prices to which a restart moves, drawn from the seed: each is below the top. Restarts are
+/// numbered from 1, and each has a stream of words of its own.
 pub(crate) fn drawn_prices(
     alloc: Global,
     top: Tokens,

@@ -14,6 +14,3 @@ mod walking;
 
 pub use results::{Found, SearchEnd};
 pub use searching::search;
-
-#[cfg(test)]
-mod tests;

@@ -20,7 +20,8 @@ pub(crate) struct Visit {
     pub(crate) error: u64,
 }
 
-// A visit to these prices.
+/// What a search knows of these prices: how many students take each section at them, and the
+/// clearing error.
 pub(crate) fn visit_at<R: Threads + Wait + Sync, D: Demands>(
     rt: &R,
     alloc: Global,

@@ -77,7 +77,8 @@ fn better(alloc: Global, best: Best, visit: &Visit) -> Result<Best, NoMemory>
 }
 
 impl Walk {
-    // Before the first turn: the price 0 for each section was visited.
+    /// The search before its first turn: the vector with the price 0 for each section is visited,
+    /// and is the best so far.
     pub(crate) fn begin<R: Threads + Wait + Sync, D: Demands>(
         rt: &R,
         alloc: Global,
@@ -110,7 +111,8 @@ impl Walk {
         })
     }
 
-    // Whether another turn follows.
+    /// Whether another turn follows: the error of the current vector is above the accepted one, and
+    /// fewer turns were made than the settings allow.
     pub(crate) fn goes_on(&self, settings: &Settings) -> bool
         ensures value { IsTrue result ↔ (settings.now.accept < self.now.current.error)
             × (self.now.turns < settings.now.turns) }
@@ -119,7 +121,8 @@ impl Walk {
         self.current.error > settings.accept && self.turns < settings.turns
     }
 
-    // Makes a turn.
+    /// Makes one turn: moves to the chosen neighbour or, where there is none, to the drawn prices
+    /// of the next restart.
     pub(crate) fn turn<R: Threads + Wait + Sync, D: Demands>(
         self,
         rt: &R,

@@ -1,11 +1,13 @@
 // What a published text is read as, and that it is written again as it was.
 
 use crate::readers::{catalog_in, roll_in};
+use course_catalog::Catalog;
 use market_certificate::{LineFault, Publication, TextRefusal, put_publication, read_publication};
 use market_units::Tokens;
 use std::alloc::Global;
 use std::process::Abort;
 use std::test::Fail;
+use student_roll::Roll;
 use worked_terms::{
     CARRIED_TERM, EQUAL_ROLL, FOUR_TERM, NO_SECTIONS_TERM, NOBODY_TERM, ORDINARY_TERM, WorkedTerm,
 };
@@ -219,15 +221,25 @@ fn read(
     read_publication(alloc, &catalog, &roll, text)
 }
 
+// The text, read and written again.
+fn written_again(
+    rt: &impl Abort,
+    alloc: Global,
+    catalog: &Catalog,
+    roll: &Roll,
+    text: &[u8],
+) -> Vec<u8> {
+    assert!(rt; text.len() < 10_000);
+    let publication = read_publication(alloc, catalog, roll, text).expect(rt, "a publication");
+    put_publication(alloc, catalog, roll, &publication).expect(rt, "memory")
+}
+
 // The text is read, and written again as it was.
 fn try_case(rt: &impl Abort, alloc: Global, case: &WorkedTerm) {
-    let text = case.text.as_bytes();
     let catalog = catalog_in(rt, alloc, case.catalogue);
     let roll = roll_in(rt, alloc, case.roll);
-    assert!(rt; text.len() < 10_000);
-    let publication = read_publication(alloc, &catalog, &roll, text).expect(rt, "a publication");
-    let written = put_publication(alloc, &catalog, &roll, &publication).expect(rt, "memory");
-    assert_eq!(rt; written.as_slice(), text);
+    let written = written_again(rt, alloc, &catalog, &roll, case.text.as_bytes());
+    assert!(rt; written.as_slice() == case.text.as_bytes());
 }
 
 // The text of the ordinary term, changed.

@@ -1,7 +1,7 @@
 // A worked term and its forged texts, each with the line of its finding.
 ghost use Rattle.market_settings.specs.Settings.{AreInRange};
 
-use crate::readers::{catalog_in, commands_in, roll_in, settings_in};
+use crate::readers::{catalog_in, roll_in, settings_in, streams_in};
 use certificate_checker::{CheckEnd, check, finding_line};
 use course_catalog::Catalog;
 use market_settings::Settings;
@@ -84,8 +84,7 @@ fn found(
     let catalog = catalog_in(rt, alloc, market.term.catalogue);
     let roll = roll_in(rt, alloc, market.term.roll);
     let settings = settings_in(rt, alloc, market.settings);
-    let mut streams = Vec::new(alloc);
-    streams.push(commands_in(rt, alloc, market.session))?;
+    let streams = streams_in(rt, alloc, market.session);
     judged(rt, alloc, &catalog, &roll, &settings, &streams, text)
 }
 
@@ -130,7 +129,7 @@ fn forged_texts_have_their_findings(rt: HostRuntime) -> Result<(), Fail> {
     try_forged(&rt, alloc, 29, "end\n", "line 29 rest")
 }
 
-// Two students have the one seat in stage two, which is told before any turn.
+// Two students have the one seat in the second stage, which is told before any turn.
 #[test]
 fn seats_are_looked_at_before_turns(rt: HostRuntime) -> Result<(), Fail> {
     let alloc = rt.alloc();

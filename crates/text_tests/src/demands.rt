@@ -46,11 +46,7 @@ fn four_students<R: Abort>(rt: &R, alloc: Global) -> Crowd {
         menus.push(menu).expect(rt, "memory");
         budgets.push(Tokens(budget)).expect(rt, "memory");
     }
-    Crowd {
-        menus,
-        budgets,
-        sections: 1,
-    }
+    Crowd::of(menus, budgets, 1).expect(rt, "a crowd")
 }
 
 // The price of the section, how many take it, and the error with one seat. A price above the top
@@ -62,7 +58,6 @@ fn what_four_students_take(rt: HostRuntime) -> Result<(), Fail> {
     let alloc = rt.alloc();
     for (price, count, error) in TAKEN {
         let crowd = four_students(&rt, alloc);
-        assert!(rt; crowd.is_whole());
         assert_eq!(rt; crowd.sections, 1);
         let crowd = Arc::new(alloc, crowd).expect(&rt, "memory");
         let mut demands = PlainDemands::make(crowd);

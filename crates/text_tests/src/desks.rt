@@ -16,7 +16,7 @@ use std::process::Abort;
 use student_roll::Roll;
 use utility_language::Command;
 
-// The tables and the settings of a market, and the desk at which its sessions spoke.
+/// The tables and the settings of a market, and the desk after its sessions have spoken.
 #[derive(Drop)]
 pub struct Said {
     pub catalog: Catalog,
@@ -25,7 +25,7 @@ pub struct Said {
     pub desk: Desk,
 }
 
-// Whether each entry of the desk is of a session from 1 to 64.
+/// Whether each entry of the desk's journal is of a session from 1 to 64.
 pub fn has_sessions(desk: &Desk) -> bool
     ensures { IsTrue result → All (λ entry. IsSession entry.session) (entries_of desk.now) }
 {
@@ -42,7 +42,9 @@ fn say_each(rt: &impl Abort, desk: &mut Desk, session: u16, commands: &[Command]
     }
 }
 
-// The market of these texts, where two sessions speak one after another.
+/// The market of a catalogue, a roll and settings, in this order, after two sessions have spoken
+/// one after another. Each session is given by its number and its text; the test fails where a text
+/// is not read.
 pub fn market_said(
     rt: &impl Abort,
     alloc: Global,
@@ -68,7 +70,8 @@ pub fn market_said(
     }
 }
 
-// The made market of two students, two sections and seed 7 that accepts no error.
+/// The made market of two students, two sections and seed 7 that accepts no error, after its
+/// sessions.
 pub fn two_students(rt: &impl Abort, alloc: Global) -> Said
     ensures names { names_of result.desk
         ≡ names_in (market_of result.catalog result.roll result.settings) }

@@ -16,6 +16,10 @@ mod fields;
 #[cfg(test)]
 mod made_markets;
 #[cfg(test)]
+mod made_summaries;
+#[cfg(test)]
+mod made_texts;
+#[cfg(test)]
 mod readers;
 #[cfg(test)]
 mod runs;

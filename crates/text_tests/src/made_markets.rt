@@ -55,8 +55,8 @@ fn is_catalog_of_two(rt: &impl Abort, catalog: &Catalog) {
 
 fn has_credits_of_two(rt: &impl Abort, catalog: &Catalog) {
     assert!(rt; catalog.len() == 2);
-    assert_eq!(rt; catalog.credits(SectionNo(0)), 2);
-    assert_eq!(rt; catalog.credits(SectionNo(1)), 3);
+    let credits = [catalog.credits(SectionNo(0)), catalog.credits(SectionNo(1))];
+    assert_eq!(rt; credits, [2, 3]);
 }
 
 // The second of two students.

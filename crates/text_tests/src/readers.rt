@@ -8,26 +8,35 @@ use std::process::Abort;
 use student_roll::{Roll, read_roll};
 use utility_language::{Command, read_stream};
 
-// The catalogue that this text is.
+/// The catalogue that this text is; the test fails where it is none.
 pub fn catalog_in(rt: &impl Abort, alloc: Global, text: &[u8]) -> Catalog {
     assert!(rt; text.len() < 10_000);
     read_catalog(alloc, text).expect(rt, "a catalogue")
 }
 
-// The roll that this text is.
+/// The roll that this text is; the test fails where it is none.
 pub fn roll_in(rt: &impl Abort, alloc: Global, text: &[u8]) -> Roll {
     assert!(rt; text.len() < 10_000);
     read_roll(alloc, text).expect(rt, "a roll")
 }
 
-// The settings that this text is.
+/// The settings that this text is; the test fails where it is none.
 pub fn settings_in(rt: &impl Abort, alloc: Global, text: &[u8]) -> Settings
     ensures { AreInRange result }
 {
     read_settings(alloc, text).expect(rt, "settings")
 }
 
-// The commands of a session that says this.
+/// The commands of a session that says this, at most 100; the test fails where they are not read.
 pub fn commands_in(rt: &impl Abort, alloc: Global, text: &[u8]) -> Vec<Command> {
     read_stream(alloc, text, 100).expect(rt, "commands")
+}
+
+// The streams of one session that says this.
+pub fn streams_in(rt: &impl Abort, alloc: Global, text: &[u8]) -> Vec<Vec<Command>> {
+    let mut streams = Vec::new(alloc);
+    streams
+        .push(commands_in(rt, alloc, text))
+        .expect(rt, "memory");
+    streams
 }

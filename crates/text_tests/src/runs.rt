@@ -8,6 +8,7 @@ use crate::desks::{Said, has_sessions, market_said, two_students};
 use crate::summaries::TWO_STUDENTS;
 use market_edge::OpenGate;
 use market_run::{made_summary, published_text};
+use market_units::MAX_WORKERS;
 use published_market::PublishEnd;
 use std::alloc::Global;
 use std::process::Abort;
@@ -23,7 +24,7 @@ fn text_by<R: Abort + Threads + Wait + Sync>(
     workers: u16,
     market: &Said,
 ) -> Result<Vec<u8>, u64>
-    requires workers { (1 ≤ workers) × (workers ≤ 16) }
+    requires workers { (1 ≤ workers) × (workers ≤ MAX_WORKERS) }
     requires names { names_of market.now.desk
         ≡ names_in (market_of market.now.catalog market.now.roll market.now.settings) }
     requires settings { AreInRange market.now.settings }
@@ -50,7 +51,7 @@ fn four_by<R: Abort + Threads + Wait + Sync>(
     workers: u16,
     settings: &[u8],
 ) -> Result<Vec<u8>, u64>
-    requires { (1 ≤ workers) × (workers ≤ 16) }
+    requires { (1 ≤ workers) × (workers ≤ MAX_WORKERS) }
 {
     let texts = (FOUR_TERM.catalogue, FOUR_TERM.roll, settings);
     let first = b"rate s1 X 50\nrate s2 X 50\n";
@@ -61,7 +62,7 @@ fn four_by<R: Abort + Threads + Wait + Sync>(
 
 // The summary of what these workers publish of the made market of two students.
 fn two_by<R: Abort + Threads + Wait + Sync>(rt: &R, alloc: Global, workers: u16) -> Vec<u8>
-    requires { (1 ≤ workers) × (workers ≤ 16) }
+    requires { (1 ≤ workers) × (workers ≤ MAX_WORKERS) }
 {
     let Said {
         catalog,

@@ -2,7 +2,6 @@
 // program.
 ghost use Rattle.std.specs.Prelude.{◌≡◌};
 ghost use Rattle.std.specs.Arc.{arc_value};
-ghost use Rattle.demand_api.specs.Made.{crowd_of};
 ghost use Rattle.market_settings.specs.Settings.{AreInRange};
 ghost use Rattle.preference_desk.specs.DeskView.{names_of};
 ghost use Rattle.published_parts.specs.Markets.{market_of, names_in};
@@ -20,7 +19,8 @@ use std::sync::{Arc, Wait};
 use std::thread::Threads;
 use student_roll::Roll;
 
-// The summary of the market of two students and two sections.
+/// The summary of the market of two students and two sections, which was computed apart from this
+/// program.
 pub const TWO_STUDENTS: &[u8] =
     b"students 2\nsections 2\ncommands 6\nerror 0\nturns 0\nrounds 0\npasses 1\nseats 2\nutility 182\nproof 17\n";
 

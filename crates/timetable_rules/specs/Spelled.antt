@@ -4,6 +4,7 @@
 use Rattle.std.specs.Prelude.{ℕ, ◌+◌, ◌-◌, ◌*◌, Bool, ◌&&◌, ◌==◌, if◌then◌else◌, Option, Some, None, List, [], ◌∷◌, codes, length, map, nat_le, slice_index}
 use Rattle.std.specs.List.{join_with_byte, list_all, position_or_len, slice_split}
 use Rattle.std.specs.Str.{bytes_eq}
+use Rattle.market_units.specs.declared.limits.TheConstants.{MAX_MEETINGS}
 use Rattle.timetable_rules.specs.declared.meeting.Meeting.{Meeting}
 use Rattle.timetable_rules.specs.Meeting.{is_meeting}
 use Rattle.timetable_rules.specs.Spelling.{spelling}
@@ -30,7 +31,7 @@ guessed (b ∷ bs) = map guessed_meeting (slice_split (λ c. c == 59) (b ∷ bs)
 -- whether a text spells these meetings
 abbrev pub spells : List ℕ → List Meeting → Bool
 spells text meetings =
-    nat_le (length meetings) 10 && list_all is_meeting meetings
+    nat_le (length meetings) MAX_MEETINGS && list_all is_meeting meetings
     && bytes_eq text (join_with_byte 59 (map spelling meetings))
 
 -- the meetings that a text spells, if it spells any

@@ -1,6 +1,7 @@
 -- How the meetings of a section are written.
 use Rattle.std.specs.Prelude.{ℕ, ◌+◌, ◌/◌, ◌%◌, ◌≡◌, ◌≤◌, List, [], ◌∷◌, ◌++◌, All, codes, length, map, slice_index}
 use Rattle.std.specs.List.{join_with_byte}
+use Rattle.market_units.specs.declared.limits.TheConstants.{MAX_MEETINGS}
 use Rattle.timetable_rules.specs.declared.meeting.Meeting.{Meeting}
 use Rattle.timetable_rules.specs.Meeting.{IsMeeting}
 
@@ -23,6 +24,6 @@ spelling m = day_letter m.day ∷ (clock m.start ++ 45 ∷ clock m.end)
 -- The text spells these meetings: at most ten, in order, joined by semicolons. The empty text
 -- spells none.
 pub record Spells (text : List ℕ) (meetings : List Meeting) : Type 0 where
-  pub few : length meetings ≤ 10
+  pub few : length meetings ≤ MAX_MEETINGS
   pub each : All IsMeeting meetings
   pub joined : text ≡ join_with_byte 59 (map spelling meetings)

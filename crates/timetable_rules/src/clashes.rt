@@ -5,7 +5,7 @@ ghost use Rattle.timetable_rules.specs.Meetings.{meetings_of};
 
 use crate::rows::clashing;
 use crate::{Meetings, Parts};
-use market_units::{NoMemory, SectionNo, SectionSet};
+use market_units::{MAX_SECTIONS, NoMemory, SectionNo, SectionSet};
 use std::alloc::Global;
 use std::marker::Model;
 
@@ -21,6 +21,7 @@ impl Model for ClashTable {
     ghost use Rattle.std.specs.Ordering.{nat_cmp};
     ghost use Rattle.std.specs.FinSet as set;
     ghost use Rattle.std.specs.Coded.{codes, coded_ℕ};
+    ghost use Rattle.market_units.specs.declared.limits.TheConstants.{MAX_SECTIONS};
 
     ghost Value = { List (set.FinSet nat_cmp) };
 
@@ -28,7 +29,7 @@ impl Model for ClashTable {
 
     ghost view = { λ table. table.rows.items };
 
-    ghost invariant = { λ table. length table.rows.items ≤ 400 };
+    ghost invariant = { λ table. length table.rows.items ≤ MAX_SECTIONS };
 }
 
 impl ClashTable {
@@ -42,7 +43,7 @@ impl ClashTable {
     ) -> Result<ClashTable, NoMemory>
         requires meetings { length meetings.now ≡ length courses.now }
         requires parts { length parts.now ≡ length courses.now }
-        requires few { length courses.now ≤ 400 }
+        requires few { length courses.now ≤ MAX_SECTIONS }
         ensures { IfOk result (IsClashTable (map meetings_of meetings.now) courses.now parts.now) }
     {
         let mut rows = Vec::with_capacity(alloc, courses.len())?;

@@ -20,6 +20,3 @@ pub use overlaps::overlap;
 pub use parts::Parts;
 pub use parts_text::read_parts;
 pub use reading::read_meetings;
-
-#[cfg(test)]
-mod tests;

@@ -1,5 +1,6 @@
 // The meetings of a section, in a room of fixed size.
 ghost use Rattle.std.specs.Prelude.{◌≤◌, All, take};
+ghost use Rattle.market_units.specs.declared.limits.TheConstants.{MAX_MEETINGS};
 ghost use Rattle.timetable_rules.specs.Meeting.{IsMeeting};
 
 use crate::Meeting;
@@ -10,7 +11,7 @@ use market_units::MAX_MEETINGS;
 pub struct Meetings {
     places: [Meeting; MAX_MEETINGS],
     len: usize,
-    ghost few: { len ≤ 10 },
+    ghost few: { len ≤ MAX_MEETINGS },
     // The ranges stand here, so that a `Meeting` is plain data, which definitions can write down.
     ghost each: { All IsMeeting (take len places) },
 }
@@ -37,7 +38,7 @@ impl Meetings {
     /// The meetings, as they were written.
     pub fn as_slice(&self) -> &[Meeting]
         ensures value { result.now ≡ meetings_of self.now }
-        ensures few { length (meetings_of self.now) ≤ 10 }
+        ensures few { length (meetings_of self.now) ≤ MAX_MEETINGS }
         ensures each { All IsMeeting (meetings_of self.now) }
     {
         &self.places[..self.len]
@@ -46,7 +47,7 @@ impl Meetings {
     /// These meetings and then one more.
     #[must_use]
     pub fn with(self, meeting: Meeting) -> Meetings
-        requires room { length (meetings_of self) < 10 }
+        requires room { length (meetings_of self) < MAX_MEETINGS }
         requires meeting { IsMeeting meeting }
         ensures { meetings_of result ≡ meetings_of self ++ meeting ∷ [] }
     {

@@ -20,7 +20,7 @@ pub fn read_parts(bytes: &[u8]) -> Option<Parts>
     }
 }
 
-// Whether two sections share a part of the term.
+/// Whether there is a part of the term in which both of two sections meet.
 pub(crate) fn share_part(ones: Parts, others: Parts) -> bool
     ensures { result ≡ share_part ones others }
 {

@@ -6,7 +6,7 @@ ghost use Rattle.timetable_rules.specs.Meetings.{meetings_of};
 
 use crate::parts_text::share_part;
 use crate::{Meetings, Parts, overlap};
-use market_units::{SectionNo, SectionSet};
+use market_units::{MAX_SECTIONS, SectionNo, SectionSet};
 
 /// The sections that clash with this one.
 pub(crate) fn clashing(
@@ -17,7 +17,7 @@ pub(crate) fn clashing(
 ) -> SectionSet
     requires meetings { length meetings.now ≡ length courses.now }
     requires parts { length parts.now ≡ length courses.now }
-    requires few { length courses.now ≤ 400 }
+    requires few { length courses.now ≤ MAX_SECTIONS }
     requires section { section < length courses.now }
     ensures { (other : ℕ) → set.contains result other
         ≡ (nat_lt other (length courses.now) && clashes (map meetings_of meetings.now) courses.now parts.now section other) }

@@ -22,6 +22,3 @@ pub use lines::{first_line, first_word};
 pub use printing::print_command;
 pub use reading::{read_line, read_name_word};
 pub use streams::{StreamEnd, read_stream};
-
-#[cfg(test)]
-mod tests;

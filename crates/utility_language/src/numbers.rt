@@ -7,7 +7,8 @@ use market_units::read_number;
 // The greatest number of six digits.
 const MAX_SHORT: u64 = 999_999;
 
-// The number of at most six digits that the word spells.
+/// The whole number that a word spells in at most six digits: no zeros in front, and a minus sign
+/// in front of a negative number. `None` for every other word.
 pub(crate) fn read_short(word: &[u8]) -> Option<i32>
     ensures short { IfSome result (λ n. unsigned_abs n < 10 ^ 6) }
     ensures spelled { IfSome result (λ n. word.now ≡ signed_decimal n) }

@@ -2,7 +2,8 @@
 use Rattle.std.proofs.Common.{◌≡◌, ◌≢◌, ◌<◌, ◌≤◌, ◌⊎◌, ℕ, Bool, true, false, true≢false, List, [], ◌∷◌, length, arith, refl, sym, subst, inl, inr}
 use Rattle.std.proofs.lemmas.Bool.{cases_lt, cases_order}
 use Rattle.market_units.specs.Totals.{total}
-use Rattle.bundle_rules.specs.Sets.{has, IsAscending}
+use Rattle.market_units.specs.Members.{has}
+use Rattle.bundle_rules.specs.Sets.{IsAscending}
 use Rattle.bundle_rules.specs.Wishes.{Wishes, IsFeasible}
 use Rattle.bundle_rules.specs.Demand.{IsChoice}
 use Rattle.bundle_rules.specs.Existence.Members.{has-here, has-there, has-cases}

@@ -2,7 +2,8 @@
 use Rattle.std.proofs.Common.{◌≡◌, ◌↔◌, ◌<◌, ◌++◌, ◌⊎◌, ℕ, zero, suc, true, true≢false, ◌==◌, List, [], ◌∷◌, All, length, map, inl, inr, arith, refl, sym, subst}
 use Rattle.std.proofs.lemmas.Bool.{cases_Bool, or_right}
 use Rattle.std.proofs.lemmas.Bool.Decides.{nat_tests}
-use Rattle.bundle_rules.specs.Sets.{has, AllAbove, IsAscending}
+use Rattle.market_units.specs.Members.{has}
+use Rattle.bundle_rules.specs.Sets.{AllAbove, IsAscending}
 
 -- a section is above each of these
 abbrev pub AllBelow : ℕ → List ℕ → Type 0

@@ -3,6 +3,7 @@ use Rattle.std.proofs.Common.{◌≡◌, ◌<◌, ◌≤◌, ◌==◌, ℕ, zero
 use Rattle.std.specs.List.{slice_get}
 use Rattle.std.proofs.lemmas.Bool.{cases_Bool, cases_lt}
 use Rattle.std.proofs.lemmas.Bool.Decides.{nat_tests}
+use Rattle.market_units.specs.declared.limits.TheConstants.{MAX_SECTIONS}
 use Rattle.bundle_rules.specs.declared.menu.Rated.{Rated}
 use Rattle.bundle_rules.specs.Menus.{section_at, course_at, rating_at, credits_at, place_in, IsRated}
 
@@ -56,7 +57,7 @@ section_at-place_in (r ∷ rs) s low = elim (cases_Bool (r.section.0 == s)) [
 
 -- the section at a place is below 400
 pub section_at-low : (places : List Rated) (k : ℕ) → All IsRated places → k < length places
-    → section_at places k < 400
+    → section_at places k < MAX_SECTIONS
 section_at-low [] k all low = absurd (omega arith)
 section_at-low (r ∷ rs) zero all low = let is : IsRated r = all 0 r (omega arith) in is.section
 section_at-low (r ∷ rs) (suc k) all low = section_at-low rs k (λ i d h. all (suc i) d (let g : suc i < suc (length rs) = omega arith in g)) (omega arith)

@@ -1,7 +1,7 @@
-// Tables of small menus, and which nodes they close, worked by hand.
-ghost use Rattle.std.specs.Prelude.{◌≤◌, length};
+// Tables of small menus, and which nodes they prune, worked by hand.
+ghost use Rattle.std.specs.Prelude.{◌≤◌, ℕ, length};
 ghost use Rattle.bundle_rules.specs.Demand.{price_in, HasPrices};
-ghost use Rattle.demand_oracle.specs.Branches.{IsBranch};
+ghost use Rattle.demand_oracle.specs.SummedNodes.{IsSummed};
 
 use super::*;
 use bundle_rules::{Rated, has_prices};
@@ -52,12 +52,12 @@ fn menu_of<R: Abort>(rt: &R, alloc: Global, case: &Case) -> Menu {
 }
 
 // A champion of the first two sections, of those that are taken.
-fn champion_of(menu: &Menu, prices: &[Tokens], first: bool, second: bool) -> Branch
+fn champion_of(menu: &Menu, prices: &[Tokens], first: bool, second: bool) -> SummedNode
     requires prices { HasPrices menu.now prices.now }
     requires places { 2 ≤ length menu.now.places }
-    ensures { IsBranch menu.now (price_in prices.now) result }
+    ensures { IsSummed menu.now (price_in prices.now) result }
 {
-    let root = Branch::root();
+    let root = SummedNode::root();
     match (first, second) {
         (true, true) => root.with_next(menu, prices).with_next(menu, prices),
         (true, false) => root.with_next(menu, prices),
@@ -66,9 +66,25 @@ fn champion_of(menu: &Menu, prices: &[Tokens], first: bool, second: bool) -> Bra
     }
 }
 
+// Whether a node is pruned.
+fn is_pruned(
+    reach: &Reach,
+    menu: &Menu,
+    budget: Tokens,
+    summed: &SummedNode,
+    champion: &SummedNode,
+) -> bool
+    requires summed { (price : ℕ → ℕ) × IsSummed menu.now price summed.now }
+    requires place { summed.now.node.place ≤ length menu.now.places }
+{
+    prove!(summed.node.place <= menu.len());
+    let column = reach.column(menu, budget, summed);
+    reach.prunes(menu, &column, summed, summed.node.place, champion)
+}
+
 // Whether the nodes at the first place, at the second with the first section, and at the second
-// without it are closed for the champion that has the first two sections as told.
-fn closings<R: Abort>(
+// without it are pruned for the champion that has the first two sections as told.
+fn prunings<R: Abort>(
     rt: &R,
     menu: &Menu,
     prices: &[Tokens],
@@ -81,13 +97,13 @@ fn closings<R: Abort>(
     let budget = Tokens(budget);
     let mut reach = Reach::empty();
     reach.measure(menu, prices, budget, &SectionSet::full(400));
-    let root = Branch::root();
+    let root = SummedNode::root();
     let with_it = root.with_next(menu, prices);
     let without = root.without_next();
     [
-        reach.closes(menu, budget, &root, &champion),
-        reach.closes(menu, budget, &with_it, &champion),
-        reach.closes(menu, budget, &without, &champion),
+        is_pruned(&reach, menu, budget, &root, &champion),
+        is_pruned(&reach, menu, budget, &with_it, &champion),
+        is_pruned(&reach, menu, budget, &without, &champion),
     ]
 }
 
@@ -160,7 +176,7 @@ fn what_so_many_units_are_enough_for(rt: HostRuntime) -> Result<(), Fail> {
 }
 
 #[test]
-fn the_nodes_that_are_closed(rt: HostRuntime) -> Result<(), Fail> {
+fn the_nodes_that_are_pruned(rt: HostRuntime) -> Result<(), Fail> {
     // Of two equal ones one may be taken: without the first there is nothing better than it, and
     // without the second there is.
     let equal = Case {
@@ -172,11 +188,11 @@ fn the_nodes_that_are_closed(rt: HostRuntime) -> Result<(), Fail> {
     let menu = menu_of(&rt, rt.alloc(), &equal);
     let prices = [Tokens(0); 4];
     assert_eq!(rt;
-        closings(&rt, &menu, &prices, 0, (true, false)),
+        prunings(&rt, &menu, &prices, 0, (true, false)),
         [false, false, true]
     );
     assert_eq!(rt;
-        closings(&rt, &menu, &prices, 0, (false, true)),
+        prunings(&rt, &menu, &prices, 0, (false, true)),
         [false, false, false]
     );
 
@@ -191,7 +207,7 @@ fn the_nodes_that_are_closed(rt: HostRuntime) -> Result<(), Fail> {
     let menu = menu_of(&rt, rt.alloc(), &priced);
     let prices = [Tokens(10), Tokens(20), Tokens(20)];
     assert_eq!(rt;
-        closings(&rt, &menu, &prices, 30, (true, true)),
+        prunings(&rt, &menu, &prices, 30, (true, true)),
         [false, false, true]
     );
 
@@ -204,7 +220,7 @@ fn the_nodes_that_are_closed(rt: HostRuntime) -> Result<(), Fail> {
     let menu = menu_of(&rt, rt.alloc(), &loaded);
     let prices = [Tokens(0); 3];
     assert_eq!(rt;
-        closings(&rt, &menu, &prices, 0, (true, true)),
+        prunings(&rt, &menu, &prices, 0, (true, true)),
         [false, false, true]
     );
 
@@ -216,7 +232,7 @@ fn the_nodes_that_are_closed(rt: HostRuntime) -> Result<(), Fail> {
     };
     let menu = menu_of(&rt, rt.alloc(), &heavy);
     assert_eq!(rt;
-        closings(&rt, &menu, &prices, 0, (false, true)),
+        prunings(&rt, &menu, &prices, 0, (false, true)),
         [false, true, false]
     );
     Ok(())

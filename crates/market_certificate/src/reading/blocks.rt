@@ -18,7 +18,8 @@ use bundle_rules::Bundle;
 use market_units::{Name, Tokens};
 use std::alloc::Global;
 
-// Each name's amount, and what is left behind their lines.
+/// Reads one line of an amount for each name, in order: the amounts, and the lines behind them.
+/// Else the first defect, or want of memory.
 pub(crate) fn read_amounts<'t>(
     alloc: Global,
     lines: Lines<'t>,
@@ -50,7 +51,8 @@ pub(crate) fn read_amounts<'t>(
     Ok((amounts, left))
 }
 
-// Each student's bundle with its tree, and what is left behind their lines.
+/// Reads the line of each student, in file order, with its bundle and the tree that proves it:
+/// these, and the lines behind them. Else the first defect, or want of memory.
 pub(crate) fn read_bundles<'t>(
     alloc: Global,
     lines: Lines<'t>,
@@ -82,7 +84,8 @@ pub(crate) fn read_bundles<'t>(
     Ok((bundles, left))
 }
 
-// Each student's bundle after all turns, and what is left behind their lines.
+/// Reads the line of each student, in file order, with its final bundle: the bundles, and the lines
+/// behind them. Else the first defect, or want of memory.
 pub(crate) fn read_allocation<'t>(
     alloc: Global,
     lines: Lines<'t>,
@@ -114,7 +117,8 @@ pub(crate) fn read_allocation<'t>(
     Ok((bundles, left))
 }
 
-// Each section's seats, and what is left behind their lines.
+/// Reads the line of each section, in file order, with its used seats and all its seats: these
+/// pairs, and the lines behind them. Else the first defect, or want of memory.
 pub(crate) fn read_seats<'t>(
     alloc: Global,
     lines: Lines<'t>,

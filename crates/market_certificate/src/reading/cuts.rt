@@ -3,7 +3,7 @@ ghost use Rattle.std.specs.Prelude.{◌≡◌, ◌≢◌, ◌==◌, ◌++◌, �
 ghost use Rattle.std.specs.List.{position};
 ghost use Rattle.market_certificate.specs.Lines.{Lacks};
 
-// What stands before the first such byte, and behind it.
+/// The bytes before and behind the first one of this value; `None` where the value does not occur.
 #[tactic(auto, using(crate::proofs::Places::place_found, crate::proofs::Places::place_none))]
 pub(crate) fn cut(bytes: &[u8], stop: u8) -> Option<(&[u8], &[u8])>
     ensures found { IfSome result (λ parts. bytes.now ≡ parts.0.now ++ stop ∷ parts.1.now) }
@@ -22,7 +22,7 @@ fn place_of(bytes: &[u8], stop: u8) -> Option<usize>
     bytes.iter().position(|byte| *byte == stop)
 }
 
-// What stands behind this front.
+/// The bytes behind this beginning; `None` where the bytes begin otherwise.
 pub(crate) fn behind<'a>(bytes: &'a [u8], front: &[u8]) -> Option<&'a [u8]>
     ensures some { IfSome result (λ rest. bytes.now ≡ front.now ++ rest.now) }
     ensures none { IfNone result ((rest : List ℕ) → bytes.now ≢ front.now ++ rest) }
@@ -30,7 +30,7 @@ pub(crate) fn behind<'a>(bytes: &'a [u8], front: &[u8]) -> Option<&'a [u8]>
     bytes.strip_prefix(front)
 }
 
-// What stands behind this field and a space.
+/// The bytes behind this word and one space; `None` where the bytes begin otherwise.
 pub(crate) fn behind_field<'a>(bytes: &'a [u8], field: &[u8]) -> Option<&'a [u8]>
     ensures some { IfSome result (λ rest. bytes.now ≡ field.now ++ 32 ∷ rest.now) }
     ensures none { IfNone result ((rest : List ℕ) → bytes.now ≢ field.now ++ 32 ∷ rest) }

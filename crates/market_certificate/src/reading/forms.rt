@@ -18,7 +18,7 @@ use bundle_rules::Bundle;
 use market_units::{MAX_SEATS, Name, NoMemory, StudentNo, Tokens, read_number};
 use std::alloc::Global;
 
-// Whether the line is that of this version.
+/// Whether this is the first line of a text of this version: `course-match` and the number.
 pub(crate) fn is_head(line: &[u8], version: u64) -> bool
     ensures yes { IsTrue result → line.now ≡ spaced (codes "course-match" ∷ decimal version ∷ []) }
     ensures no { line.now ≡ spaced (codes "course-match" ∷ decimal version ∷ []) → IsTrue result }
@@ -32,7 +32,8 @@ pub(crate) fn is_head(line: &[u8], version: u64) -> bool
     }
 }
 
-// The order that the line tells.
+/// The order that an order line tells: for each command the number of its session, from 1 to 64.
+/// `None` where it is no such line.
 pub(crate) fn order_of(alloc: Global, line: &[u8]) -> Result<Option<Vec<u8>>, NoMemory>
     ensures range { IfOk result (λ read. IfSome read (λ order. All IsSession order.items)) }
     ensures line { IfOk result (λ read. IfSome read (λ order. line.now ≡ order_line order.items)) }
@@ -48,7 +49,8 @@ pub(crate) fn order_of(alloc: Global, line: &[u8]) -> Result<Option<Vec<u8>>, No
     }
 }
 
-// The name's amount that the line tells.
+/// The amount that the line tells of this name, in tokens, at most `most_of`. `None` where it is
+/// not a line of this kind for this name.
 pub(crate) fn amount_of(line: &[u8], kind: Amount, name: &Name) -> Option<Tokens>
     ensures range { IfSome result (λ tokens. tokens.0 ≤ most_of kind) }
     ensures line { IfSome result
@@ -62,7 +64,7 @@ pub(crate) fn amount_of(line: &[u8], kind: Amount, name: &Name) -> Option<Tokens
     Some(Tokens(tokens as u32))
 }
 
-// The error that the line tells.
+/// The clearing error that an error line tells. `None` where it is no such line.
 pub(crate) fn error_of(line: &[u8]) -> Option<u64>
     ensures line { IfSome result (λ error. line.now ≡ error_line error) }
     ensures none { IfNone result ((tables : Tables) → ¬ HasForm tables ErrorForm line.now) }
@@ -71,7 +73,8 @@ pub(crate) fn error_of(line: &[u8]) -> Option<u64>
     read_number(digits, u64::MAX)
 }
 
-// The name's bundle that the line tells, and its tree.
+/// The bundle that the line tells of this student, and the bytes of its tree. `None` where it is no
+/// bundle line of this student; whether the tree proves the bundle is not looked at.
 pub(crate) fn proved_of<'t>(
     tables: &TableNames,
     line: &'t [u8],
@@ -113,14 +116,16 @@ fn proved_in<'t>(tables: &TableNames, bytes: &'t [u8]) -> Option<(Bundle, &'t [u
     Some((bundle, tree))
 }
 
-// Whether the line begins as a turn does.
+/// Whether the line begins with `turn` and a space. Then it is read as a turn, and refused if it is
+/// none.
 pub(crate) fn starts_turn(line: &[u8]) -> bool
     ensures { IsTrue result ↔ StartsTurn line.now }
 {
     behind_field(line, b"turn").is_some()
 }
 
-// The pass, the student, the bundle and the tree of the turn that the line tells.
+/// The pass, the student, the bundle and the tree that a turn line tells. `None` where it is no
+/// such line, or names no student of the roll.
 pub(crate) fn turn_in<'t>(
     tables: &TableNames,
     line: &'t [u8],
@@ -156,7 +161,7 @@ pub(crate) fn turn_in<'t>(
     Some((pass, student, bundle, tree))
 }
 
-// The name's bundle after all turns that the line tells.
+/// The final bundle that the line tells of this student. `None` where it is no such line.
 pub(crate) fn final_of(tables: &TableNames, line: &[u8], name: &Name) -> Option<Bundle>
     ensures range { IfSome result
         (λ bundle. IsBundleOf (seen tables.now).sections (sections_of bundle)) }
@@ -171,7 +176,8 @@ pub(crate) fn final_of(tables: &TableNames, line: &[u8], name: &Name) -> Option<
     bundle_of(tables, names)
 }
 
-// The name's seats that the line tells.
+/// The used seats and all seats that the line tells of this section, each at most 9,999. `None`
+/// where it is no such line.
 pub(crate) fn used_of(line: &[u8], name: &Name) -> Option<(u16, u16)>
     ensures range { IfSome result IsUsed }
     ensures line { IfSome result (λ seats. line.now ≡ used_line (name_bytes name.now) seats) }

@@ -20,7 +20,8 @@ use bundle_rules::Bundle;
 use market_units::{Name, Tokens};
 use std::alloc::Global;
 
-// What is left behind the line of the version.
+/// Reads the first line, which has the version: the lines behind it. A text of another version is
+/// refused.
 #[tactic(auto, using(crate::proofs::Steps::other_line))]
 pub(crate) fn read_head<'t>(lines: Lines<'t>, tables: &TableNames) -> Result<Lines<'t>, TextRefusal>
     ensures line { IfOk result
@@ -39,7 +40,7 @@ pub(crate) fn read_head<'t>(lines: Lines<'t>, tables: &TableNames) -> Result<Lin
     }
 }
 
-// The order, and what is left behind its line.
+/// Reads the order line: the order, and the lines behind it.
 #[tactic(auto, using(crate::proofs::Steps::other_line))]
 pub(crate) fn read_order<'t>(
     alloc: Global,
@@ -61,7 +62,7 @@ pub(crate) fn read_order<'t>(
     }
 }
 
-// The name's amount, and what is left behind its line.
+/// Reads the line of this name's amount: the amount, and the lines behind it.
 #[tactic(auto, using(crate::proofs::Steps::other_line))]
 pub(crate) fn read_amount<'t>(
     lines: Lines<'t>,
@@ -85,7 +86,7 @@ pub(crate) fn read_amount<'t>(
     }
 }
 
-// The error, and what is left behind its line.
+/// Reads the line of the clearing error: the error, and the lines behind it.
 #[tactic(auto, using(crate::proofs::Steps::other_line))]
 pub(crate) fn read_error<'t>(lines: Lines<'t>) -> Result<(u64, Lines<'t>), TextRefusal>
     ensures small { IfOk result (λ read. read.0 < 2 ^ 64) }
@@ -104,7 +105,7 @@ pub(crate) fn read_error<'t>(lines: Lines<'t>) -> Result<(u64, Lines<'t>), TextR
     }
 }
 
-// The name's bundle with its tree, and what is left behind their line.
+/// Reads the line of this student's bundle: the bundle with its tree, and the lines behind it.
 #[tactic(auto, using(crate::proofs::Steps::other_line))]
 pub(crate) fn read_proved<'t>(
     alloc: Global,
@@ -130,7 +131,7 @@ pub(crate) fn read_proved<'t>(
     Ok((Proved { bundle, tree }, left))
 }
 
-// The name's bundle after all turns, and what is left behind its line.
+/// Reads the line of this student's final bundle: the bundle, and the lines behind it.
 #[tactic(auto, using(crate::proofs::Steps::other_line))]
 pub(crate) fn read_final<'t>(
     lines: Lines<'t>,
@@ -155,7 +156,7 @@ pub(crate) fn read_final<'t>(
     }
 }
 
-// The name's seats, and what is left behind their line.
+/// Reads the line of this section's seats: the used ones and all of them, and the lines behind it.
 #[tactic(auto, using(crate::proofs::Steps::other_line))]
 pub(crate) fn read_used<'t>(
     lines: Lines<'t>,
@@ -178,7 +179,8 @@ pub(crate) fn read_used<'t>(
     }
 }
 
-// What is left behind the last line.
+/// Reads the last line, `end`: what is left behind it, which is nothing in the text of a
+/// publication.
 #[tactic(auto, using(crate::proofs::Steps::other_line))]
 pub(crate) fn read_end<'t>(lines: Lines<'t>) -> Result<Lines<'t>, TextRefusal>
     ensures line { IfOk result

@@ -13,7 +13,8 @@ use crate::tables::TableNames;
 use crate::{ProvedTurn, TextRefusal};
 use std::alloc::Global;
 
-// The turns, and what is left behind their lines.
+/// Reads lines as long as they begin as turns do: the turns, and the lines behind them. A line that
+/// begins so and is no turn is refused.
 pub(crate) fn read_turns<'t>(
     alloc: Global,
     lines: Lines<'t>,

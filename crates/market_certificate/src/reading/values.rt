@@ -16,7 +16,8 @@ use bundle_rules::Bundle;
 use market_units::{MAX_COURSES, MAX_SESSIONS, NoMemory, SectionNo, read_number};
 use std::alloc::Global;
 
-// The bundle that the bytes are.
+/// The bundle that the bytes spell: names of sections in square brackets, in the order of the
+/// catalogue, with a comma between each two. `None` where they spell none.
 pub(crate) fn bundle_of(tables: &TableNames, bytes: &[u8]) -> Option<Bundle>
     ensures bundle { IfSome result
         (λ bundle. IsBundleOf (seen tables.now).sections (sections_of bundle)) }
@@ -73,7 +74,8 @@ fn one_more(bundle: Bundle, section: SectionNo) -> Option<Bundle>
     Some(bundle.with(section))
 }
 
-// Whether the bytes are a tree's.
+/// Whether the bytes could be a tree: there is at least one, and each is a sign of trees. Whether
+/// they are the tree of a bundle is not looked at.
 pub(crate) fn is_tree(bytes: &[u8]) -> bool
     ensures { IsTrue result ↔ AreTreeBytes bytes.now }
 {
@@ -106,8 +108,8 @@ fn session_of(bytes: &[u8]) -> Option<u8>
     Some(session as u8)
 }
 
-// The numbers of sessions that the bytes spell, with a space between each two; there is at least
-// one.
+/// The numbers of sessions, from 1 to 64, that the bytes spell with a space between each two.
+/// `None` where they spell no such list, or an empty one.
 pub(crate) fn sessions_of(alloc: Global, bytes: &[u8]) -> Result<Option<Vec<u8>>, NoMemory>
     ensures range { IfOk result (λ read. IfSome read (λ order. All IsSession order.items)) }
     ensures spelled { IfOk result

@@ -13,7 +13,7 @@ use crate::{Proved, ProvedTurn};
 use bundle_rules::Bundle;
 use market_units::{Name, NoMemory, Tokens};
 
-// Puts a line for each name's amount behind the text.
+/// Puts one line for each name behind the text, with the amount at the same place.
 pub(crate) fn put_amounts(
     text: &mut Vec<u8>,
     kind: Amount,
@@ -34,7 +34,7 @@ pub(crate) fn put_amounts(
     Ok(())
 }
 
-// Puts a line for each student's bundle behind the text.
+/// Puts one line for each student behind the text, with its bundle and the tree that proves it.
 pub(crate) fn put_bundles(
     text: &mut Vec<u8>,
     sections: &[Name],
@@ -56,7 +56,7 @@ pub(crate) fn put_bundles(
     Ok(())
 }
 
-// Puts a line for each turn behind the text.
+/// Puts one line for each turn of the aftermarket behind the text, in order.
 pub(crate) fn put_turns(
     text: &mut Vec<u8>,
     students: &[Name],
@@ -78,7 +78,7 @@ pub(crate) fn put_turns(
     Ok(())
 }
 
-// Puts a line for each student's bundle after all turns behind the text.
+/// Puts one line for each student behind the text, with the bundle that it has at the end.
 pub(crate) fn put_allocation(
     text: &mut Vec<u8>,
     sections: &[Name],
@@ -100,7 +100,7 @@ pub(crate) fn put_allocation(
     Ok(())
 }
 
-// Puts a line for each section's seats behind the text.
+/// Puts one line for each section behind the text, with its used seats and all its seats.
 pub(crate) fn put_seats(
     text: &mut Vec<u8>,
     names: &[Name],

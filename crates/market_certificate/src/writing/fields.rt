@@ -27,7 +27,8 @@ pub fn put_number_field(text: &mut Vec<u8>, n: u64) -> Result<(), NoMemory>
     put_field(text, &room[..len])
 }
 
-// Puts a space and the bundle behind the text.
+/// Puts a space and the bundle behind the text: the names of its sections in square brackets, with
+/// a comma between each two.
 pub(crate) fn put_bundle_field(
     text: &mut Vec<u8>,
     sections: &[Name],
@@ -58,7 +59,7 @@ fn put_comma_behind(text: &mut Vec<u8>, names: usize) -> Result<(), NoMemory>
     Ok(())
 }
 
-// Puts a space and a number behind the text for each of the numbers.
+/// Puts a space and the number in decimal digits behind the text, for each of the numbers.
 pub(crate) fn put_number_fields(text: &mut Vec<u8>, numbers: &[u8]) -> Result<(), NoMemory>
     ensures { OnOk result
         (text.new.items ≡ text.old.items ++ flat_map (λ n. 32 ∷ decimal n) numbers.now) }

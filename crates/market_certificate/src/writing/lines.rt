@@ -14,7 +14,7 @@ use crate::{Proved, ProvedTurn};
 use bundle_rules::Bundle;
 use market_units::{Name, NoMemory, Tokens};
 
-// Puts the line of the order behind the text.
+/// Puts the order line behind the text: for each command the number of its session.
 pub(crate) fn put_order(text: &mut Vec<u8>, order: &[u8]) -> Result<(), NoMemory>
     ensures { OnOk result (text.new.items ≡ text.old.items ++ order_line order.now ++ 10 ∷ []) }
 {
@@ -34,7 +34,7 @@ pub fn put_error(text: &mut Vec<u8>, error: u64) -> Result<(), NoMemory>
     Ok(())
 }
 
-// Puts the line of a name's amount behind the text.
+/// Puts the line of one amount behind the text: the word of its kind, the name, and the tokens.
 pub(crate) fn put_amount(
     text: &mut Vec<u8>,
     kind: Amount,
@@ -52,7 +52,7 @@ pub(crate) fn put_amount(
     Ok(())
 }
 
-// Puts the line of a student's bundle behind the text.
+/// Puts the line of a student's bundle behind the text, with the tree that proves it.
 pub(crate) fn put_proved(
     text: &mut Vec<u8>,
     sections: &[Name],
@@ -75,7 +75,7 @@ pub(crate) fn put_proved(
     Ok(())
 }
 
-// Puts the line of a student's bundle after all turns behind the text.
+/// Puts the line of the bundle behind the text that the student has at the end.
 pub(crate) fn put_final(
     text: &mut Vec<u8>,
     sections: &[Name],
@@ -97,7 +97,7 @@ pub(crate) fn put_final(
     Ok(())
 }
 
-// Puts the line of a section's seats behind the text.
+/// Puts the line of a section's seats behind the text: how many are used, and how many there are.
 pub(crate) fn put_used(text: &mut Vec<u8>, name: &Name, seats: (u16, u16)) -> Result<(), NoMemory>
     ensures { OnOk result
         (text.new.items ≡ text.old.items ++ used_line (name_bytes name.now) seats ++ 10 ∷ []) }
@@ -110,7 +110,8 @@ pub(crate) fn put_used(text: &mut Vec<u8>, name: &Name, seats: (u16, u16)) -> Re
     Ok(())
 }
 
-// Puts the line of a turn behind the text.
+/// Puts the line of one turn of the aftermarket behind the text: the pass, the student, the bundle
+/// that it chooses, and the tree that proves it.
 pub(crate) fn put_turn(
     text: &mut Vec<u8>,
     students: &[Name],
@@ -136,7 +137,7 @@ pub(crate) fn put_turn(
     Ok(())
 }
 
-// Puts the line of the version behind the text.
+/// Puts the first line of a text of this version behind the text.
 pub(crate) fn put_head(text: &mut Vec<u8>, version: u64) -> Result<(), NoMemory>
     ensures { OnOk result
         (text.new.items

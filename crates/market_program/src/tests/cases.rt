@@ -8,7 +8,8 @@ use super::changes::text_with;
 use super::shelf::text_named;
 use super::*;
 
-// Each command of each case has an answer of the case.
+/// Runs each command of each case, and fails where one has none of the answers of its case. The
+/// head of this file tells what a case is made of.
 pub(super) fn try_cases<R: Threads + Wait + Sync + Abort>(
     rt: &R,
     alloc: Global,
@@ -64,7 +65,8 @@ fn first_word(title: &str) -> &str {
     }
 }
 
-// The text that stands below such a line, or of the shelf's text that the line names.
+/// The bytes of a file in a case. Where its line names a text of the shelf behind its own name, it
+/// is that text with these changes; else it is what stands below.
 pub(super) fn text_of(alloc: Global, title: &str, text: &str) -> Result<Vec<u8>, Fail> {
     if let Some((_, name)) = title.split_once(' ')
         && let Some(named) = text_named(name)
@@ -74,7 +76,8 @@ pub(super) fn text_of(alloc: Global, title: &str, text: &str) -> Result<Vec<u8>,
     Ok(text.as_bytes().to_vec(alloc)?)
 }
 
-// The command has one of these answers over such files, beside those of the shelf that it names.
+/// Runs a command over these files, and those of the shelf that it names. Fails where it has none
+/// of these answers.
 pub(super) fn try_run<R: Threads + Wait + Sync + Abort>(
     rt: &R,
     alloc: Global,
@@ -86,7 +89,7 @@ pub(super) fn try_run<R: Threads + Wait + Sync + Abort>(
     assert_told(rt, alloc, line, answers, &answer)
 }
 
-// The status and the text are one of these answers.
+/// Fails where the status and the text are none of these answers, and tells what the case shows.
 pub(super) fn assert_told<R: Abort>(
     rt: &R,
     alloc: Global,

@@ -1,8 +1,8 @@
 // Texts with other lines.
 use super::*;
 
-// The text with these changes, one a line: the number of a line, from 1, and what stands in its
-// place, or nothing where the line is left out. More lines than one may stand in the place of one.
+/// The text with these changes, one a line: the number of a line, from 1, and what stands in its
+/// place, or nothing where the line is left out. More lines than one may stand in the place of one.
 pub(super) fn text_with(alloc: Global, text: &[u8], changes: &str) -> Result<Vec<u8>, Fail> {
     let mut made = Vec::new(alloc);
     for (place, line) in text.split(|byte| *byte == b'\n').enumerate() {

@@ -74,7 +74,8 @@ const OF_WISHES: [Command; 5] = [
     ),
 ];
 
-// The answer where the shelf's call and the sink's write of these numbers fail.
+/// Runs a command where the shelf's call and the sink's write of these numbers fail, counted from
+/// 1; with 0 none fails. Fails where it has none of these answers.
 pub(super) fn try_failing<R: Threads + Wait + Sync + Abort>(
     rt: &R,
     alloc: Global,

@@ -241,7 +241,7 @@ fn sessions_and_workers_of_a_run_post_at_once(rt: HostRuntime) -> Result<(), Fai
 }
 
 // Two workers of an audit whose calls meet: neither can post all rows before the other has posted
-// one. Both look for the rows of stage two, and then for the final ones.
+// one. Both look for the rows of the second stage, and then for the final ones.
 #[test]
 fn two_workers_of_an_audit_post_at_once(rt: HostRuntime) -> Result<(), Fail> {
     let gate = MeetingGate::new();

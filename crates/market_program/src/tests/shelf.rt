@@ -90,7 +90,7 @@ static AUDITS: [(&str, &str); 5] = [
     ("beyond", BEYOND_ONE_ENVY),
 ];
 
-// The text of this name: a table, or a part of a term, as `term.cat`.
+/// The text of this name: a table, or a part of a term, as `term.cat`. `None` where nothing has it.
 pub(super) fn text_named(name: &str) -> Option<&'static [u8]> {
     match name.split_once('.') {
         Some((of, part)) => part_named(of, part),

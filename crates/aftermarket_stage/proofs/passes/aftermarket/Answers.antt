@@ -1,4 +1,4 @@
-use Rattle.std.proofs.Common.{◌<◌, ◌≤◌, ◌+◌, ◌∙◌, not, map, length, arith, ap, subst, sym, rules}
+use Rattle.std.proofs.Common.{◌≡◌, ◌<◌, ◌≤◌, ◌+◌, ◌∙◌, not, map, length, arith, ap, subst, sym, rules}
 use Rattle.std.proofs.lemmas.List.{length-map}
 use Rattle.std.proofs.lemmas.Result.{IfOk-weaker}
 use Rattle.bundle_rules.specs.Bundles.{sections_of}
@@ -6,8 +6,9 @@ use Rattle.bundle_rules.specs.Demand.{price_in}
 use Rattle.bundle_rules.specs.Places.{places_from}
 use Rattle.budget_draw.specs.AfterOrder.{after_order_of}
 use Rattle.demand_api.specs.Crowds.{holders}
-use Rattle.demand_api.specs.Made.{crowd_of}
-use Rattle.demand_api.proofs.Takers.{crowd_made, demands_length}
+use Rattle.demand_api.specs.Views.{data_of}
+use Rattle.demand_api.proofs.Takers.{demands_length}
+use Rattle.demand_api.proofs.Parts.{menus_few}
 use Rattle.held_seats.specs.Choices.{AreHeldWithin}
 use Rattle.aftermarket_stage.specs.After.{terms_of}
 use Rattle.held_seats.specs.Floors.{held_on}
@@ -25,22 +26,21 @@ open-requires-clause-few c =
       arith,
       ap length c.requires.demands,
       length-map c.args.bundles.now sections_of,
-      demands_length c.args.crowd.now.menus.items c.args.crowd.now.budgets.items c.args.crowd.now.sections (price_in c.args.prices.now)
-          c.requires.crowd.same,
-      c.requires.crowd.few,
+      demands_length c.args.crowd.now (price_in c.args.prices.now),
+      menus_few c.args.crowd.now,
     )
 
 pub open-requires-clause-below : goal.open-requires-clause-below
 open-requires-clause-below c =
     let are : AreTerms c.args.crowd.now c.args.seats.now c.args.prices.now c.args.raise =
-    record { whole = c.requires.crowd; seats_each = c.requires.seats; prices_each = c.requires.prices; raise_low = c.requires.raise } in
+    record { seats_each = c.requires.seats; prices_each = c.requires.prices; raise_low = c.requires.raise } in
     choices_low c.args.crowd.now c.args.seats.now c.args.prices.now c.args.raise (map sections_of c.args.bundles.now) are
     (subst (AreChoices (terms_of c.args.crowd.now c.args.seats.now c.args.prices.now c.args.raise)) (sym c.requires.demands)
     (start_choices (terms_of c.args.crowd.now c.args.seats.now c.args.prices.now c.args.raise)))
 
 pub loop-changed-init : goal.loop-changed-init
 loop-changed-init c =
-    let some = some_or_none c.args.crowd.now.menus.items c.args.crowd.now.budgets.items c.is_empty-changed.result c.requires.crowd.same (search rules) in (
+    let some = some_or_none c.args.crowd.now.menus.items c.args.crowd.now.budgets.items c.is_empty-changed.result c.args.crowd.now.same (search rules) in (
       begins (terms_of c.args.crowd.now c.args.seats.now c.args.prices.now c.args.raise) (map sections_of c.args.bundles.now)
           (held_on c.in_ok-stage.stage.floor) c.in_ok-stage.stage.turns.items (not c.is_empty-changed.result) c.in_ok-stage.ensures.held
           c.in_ok-stage.ensures.turns some.0 some.1,
@@ -52,12 +52,17 @@ loop-changed-init c =
         c.in_ok-stage.ensures.size,
         ap length c.requires.demands,
         length-map c.args.bundles.now sections_of,
-        demands_length c.args.crowd.now.menus.items c.args.crowd.now.budgets.items c.args.crowd.now.sections (price_in c.args.prices.now)
-            c.requires.crowd.same,
+        demands_length c.args.crowd.now (price_in c.args.prices.now),
       ),
-      known_none (crowd_of c.args.crowd.now.menus.items c.args.crowd.now.budgets.items c.args.crowd.now.sections) c.args.prices.now c.args.raise
+      known_none (data_of c.args.crowd.now) c.args.prices.now c.args.raise
           (held_on c.in_ok-stage.stage.floor) c.in_ok-stage.stage.chooser.known.items c.in_ok-stage.ensures.none,
     )
+
+pub after_order-requires : goal.after_order-requires
+after_order-requires c =
+    let few : length c.args.crowd.now.menus.items ≤ 2000 = menus_few c.args.crowd.now in
+    let same : length c.args.crowd.now.budgets.items ≡ length c.args.crowd.now.menus.items = c.args.crowd.now.same in
+    search rules
 
 pub overflow_add-passes : goal.overflow_add-passes
 overflow_add-passes c =
@@ -72,7 +77,7 @@ overflow_add-passes c =
 pub run_pass-requires-clause-order : goal.run_pass-requires-clause-order
 run_pass-requires-clause-order c =
     rw c.deref-in-loop-changed.ensures.value
-    (order_within c.in_ok-order.order.items c.args.crowd.now.menus.items c.args.crowd.now.budgets.items c.requires.crowd.same
+    (order_within c.in_ok-order.order.items c.args.crowd.now.menus.items c.args.crowd.now.budgets.items c.args.crowd.now.same
     (rw c.deref.ensures.value at c.in_ok-order.ensures.value))
 
 pub loop-changed-smaller : goal.loop-changed-smaller
@@ -83,7 +88,7 @@ loop-changed-smaller c =
     < measure (terms_of c.args.crowd.now c.args.seats.now c.args.prices.now c.args.raise) (held_on c.loop-changed.stage.floor) before)
     (sym c.loop-changed-test.true)
     (measure_falls (terms_of c.args.crowd.now c.args.seats.now c.args.prices.now c.args.raise) _ _ (held_on c.loop-changed.stage.floor) (held_on c.run_pass.new.self.floor) c.loop-changed.stage.turns.items c.run_pass.new.self.turns.items c.in_ok-changed.changed
-    (crowd_made c.args.crowd.now.menus.items c.args.crowd.now.budgets.items c.args.crowd.now.sections c.requires.crowd) c.loop-changed.invariant.2 c.in_ok-changed.ensures.turns)
+    c.args.crowd.now.whole c.loop-changed.invariant.2 c.in_ok-changed.ensures.turns)
 
 pub loop-changed-preserved : goal.loop-changed-preserved
 loop-changed-preserved c =
@@ -95,7 +100,7 @@ loop-changed-preserved c =
     let order =
     ap (map (λ student. student.0)) c.deref-in-loop-changed.ensures.value ∙ c.in_ok-order.ensures.value
     ∙ ap (λ budgets. after_order_of (map (λ budget. budget.0) budgets)) c.deref.ensures.value
-    ∙ ap after_order_of (budgets_same c.args.crowd.now.menus.items c.args.crowd.now.budgets.items c.requires.crowd.same) in
+    ∙ ap after_order_of (budgets_same c.args.crowd.now.menus.items c.args.crowd.now.budgets.items c.args.crowd.now.same) in
     let run = subst (λ students. HaveTurned (terms_of c.args.crowd.now c.args.seats.now c.args.prices.now c.args.raise) (c.loop-changed.passes + 1) students (held_on now.floor) (held_on later.floor) now.turns.items later.turns.items c.in_ok-changed.changed) order c.in_ok-changed.ensures.turns in (
       goes_on (terms_of c.args.crowd.now c.args.seats.now c.args.prices.now c.args.raise) (map sections_of c.args.bundles.now) (held_on now.floor)
           (held_on later.floor) now.turns.items later.turns.items c.loop-changed.passes c.in_ok-changed.changed way run,
@@ -109,13 +114,12 @@ loop-changed-preserved c =
 pub close-requires : goal.close-requires
 close-requires c =
     let are : AreTerms c.args.crowd.now c.args.seats.now c.args.prices.now c.args.raise =
-    record { whole = c.requires.crowd; seats_each = c.requires.seats; prices_each = c.requires.prices; raise_low = c.requires.raise } in
+    record { seats_each = c.requires.seats; prices_each = c.requires.prices; raise_low = c.requires.raise } in
     let few : length (held_on c.loop-changed.stage.floor) ≤ 2000 =
     omega (
       arith,
-      choices_length c.args.crowd.now c.args.seats.now c.args.prices.now c.args.raise (held_on c.loop-changed.stage.floor) are
-          c.loop-changed.invariant.2,
-      c.requires.crowd.few,
+      choices_length c.args.crowd.now c.args.seats.now c.args.prices.now c.args.raise (held_on c.loop-changed.stage.floor) c.loop-changed.invariant.2,
+      menus_few c.args.crowd.now,
     ) in
     counts_few (length c.args.seats.now) (held_on c.loop-changed.stage.floor) c.loop-changed.stage.floor.used.items c.loop-changed.invariant.1.counts few
 

@@ -1,5 +1,5 @@
 use Rattle.std.proofs.Common.{◌≡◌, length, map}
-use Rattle.demand_api.specs.Made.{crowd_of}
+use Rattle.demand_api.specs.Views.{data_of}
 use Rattle.bundle_rules.specs.Bundles.{sections_of}
 use Rattle.aftermarket_stage.specs.After.{terms_of}
 use Rattle.held_seats.specs.Floors.{IsFloor, held_on}
@@ -13,7 +13,7 @@ invariant-loop-changed l =
     × IsFloor l.seats l.stage.floor
     × AreChoices (terms_of l.crowd l.seats l.prices l.raise) (held_on l.stage.floor)
     × (length l.stage.chooser.known.items ≡ length l.crowd.menus.items)
-    × AreKnown (crowd_of l.crowd.menus.items l.crowd.budgets.items l.crowd.sections) l.prices l.raise (held_on l.stage.floor) l.stage.chooser.known.items
+    × AreKnown (data_of l.crowd) l.prices l.raise (held_on l.stage.floor) l.stage.chooser.known.items
 
 abbrev pub decreases-loop-changed : goal.decreases-loop-changed
 decreases-loop-changed l = measure (terms_of l.crowd l.seats l.prices l.raise) (held_on l.stage.floor) l.changed

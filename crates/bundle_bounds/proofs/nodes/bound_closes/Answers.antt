@@ -2,18 +2,19 @@ use Rattle.std.proofs.Common.{◌≡◌, ℕ, ◌<◌, ◌∙◌, ap, sym, subst
 use Rattle.std.specs.Prelude.{All, ℤ, pos, ◌*ℤ◌, IfNone, IfSome}
 use Rattle.std.proofs.lemmas.Int.{ints}
 use Rattle.bundle_rules.specs.Bundles.{sections_of}
-use Rattle.bundle_rules.specs.Sets.{has, IsAscending}
+use Rattle.market_units.specs.Members.{has}
+use Rattle.bundle_rules.specs.Sets.{IsAscending}
 use Rattle.bundle_rules.specs.Wishes.{utility}
 use Rattle.bundle_rules.specs.Menus.{by_place}
 use Rattle.bundle_rules.proofs.Feasibility.{places_of_rated, place_of_rated, utility_by_place}
 use Rattle.bundle_bounds.specs.Offers.{offer_of, places_of}
 use Rattle.bundle_bounds.specs.Opens.{budget_left, credits_left, courses_left}
-use Rattle.bundle_bounds.specs.Bounds.{bounds, IsFirstClosing, NoneCloses}
+use Rattle.bundle_bounds.specs.Bounds.{bounds, IsFirstPruning, NonePrunes}
 use Rattle.bundle_rules.specs.Ahead.{is_ahead}
 use Rattle.bundle_bounds.specs.Ahead.{limit_of}
 use Rattle.bundle_bounds.specs.Modest.{IsModest}
-use Rattle.bundle_bounds.proofs.BelowLimit.{collected, rest_of_room, some_closes, none_closes}
-use Rattle.bundle_bounds.proofs.FirstClosing.{first_closing_is_the_first, found_closing}
+use Rattle.bundle_bounds.proofs.BelowLimit.{collected, rest_of_room, some_prunes, none_prunes}
+use Rattle.bundle_bounds.proofs.FirstPruning.{first_pruning_is_the_first, found_pruning}
 use Rattle.bundle_bounds.proofs.ByPlace.{ascending_places, has-places}
 use Rattle.bundle_bounds.proofs.nodes.bound_closes.Goals as goal
 
@@ -62,16 +63,16 @@ returns c =
     let ps =
     collected offer k cs slice c.collect-start.new.room c.collect-start.result c.min-from.result c.len.result same c.collect-start.auto.room
     c.min-from.ensures c.len.ensures.value (c.collect-start.ensures.value c.args.budget.0 budget credits courses) in
-    let some : IfSome c.first_below.result (IsFirstClosing offer k cs ch (bounds offer k cs)) =
-    some_closes offer k cs ch up up' low _ _ _ _ _ _ base most (budget ∙ ap (budget_left offer) same) (credits ∙ ap (credits_left offer) same)
+    let some : IfSome c.first_below.result (IsFirstPruning offer k cs ch (bounds offer k cs)) =
+    some_prunes offer k cs ch up up' low _ _ _ _ _ _ base most (budget ∙ ap (budget_left offer) same) (credits ∙ ap (credits_left offer) same)
     (courses ∙ ap (courses_left offer) same) ps c.first_below.result c.first_below.ensures.first in
-    let none : IfNone c.first_below.result (NoneCloses offer k cs ch (bounds offer k cs)) =
-    none_closes offer k cs ch up up' low _ _ _ _ _ _ base most (budget ∙ ap (budget_left offer) same) (credits ∙ ap (credits_left offer) same)
+    let none : IfNone c.first_below.result (NonePrunes offer k cs ch (bounds offer k cs)) =
+    none_prunes offer k cs ch up up' low _ _ _ _ _ _ base most (budget ∙ ap (budget_left offer) same) (credits ∙ ap (credits_left offer) same)
     (courses ∙ ap (courses_left offer) same) ps c.first_below.result c.first_below.ensures.none in
     record {
       first = some;
       value =
-          found_closing offer k chosen champion c.first_below.result
-          (first_closing_is_the_first offer k chosen champion c.len.ensures.menu c.requires.node c.requires.champion) some none;
+          found_pruning offer k chosen champion c.first_below.result
+          (first_pruning_is_the_first offer k chosen champion c.len.ensures.menu c.requires.node c.requires.champion) some none;
       none = none;
     }

@@ -1,4 +1,4 @@
-use Rattle.std.proofs.Common.{◌≡◌, ◌<◌, length, below_more, ap, arith, sym, ◌∙◌}
+use Rattle.std.proofs.Common.{◌≡◌, ◌<◌, ◌≤◌, length, below_more, ap, arith, rules, sym, ◌∙◌}
 use Rattle.bundle_rules.specs.Bundles.{sections_of}
 use Rattle.market_certificate.specs.Views.{publication_of}
 use Rattle.published_parts.specs.Holdings.{demanded, held_after}
@@ -15,6 +15,12 @@ index-requires-in-loop-place c =
     sym (length_map sections_of c.args.floor.now.held.items) ∙ ap length c.requires.held
     ∙ after_length c.args.terms.now c.args.publication.now p.turns c.requires.terms in
     omega arith
+
+pub overflow_cast-result : goal.overflow_cast-result
+overflow_cast-result c =
+    let long : HasLengths c.args.terms.now c.args.publication.now = lengths c.args.terms.now c.args.publication.now c.requires.terms in
+    let few : c.loop-place.place ≤ 2000 = omega arith in
+    search rules
 
 pub returns-then-ne-clause-first : goal.returns-then-ne-clause-first
 returns-then-ne-clause-first c =

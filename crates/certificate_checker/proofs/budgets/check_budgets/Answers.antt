@@ -1,6 +1,6 @@
-use Rattle.std.proofs.Common.{◌≡◌, ◌<◌, length, get_or, map, below_more, arith, sym, ◌∙◌}
+use Rattle.std.proofs.Common.{◌≡◌, ◌<◌, ◌≤◌, length, get_or, map, below_more, arith, rules, sym, ◌∙◌}
 use Rattle.market_units.specs.declared.units.Tokens.{Tokens}
-use Rattle.demand_api.specs.Made.{crowd_of}
+use Rattle.demand_api.specs.Views.{data_of}
 use Rattle.certificate_checker.specs.Students.{student_in}
 use Rattle.certificate_checker.proofs.Reading.{HasLengths, are_apart, are_same, drawn_is, fewer, lengths, printed_is}
 use Rattle.certificate_checker.proofs.budgets.check_budgets.Goals as goal
@@ -9,7 +9,7 @@ use Rattle.certificate_checker.proofs.budgets.check_budgets.Goals.{After-ne}
 -- the budget that is printed at the place, and the one that is drawn
 compared : (c : After-ne) → (get_or (map (λ (t : Tokens). t.0) c.args.publication.now.budgets.items) c.loop-place.place 0 ≡ c.index.result.now.0)
     ×
-    ((student_in (crowd_of c.args.terms.now.crowd.menus.items c.args.terms.now.crowd.budgets.items c.args.terms.now.crowd.sections) c.loop-place.place).budget
+    ((student_in (data_of c.args.terms.now.crowd) c.loop-place.place).budget
     ≡ c.index-in-loop-place.result.now.0)
 compared c =
     let terms = c.args.terms.now in
@@ -18,9 +18,14 @@ compared c =
     let below : place < length c.args.publication.now.budgets.items = omega arith in
     let inside : place < length terms.crowd.menus.items = omega arith in (
       printed_is c.args.publication.now.budgets.items place c.index.result.now below c.index.ensures,
-      drawn_is terms.crowd.menus.items terms.crowd.budgets.items terms.crowd.sections place c.index-in-loop-place.result.now long.drawn inside
-          c.index-in-loop-place.ensures,
+      drawn_is terms.crowd place c.index-in-loop-place.result.now inside c.index-in-loop-place.ensures,
     )
+
+pub overflow_cast-result : goal.overflow_cast-result
+overflow_cast-result c =
+    let long : HasLengths c.args.terms.now c.args.publication.now = lengths c.args.terms.now c.args.publication.now c.requires in
+    let few : c.loop-place.place ≤ 2000 = omega arith in
+    search rules
 
 pub returns-then-ne-clause-first : goal.returns-then-ne-clause-first
 returns-then-ne-clause-first c =

@@ -1,6 +1,8 @@
-use Rattle.std.proofs.Common.{refl}
+use Rattle.std.proofs.Common.{refl, ◌≤◌, length, rules}
+use Rattle.demand_api.proofs.Parts.{menus_few}
 use Rattle.certificate_checker.proofs.Bundling.{IsRead, infeasible, priced_bundle, right_bundle, takable, unaffordable, wrong_tree}
 use Rattle.certificate_checker.proofs.Reading.{denied}
+use Rattle.certificate_checker.proofs.TurnReading.{menu_priced}
 use Rattle.certificate_checker.proofs.bundles.check_bundle.Goals as goal
 use Rattle.certificate_checker.proofs.bundles.check_bundle.Goals.{After-index-proved}
 
@@ -37,6 +39,11 @@ check_tree-requires-clause-champion c =
     takable _ _ _ _ _ _ _ _ (read (goal.at.check_tree-requires-clause-champion c).After-index-proved) (c.feasible.ensures.0 c.if-not-feasible.false)
     (c.is_affordable.ensures.0 c.if-not-is_affordable.false)
 
+pub check_tree-requires-clause-prices : goal.check_tree-requires-clause-prices
+check_tree-requires-clause-prices c =
+    menu_priced c.args.terms.now c.args.publication.now c.args.student c.index-menu.result.now c.as_slice-prices.result.now c.requires.terms
+    c.requires.student refl c.index-menu.ensures c.as_slice-prices.ensures.value
+
 pub returns-in-Ok-clause-ok : goal.returns-in-Ok-clause-ok
 returns-in-Ok-clause-ok c =
     right_bundle _ _ _ _ _ _ _ _ (read (goal.at.returns-in-Ok-clause-ok c).After-index-proved) c.deref.result.now c.deref.ensures.value
@@ -46,3 +53,6 @@ pub returns-in-Err-clause-wrong : goal.returns-in-Err-clause-wrong
 returns-in-Err-clause-wrong c =
     wrong_tree _ _ _ _ _ _ _ _ (read (goal.at.returns-in-Err-clause-wrong c).After-index-proved) c.deref.result.now c.in-Err.defect c.deref.ensures.value
     (c.is_affordable.ensures.0 c.if-not-is_affordable.false) (c.feasible.ensures.0 c.if-not-feasible.false) c.in-Err.ensures.defect
+
+pub overflow_cast-number : goal.overflow_cast-number
+overflow_cast-number c = let few : length c.args.terms.now.crowd.menus.items ≤ 2000 = menus_few c.args.terms.now.crowd in search rules

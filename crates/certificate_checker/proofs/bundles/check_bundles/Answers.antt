@@ -1,5 +1,5 @@
 use Rattle.std.proofs.Common.{◌<◌, length, below_more, arith}
-use Rattle.demand_api.specs.Made.{students_of}
+use Rattle.demand_api.specs.Views.{data_of}
 use Rattle.market_certificate.specs.Views.{publication_of}
 use Rattle.proof_tree.proofs.Following.{err_from}
 use Rattle.certificate_checker.specs.Views.{terms_of}
@@ -11,7 +11,7 @@ pub returns-in_err-check_bundle-clause-first : goal.returns-in_err-check_bundle-
 returns-in_err-check_bundle-clause-first c =
     let terms = c.args.terms.now in
     let long : HasLengths terms c.args.publication.now = lengths terms c.args.publication.now c.requires.terms in
-    let low : c.loop-student.student < length (students_of terms.crowd.menus.items terms.crowd.budgets.items) = omega arith in
+    let low : c.loop-student.student < length (data_of terms.crowd).students = omega arith in
     err_from c.from_residual.result c.in_err-check_bundle.field-0.0 _ c.from_residual.ensures.1
     (first_bundle (terms_of terms) (publication_of c.args.publication.now) c.loop-student.student c.in_err-check_bundle.field-0.0 c.requires.before low
     c.loop-student.invariant c.in_err-check_bundle.ensures.wrong)

@@ -1,6 +1,6 @@
 use Rattle.std.proofs.Common.{◌≡◌, ◌<◌, true, subst, sym}
 use Rattle.std.specs.FinSet as set
-use Rattle.bundle_rules.specs.Sets.{has}
+use Rattle.market_units.specs.Members.{has}
 use Rattle.bundle_rules.specs.Bundles.{sections_of}
 use Rattle.bundle_rules.proofs.Ends.{all_of_ordinals, ordinals_of_all}
 use Rattle.certificate_checker.proofs.Reading.{so_of_has}

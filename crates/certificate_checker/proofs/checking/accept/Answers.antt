@@ -3,7 +3,7 @@ use Rattle.market_certificate.specs.Tables.{tables_of}
 use Rattle.market_certificate.specs.Views.{publication_of, turn_of}
 use Rattle.published_parts.specs.Markets.{market_of}
 use Rattle.certificate_checker.specs.Certificates.{HoldsBy, IsAccepted, IsTextOf}
-use Rattle.certificate_checker.specs.Views.{crowd_seen}
+use Rattle.demand_api.specs.Views.{data_of}
 use Rattle.certificate_checker.specs.Findings.{IsFirstFinding, OnFound}
 use Rattle.certificate_checker.specs.Words.{IsNamedIn}
 use Rattle.certificate_checker.proofs.Composing.{defect_first, defect_refused, err_found, ok_both, ok_then, text_first}
@@ -39,7 +39,7 @@ returns-in-Ok-clause-holds c =
     ok_both c.accept_publication.result
     (λ accepted same holds. subst
     (λ p. HoldsBy (market_of c.args.catalog.now c.args.roll.now c.args.settings.now) (map (λ stream. stream.items) c.args.streams.now) p
-    (crowd_seen accepted.crowd))
+    (data_of accepted.crowd))
     (sym same) holds)
     c.accept_publication.ensures.same c.accept_publication.ensures.holds
 

@@ -18,7 +18,7 @@ check_printed-requires-clause-terms c =
     (terms_of c.in_ok-terms.terms).crowd)
     c.deref.ensures.value c.in_ok-terms.ensures.crowd in
     can_check (market_of c.args.catalog.now c.args.roll.now c.args.settings.now) _ c.in_ok-terms.terms (publication_of c.args.publication)
-    c.requires.publication after c.in_ok-terms.ensures.terms c.in_ok-terms.ensures.whole c.requires.raise
+    c.requires.publication after c.in_ok-terms.ensures.terms c.requires.raise
 
 pub returns-in_err-terms-clause-first : goal.returns-in_err-terms-clause-first
 returns-in_err-terms-clause-first c =

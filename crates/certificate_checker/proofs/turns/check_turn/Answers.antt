@@ -1,5 +1,6 @@
 use Rattle.std.proofs.Common.{◌≡◌, ◌<◌, ◌≤◌, length, get_or, map, refl, sym, subst, arith}
 use Rattle.market_certificate.specs.Views.{publication_of}
+use Rattle.demand_api.proofs.Parts.{budgets_high, few_sections}
 use Rattle.held_seats.specs.Floors.{AreBelow}
 use Rattle.held_seats.proofs.Holding.{below_more}
 use Rattle.certificate_checker.specs.Turns.{held_before}
@@ -54,7 +55,7 @@ index-requires c =
     let inside : c.index-turn.result.now.student.0 < length c.args.terms.now.crowd.menus.items =
     who _ _ _ _ _ _ (at (goal.at.index-requires c).After-index-turn) in
     let same = c.from-student.ensures in
-    let drawn = c.requires.terms.whole.same in
+    let drawn = c.args.terms.now.crowd.same in
     omega arith
 
 pub raised-budget-requires-clause-budget : goal.raised-budget-requires-clause-budget
@@ -62,8 +63,8 @@ raised-budget-requires-clause-budget c =
     let inside : c.index-turn.result.now.student.0 < length c.args.terms.now.crowd.menus.items =
     who _ _ _ _ _ _ (at (goal.at.raised-budget-requires-clause-budget c).After-index-turn) in
     let same = c.from-student.ensures in
-    let drawn = c.requires.terms.whole.same in
-    subst (λ budget. budget.0 ≤ 1000000) (sym c.index.ensures) (c.requires.terms.whole.high c.from-student.result c.index.result.now (omega arith))
+    let drawn = c.args.terms.now.crowd.same in
+    subst (λ budget. budget.0 ≤ 1000000) (sym c.index.ensures) (budgets_high c.args.terms.now.crowd c.from-student.result c.index.result.now (omega arith))
 
 pub is_affordable-requires : goal.is_affordable-requires
 is_affordable-requires c =
@@ -92,12 +93,12 @@ choices-choices-requires-clause-place c =
 pub choices-choices-requires-clause-below : goal.choices-choices-requires-clause-below
 choices-choices-requires-clause-below c =
     subst (AreBelow 400) (sym c.requires.held)
-    (below_more c.args.terms.now.crowd.sections 400 (held_before (publication_of c.args.publication.now) c.args.place) c.requires.terms.whole.sections_few
+    (below_more c.args.terms.now.crowd.sections 400 (held_before (publication_of c.args.publication.now) c.args.place) (few_sections c.args.terms.now.crowd)
     (before_below c.args.terms.now c.args.publication.now c.args.place c.requires.terms))
 
 pub is_offered-requires : goal.is_offered-requires
 is_offered-requires c =
-    let few = c.requires.terms.whole.sections_few in
+    let few = few_sections c.args.terms.now.crowd in
     λ k d low. (let small = fits _ _ _ _ _ _ (at (goal.at.is_offered-requires c).After-index-turn) k d low in omega arith)
 
 pub returns-then-not-is_offered-clause-wrong : goal.returns-then-not-is_offered-clause-wrong

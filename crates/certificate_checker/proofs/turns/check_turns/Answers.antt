@@ -1,11 +1,11 @@
-use Rattle.std.proofs.Common.{ℕ, ◌≡◌, ◌≢◌, ◌<◌, ◌∙◌, true, false, nat_eq, below_more, length, map, ap, sym, arith}
+use Rattle.std.proofs.Common.{ℕ, ◌≡◌, ◌≢◌, ◌<◌, ◌≤◌, ◌∙◌, true, false, nat_eq, below_more, length, map, ap, sym, arith, rules}
 use Rattle.std.specs.Vec.{vec_len}
 use Rattle.std.proofs.lemmas.Bool.Decides.{nat_tests}
 use Rattle.market_units.specs.declared.units.StudentNo.{StudentNo}
 use Rattle.budget_draw.specs.AfterOrder.{after_order_of}
 use Rattle.budget_draw.specs.Budgets.{amounts}
 use Rattle.market_certificate.specs.Views.{publication_of, turn_of}
-use Rattle.demand_api.proofs.Takers.{students_length}
+use Rattle.demand_api.proofs.Parts.{menus_few, students_length}
 use Rattle.certificate_checker.specs.Turns.{order_in}
 use Rattle.certificate_checker.specs.Views.{terms_of}
 use Rattle.certificate_checker.proofs.Reading.{fewer, length_map}
@@ -19,6 +19,12 @@ is_zero n e = grind (arith, nat_tests)
 not_zero : (n : ℕ) → nat_eq n 0 ≡ false → n ≢ 0
 not_zero n e = grind (arith, nat_tests)
 
+pub after_order-requires : goal.after_order-requires
+after_order-requires c =
+    let few : length c.args.terms.now.crowd.menus.items ≤ 2000 = menus_few c.args.terms.now.crowd in
+    let same : length c.args.terms.now.crowd.budgets.items ≡ length c.args.terms.now.crowd.menus.items = c.args.terms.now.crowd.same in
+    search rules
+
 pub turns-init : goal.turns-init
 turns-init c = record {
   right = λ n low. absurd (omega arith);
@@ -31,7 +37,7 @@ pub take_turn-requires-clause-order : goal.take_turn-requires-clause-order
 take_turn-requires-clause-order c =
     ap (map (λ (student : StudentNo). student.0)) c.deref-in-turns.ensures.value ∙ c.in_ok-order.ensures.value
     ∙ ap after_order_of
-    (ap amounts c.deref.ensures.value ∙ sym (budgets_are c.args.terms.now.crowd.menus.items c.args.terms.now.crowd.budgets.items c.requires.terms.whole.same))
+    (ap amounts c.deref.ensures.value ∙ sym (budgets_are c.args.terms.now.crowd.menus.items c.args.terms.now.crowd.budgets.items c.args.terms.now.crowd.same))
 
 pub turns-preserved : goal.turns-preserved
 turns-preserved c = record {
@@ -47,10 +53,10 @@ returns-then-is_empty-clause-ok c =
     c.in_ok-order.ensures.value
     ∙ ap after_order_of
     (ap amounts c.deref.ensures.value
-    ∙ sym (budgets_are c.args.terms.now.crowd.menus.items c.args.terms.now.crowd.budgets.items c.requires.terms.whole.same)) in
+    ∙ sym (budgets_are c.args.terms.now.crowd.menus.items c.args.terms.now.crowd.budgets.items c.args.terms.now.crowd.same)) in
     let long : length c.in_ok-order.order.items ≡ length c.args.terms.now.crowd.menus.items =
-    order_is_long c.args.terms.now c.args.publication.now c.in_ok-order.order.items c.requires.terms order in
-    let students = students_length c.args.terms.now.crowd.menus.items c.args.terms.now.crowd.budgets.items c.requires.terms.whole.same in
+    order_is_long c.args.terms.now c.in_ok-order.order.items order in
+    let students = students_length c.args.terms.now.crowd in
     let turns = length_map turn_of c.args.publication.now.turns.items in
     let empty : vec_len c.in_ok-order.order ≡ 0 = is_zero (vec_len c.in_ok-order.order) (sym c.is_empty.ensures ∙ c.if-is_empty.true) in
     ((c.requires.before, fewer _ c.turns.place _ (omega arith) c.turns.invariant.right), λ some. absurd (omega arith))
@@ -69,9 +75,9 @@ returns-clause-first c =
     c.in_ok-order.ensures.value
     ∙ ap after_order_of
     (ap amounts c.deref.ensures.value
-    ∙ sym (budgets_are c.args.terms.now.crowd.menus.items c.args.terms.now.crowd.budgets.items c.requires.terms.whole.same)) in
+    ∙ sym (budgets_are c.args.terms.now.crowd.menus.items c.args.terms.now.crowd.budgets.items c.args.terms.now.crowd.same)) in
     let long : length c.in_ok-order.order.items ≡ length c.args.terms.now.crowd.menus.items =
-    order_is_long c.args.terms.now c.args.publication.now c.in_ok-order.order.items c.requires.terms order in
+    order_is_long c.args.terms.now c.in_ok-order.order.items order in
     let turns = length_map turn_of c.args.publication.now.turns.items in
     let at : c.turns.place ≡ length c.args.publication.now.turns.items = omega arith in
     let full : vec_len c.in_ok-order.order ≢ 0 = not_zero (vec_len c.in_ok-order.order) (sym c.is_empty.ensures ∙ c.if-is_empty.false) in

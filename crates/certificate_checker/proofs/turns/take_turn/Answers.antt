@@ -5,6 +5,7 @@ use Rattle.bundle_rules.specs.Bundles.{sections_of}
 use Rattle.held_seats.specs.Floors.{AreBelow, held_on}
 use Rattle.market_certificate.specs.Publications.{ProvedTurn}
 use Rattle.market_certificate.specs.Views.{publication_of, turn_of}
+use Rattle.demand_api.proofs.Parts.{menus_few}
 use Rattle.certificate_checker.specs.Parts.{IsProgress}
 use Rattle.certificate_checker.specs.Turns.{turn_in}
 use Rattle.certificate_checker.proofs.Reading.{length_map, so_of_has}
@@ -22,7 +23,7 @@ give-moved-requires-clause-place c =
 pub give-moved-requires-clause-few : goal.give-moved-requires-clause-few
 give-moved-requires-clause-few c =
     let long = before_length c.args.terms.now c.args.publication.now c.args.place c.requires.terms in
-    let few = c.requires.terms.whole.few in
+    let few = menus_few c.args.terms.now.crowd in
     subst (λ held. length held ≤ 2000) (sym c.requires.held) (omega arith)
 
 pub give-moved-requires-clause-below : goal.give-moved-requires-clause-below
@@ -48,7 +49,7 @@ pub returns-clause-progress : goal.returns-clause-progress
 returns-clause-progress c =
     let p = publication_of c.args.publication.now in
     let n : length c.args.order.now ≡ length c.args.terms.now.crowd.menus.items =
-    order_is_long c.args.terms.now c.args.publication.now c.args.order.now c.requires.terms c.requires.order in
+    order_is_long c.args.terms.now c.args.order.now c.requires.order in
     let turn : turn_in p c.args.place ≡ turn_of c.index-turn.result.now =
     turn_is c.args.publication.now c.args.place c.index-turn.result.now c.requires.place c.index-turn.ensures in
     let who : c.from.result ≡ (turn_in p c.args.place).student = c.from.ensures ∙ ap (λ (t : ProvedTurn). t.student) (sym turn) in

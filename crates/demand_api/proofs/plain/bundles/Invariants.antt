@@ -2,11 +2,11 @@ use Rattle.std.proofs.Common.{◌≡◌, take, map}
 use Rattle.bundle_rules.specs.Bundles.{sections_of}
 use Rattle.bundle_rules.specs.Demand.{price_in}
 use Rattle.demand_api.specs.Crowds.{demand_of}
-use Rattle.demand_api.specs.Made.{crowd_of}
+use Rattle.demand_api.specs.Views.{data_of}
 use Rattle.demand_api.proofs.plain.bundles.Given as goal
 
 abbrev pub invariant-loop-student : goal.invariant-loop-student
 invariant-loop-student l =
     map sections_of l.bundles.items
-    ≡ map (λ student. demand_of (crowd_of l.crowd.menus.items l.crowd.budgets.items l.crowd.sections) (price_in l.prices) student.0)
+    ≡ map (λ student. demand_of (data_of l.crowd) (price_in l.prices) student.0)
     (take l.student-index l.students)

@@ -6,11 +6,11 @@ use Rattle.demand_api.proofs.plain.demand.Goals as goal
 
 pub best_plain-requires : goal.best_plain-requires
 best_plain-requires c =
-    priced_at c.args.crowd.now.menus.items c.args.crowd.now.budgets.items c.args.crowd.now.sections c.args.prices.now c.args.place c.index.result.now
-    c.requires.crowd c.requires.prices c.requires.range c.index.ensures
+    priced_at c.args.crowd.now c.args.prices.now c.args.place c.index.result.now
+    c.requires.prices c.requires.range c.index.ensures
 
 pub returns : goal.returns
 returns c =
-    found_demand c.args.crowd.now.menus.items c.args.crowd.now.budgets.items c.args.crowd.now.sections (price_in c.args.prices.now) c.args.place
+    found_demand c.args.crowd.now (price_in c.args.prices.now) c.args.place
     c.index.result.now _ (set.contains c.args.allowed.now) (sections_of c.best_plain.result)
-    c.requires.crowd.same c.requires.range c.index.ensures c.index-2.ensures c.requires.allowed c.best_plain.ensures
+    c.requires.range c.index.ensures c.index-2.ensures c.requires.allowed c.best_plain.ensures

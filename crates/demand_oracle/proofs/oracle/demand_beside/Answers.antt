@@ -1,6 +1,6 @@
 use Rattle.std.proofs.Common.{sym, subst, ◌∙◌}
 use Rattle.std.proofs.lemmas.Bool.{true≢false}
-use Rattle.bundle_rules.specs.Sets.{has}
+use Rattle.market_units.specs.Members.{has}
 use Rattle.bundle_rules.specs.Bundles.{sections_of}
 use Rattle.bundle_bounds.specs.Offers.{offer_of}
 use Rattle.demand_oracle.specs.Search.{LeadsWanted}

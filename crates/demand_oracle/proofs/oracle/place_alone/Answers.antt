@@ -16,8 +16,8 @@ returns-then-place-len-clause-none c some =
     place_of_rated c.args.menu.now some.0 some.1.feasible.rated c.args.section.0 some.2 in
     omega (arith, c.if-place-len.true, c.place-place.ensures.value, c.len.ensures.value)
 
-pub may_take-requires-clause-branch : goal.may_take-requires-clause-branch
-may_take-requires-clause-branch c = c.root.ensures.branch c.args.menu.now (price_in c.args.prices.now)
+pub may_take-requires-clause-summed : goal.may_take-requires-clause-summed
+may_take-requires-clause-summed c = c.root.ensures.summed c.args.menu.now (price_in c.args.prices.now)
 
 pub returns-then-not-may_take-clause-none : goal.returns-then-not-may_take-clause-none
 returns-then-not-may_take-clause-none c some =

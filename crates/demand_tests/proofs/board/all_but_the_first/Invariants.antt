@@ -1,5 +1,6 @@
 use Rattle.std.proofs.Common.{◌≡◌, ◌+◌}
-use Rattle.price_board.specs.Seats.{IsFree, posts}
+use Rattle.price_board.specs.Seats.{IsFree}
+use Rattle.task_board.specs.Seats.{posts}
 use Rattle.demand_tests.proofs.board.all_but_the_first.Given as goal
 
 -- each student from 1 on is posted

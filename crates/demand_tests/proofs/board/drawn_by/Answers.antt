@@ -5,6 +5,5 @@ use Rattle.demand_tests.proofs.board.drawn_by.Goals as goal
 pub post_for-requires-clause-student : goal.post_for-requires-clause-student
 post_for-requires-clause-student g c =
     subst (λ (n : ℕ). c.in-Task.task.student.0 < n)
-    (students_are c.args.board.now.base c.args.crowd.now.menus.items c.args.crowd.now.budgets.items c.args.crowd.now.sections c.requires.base
-    c.requires.crowd.same)
-    (c.in-Task.ensures.turn c.loop-task.invariant.free).only.student_below
+    (students_are c.args.board.now.base c.args.crowd.now c.requires.base)
+    c.in-Task.ensures.within.1

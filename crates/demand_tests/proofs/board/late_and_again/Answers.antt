@@ -5,5 +5,5 @@ use Rattle.demand_tests.proofs.board.late_and_again.Goals as goal
 pub post_for-again-requires-clause-post_left : goal.post_for-again-requires-clause-post_left
 post_for-again-requires-clause-post_left g c =
     below_four _ _ c.all_but_the_first.ensures.posts
-    (four_tasks c.args.board.now.base c.args.crowd.now.menus.items c.args.crowd.now.budgets.items c.args.crowd.now.sections (record { 0 = 0 } ∷ [])
-    c.requires.base c.requires.crowd.same c.requires.students c.requires.versions)
+    (four_tasks c.args.board.now.base c.args.crowd.now (record { 0 = 0 } ∷ [])
+    c.requires.base c.requires.students c.requires.versions)

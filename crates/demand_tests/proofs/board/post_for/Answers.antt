@@ -1,5 +1,5 @@
 use Rattle.std.proofs.Common.{ℕ, ◌≡◌, ◌<◌, ◌∙◌, sym, subst, arith}
-use Rattle.demand_api.specs.Made.{crowd_of}
+use Rattle.demand_api.specs.Views.{data_of}
 use Rattle.price_board.specs.Terms.{version_count}
 use Rattle.demand_tests.proofs.BoardRounds.{one_version, demand_there, students_are}
 use Rattle.demand_tests.proofs.board.post_for.Goals as goal
@@ -14,8 +14,7 @@ pub post-requires-clause-student : goal.post-requires-clause-student
 post-requires-clause-student g c =
     subst (λ n. c.args.student.0 < n)
     (sym
-    (students_are c.args.board.now.base c.args.crowd.now.menus.items c.args.crowd.now.budgets.items c.args.crowd.now.sections c.requires.base
-    c.requires.crowd.same))
+    (students_are c.args.board.now.base c.args.crowd.now c.requires.base))
     c.requires.student
 
 pub post-requires-clause-bundle : goal.post-requires-clause-bundle
@@ -24,5 +23,5 @@ post-requires-clause-bundle g c =
     let h : n ≡ 1 = one_version c.args.board.now.base c.args.prices.now c.requires.versions in
     let low : 0 < n = omega arith in
     c.taken-bundle.ensures
-    ∙ demand_there c.args.board.now.base (crowd_of c.args.crowd.now.menus.items c.args.crowd.now.budgets.items c.args.crowd.now.sections) c.args.prices.now
+    ∙ demand_there c.args.board.now.base (data_of c.args.crowd.now) c.args.prices.now
     0 c.args.student.0 c.requires.base c.requires.versions low

@@ -7,7 +7,7 @@ use Rattle.demand_tests.proofs.board.settle.Goals as goal
 pub start-requires-clause-round : goal.start-requires-clause-round
 start-requires-clause-round g c =
     c.in_ok-round.ensures.round (arc_value c.in_ok-crowd.crowd)
-    (ap (λ (crowd : Crowd). crowd.sections) c.in_ok-crowd.ensures.ok ∙ c.in_ok-four_students.ensures.sections)
+    (ap (λ (crowd : Crowd). crowd.sections) c.in_ok-crowd.ensures.ok ∙ c.rivals.ensures.sections)
 
 pub drawn_by-requires-clause-free : goal.drawn_by-requires-clause-free
 drawn_by-requires-clause-free g c =

@@ -1,7 +1,8 @@
 use Rattle.std.proofs.Common.{rules, ◌∙◌, List, [], ◌∷◌, Vec, Global, ap, sym, subst}
 use Rattle.market_units.specs.declared.units.Tokens.{Tokens}
 use Rattle.demand_api.specs.Crowds.{CrowdData}
-use Rattle.demand_workers.specs.Rounds.{data_of, AreVersionsFor}
+use Rattle.demand_api.specs.Views.{data_of}
+use Rattle.demand_workers.specs.Rounds.{AreVersionsFor}
 use Rattle.demand_tests.proofs.workers.counts_by.Goals as goal
 
 pub counts-requires-clause-prices : goal.counts-requires-clause-prices

@@ -1,4 +1,4 @@
-use Rattle.market_certificate.specs.Tables.{section_names}
+use Rattle.course_catalog.specs.Sections.{section_names}
 use Rattle.market_certificate.specs.Texts.{each_line, error_line, order_line}
 use Rattle.student_roll.specs.Students.{names_of}
 use Rattle.preference_desk.specs.Journals.{sessions_of}

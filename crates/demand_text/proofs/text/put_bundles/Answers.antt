@@ -1,7 +1,7 @@
 use Rattle.std.proofs.Common.{ℕ, ◌<◌, List, length, arith}
 use Rattle.std.specs.Prelude.{All}
 use Rattle.bundle_rules.specs.Bundles.{sections_of}
-use Rattle.market_certificate.specs.Tables.{section_names}
+use Rattle.course_catalog.specs.Sections.{section_names}
 use Rattle.market_certificate.proofs.Joins.{value_each}
 use Rattle.market_units.specs.Name.{name_bytes}
 use Rattle.demand_text.proofs.LineTexts.{bundle_at, student_more}

@@ -1,6 +1,6 @@
 use Rattle.std.proofs.Common.{◌≡◌, ◌++◌, take}
 use Rattle.market_certificate.specs.Lines.{joined}
-use Rattle.market_certificate.specs.Tables.{section_names}
+use Rattle.course_catalog.specs.Sections.{section_names}
 use Rattle.market_certificate.specs.Texts.{each_line}
 use Rattle.demand_text.specs.Texts.{count_line}
 use Rattle.demand_text.proofs.text.put_counts.Given as goal

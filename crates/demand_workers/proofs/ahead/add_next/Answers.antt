@@ -5,7 +5,7 @@ use Rattle.demand_api.specs.Asking.{ArePricesFor}
 use Rattle.demand_workers.specs.declared.questions.Question.{Question}
 use Rattle.demand_workers.specs.Leaving.{leaves}
 use Rattle.demand_workers.specs.Questions.{IsQuestion}
-use Rattle.demand_workers.specs.Rounds.{data_of}
+use Rattle.demand_api.specs.Views.{data_of}
 use Rattle.demand_workers.proofs.HoldersLeave.{raised_prices}
 use Rattle.demand_workers.proofs.Listing.{first_listed, rest_listed}
 use Rattle.demand_workers.proofs.ahead.add_next.Goals as goal

@@ -1,7 +1,7 @@
 use Rattle.std.proofs.Common.{ℕ, ◌<◌, length, heap_items, sym, subst}
 use Rattle.std.proofs.lemmas.List.Elements.{All-push}
 use Rattle.demand_workers.specs.Questions.{IsAnswered, AreAnswered}
-use Rattle.demand_workers.specs.Rounds.{data_of}
+use Rattle.demand_api.specs.Views.{data_of}
 use Rattle.demand_workers.proofs.Listing.{more_listed}
 use Rattle.demand_workers.proofs.ahead.take_answer.Goals as goal
 

@@ -1,6 +1,6 @@
 use Rattle.std.proofs.Common.{All}
 use Rattle.demand_workers.specs.Questions.{IsQuestion, AreAnswered}
-use Rattle.demand_workers.specs.Rounds.{data_of}
+use Rattle.demand_api.specs.Views.{data_of}
 use Rattle.demand_workers.specs.Walks.{IsForeseen}
 use Rattle.demand_workers.proofs.ahead.take_own.Given as goal
 

@@ -1,7 +1,7 @@
 use Rattle.std.proofs.Common.{rules, All, heap_items, sym, subst}
 use Rattle.std.proofs.lemmas.List.Elements.{All-nil, All-push}
 use Rattle.demand_workers.specs.Questions.{IsAnswered, AreAnswered}
-use Rattle.demand_workers.specs.Rounds.{data_of}
+use Rattle.demand_api.specs.Views.{data_of}
 use Rattle.demand_workers.specs.Walks.{IsForeseen}
 use Rattle.demand_workers.proofs.Listing.{listed_left}
 use Rattle.demand_workers.proofs.ahead.walks_of.Goals as goal
@@ -14,5 +14,5 @@ loop-section-preserved c =
     record {
       walks = subst (All (IsForeseen crowd)) (sym c.in_ok-push.ensures.items)
           (All-push (IsForeseen crowd) c.loop-section.walks.items _ c.loop-section.invariant.walks
-          (record { within = (search rules); listed = listed_left crowd _ _ _ (heap_items c.in_ok-holders.holders) c.requires.crowd.same c.in_ok-holders.ensures.left; told = told }));
+          (record { within = (search rules); listed = listed_left crowd _ _ _ (heap_items c.in_ok-holders.holders) c.in_ok-holders.ensures.left; told = told }));
     }

@@ -1,6 +1,6 @@
 use Rattle.std.proofs.Common.{◌≡◌, Vec, Global, length, slice_index_or}
 use Rattle.market_units.specs.declared.units.Tokens.{Tokens}
-use Rattle.demand_workers.specs.Rounds.{data_of}
+use Rattle.demand_api.specs.Views.{data_of}
 use Rattle.demand_workers.proofs.Surveying.{AreWritten}
 use Rattle.demand_workers.proofs.batch.bundles_at.Given as goal
 

@@ -3,24 +3,24 @@ use Rattle.market_units.specs.Totals.{total}
 use Rattle.bundle_rules.specs.Bundles.{sections_of}
 use Rattle.bundle_rules.specs.Demand.{price_in}
 use Rattle.demand_workers.specs.Leaving.{leaves, takes}
-use Rattle.demand_workers.specs.Rounds.{data_of}
+use Rattle.demand_api.specs.Views.{data_of}
 use Rattle.demand_workers.proofs.HoldersLeave.{HolderTold, holder_told}
 use Rattle.demand_workers.proofs.Recalling.{taken_priced}
 use Rattle.demand_workers.proofs.leaving.holder_of.Goals as goal
 
 pub price_of-cost-requires-clause-priced : goal.price_of-cost-requires-clause-priced
 price_of-cost-requires-clause-priced c =
-    taken_priced c.args.crowd.now.menus.items c.args.crowd.now.budgets.items c.args.crowd.now.sections c.args.prices.now (price_in c.args.prices.now)
-    c.args.student.0 c.sections.result.now (sections_of c.args.bundle.now) c.requires.crowd c.requires.prices
+    taken_priced c.args.crowd.now c.args.prices.now (price_in c.args.prices.now)
+    c.args.student.0 c.sections.result.now (sections_of c.args.bundle.now) c.requires.prices
     c.sections.ensures.value c.requires.taken
 
 pub overflow_sub-left : goal.overflow_sub-left
 overflow_sub-left c =
     let told : HolderTold (data_of c.args.crowd.now) c.args.prices.now c.args.section.0 c.args.student.0 c.args.section.0 c.price_of-cost.result
     c.index.result.now.0 =
-    holder_told c.args.crowd.now.menus.items c.args.crowd.now.budgets.items c.args.crowd.now.sections c.args.prices.now c.args.section.0 c.args.student.0
+    holder_told c.args.crowd.now c.args.prices.now c.args.section.0 c.args.student.0
     c.args.section.0 c.price_of-cost.result c.index.result.now (sections_of c.args.bundle.now)
-    c.requires.crowd c.requires.prices c.requires.section c.requires.student
+    c.requires.prices c.requires.section c.requires.student
     (subst (λ (n : ℕ). c.index.result.now ≡ slice_index_or c.args.crowd.now.budgets.items n c.index.result.now) c.from.ensures c.index.ensures)
     c.requires.taken c.requires.holds c.sections.ensures.bundle.ascending
     (c.price_of-cost.ensures.value ∙ ap (total (price_in c.args.prices.now)) c.sections.ensures.value) refl in
@@ -30,9 +30,9 @@ pub overflow_add-last : goal.overflow_add-last
 overflow_add-last c =
     let told : HolderTold (data_of c.args.crowd.now) c.args.prices.now c.args.section.0 c.args.student.0 c.from-2.result c.price_of-cost.result
     c.index.result.now.0 =
-    holder_told c.args.crowd.now.menus.items c.args.crowd.now.budgets.items c.args.crowd.now.sections c.args.prices.now c.args.section.0 c.args.student.0
+    holder_told c.args.crowd.now c.args.prices.now c.args.section.0 c.args.student.0
     c.from-2.result c.price_of-cost.result c.index.result.now (sections_of c.args.bundle.now)
-    c.requires.crowd c.requires.prices c.requires.section c.requires.student
+    c.requires.prices c.requires.section c.requires.student
     (subst (λ (n : ℕ). c.index.result.now ≡ slice_index_or c.args.crowd.now.budgets.items n c.index.result.now) c.from.ensures c.index.ensures)
     c.requires.taken c.requires.holds c.sections.ensures.bundle.ascending
     (c.price_of-cost.ensures.value ∙ ap (total (price_in c.args.prices.now)) c.sections.ensures.value) c.from-2.ensures in
@@ -42,9 +42,9 @@ pub overflow_add-result : goal.overflow_add-result
 overflow_add-result c =
     let told : HolderTold (data_of c.args.crowd.now) c.args.prices.now c.args.section.0 c.args.student.0 c.from-2.result c.price_of-cost.result
     c.index.result.now.0 =
-    holder_told c.args.crowd.now.menus.items c.args.crowd.now.budgets.items c.args.crowd.now.sections c.args.prices.now c.args.section.0 c.args.student.0
+    holder_told c.args.crowd.now c.args.prices.now c.args.section.0 c.args.student.0
     c.from-2.result c.price_of-cost.result c.index.result.now (sections_of c.args.bundle.now)
-    c.requires.crowd c.requires.prices c.requires.section c.requires.student
+    c.requires.prices c.requires.section c.requires.student
     (subst (λ (n : ℕ). c.index.result.now ≡ slice_index_or c.args.crowd.now.budgets.items n c.index.result.now) c.from.ensures c.index.ensures)
     c.requires.taken c.requires.holds c.sections.ensures.bundle.ascending
     (c.price_of-cost.ensures.value ∙ ap (total (price_in c.args.prices.now)) c.sections.ensures.value) c.from-2.ensures in
@@ -54,9 +54,9 @@ pub overflow_sub-result : goal.overflow_sub-result
 overflow_sub-result c =
     let told : HolderTold (data_of c.args.crowd.now) c.args.prices.now c.args.section.0 c.args.student.0 c.from-2.result c.price_of-cost.result
     c.index.result.now.0 =
-    holder_told c.args.crowd.now.menus.items c.args.crowd.now.budgets.items c.args.crowd.now.sections c.args.prices.now c.args.section.0 c.args.student.0
+    holder_told c.args.crowd.now c.args.prices.now c.args.section.0 c.args.student.0
     c.from-2.result c.price_of-cost.result c.index.result.now (sections_of c.args.bundle.now)
-    c.requires.crowd c.requires.prices c.requires.section c.requires.student
+    c.requires.prices c.requires.section c.requires.student
     (subst (λ (n : ℕ). c.index.result.now ≡ slice_index_or c.args.crowd.now.budgets.items n c.index.result.now) c.from.ensures c.index.ensures)
     c.requires.taken c.requires.holds c.sections.ensures.bundle.ascending
     (c.price_of-cost.ensures.value ∙ ap (total (price_in c.args.prices.now)) c.sections.ensures.value) c.from-2.ensures in
@@ -66,9 +66,9 @@ pub returns-clause-later : goal.returns-clause-later
 returns-clause-later c =
     let told : HolderTold (data_of c.args.crowd.now) c.args.prices.now c.args.section.0 c.args.student.0 c.from-2.result c.price_of-cost.result
     c.index.result.now.0 =
-    holder_told c.args.crowd.now.menus.items c.args.crowd.now.budgets.items c.args.crowd.now.sections c.args.prices.now c.args.section.0 c.args.student.0
+    holder_told c.args.crowd.now c.args.prices.now c.args.section.0 c.args.student.0
     c.from-2.result c.price_of-cost.result c.index.result.now (sections_of c.args.bundle.now)
-    c.requires.crowd c.requires.prices c.requires.section c.requires.student
+    c.requires.prices c.requires.section c.requires.student
     (subst (λ (n : ℕ). c.index.result.now ≡ slice_index_or c.args.crowd.now.budgets.items n c.index.result.now) c.from.ensures c.index.ensures)
     c.requires.taken c.requires.holds c.sections.ensures.bundle.ascending
     (c.price_of-cost.ensures.value ∙ ap (total (price_in c.args.prices.now)) c.sections.ensures.value) c.from-2.ensures in
@@ -78,9 +78,9 @@ pub returns-clause-capped : goal.returns-clause-capped
 returns-clause-capped c =
     let told : HolderTold (data_of c.args.crowd.now) c.args.prices.now c.args.section.0 c.args.student.0 c.from-2.result c.price_of-cost.result
     c.index.result.now.0 =
-    holder_told c.args.crowd.now.menus.items c.args.crowd.now.budgets.items c.args.crowd.now.sections c.args.prices.now c.args.section.0 c.args.student.0
+    holder_told c.args.crowd.now c.args.prices.now c.args.section.0 c.args.student.0
     c.from-2.result c.price_of-cost.result c.index.result.now (sections_of c.args.bundle.now)
-    c.requires.crowd c.requires.prices c.requires.section c.requires.student
+    c.requires.prices c.requires.section c.requires.student
     (subst (λ (n : ℕ). c.index.result.now ≡ slice_index_or c.args.crowd.now.budgets.items n c.index.result.now) c.from.ensures c.index.ensures)
     c.requires.taken c.requires.holds c.sections.ensures.bundle.ascending
     (c.price_of-cost.ensures.value ∙ ap (total (price_in c.args.prices.now)) c.sections.ensures.value) c.from-2.ensures in
@@ -90,9 +90,9 @@ pub returns-clause-still : goal.returns-clause-still
 returns-clause-still c =
     let told : HolderTold (data_of c.args.crowd.now) c.args.prices.now c.args.section.0 c.args.student.0 c.from-2.result c.price_of-cost.result
     c.index.result.now.0 =
-    holder_told c.args.crowd.now.menus.items c.args.crowd.now.budgets.items c.args.crowd.now.sections c.args.prices.now c.args.section.0 c.args.student.0
+    holder_told c.args.crowd.now c.args.prices.now c.args.section.0 c.args.student.0
     c.from-2.result c.price_of-cost.result c.index.result.now (sections_of c.args.bundle.now)
-    c.requires.crowd c.requires.prices c.requires.section c.requires.student
+    c.requires.prices c.requires.section c.requires.student
     (subst (λ (n : ℕ). c.index.result.now ≡ slice_index_or c.args.crowd.now.budgets.items n c.index.result.now) c.from.ensures c.index.ensures)
     c.requires.taken c.requires.holds c.sections.ensures.bundle.ascending
     (c.price_of-cost.ensures.value ∙ ap (total (price_in c.args.prices.now)) c.sections.ensures.value) c.from-2.ensures in

@@ -1,10 +1,10 @@
 use Rattle.std.proofs.Common.{rules, ◌≡◌, ◌<◌, ◌≤◌, ◌∙◌, ℕ, false, length, heap_items, ap, sym, arith}
 use Rattle.bundle_rules.specs.Bundles.{sections_of}
 use Rattle.bundle_rules.specs.Demand.{price_in}
-use Rattle.bundle_rules.specs.Sets.{has}
+use Rattle.market_units.specs.Members.{has}
 use Rattle.demand_api.specs.Crowds.{demand_of}
-use Rattle.demand_api.proofs.Takers.{students_length}
-use Rattle.demand_workers.specs.Rounds.{data_of}
+use Rattle.demand_api.proofs.Parts.{menus_few, students_length}
+use Rattle.demand_api.specs.Views.{data_of}
 use Rattle.demand_workers.proofs.HoldersLeave.{first_skip, first_more, first_all, keeps_now}
 use Rattle.demand_workers.proofs.leaving.holders_of.Goals as goal
 
@@ -45,4 +45,7 @@ returns-clause-left c =
     let below : place ≤ length c.args.crowd.now.menus.items = search rules in
     let end : place ≡ length c.args.crowd.now.menus.items = omega arith in
     first_all (data_of c.args.crowd.now) (price_in c.args.remembered.now.prices.items) c.args.section.0 c.loop-place.place (heap_items c.loop-place.holders)
-    (end ∙ sym (students_length c.args.crowd.now.menus.items c.args.crowd.now.budgets.items c.requires.crowd.same)) c.loop-place.invariant.first
+    (end ∙ sym (students_length c.args.crowd.now)) c.loop-place.invariant.first
+
+pub overflow_cast-student : goal.overflow_cast-student
+overflow_cast-student c = let few : length c.args.crowd.now.menus.items ≤ 2000 = menus_few c.args.crowd.now in search rules

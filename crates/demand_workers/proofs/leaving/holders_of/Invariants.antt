@@ -2,7 +2,7 @@ use Rattle.std.proofs.Common.{heap_items, nat_cmp}
 use Rattle.std.specs.BinaryHeap.{IsHeap}
 use Rattle.std.specs.Ordering.{ordering_then}
 use Rattle.bundle_rules.specs.Demand.{price_in}
-use Rattle.demand_workers.specs.Rounds.{data_of}
+use Rattle.demand_api.specs.Views.{data_of}
 use Rattle.demand_workers.proofs.HoldersLeave.{AreFirst}
 use Rattle.demand_workers.proofs.leaving.holders_of.Given as goal
 

@@ -2,7 +2,7 @@ use Rattle.std.proofs.Common.{rules, ◌∙◌}
 use Rattle.bundle_rules.specs.Demand.{price_in}
 use Rattle.demand_api.proofs.Pairs.{least_more}
 use Rattle.demand_api.proofs.Takers.{lent_back}
-use Rattle.demand_workers.specs.Rounds.{data_of}
+use Rattle.demand_api.specs.Views.{data_of}
 use Rattle.demand_workers.proofs.leaving.least_for_each.Goals as goal
 
 pub loop-place-preserved : goal.loop-place-preserved

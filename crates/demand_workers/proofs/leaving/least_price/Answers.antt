@@ -5,9 +5,9 @@ use Rattle.bundle_rules.specs.Bundles.{sections_of}
 use Rattle.bundle_rules.specs.Demand.{price_in}
 use Rattle.demand_api.specs.Crowds.{count, demand_of}
 use Rattle.demand_api.specs.Prices.{with_price}
-use Rattle.demand_api.proofs.Takers.{students_length}
+use Rattle.demand_api.proofs.Parts.{students_length}
 use Rattle.demand_workers.specs.Leaving.{leaves}
-use Rattle.demand_workers.specs.Rounds.{data_of}
+use Rattle.demand_api.specs.Views.{data_of}
 use Rattle.demand_workers.proofs.HoldersLeave.{first_keeps, first_student, many_below, has_left, has_stayed, less_left, less_stayed, least_found, written_twice, put_back, trial_there, asked_there, keeps_asked, leaves_later}
 use Rattle.demand_workers.proofs.Noting.{noted_more}
 use Rattle.demand_workers.proofs.leaving.least_price.Goals as goal
@@ -19,7 +19,7 @@ answered_or_asked-bundle-requires-clause-student c =
     let s : ℕ = c.args.section.0 in
     let first = c.in-Some.first in
     let greatest_first = first_le_from_greatest nat_cmp c.in-Some.first (heap_items c.pop.new.self) (c.in-Some.ensures.below_top c.loop-least.invariant.heap) in
-    subst (λ (n : ℕ). c.in-Some.first.1 < n) (students_length c.args.crowd.now.menus.items c.args.crowd.now.budgets.items c.requires.crowd.same)
+    subst (λ (n : ℕ). c.in-Some.first.1 < n) (students_length c.args.crowd.now)
     (first_student crowd (price_in prices) c.args.section.0 c.loop-least.least.0 (heap_items c.loop-least.holders) (heap_items c.pop.new.self)
     c.in-Some.first c.loop-least.invariant.left c.in-Some.ensures.permutation greatest_first)
 
@@ -30,7 +30,7 @@ holder_of-holder-requires-clause-student c =
     let s : ℕ = c.args.section.0 in
     let first = c.in-Some.first in
     let greatest_first = first_le_from_greatest nat_cmp c.in-Some.first (heap_items c.pop.new.self) (c.in-Some.ensures.below_top c.loop-least.invariant.heap) in
-    subst (λ (n : ℕ). c.in-Some.first.1 < n) (students_length c.args.crowd.now.menus.items c.args.crowd.now.budgets.items c.requires.crowd.same)
+    subst (λ (n : ℕ). c.in-Some.first.1 < n) (students_length c.args.crowd.now)
     (first_student crowd (price_in prices) c.args.section.0 c.loop-least.least.0 (heap_items c.loop-least.holders) (heap_items c.pop.new.self)
     c.in-Some.first c.loop-least.invariant.left c.in-Some.ensures.permutation greatest_first)
 

@@ -6,7 +6,7 @@ use Rattle.demand_api.specs.Crowds.{count, top}
 use Rattle.demand_api.specs.Prices.{with_price}
 use Rattle.demand_workers.specs.Leaving.{AreLeft}
 use Rattle.demand_workers.specs.Notes.{AreNoted}
-use Rattle.demand_workers.specs.Rounds.{data_of}
+use Rattle.demand_api.specs.Views.{data_of}
 use Rattle.demand_workers.proofs.HoldersLeave.{room_of}
 use Rattle.demand_workers.proofs.leaving.least_price.Given as goal
 

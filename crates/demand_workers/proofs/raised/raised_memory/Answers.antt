@@ -1,13 +1,14 @@
-use Rattle.std.proofs.Common.{rules, ◌≡◌, ◌<◌, ◌∙◌, ℕ, List, false, length, slice_set, ap, sym, subst, arith, inl, inr}
+use Rattle.std.proofs.Common.{rules, ◌≡◌, ◌<◌, ◌∙◌, ℕ, List, false, length, slice_set, ap, sym, subst, arith, inl, inr, ◌≤◌}
 use Rattle.std.proofs.lemmas.Bool.{cases_order}
 use Rattle.market_units.specs.declared.units.Tokens.{Tokens}
 use Rattle.bundle_rules.specs.Bundles.{sections_of}
 use Rattle.bundle_rules.specs.Demand.{price_in}
-use Rattle.bundle_rules.specs.Sets.{has}
+use Rattle.market_units.specs.Members.{has}
 use Rattle.demand_api.specs.Crowds.{demand_of}
 use Rattle.demand_api.proofs.Halving.{price_written}
+use Rattle.demand_api.proofs.Parts.{menus_few}
 use Rattle.demand_workers.specs.Notes.{AreNoted}
-use Rattle.demand_workers.specs.Rounds.{data_of}
+use Rattle.demand_api.specs.Views.{data_of}
 use Rattle.demand_workers.proofs.Noting.{noted_raised, item_there, lacking_stays}
 use Rattle.demand_workers.proofs.raised.raised_memory.Goals as goal
 
@@ -45,8 +46,8 @@ loop-place-preserved-then-not-has c =
     ap sections_of (c.index.ensures ∙ c.loop-place.invariant.rest c.loop-place.place c.index.result.now (omega arith))
     ∙ c.requires.remembered.taken c.loop-place.place c.index.result.now end in
     let stays =
-    lacking_stays crowd.menus.items crowd.budgets.items crowd.sections prices _ c.args.section.0 c.loop-place.place c.args.walk.now.least
-    (sections_of c.index.result.now) c.requires.crowd.same low there c.requires.low written lacks held in
+    lacking_stays crowd prices _ c.args.section.0 c.loop-place.place c.args.walk.now.least
+    (sections_of c.index.result.now) low there c.requires.low written lacks held in
     let many : place < length c.loop-place.bundles.items = subst (λ (n : ℕ). c.loop-place.place < n) (sym c.loop-place.invariant.len) end in
     record {
       len = c.loop-place.invariant.len;
@@ -57,3 +58,6 @@ loop-place-preserved-then-not-has c =
         | inr (inr more) ↦ absurd (omega (arith, below, more))
       ];
     }
+
+pub overflow_cast-student : goal.overflow_cast-student
+overflow_cast-student c = let few : length c.args.crowd.now.menus.items ≤ 2000 = menus_few c.args.crowd.now in search rules

@@ -9,5 +9,5 @@ pub start-requires-clause-round : goal.start-requires-clause-round
 start-requires-clause-round g c =
     let crowd = arc_value c.args.crowd.now in
     subst (λ (w : Crowd). IsRound (terms_of w (record { versions = c.in_ok-copies_of.field-0; asks = c.args.asks }))) (sym c.in_ok-shared.ensures)
-    (versions_are_round crowd.menus.items crowd.budgets.items crowd.sections c.args.versions.now c.in_ok-copies_of.field-0.items c.args.asks.items
-    c.requires.crowd c.requires.versions c.requires.some c.requires.few c.requires.asks c.requires.sections c.in_ok-copies_of.ensures)
+    (versions_are_round crowd c.args.versions.now c.in_ok-copies_of.field-0.items c.args.asks.items
+    c.requires.versions c.requires.some c.requires.few c.requires.asks c.requires.sections c.in_ok-copies_of.ensures)

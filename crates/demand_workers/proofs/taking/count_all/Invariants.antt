@@ -2,7 +2,7 @@ use Rattle.std.proofs.Common.{take}
 use Rattle.bundle_rules.specs.Demand.{price_in}
 use Rattle.demand_api.specs.Crowds.{demands}
 use Rattle.demand_api.specs.Counting.{AreCounts}
-use Rattle.demand_workers.specs.Rounds.{data_of}
+use Rattle.demand_api.specs.Views.{data_of}
 use Rattle.demand_workers.proofs.taking.count_all.Given as goal
 
 -- the bundles of the students so far are counted

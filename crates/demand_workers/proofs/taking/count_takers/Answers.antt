@@ -5,7 +5,8 @@ use Rattle.bundle_rules.specs.Bundles.{sections_of}
 use Rattle.bundle_rules.specs.Demand.{price_in}
 use Rattle.demand_api.specs.Crowds.{demands, holders}
 use Rattle.demand_api.proofs.Takers.{counted, demands_length}
-use Rattle.demand_workers.specs.Rounds.{data_of}
+use Rattle.demand_api.specs.Views.{data_of}
+use Rattle.demand_api.proofs.Parts.{menus_few}
 use Rattle.demand_workers.proofs.taking.count_takers.Goals.{then-has, else-has}
 use Rattle.demand_workers.proofs.taking.count_takers.Goals as goal
 
@@ -14,7 +15,7 @@ loop-place-preserved c =
     let low : c.loop-place.place < length c.args.crowd.now.menus.items = search rules in
     let all = demands (data_of c.args.crowd.now) (price_in c.args.prices.now) in
     let long =
-    demands_length c.args.crowd.now.menus.items c.args.crowd.now.budgets.items c.args.crowd.now.sections (price_in c.args.prices.now) c.requires.crowd.same in
+    demands_length c.args.crowd.now (price_in c.args.prices.now) in
     let step : holders c.args.section.0 (take (c.loop-place.place + 1) all) ≡ c.loop-place.count + (if c.has.result then 1 else 0) =
     counted c.args.section.0 all c.loop-place.place (sections_of c.taken-bundle.result) c.has.result c.loop-place.count (rw long low) c.has.ensures
     c.taken-bundle.ensures c.loop-place.invariant.0 in
@@ -29,5 +30,11 @@ returns c =
     let past : length c.args.crowd.now.menus.items ≤ c.loop-place.place = search rules in
     let all = demands (data_of c.args.crowd.now) (price_in c.args.prices.now) in
     let long =
-    demands_length c.args.crowd.now.menus.items c.args.crowd.now.budgets.items c.args.crowd.now.sections (price_in c.args.prices.now) c.requires.crowd.same in
+    demands_length c.args.crowd.now (price_in c.args.prices.now) in
     c.loop-place.invariant.0 ∙ ap (holders c.args.section.0) (take_all c.loop-place.place all (rw long past))
+
+pub overflow_cast-student : goal.overflow_cast-student
+overflow_cast-student c = let few : length c.args.crowd.now.menus.items ≤ 2000 = menus_few c.args.crowd.now in search rules
+
+pub overflow_add-count : goal.overflow_add-count
+overflow_add-count c = let few : length c.args.crowd.now.menus.items ≤ 2000 = menus_few c.args.crowd.now in search rules

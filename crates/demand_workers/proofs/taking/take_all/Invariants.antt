@@ -2,7 +2,7 @@ use Rattle.std.proofs.Common.{◌≡◌, ◌<◌, ℕ, length, slice_index_or}
 use Rattle.bundle_rules.specs.Bundles.{sections_of}
 use Rattle.bundle_rules.specs.Demand.{price_in}
 use Rattle.demand_api.specs.Crowds.{demand_of}
-use Rattle.demand_workers.specs.Rounds.{data_of}
+use Rattle.demand_api.specs.Views.{data_of}
 use Rattle.demand_workers.proofs.taking.take_all.Given as goal
 
 -- the bundles of the students so far are written

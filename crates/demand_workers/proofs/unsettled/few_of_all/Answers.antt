@@ -2,7 +2,7 @@ use Rattle.std.proofs.Common.{rules, ◌≡◌, ◌++◌, Vec, Global, All, slic
 use Rattle.std.proofs.lemmas.List.Elements.{All-append}
 use Rattle.market_units.specs.declared.units.Tokens.{Tokens}
 use Rattle.demand_workers.specs.Batches.{IsInquiry, AreOthersKept}
-use Rattle.demand_workers.specs.Rounds.{data_of}
+use Rattle.demand_api.specs.Views.{data_of}
 use Rattle.demand_workers.proofs.Surveying.{survey_asks, survey_skips}
 use Rattle.demand_workers.proofs.unsettled.few_of_all.Goals as goal
 

@@ -1,6 +1,6 @@
 use Rattle.std.proofs.Common.{◌≡◌, All, length}
 use Rattle.demand_workers.specs.Batches.{IsInquiry}
-use Rattle.demand_workers.specs.Rounds.{data_of}
+use Rattle.demand_api.specs.Views.{data_of}
 use Rattle.demand_workers.proofs.Surveying.{AreSurveyed}
 use Rattle.demand_workers.proofs.unsettled.few_of_all.Given as goal
 

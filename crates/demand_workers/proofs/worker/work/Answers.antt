@@ -5,6 +5,6 @@ use Rattle.demand_workers.proofs.worker.work.Goals as goal
 pub taken-bundle-requires-clause-student : goal.taken-bundle-requires-clause-student
 taken-bundle-requires-clause-student g c =
     subst (λ (n : ℕ). c.in-Task.task.student.0 < n)
-    (students_there c.args.crowd.now.menus.items c.args.crowd.now.budgets.items c.args.crowd.now.sections c.args.versions.now c.args.board.now
-    c.requires.board c.requires.crowd.same)
-    (c.in-Task.ensures.turn c.loop-task.invariant.free).only.student_below
+    (students_there c.args.crowd.now c.args.versions.now c.args.board.now
+    c.requires.board)
+    c.in-Task.ensures.within.1

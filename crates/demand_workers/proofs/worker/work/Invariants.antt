@@ -1,5 +1,6 @@
 use Rattle.std.proofs.Common.{◌≡◌, ◌-◌}
-use Rattle.price_board.specs.Seats.{IsFree, posts}
+use Rattle.price_board.specs.Seats.{IsFree}
+use Rattle.task_board.specs.Seats.{posts}
 use Rattle.price_board.specs.Terms.{task_count}
 use Rattle.demand_workers.proofs.worker.work.Given as goal
 

@@ -1,7 +1,7 @@
 use Rattle.std.proofs.Common.{◌≤◌, ◌+◌, ◌∙◌, ◌++◌, length, take, drop, ap, sym, subst}
 use Rattle.bundle_rules.specs.Bundles.{sections_of}
 use Rattle.bundle_rules.specs.Ordinals.{ordinals, IsBundle}
-use Rattle.dropadd_desk.specs.Sets.{without_section}
+use Rattle.bundle_rules.specs.Sets.{without_section}
 use Rattle.dropadd_desk.proofs.BundleParts.{narrowed_at, narrowed_place, place_most, same_two}
 use Rattle.dropadd_desk.proofs.bundles.without_section.Goals as goal
 

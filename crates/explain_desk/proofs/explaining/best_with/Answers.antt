@@ -2,7 +2,7 @@ use Rattle.bundle_rules.specs.Bundles.{sections_of}
 use Rattle.explain_desk.proofs.Offering.{proved_with}
 use Rattle.explain_desk.proofs.explaining.best_with.Goals as goal
 
-pub returns-in-Some-clause-some : goal.returns-in-Some-clause-some
-returns-in-Some-clause-some c =
+pub returns-in_ok-tree-in-Some-clause-some : goal.returns-in_ok-tree-in-Some-clause-some
+returns-in_ok-tree-in-Some-clause-some c =
     proved_with c.args.menu.now c.args.prices.now c.args.budget.0 c.args.sections c.args.section.0 (sections_of c.in-Some.bundle)
     c.in_ok-tree-in-Some.tree.items c.full-all.result c.full-all.ensures c.in-Some.ensures.some c.in_ok-tree-in-Some.ensures

@@ -2,7 +2,7 @@ use Rattle.std.proofs.Common.{◌≡◌, ◌<◌, ◌∷◌, true, length, subst
 use Rattle.bundle_rules.specs.Bundles.{sections_of}
 use Rattle.bundle_rules.specs.Demand.{price_in}
 use Rattle.bundle_rules.specs.Menus.{place_in, wishes_of}
-use Rattle.bundle_rules.specs.Sets.{has}
+use Rattle.market_units.specs.Members.{has}
 use Rattle.bundle_rules.proofs.Ends.{all_of_ordinals}
 use Rattle.bundle_rules.proofs.Feasibility.{place_of_rated}
 use Rattle.explain_desk.specs.declared.limits.Limit.{Limit}

@@ -1,6 +1,6 @@
 use Rattle.std.specs.Prelude.{option_map}
 use Rattle.bundle_rules.specs.Bundles.{sections_of}
-use Rattle.market_certificate.specs.Tables.{section_names}
+use Rattle.course_catalog.specs.Sections.{section_names}
 use Rattle.market_units.specs.Name.{name_bytes}
 use Rattle.explain_desk.specs.Texts.{best_lines, reason_line}
 use Rattle.explain_desk.specs.Views.{proved_of}

@@ -2,8 +2,9 @@ use Rattle.std.proofs.Common.{of_z, to_z, w64, ◌≡◌, ◌∙◌, ◌++◌, �
 use Rattle.std.specs.Prelude.{ℤ, ◌-ℤ◌}
 use Rattle.std.proofs.lemmas.Int.{ints}
 use Rattle.bundle_rules.specs.Bundles.{sections_of}
-use Rattle.market_certificate.specs.Tables.{section_names}
-use Rattle.explain_desk.specs.Texts.{best_line, lost_line, tree_line, worth}
+use Rattle.course_catalog.specs.Sections.{section_names}
+use Rattle.bundle_rules.specs.Menus.{worth}
+use Rattle.explain_desk.specs.Texts.{best_line, lost_line, tree_line}
 use Rattle.explain_desk.proofs.LinesBehind.{three_lines}
 use Rattle.explain_desk.proofs.Offering.{all_below}
 use Rattle.explain_desk.proofs.text.put_proved.Goals as goal

@@ -13,7 +13,7 @@ returns-then-bundles-len c = (
   (λ yes_so. absurd (false≢true yes_so)),
   (λ are. absurd
       (c.if-bundles-len.true
-      (as_many c.args.crowd.now.menus.items c.args.crowd.now.budgets.items c.args.crowd.now.sections c.args.bundles.now c.requires.same are
+      (as_many c.args.crowd.now c.args.bundles.now are
       ∙ sym c.args.crowd.now.menus.ok.0 ∙ sym c.len.ensures))),
 )
 
@@ -25,7 +25,7 @@ returns-then-not-feasible c =
     let k : ℕ = c.students.place in
     let low : k < n = c.students-test.true in (
       (λ yes_so. absurd (false≢true yes_so)),
-      (λ are. absurd (true≢false (sym (c.feasible.ensures.1 (own_feasible c.args.crowd.now.menus.items c.args.crowd.now.budgets.items c.args.crowd.now.sections c.args.bundles.now c.requires.same are c.students.place c.index.result.now c.index-bundles-place.result
+      (λ are. absurd (true≢false (sym (c.feasible.ensures.1 (own_feasible c.args.crowd.now c.args.bundles.now are c.students.place c.index.result.now c.index-bundles-place.result
           (let goal : k < m = omega arith in goal) c.index.ensures c.index-bundles-place.is)) ∙ c.if-not-feasible.true))),
     )
 
@@ -41,11 +41,11 @@ students-preserved c = λ i below.
     let here : IsFeasible (wishes_of (menu_at a k)) (bundle_at a k) =
     subst (λ menu. IsFeasible (wishes_of menu) (bundle_at a k))
     (sym
-    (menu_is c.args.crowd.now.menus.items c.args.crowd.now.budgets.items c.args.crowd.now.sections c.args.bundles.now c.requires.same k
+    (menu_is c.args.crowd.now c.args.bundles.now k
     c.index.result.now inside c.index.ensures))
     (subst (IsFeasible (wishes_of c.index.result.now))
     (sym
-    (bundle_is c.args.crowd.now.menus.items c.args.crowd.now.budgets.items c.args.crowd.now.sections c.args.bundles.now c.requires.same k
+    (bundle_is c.args.crowd.now c.args.bundles.now k
     c.index-bundles-place.result low c.index-bundles-place.is))
     (c.feasible.ensures.0 c.if-not-feasible.false)) in
     elim (cases_eq i k) [
@@ -60,7 +60,7 @@ returns c =
     let many : n ≡ m = c.if-bundles-len.false ∙ c.len.ensures ∙ c.args.crowd.now.menus.ok.0 in
     let k : ℕ = c.students.place in
     let whole : n ≤ k = omega (arith, c.students-test.false) in
-    let counted = count_is c.args.crowd.now.menus.items c.args.crowd.now.budgets.items c.args.crowd.now.sections c.args.bundles.now c.requires.same in (
+    let counted = count_is c.args.crowd.now c.args.bundles.now in (
       (λ yes_so. record {
         each = length-map c.args.bundles.now sections_of ∙ many ∙ sym counted;
         feasible = λ i low. c.students.invariant i (let l : i < m = subst (λ j. i < j) counted low in omega arith);

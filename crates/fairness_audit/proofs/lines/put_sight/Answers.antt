@@ -3,7 +3,8 @@ use Rattle.std.specs.Prelude.{codes, option_map}
 use Rattle.market_units.specs.Name.{name_bytes}
 use Rattle.market_units.specs.declared.units.SectionNo.{SectionNo}
 use Rattle.bundle_rules.specs.Bundles.{sections_of}
-use Rattle.market_certificate.specs.Tables.{name_at, section_names}
+use Rattle.course_catalog.specs.Sections.{section_names}
+use Rattle.market_certificate.specs.Tables.{name_at}
 use Rattle.market_certificate.specs.Texts.{bundle_text}
 use Rattle.student_roll.specs.Students.{names_of}
 use Rattle.fairness_audit.specs.Texts.{ending}

@@ -9,13 +9,13 @@ pub put_rows-requires-clause-settled : goal.put_rows-requires-clause-settled
 put_rows-requires-clause-settled g c =
     rw c.deref.ensures.value
     (among_tables c.args.catalog.now c.args.roll.now c.args.accepted.publication c.args.accepted.crowd (arc_value c.in_ok-crowd.crowd)
-    c.in_ok-crowd.ensures.ok c.requires.checked c.requires.whole (map row_of c.in_ok-first.first.items) c.in_ok-first.ensures.among)
+    c.in_ok-crowd.ensures.ok c.requires.checked (map row_of c.in_ok-first.first.items) c.in_ok-first.ensures.among)
 
 pub put_rows-requires-clause-last : goal.put_rows-requires-clause-last
 put_rows-requires-clause-last g c =
     rw c.deref-2.ensures.value
     (among_tables c.args.catalog.now c.args.roll.now c.args.accepted.publication c.args.accepted.crowd (arc_value c.in_ok-crowd.crowd)
-    c.in_ok-crowd.ensures.ok c.requires.checked c.requires.whole (map row_of c.in_ok-last.last.items) c.in_ok-last.ensures.among)
+    c.in_ok-crowd.ensures.ok c.requires.checked (map row_of c.in_ok-last.last.items) c.in_ok-last.ensures.among)
 
 pub returns : goal.returns
 returns g c =

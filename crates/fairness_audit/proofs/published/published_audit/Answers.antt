@@ -1,7 +1,7 @@
 use Rattle.std.proofs.Common.{map}
 use Rattle.market_certificate.specs.Views.{publication_of}
 use Rattle.published_parts.specs.Markets.{market_of}
-use Rattle.certificate_checker.specs.Views.{crowd_seen}
+use Rattle.demand_api.specs.Views.{data_of}
 use Rattle.fairness_audit.proofs.Allocating.{accepted_by, checked}
 use Rattle.fairness_audit.proofs.Fairness.{no_lower_count}
 use Rattle.fairness_audit.proofs.published.published_audit.Goals as goal
@@ -9,7 +9,7 @@ use Rattle.fairness_audit.proofs.published.published_audit.Goals as goal
 pub audit_accepted-requires-clause-checked : goal.audit_accepted-requires-clause-checked
 audit_accepted-requires-clause-checked g c κs within =
     checked (market_of c.args.catalog.now c.args.roll.now c.args.settings.now) (map (λ stream. stream.items) c.args.streams.now) c.args.text.items
-    (publication_of c.in_ok-accepted.accepted.publication) (crowd_seen c.in_ok-accepted.accepted.crowd)
+    (publication_of c.in_ok-accepted.accepted.publication) (data_of c.in_ok-accepted.accepted.crowd)
     c.in_ok-accepted.ensures.text c.in_ok-accepted.ensures.holds
 
 pub returns-in-Ok-clause-audited : goal.returns-in-Ok-clause-audited
@@ -19,10 +19,10 @@ returns-in-Ok-clause-audited g c =
     record {
       publication = publication_of c.in_ok-accepted.accepted.publication;
       is_text = c.in_ok-accepted.ensures.text;
-      crowd = crowd_seen c.in_ok-accepted.accepted.crowd;
+      crowd = data_of c.in_ok-accepted.accepted.crowd;
       holds = c.in_ok-accepted.ensures.holds;
       is_audited = c.in-Ok.ensures;
       none_lower = no_lower_count market streams c.args.text.items
-          (accepted_by market streams c.args.text.items (publication_of c.in_ok-accepted.accepted.publication) (crowd_seen c.in_ok-accepted.accepted.crowd)
+          (accepted_by market streams c.args.text.items (publication_of c.in_ok-accepted.accepted.publication) (data_of c.in_ok-accepted.accepted.crowd)
           c.in_ok-accepted.ensures.text c.in_ok-accepted.ensures.holds);
     }

@@ -2,7 +2,7 @@ use Rattle.std.proofs.Common.{rules, ◌≡◌, ◌<◌, ◌∙◌, ℕ, List, l
 use Rattle.std.specs.Prelude.{codes}
 use Rattle.std.proofs.lemmas.List.{length-map}
 use Rattle.market_units.specs.Name.{name_bytes}
-use Rattle.market_certificate.specs.Tables.{section_names}
+use Rattle.course_catalog.specs.Sections.{section_names}
 use Rattle.market_certificate.proofs.Joins.{each_at, mapped_at}
 use Rattle.student_roll.specs.Students.{Student, names_of}
 use Rattle.fairness_audit.specs.Texts.{IsRowAmong, counts_line, total_line}

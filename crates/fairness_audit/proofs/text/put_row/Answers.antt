@@ -1,5 +1,5 @@
 use Rattle.std.specs.Prelude.{option_map}
-use Rattle.market_certificate.specs.Tables.{section_names}
+use Rattle.course_catalog.specs.Sections.{section_names}
 use Rattle.student_roll.specs.Students.{names_of}
 use Rattle.fairness_audit.specs.Texts.{counts_line, first_lines}
 use Rattle.fairness_audit.specs.Views.{seen_of}

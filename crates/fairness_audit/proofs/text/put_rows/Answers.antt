@@ -1,6 +1,6 @@
 use Rattle.std.proofs.Common.{map}
 use Rattle.std.specs.Prelude.{codes}
-use Rattle.market_certificate.specs.Tables.{section_names}
+use Rattle.course_catalog.specs.Sections.{section_names}
 use Rattle.student_roll.specs.Students.{names_of}
 use Rattle.fairness_audit.specs.Texts.{part_lines}
 use Rattle.fairness_audit.specs.Views.{row_of}

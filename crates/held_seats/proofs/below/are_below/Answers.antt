@@ -1,7 +1,7 @@
 use Rattle.std.proofs.Common.{ℕ, ◌≡◌, ◌<◌, List, true}
 use Rattle.std.proofs.lemmas.List.Elements.{All-map}
 use Rattle.bundle_rules.specs.Bundles.{sections_of}
-use Rattle.bundle_rules.specs.Sets.{has}
+use Rattle.market_units.specs.Members.{has}
 use Rattle.market_units.proofs.Images.{unmapped}
 use Rattle.held_seats.proofs.below.are_below.Goals as goal
 

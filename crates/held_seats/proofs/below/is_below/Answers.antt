@@ -1,5 +1,5 @@
 use Rattle.std.proofs.Common.{◌≡◌, ◌<◌, true, subst, sym}
-use Rattle.bundle_rules.specs.Sets.{has}
+use Rattle.market_units.specs.Members.{has}
 use Rattle.bundle_rules.proofs.Ends.{all_of_ordinals, ordinals_of_all}
 use Rattle.held_seats.proofs.below.is_below.Goals as goal
 

@@ -1,7 +1,7 @@
 use Rattle.std.proofs.Common.{ℕ, ◌≡◌, ◌∙◌, ap, length, map, subst, sym}
 use Rattle.std.proofs.lemmas.List.{length-map}
 use Rattle.std.proofs.lemmas.Result.{IfOk-weaker}
-use Rattle.demand_api.specs.Made.{crowd_of}
+use Rattle.demand_api.specs.Views.{data_of}
 use Rattle.demand_text.specs.Taken.{IsTakenBy}
 use Rattle.market_crowd.proofs.CrowdFacts.{crowd_length}
 use Rattle.preference_desk.specs.DeskNames.{DeskNames}
@@ -24,15 +24,15 @@ make_crowd-requires-clause-sections g c =
 
 pub taken_by-requires-clause-seats : goal.taken_by-requires-clause-seats
 taken_by-requires-clause-seats g c κs within =
-    ap length c.all_seats-seats.ensures ∙ length-map c.args.market.now.catalog.sections (λ section. section.seats) ∙ sym c.in_ok-crowd.ensures.crowd.sections
+    ap length c.all_seats-seats.ensures ∙ length-map c.args.market.now.catalog.sections (λ section. section.seats) ∙ sym c.in_ok-crowd.ensures.sections
 
 pub taken_by-requires-clause-prices : goal.taken_by-requires-clause-prices
-taken_by-requires-clause-prices g c κs within = c.requires.prices ∙ sym c.in_ok-crowd.ensures.crowd.sections
+taken_by-requires-clause-prices g c κs within = c.requires.prices ∙ sym c.in_ok-crowd.ensures.sections
 
 pub demand_text-requires : goal.demand_text-requires
 demand_text-requires g c =
-    let crowd = crowd_of c.in_ok-crowd.crowd.menus.items c.in_ok-crowd.crowd.budgets.items c.in_ok-crowd.crowd.sections in
-    let is = c.in_ok-crowd.ensures.crowd in
+    let crowd = data_of c.in_ok-crowd.crowd in
+    let is = c.in_ok-crowd.ensures in
     let students : length crowd.students ≡ length c.args.market.now.roll.students =
     crowd_length c.args.market.now.catalog.sections c.args.market.now.roll.students (preferences_of c.closed.result.now) c.args.market.now.settings.seed
     c.args.market.now.settings.spread crowd is in
@@ -41,11 +41,11 @@ demand_text-requires g c =
 
 pub returns : goal.returns
 returns g c =
-    let crowd = crowd_of c.in_ok-crowd.crowd.menus.items c.in_ok-crowd.crowd.budgets.items c.in_ok-crowd.crowd.sections in
+    let crowd = data_of c.in_ok-crowd.crowd in
     IfOk-weaker c.demand_text.result _ _
     (λ text is. (let told = told_whole c.args.market.now.catalog c.args.market.now.roll c.args.market.now.settings (names_of c.in_ok-closed.closed.desk) (preferences_of c.closed.result.now) (entries_of c.in_ok-closed.closed.desk) c.journal.result.now
     (map entry_of_step c.in_ok-closed.closed.journal) crowd c.all_seats-seats.result.now c.args.prices.now c.in_ok-taken.taken text.items
     c.in_ok-closed.ensures.names c.closed.ensures.after c.in_ok-closed.ensures.entries c.journal.ensures.entries
-    c.in_ok-crowd.ensures.crowd c.all_seats-seats.ensures c.in_ok-taken.ensures.value is in
+    c.in_ok-crowd.ensures c.all_seats-seats.ensures c.in_ok-taken.ensures.value is in
     (map entry_of_step c.in_ok-closed.closed.journal, c.in_ok-closed.ensures.legal, c.in_ok-closed.ensures.merges, crowd, told.0, told.1)))
     c.demand_text.ensures

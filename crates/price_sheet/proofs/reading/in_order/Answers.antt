@@ -2,8 +2,8 @@ use Rattle.std.proofs.Common.{rules, arith, ◌≡◌, ◌≤◌, ◌∙◌, ◌
 use Rattle.std.proofs.lemmas.List.{map-append}
 use Rattle.std.proofs.lemmas.List.Elements.{All-push}
 use Rattle.market_units.specs.declared.units.Tokens.{Tokens}
-use Rattle.course_catalog.specs.Sections.{section_at}
-use Rattle.price_sheet.specs.Sheets.{names_of, price_in}
+use Rattle.course_catalog.specs.Sections.{section_at, section_names}
+use Rattle.price_sheet.specs.Sheets.{price_in}
 use Rattle.price_sheet.proofs.PriceFacts.{prices-more}
 use Rattle.price_sheet.proofs.reading.in_order.Goals as goal
 
@@ -17,7 +17,7 @@ loop-section-preserved c =
           ap (map (λ price. price.0)) pushed
           ∙ map-append (λ (price : Tokens). price.0) c.loop-section.prices.items (c.price_of.result ∷ [])
           ∙ ap (λ (front : List ℕ). front ++ c.price_of.result.0 ∷ []) c.loop-section.invariant.prices
-          ∙ ap (λ (p : ℕ). map (price_in c.args.sheet.now.rows.items) (take c.loop-section.section (names_of c.args.catalog.now.sections)) ++ p ∷ []) price
+          ∙ ap (λ (p : ℕ). map (price_in c.args.sheet.now.rows.items) (take c.loop-section.section (section_names c.args.catalog.now.sections)) ++ p ∷ []) price
           ∙ sym (prices-more c.args.sheet.now.rows.items c.args.catalog.now.sections c.loop-section.section _ (omega (arith, c.len-section-end.ensures.count)));
       range =
           rw pushed

@@ -12,6 +12,6 @@ returns-then-node-len-clause-none c =
           not_settled offer c.is_end.ensures.menu c.args.required c.args.node.now.place (sections_of c.args.node.now.chosen) (sections_of c.args.champion.now)
           c.requires.node.takable c.requires.champion c.is_end.result c.is_shut.result c.is_end.ensures.end c.if-is_end.false c.is_shut.ensures
           c.if-is_shut.false;
-      none_closes = c.in_default.ensures.none;
+      none_prunes = c.in_default.ensures.none;
       all = omega arith;
     }

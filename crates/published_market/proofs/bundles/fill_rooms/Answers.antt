@@ -5,7 +5,6 @@ pub for_each_mut-requires-clause-accepts : goal.for_each_mut-requires-clause-acc
 for_each_mut-requires-clause-accepts g c κs within = λ i p below is.
     let places : c.args.first + length c.args.rooms.now ≤ length c.args.bundles.now = c.requires.places in (
       (let goal : c.args.first + i < length c.args.bundles.now = omega arith in goal),
-      c.requires.crowd,
       c.requires.prices,
       c.requires.allowed,
       c.requires.bundles,

@@ -2,7 +2,7 @@ use Rattle.std.proofs.Common.{◌≡◌, ◌∙◌, length, ap, subst}
 use Rattle.std.specs.Prelude.{All, IfOk}
 use Rattle.std.proofs.lemmas.List.{length-map}
 use Rattle.course_catalog.specs.Sections.{Section}
-use Rattle.demand_api.specs.Made.{crowd_of}
+use Rattle.demand_api.specs.Views.{data_of}
 use Rattle.market_crowd.specs.Crowds.{IsCrowdOf}
 use Rattle.preference_desk.specs.DeskNames.{DeskNames}
 use Rattle.preference_desk.specs.DeskView.{entries_of}
@@ -24,13 +24,13 @@ make_crowd-requires-clause-sections c =
     (ap (λ (names : DeskNames). length names.sections) c.requires.names ∙ length-map c.args.catalog.now.sections (λ (section : Section). section.name))
     c.closed.ensures.sections
 
-pub returns-clause-crowd : goal.returns-clause-crowd
-returns-clause-crowd c =
+pub returns : goal.returns
+returns c =
     let market = market_of c.args.catalog.now c.args.roll.now c.args.settings.now in
     let same : preferences_of c.closed.result.now ≡ closed_preferences (names_in market) (entries_of c.args.desk.now) =
     c.closed.ensures.after ∙ ap (λ (names : DeskNames). closed_preferences names (entries_of c.args.desk.now)) c.requires.names in
     subst
     (λ wanted. IfOk c.make_crowd.result
     (λ crowd. IsCrowdOf c.args.catalog.now.sections c.args.roll.now.students wanted c.args.settings.now.seed c.args.settings.now.spread
-    (crowd_of crowd.menus.items crowd.budgets.items crowd.sections)))
-    same c.make_crowd.ensures.crowd
+    (data_of crowd)))
+    same c.make_crowd.ensures

@@ -3,8 +3,7 @@ use Rattle.bundle_rules.specs.Bundles.{sections_of}
 use Rattle.bundle_rules.specs.Demand.{price_in}
 use Rattle.demand_api.specs.Asking.{ArePricesFor}
 use Rattle.demand_api.specs.Crowds.{CrowdData, demands}
-use Rattle.demand_api.specs.Made.{crowd_of}
-use Rattle.demand_api.proofs.Takers.{crowd_made}
+use Rattle.demand_api.specs.Views.{data_of}
 use Rattle.tabu_search.specs.Search.{IsFound}
 use Rattle.oversubscription_stage.specs.Rounds.{IsSettled}
 use Rattle.published_market.proofs.Found.{found_prices}
@@ -21,8 +20,8 @@ settle-requires-clause-prices g c = λ lifetimes outlives.
 
 pub aftermarket-requires-clause-prices : goal.aftermarket-requires-clause-prices
 aftermarket-requires-clause-prices g c =
-    let crowd = crowd_of c.args.crowd.now.menus.items c.args.crowd.now.budgets.items c.args.crowd.now.sections in
-    let known = crowd_made c.args.crowd.now.menus.items c.args.crowd.now.budgets.items c.args.crowd.now.sections c.requires.crowd in
+    let crowd = data_of c.args.crowd.now in
+    let known = c.args.crowd.now.whole in
     let found : IsFound crowd c.args.seats.now c.args.settings.now c.in_ok-found.found.prices.items c.in_ok-found.found.error c.in_ok-found.found.turns =
     subst
     (λ (asked : CrowdData). IsFound asked c.args.seats.now c.args.settings.now c.in_ok-found.found.prices.items c.in_ok-found.found.error
@@ -42,7 +41,7 @@ aftermarket-requires-clause-prices g c =
 
 pub returns-clause-stages : goal.returns-clause-stages
 returns-clause-stages g c =
-    let crowd = crowd_of c.args.crowd.now.menus.items c.args.crowd.now.budgets.items c.args.crowd.now.sections in
+    let crowd = data_of c.args.crowd.now in
     let found : IsFound crowd c.args.seats.now c.args.settings.now c.in_ok-found.found.prices.items c.in_ok-found.found.error c.in_ok-found.found.turns =
     subst
     (λ (asked : CrowdData). IsFound asked c.args.seats.now c.args.settings.now c.in_ok-found.found.prices.items c.in_ok-found.found.error

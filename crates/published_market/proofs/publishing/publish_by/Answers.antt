@@ -1,8 +1,8 @@
 use Rattle.std.proofs.Common.{◌≡◌, ◌∙◌, length, sym}
 use Rattle.std.proofs.lemmas.List.{length-map}
 use Rattle.course_catalog.specs.Sections.{Section}
-use Rattle.demand_api.specs.Made.{crowd_of}
-use Rattle.demand_api.proofs.Takers.{students_length}
+use Rattle.demand_api.specs.Views.{data_of}
+use Rattle.demand_api.proofs.Parts.{students_length}
 use Rattle.market_certificate.specs.Tables.{tables_of}
 use Rattle.published_parts.specs.Markets.{market_of}
 use Rattle.student_roll.specs.Students.{Student}
@@ -19,8 +19,8 @@ returns-clause-in_range g c =
     let count : length c.args.roll.now.students ≡ length c.args.crowd.now.menus.items =
     sym
     (crowd_count (market_of c.args.catalog.now c.args.roll.now c.args.settings.now) c.args.journal.now
-    (crowd_of c.args.crowd.now.menus.items c.args.crowd.now.budgets.items c.args.crowd.now.sections) c.requires.is_crowd)
-    ∙ students_length c.args.crowd.now.menus.items c.args.crowd.now.budgets.items c.requires.crowd.same in
+    (data_of c.args.crowd.now) c.requires.is_crowd)
+    ∙ students_length c.args.crowd.now in
     c.in_ok-put_together.ensures.in_range (tables_of c.args.catalog.now c.args.roll.now)
     (length-map c.args.roll.now.students (λ (student : Student). student.name) ∙ count)
     (length-map c.args.catalog.now.sections (λ (section : Section). section.name) ∙ sym c.requires.is_crowd.sections)

@@ -1,7 +1,7 @@
 use Rattle.std.proofs.Common.{◌≡◌, ◌≤◌, ◌∙◌, length, map, refl, sym, arith, rules}
 use Rattle.bundle_rules.specs.Bundles.{sections_of}
-use Rattle.demand_api.specs.Made.{crowd_of}
-use Rattle.demand_api.proofs.Takers.{crowd_made, students_length}
+use Rattle.demand_api.specs.Views.{data_of}
+use Rattle.demand_api.proofs.Parts.{students_length}
 use Rattle.aftermarket_stage.specs.After.{turns_of}
 use Rattle.market_certificate.specs.Publications.{Publication}
 use Rattle.market_certificate.specs.Views.{publication_of}
@@ -15,7 +15,7 @@ use Rattle.published_market.proofs.publishing.put_together.Goals as goal
 pub prove_turns-requires-clause-best : goal.prove_turns-requires-clause-best
 prove_turns-requires-clause-best g c κs within =
     rw (c.deref-5.ensures.value, c.deref-4.ensures.value)
-    (turns_best (crowd_of c.args.crowd.now.menus.items c.args.crowd.now.budgets.items c.args.crowd.now.sections) c.args.seats.now c.args.stages.settled.prices.items c.args.settings.now.raise (map sections_of c.args.stages.settled.bundles.items)
+    (turns_best (data_of c.args.crowd.now) c.args.seats.now c.args.stages.settled.prices.items c.args.settings.now.raise (map sections_of c.args.stages.settled.bundles.items)
     (turns_of c.args.stages.after.turns.items) c.args.stages.after.passes c.requires.stages.made)
 
 pub used_seats-requires : goal.used_seats-requires
@@ -26,7 +26,7 @@ used_seats-requires g c =
 
 pub returns-clause-outcome : goal.returns-clause-outcome
 returns-clause-outcome g c =
-    let crowd = crowd_of c.args.crowd.now.menus.items c.args.crowd.now.budgets.items c.args.crowd.now.sections in
+    let crowd = data_of c.args.crowd.now in
     let p : Publication = publication_of (record {
       order = c.in_ok-order.order;
       budgets = c.in_ok-budgets.budgets;
@@ -40,7 +40,7 @@ returns-clause-outcome g c =
     }) in
     let copied : c.in_ok-budgets.budgets.items ≡ c.args.crowd.now.budgets.items = search rules in
     let told : Tells crowd c.args.seats.now c.args.settings.now (stages_of c.args.stages) p = record {
-      budgets = rw copied (budgets_told c.args.crowd.now.menus.items c.args.crowd.now.budgets.items c.requires.crowd.same);
+      budgets = rw copied (budgets_told c.args.crowd.now.menus.items c.args.crowd.now.budgets.items c.args.crowd.now.same);
       start = tokens_of_prices c.args.stages.found.prices.items;
       error = refl;
       prices = tokens_of_prices c.args.stages.settled.prices.items;
@@ -53,7 +53,7 @@ returns-clause-outcome g c =
 
 pub returns-clause-in_range : goal.returns-clause-in_range
 returns-clause-in_range g c = λ tables students sections.
-    let crowd = crowd_of c.args.crowd.now.menus.items c.args.crowd.now.budgets.items c.args.crowd.now.sections in
+    let crowd = data_of c.args.crowd.now in
     let p : Publication = publication_of (record {
       order = c.in_ok-order.order;
       budgets = c.in_ok-budgets.budgets;
@@ -67,7 +67,7 @@ returns-clause-in_range g c = λ tables students sections.
     }) in
     let copied : c.in_ok-budgets.budgets.items ≡ c.args.crowd.now.budgets.items = search rules in
     let told : Tells crowd c.args.seats.now c.args.settings.now (stages_of c.args.stages) p = record {
-      budgets = rw copied (budgets_told c.args.crowd.now.menus.items c.args.crowd.now.budgets.items c.requires.crowd.same);
+      budgets = rw copied (budgets_told c.args.crowd.now.menus.items c.args.crowd.now.budgets.items c.args.crowd.now.same);
       start = tokens_of_prices c.args.stages.found.prices.items;
       error = refl;
       prices = tokens_of_prices c.args.stages.settled.prices.items;
@@ -79,8 +79,8 @@ returns-clause-in_range g c = λ tables students sections.
     let accepted : c.args.stages.found.error ≤ c.args.settings.now.accept = c.requires.stages.found.accepted in
     let most : c.args.settings.now.accept ≤ 1000000000000 = c.requires.settings.accept_in_range in
     publication_in_range crowd c.args.seats.now c.args.settings.now (stages_of c.args.stages) p tables
-    (crowd_made c.args.crowd.now.menus.items c.args.crowd.now.budgets.items c.args.crowd.now.sections c.requires.crowd) c.requires.seats
-    (students_length c.args.crowd.now.menus.items c.args.crowd.now.budgets.items c.requires.crowd.same ∙ sym students) (sym sections) c.requires.stages told (record {
+    c.args.crowd.now.whole c.requires.seats
+    (students_length c.args.crowd.now ∙ sym students) (sym sections) c.requires.stages told (record {
       order = order_told c.args.journal.now c.in_ok-order.order.items c.in_ok-order.ensures c.requires.sessions;
       error = omega arith;
       bundles = c.in_ok-bundles.ensures.form;

@@ -6,8 +6,9 @@ use Rattle.bundle_rules.specs.Menus.{wishes_of}
 use Rattle.bundle_bounds.specs.Offers.{offer_of}
 use Rattle.budget_draw.specs.Budgets.{raised_by}
 use Rattle.demand_api.specs.Crowds.{Student}
+use Rattle.demand_api.proofs.Parts.{budgets_high}
 use Rattle.demand_api.proofs.Takers.{priced_at}
-use Rattle.demand_api.specs.Made.{crowd_of}
+use Rattle.demand_api.specs.Views.{data_of}
 use Rattle.aftermarket_stage.specs.After.{turn_of}
 use Rattle.market_certificate.specs.Publications.{ProvedTurn}
 use Rattle.market_certificate.specs.Views.{turn_of as published_of}
@@ -22,41 +23,41 @@ use Rattle.published_market.proofs.turns.prove_turn.Goals as goal
 pub index-menu-requires : goal.index-menu-requires
 index-menu-requires c =
     let inside : c.from-student.result < length c.args.crowd.now.menus.items =
-    turn_inside c.args.crowd.now.menus.items c.args.crowd.now.budgets.items c.args.crowd.now.sections c.args.prices.now c.args.raise c.from-student.result
-    (turn_of c.args.turn.now) c.requires.crowd.same c.from-student.ensures c.requires.best in
+    turn_inside c.args.crowd.now c.args.prices.now c.args.raise c.from-student.result
+    (turn_of c.args.turn.now) c.from-student.ensures c.requires.best in
     omega arith
 
 pub index-requires : goal.index-requires
 index-requires c =
     let inside : c.from-student.result < length c.args.crowd.now.menus.items =
-    turn_inside c.args.crowd.now.menus.items c.args.crowd.now.budgets.items c.args.crowd.now.sections c.args.prices.now c.args.raise c.from-student.result
-    (turn_of c.args.turn.now) c.requires.crowd.same c.from-student.ensures c.requires.best in
-    let same : length c.args.crowd.now.budgets.items ≡ length c.args.crowd.now.menus.items = c.requires.crowd.same in
+    turn_inside c.args.crowd.now c.args.prices.now c.args.raise c.from-student.result
+    (turn_of c.args.turn.now) c.from-student.ensures c.requires.best in
+    let same : length c.args.crowd.now.budgets.items ≡ length c.args.crowd.now.menus.items = c.args.crowd.now.same in
     omega arith
 
 pub raised-budget-requires-clause-budget : goal.raised-budget-requires-clause-budget
 raised-budget-requires-clause-budget c =
     let inside : c.from-student.result < length c.args.crowd.now.menus.items =
-    turn_inside c.args.crowd.now.menus.items c.args.crowd.now.budgets.items c.args.crowd.now.sections c.args.prices.now c.args.raise c.from-student.result
-    (turn_of c.args.turn.now) c.requires.crowd.same c.from-student.ensures c.requires.best in
-    let same : length c.args.crowd.now.budgets.items ≡ length c.args.crowd.now.menus.items = c.requires.crowd.same in
+    turn_inside c.args.crowd.now c.args.prices.now c.args.raise c.from-student.result
+    (turn_of c.args.turn.now) c.from-student.ensures c.requires.best in
+    let same : length c.args.crowd.now.budgets.items ≡ length c.args.crowd.now.menus.items = c.args.crowd.now.same in
     let low : c.from-student.result < length c.args.crowd.now.budgets.items = omega arith in
-    subst (λ budget. budget.0 ≤ 1000000) (sym c.index.ensures) (c.requires.crowd.high c.from-student.result c.index.result.now low)
+    subst (λ budget. budget.0 ≤ 1000000) (sym c.index.ensures) (budgets_high c.args.crowd.now c.from-student.result c.index.result.now low)
 
 pub prove_bundle-requires-clause-prices : goal.prove_bundle-requires-clause-prices
 prove_bundle-requires-clause-prices c =
     let inside : c.from-student.result < length c.args.crowd.now.menus.items =
-    turn_inside c.args.crowd.now.menus.items c.args.crowd.now.budgets.items c.args.crowd.now.sections c.args.prices.now c.args.raise c.from-student.result
-    (turn_of c.args.turn.now) c.requires.crowd.same c.from-student.ensures c.requires.best in
-    priced_at c.args.crowd.now.menus.items c.args.crowd.now.budgets.items c.args.crowd.now.sections c.args.prices.now c.from-student.result
-    c.index-menu.result.now c.requires.crowd c.requires.prices inside c.index-menu.ensures
+    turn_inside c.args.crowd.now c.args.prices.now c.args.raise c.from-student.result
+    (turn_of c.args.turn.now) c.from-student.ensures c.requires.best in
+    priced_at c.args.crowd.now c.args.prices.now c.from-student.result
+    c.index-menu.result.now c.requires.prices inside c.index-menu.ensures
 
 pub prove_bundle-requires-clause-best : goal.prove_bundle-requires-clause-best
 prove_bundle-requires-clause-best c =
     let who : c.requires.best.who ≡ asked c.index-menu.result.now c.index.result.now =
-    turn_student c.args.crowd.now.menus.items c.args.crowd.now.budgets.items c.args.crowd.now.sections c.args.prices.now c.args.raise c.from-student.result
+    turn_student c.args.crowd.now c.args.prices.now c.args.raise c.from-student.result
     (turn_of c.args.turn.now) c.index-menu.result.now c.index.result.now
-    c.requires.crowd.same c.from-student.ensures c.index-menu.ensures c.index.ensures c.requires.best in
+    c.from-student.ensures c.index-menu.ensures c.index.ensures c.requires.best in
     subst
     (λ budget. IsBest (wishes_of c.index-menu.result.now) (price_in c.args.prices.now) budget (set.contains c.args.turn.now.allowed)
     (sections_of c.args.turn.now.bundle))
@@ -78,9 +79,9 @@ prove_bundle-requires-clause-room c =
 pub returns-clause-published : goal.returns-clause-published
 returns-clause-published c =
     let who : c.requires.best.who ≡ asked c.index-menu.result.now c.index.result.now =
-    turn_student c.args.crowd.now.menus.items c.args.crowd.now.budgets.items c.args.crowd.now.sections c.args.prices.now c.args.raise c.from-student.result
+    turn_student c.args.crowd.now c.args.prices.now c.args.raise c.from-student.result
     (turn_of c.args.turn.now) c.index-menu.result.now c.index.result.now
-    c.requires.crowd.same c.from-student.ensures c.index-menu.ensures c.index.ensures c.requires.best in
+    c.from-student.ensures c.index-menu.ensures c.index.ensures c.requires.best in
     let turn : ProvedTurn =
     record {
       pass = c.args.turn.now.pass;
@@ -98,7 +99,7 @@ returns-clause-published c =
     (sym who)
     (subst (λ budget. IsProvedBest (offer_to (asked c.index-menu.result.now c.index.result.now) (price_in c.args.prices.now) budget (set.contains c.args.turn.now.allowed)) (sections_of c.in_ok-proved.proved.bundle) c.in_ok-proved.proved.tree.items)
     c.raised-budget.ensures c.in_ok-proved.ensures.proved) in
-    let made : IsPublishedTurn (crowd_of c.args.crowd.now.menus.items c.args.crowd.now.budgets.items c.args.crowd.now.sections) c.args.prices.now c.args.raise (turn_of c.args.turn.now) turn = record {
+    let made : IsPublishedTurn (data_of c.args.crowd.now) c.args.prices.now c.args.raise (turn_of c.args.turn.now) turn = record {
       pass = refl;
       student = refl;
       bundle = c.in_ok-proved.ensures.bundle;
@@ -107,7 +108,7 @@ returns-clause-published c =
       proved = proved;
     } in
     subst
-    (IsPublishedTurn (crowd_of c.args.crowd.now.menus.items c.args.crowd.now.budgets.items c.args.crowd.now.sections) c.args.prices.now c.args.raise
+    (IsPublishedTurn (data_of c.args.crowd.now) c.args.prices.now c.args.raise
     (turn_of c.args.turn.now))
     (sym c.of_turn.ensures.turn) made
 

@@ -1,7 +1,7 @@
 use Rattle.std.proofs.Common.{◌≤◌, length, map, subst, rules}
 use Rattle.std.specs.List.{AllZip}
 use Rattle.std.proofs.lemmas.List.{length-map, take_all}
-use Rattle.demand_api.specs.Made.{crowd_of}
+use Rattle.demand_api.specs.Views.{data_of}
 use Rattle.aftermarket_stage.specs.After.{turn_of, turns_of}
 use Rattle.market_certificate.specs.Views.{turn_of as published_of}
 use Rattle.published_market.specs.Turns.{IsPublishedTurn}
@@ -13,6 +13,6 @@ returns-clause-published g c =
     let all : length (turns_of c.args.turns.now) ≤ length c.groups.all.items = rw (length-map c.args.turns.now turn_of) past in
     subst
     (λ listed. AllZip
-    (IsPublishedTurn (crowd_of c.args.crowd.now.menus.items c.args.crowd.now.budgets.items c.args.crowd.now.sections) c.args.prices.now c.args.raise)
+    (IsPublishedTurn (data_of c.args.crowd.now) c.args.prices.now c.args.raise)
     listed (map published_of c.groups.all.items))
     (take_all (length c.groups.all.items) (turns_of c.args.turns.now) all) c.groups.invariant.proved.published

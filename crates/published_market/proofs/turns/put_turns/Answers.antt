@@ -1,6 +1,6 @@
 use Rattle.std.proofs.Common.{◌≡◌, ◌<◌, ◌≤◌, ◌+◌, ◌∙◌, length, get_or, subst, sym, arith, rules}
 use Rattle.std.proofs.lemmas.List.{length-map}
-use Rattle.demand_api.specs.Made.{crowd_of}
+use Rattle.demand_api.specs.Views.{data_of}
 use Rattle.aftermarket_stage.specs.After.{turn_of, turns_of}
 use Rattle.market_certificate.specs.Views.{turn_of as published_of}
 use Rattle.published_market.specs.Making.{IsBestTurn}
@@ -18,7 +18,7 @@ prove_turn-requires-clause-best c =
     let place : c.len.result ≡ length c.rooms.all.items = search rules in
     let read : c.len.result < length c.args.turns.now = omega arith in
     let listed : c.len.result < length (turns_of c.args.turns.now) = rw (length-map c.args.turns.now turn_of) read in
-    subst (IsBestTurn (crowd_of c.args.crowd.now.menus.items c.args.crowd.now.budgets.items c.args.crowd.now.sections) c.args.prices.now c.args.raise)
+    subst (IsBestTurn (data_of c.args.crowd.now) c.args.prices.now c.args.raise)
     (turn_at c.args.turns.now c.len.result c.index-turns-len.result read c.index-turns-len.is)
     (c.requires.best c.len.result (turn_of c.index-turns-len.result) listed)
 
@@ -47,7 +47,7 @@ rooms-preserved c =
       proved =
           turns_more c.args.crowd.now c.args.prices.now c.args.raise c.args.turns.now (turn_of c.index-turns-len.result) c.rooms.all.items
           c.in_ok-prove_turn.field-0 c.push.new.self.items listed c.in_ok-push.ensures.items c.rooms.invariant.proved
-          (subst (λ n. IsPublishedTurn (crowd_of c.args.crowd.now.menus.items c.args.crowd.now.budgets.items c.args.crowd.now.sections) c.args.prices.now c.args.raise (get_or (turns_of c.args.turns.now) n (turn_of c.index-turns-len.result)) (published_of c.in_ok-prove_turn.field-0)) place
-          (subst (λ turn. IsPublishedTurn (crowd_of c.args.crowd.now.menus.items c.args.crowd.now.budgets.items c.args.crowd.now.sections) c.args.prices.now c.args.raise turn (published_of c.in_ok-prove_turn.field-0)) (sym (turn_at c.args.turns.now c.len.result c.index-turns-len.result read c.index-turns-len.is)) c.in_ok-prove_turn.ensures.published))
+          (subst (λ n. IsPublishedTurn (data_of c.args.crowd.now) c.args.prices.now c.args.raise (get_or (turns_of c.args.turns.now) n (turn_of c.index-turns-len.result)) (published_of c.in_ok-prove_turn.field-0)) place
+          (subst (λ turn. IsPublishedTurn (data_of c.args.crowd.now) c.args.prices.now c.args.raise turn (published_of c.in_ok-prove_turn.field-0)) (sym (turn_at c.args.turns.now c.len.result c.index-turns-len.result read c.index-turns-len.is)) c.in_ok-prove_turn.ensures.published))
           c.in_ok-prove_turn.ensures.form;
     }

@@ -1,5 +1,5 @@
 use Rattle.std.proofs.Common.{rules}
-use Rattle.demand_api.specs.Made.{crowd_of}
+use Rattle.demand_api.specs.Views.{data_of}
 use Rattle.market_certificate.specs.Views.{publication_of}
 use Rattle.published_parts.specs.Crowds.{IsCrowdIn}
 use Rattle.published_parts.specs.Markets.{market_of}
@@ -7,10 +7,10 @@ use Rattle.published_market.specs.Publishing.{IsPublicationOf, lengths_of}
 use Rattle.market_run.proofs.SomeOutcomes.{some_outcome}
 use Rattle.text_tests.proofs.summaries.summary_of.Goals as goal
 
-pub summary_text-requires-clause-outcome : goal.summary_text-requires-clause-outcome
-summary_text-requires-clause-outcome g c =
+pub summary_text-requires : goal.summary_text-requires
+summary_text-requires g c =
     let market = market_of c.args.catalog.now c.args.roll.now c.args.settings.now in
-    let crowd = crowd_of c.deref-2.result.now.menus.items c.deref-2.result.now.budgets.items c.deref-2.result.now.sections in
+    let crowd = data_of c.deref-2.result.now in
     let lengths = lengths_of c.expect-published.result.turns c.expect-published.result.rounds c.expect-published.result.passes in
     let are : IsCrowdIn market c.journal-journal.result.now crowd = search rules in
     let is : IsPublicationOf market c.journal-journal.result.now lengths (publication_of c.expect-published.result.publication) = search rules in

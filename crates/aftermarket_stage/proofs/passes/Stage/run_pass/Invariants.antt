@@ -1,5 +1,5 @@
 use Rattle.std.proofs.Common.{◌≡◌, length, map, take}
-use Rattle.demand_api.specs.Made.{crowd_of}
+use Rattle.demand_api.specs.Views.{data_of}
 use Rattle.aftermarket_stage.specs.After.{terms_of}
 use Rattle.held_seats.specs.Floors.{IsFloor, held_on}
 use Rattle.aftermarket_stage.specs.HeldChoices.{AreChoices, AreKnown}
@@ -13,4 +13,4 @@ invariant-loop-student l =
     × IsFloor l.seats l.self.floor
     × AreChoices (terms_of l.crowd l.seats l.prices l.raise) (held_on l.self.floor)
     × (length l.self.chooser.known.items ≡ length l.initial.self.chooser.known.items)
-    × AreKnown (crowd_of l.crowd.menus.items l.crowd.budgets.items l.crowd.sections) l.prices l.raise (held_on l.self.floor) l.self.chooser.known.items
+    × AreKnown (data_of l.crowd) l.prices l.raise (held_on l.self.floor) l.self.chooser.known.items

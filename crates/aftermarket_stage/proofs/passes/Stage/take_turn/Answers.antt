@@ -1,10 +1,11 @@
 use Rattle.std.proofs.Common.{◌≡◌, ◌≤◌, length, map, arith, ap, subst, sym, refl}
 use Rattle.std.proofs.lemmas.List.{length-map}
-use Rattle.demand_api.specs.Made.{crowd_of}
+use Rattle.demand_api.specs.Views.{data_of}
 use Rattle.aftermarket_stage.specs.HeldChoices.{AreKnown}
 use Rattle.std.specs.Prelude.{slice_get, slice_set, Some}
 use Rattle.std.specs.FinSet as set
 use Rattle.bundle_rules.specs.Bundles.{sections_of}
+use Rattle.demand_api.proofs.Parts.{menus_few, few_sections}
 use Rattle.held_seats.specs.Choices.{may_choose}
 use Rattle.aftermarket_stage.specs.After.{terms_of}
 use Rattle.held_seats.specs.Floors.{held_on}
@@ -20,12 +21,12 @@ choices-allowed-requires-clause-place c =
       arith,
       c.from-place.ensures,
       c.requires.student,
-      choices_length c.args.crowd.now c.args.seats.now c.args.prices.now c.args.raise (held_on c.args.self.now.floor) c.requires.terms c.requires.choices,
+      choices_length c.args.crowd.now c.args.seats.now c.args.prices.now c.args.raise (held_on c.args.self.now.floor) c.requires.choices,
     )
 
 pub choices-allowed-requires-clause-below : goal.choices-allowed-requires-clause-below
 choices-allowed-requires-clause-below c =
-    let few : length c.args.seats.now ≤ 400 = omega (arith, c.requires.terms.seats_each, c.requires.terms.whole.sections_few) in
+    let few : length c.args.seats.now ≤ 400 = omega (arith, c.requires.terms.seats_each, few_sections c.args.crowd.now) in
     below_more (length c.args.seats.now) 400 (held_on c.args.self.now.floor) few
     (choices_low c.args.crowd.now c.args.seats.now c.args.prices.now c.args.raise (held_on c.args.self.now.floor) c.requires.terms c.requires.choices)
 
@@ -35,15 +36,15 @@ give-requires-clause-place c =
       arith,
       c.from-place.ensures,
       c.requires.student,
-      choices_length c.args.crowd.now c.args.seats.now c.args.prices.now c.args.raise (held_on c.args.self.now.floor) c.requires.terms c.requires.choices,
+      choices_length c.args.crowd.now c.args.seats.now c.args.prices.now c.args.raise (held_on c.args.self.now.floor) c.requires.choices,
     )
 
 pub give-requires-clause-few : goal.give-requires-clause-few
 give-requires-clause-few c =
     omega (
       arith,
-      c.requires.terms.whole.few,
-      choices_length c.args.crowd.now c.args.seats.now c.args.prices.now c.args.raise (held_on c.args.self.now.floor) c.requires.terms c.requires.choices,
+      menus_few c.args.crowd.now,
+      choices_length c.args.crowd.now c.args.seats.now c.args.prices.now c.args.raise (held_on c.args.self.now.floor) c.requires.choices,
     )
 
 pub give-requires-clause-below : goal.give-requires-clause-below
@@ -85,11 +86,11 @@ best_at-bundle-requires-clause-known c = rw c.deref.ensures.value c.requires.kno
 pub returns-clause-known : goal.returns-clause-known
 returns-clause-known c =
     subst
-    (λ held. AreKnown (crowd_of c.args.crowd.now.menus.items c.args.crowd.now.budgets.items c.args.crowd.now.sections) c.args.prices.now c.args.raise held
+    (λ held. AreKnown (data_of c.args.crowd.now) c.args.prices.now c.args.raise held
     c.best_at-bundle.new.self.known.items)
     (sym c.give.ensures.held)
     (subst
-    (λ items. AreKnown (crowd_of c.args.crowd.now.menus.items c.args.crowd.now.budgets.items c.args.crowd.now.sections) c.args.prices.now c.args.raise
+    (λ items. AreKnown (data_of c.args.crowd.now) c.args.prices.now c.args.raise
     (slice_set (map sections_of items) c.from-place.result (sections_of c.best_at-bundle.result)) c.best_at-bundle.new.self.known.items)
     c.deref.ensures.value c.best_at-bundle.ensures.known)
 
@@ -99,5 +100,5 @@ best_at-bundle-requires-clause-students c =
       arith,
       ap length c.deref.ensures.value,
       length-map c.args.self.now.floor.held.items sections_of,
-      choices_length c.args.crowd.now c.args.seats.now c.args.prices.now c.args.raise (held_on c.args.self.now.floor) c.requires.terms c.requires.choices,
+      choices_length c.args.crowd.now c.args.seats.now c.args.prices.now c.args.raise (held_on c.args.self.now.floor) c.requires.choices,
     )

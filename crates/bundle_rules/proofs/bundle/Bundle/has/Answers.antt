@@ -1,5 +1,5 @@
 use Rattle.std.proofs.Common.{◌∙◌, ap, refl}
-use Rattle.bundle_rules.specs.Sets.{has}
+use Rattle.market_units.specs.Members.{has}
 use Rattle.bundle_rules.proofs.Ends.{list_any-ordinals}
 use Rattle.bundle_rules.proofs.bundle.Bundle.has.Goals as goal
 

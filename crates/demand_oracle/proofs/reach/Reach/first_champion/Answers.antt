@@ -5,9 +5,9 @@ use Rattle.bundle_bounds.proofs.NodeFacts.{nothing_chosen}
 use Rattle.bundle_bounds.proofs.Openings.{node_same}
 use Rattle.demand_oracle.proofs.reach.Reach.first_champion.Goals as goal
 
-pub loop-branch-init : goal.loop-branch-init
-loop-branch-init c =
+pub loop-summed-init : goal.loop-summed-init
+loop-summed-init c =
     let offer = offer_of c.args.menu.now c.args.prices.now c.args.budget.0 c.args.allowed.now in record {
-      branch = c.root-branch.ensures.branch c.args.menu.now (price_in c.args.prices.now);
-      node = node_same offer _ _ _ _ (sym c.root-branch.ensures.place) (sym c.root-branch.ensures.chosen) (nothing_chosen offer 0);
+      summed = c.root-summed.ensures.summed c.args.menu.now (price_in c.args.prices.now);
+      node = node_same offer _ _ _ _ (sym c.root-summed.ensures.place) (sym c.root-summed.ensures.chosen) (nothing_chosen offer 0);
     }

@@ -2,15 +2,15 @@ use Rattle.std.proofs.Common.{◌-◌}
 use Rattle.bundle_rules.specs.Demand.{price_in}
 use Rattle.bundle_bounds.specs.Offers.{offer_of}
 use Rattle.bundle_bounds.specs.Laws.{IsNode}
-use Rattle.demand_oracle.specs.Branches.{chosen_of, IsBranch}
+use Rattle.demand_oracle.specs.SummedNodes.{chosen_of, IsSummed}
 use Rattle.demand_oracle.proofs.reach.Reach.first_champion.Given as goal
 
--- the branch is one of a node
-abbrev pub invariant-loop-branch : goal.invariant-loop-branch
-invariant-loop-branch l = record {
-  branch : IsBranch l.menu (price_in l.prices) l.branch;
-  node : IsNode (offer_of l.menu l.prices l.budget.0 l.allowed) l.branch.node.place (chosen_of l.branch);
+-- it is a node with its sums
+abbrev pub invariant-loop-summed : goal.invariant-loop-summed
+invariant-loop-summed l = record {
+  summed : IsSummed l.menu (price_in l.prices) l.summed;
+  node : IsNode (offer_of l.menu l.prices l.budget.0 l.allowed) l.summed.node.place (chosen_of l.summed);
 }
 
-abbrev pub decreases-loop-branch : goal.decreases-loop-branch
-decreases-loop-branch l = 60 - l.branch.node.place
+abbrev pub decreases-loop-summed : goal.decreases-loop-summed
+decreases-loop-summed l = 60 - l.summed.node.place

@@ -1,21 +1,21 @@
 use Rattle.std.proofs.Common.{rules, ◌≡◌, ◌∙◌, length, ap, sym, subst}
 use Rattle.std.specs.Arc.{arc_value}
 use Rattle.demand_api.specs.Crowds.{CrowdData, IsCrowd}
-use Rattle.demand_api.proofs.Takers.{crowd_made, students_length}
-use Rattle.demand_workers.specs.Rounds.{data_of}
+use Rattle.demand_api.proofs.Parts.{students_length}
+use Rattle.demand_api.specs.Views.{data_of}
 use Rattle.demand_workers.proofs.Recalling.{remembered_once}
 use Rattle.demand_workers.proofs.pooled_demands.PooledDemands+AnyGate.board_bundles.Goals as goal
 
 pub read_all-requires-clause-crowd : goal.read_all-requires-clause-crowd
 read_all-requires-clause-crowd g c =
     let crowd = arc_value c.args.self.now.crowd in
-    subst IsCrowd (sym c.in_ok-answers.ensures.crowd) (crowd_made crowd.menus.items crowd.budgets.items crowd.sections c.args.self.now.made)
+    subst IsCrowd (sym c.in_ok-answers.ensures.crowd) crowd.whole
 
 pub read_all-requires-clause-same : goal.read_all-requires-clause-same
 read_all-requires-clause-same g c =
     let crowd = arc_value c.args.self.now.crowd in
     let many : length c.deref_mut.result.now ≡ length crowd.menus.items = search rules in
-    many ∙ sym (students_length crowd.menus.items crowd.budgets.items c.args.self.now.made.same)
+    many ∙ sym (students_length crowd)
     ∙ sym (ap (λ (w : CrowdData). length w.students) c.in_ok-answers.ensures.crowd)
 
 pub returns-clause-taken : goal.returns-clause-taken

@@ -5,7 +5,7 @@ use Rattle.bundle_rules.specs.Demand.{price_in}
 use Rattle.demand_api.specs.declared.crowd.Crowd.{Crowd}
 use Rattle.demand_api.specs.Crowds.{counts}
 use Rattle.demand_api.proofs.Takers.{lent_back}
-use Rattle.demand_workers.specs.Rounds.{data_of}
+use Rattle.demand_api.specs.Views.{data_of}
 use Rattle.demand_workers.proofs.Noting.{item_there}
 use Rattle.demand_workers.proofs.pooled_demands.PooledDemands+AnyGate.counted.Goals as goal
 

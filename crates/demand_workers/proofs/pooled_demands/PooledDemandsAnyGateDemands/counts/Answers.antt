@@ -5,7 +5,7 @@ use Rattle.bundle_rules.specs.Demand.{price_in}
 use Rattle.demand_api.specs.declared.crowd.Crowd.{Crowd}
 use Rattle.demand_api.specs.Crowds.{counts}
 use Rattle.demand_api.proofs.Takers.{listed_more}
-use Rattle.demand_workers.specs.Rounds.{data_of}
+use Rattle.demand_api.specs.Views.{data_of}
 use Rattle.demand_workers.proofs.pooled_demands.PooledDemandsAnyGateDemands.counts.Goals as goal
 
 pub loop-version-preserved : goal.loop-version-preserved

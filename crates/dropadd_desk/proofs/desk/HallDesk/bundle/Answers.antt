@@ -1,5 +1,5 @@
 use Rattle.std.proofs.Common.{◌<◌, ◌∙◌, ap, sym, subst}
-use Rattle.bundle_rules.specs.Sets.{has}
+use Rattle.market_units.specs.Members.{has}
 use Rattle.dropadd_desk.specs.HallView.{market_of, state_of}
 use Rattle.dropadd_desk.proofs.BundleParts.{sections_at}
 use Rattle.dropadd_desk.proofs.Steps.{within_at}

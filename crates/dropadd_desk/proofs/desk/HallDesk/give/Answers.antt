@@ -1,7 +1,7 @@
 use Rattle.std.proofs.Common.{◌<◌, ◌∙◌, ap, sym, subst, length}
 use Rattle.std.proofs.lemmas.List.{length-map}
 use Rattle.course_catalog.specs.Sections.{Section}
-use Rattle.bundle_rules.specs.Sets.{has}
+use Rattle.market_units.specs.Members.{has}
 use Rattle.held_seats.specs.Floors.{IsFloor, held_on}
 use Rattle.dropadd_desk.specs.Halls.{IsHall}
 use Rattle.dropadd_desk.specs.HallView.{market_of, state_of}

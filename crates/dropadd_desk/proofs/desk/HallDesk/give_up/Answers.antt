@@ -1,11 +1,11 @@
 use Rattle.std.proofs.Common.{◌<◌, ◌∙◌, ap, sym, subst, length}
 use Rattle.std.proofs.lemmas.List.{length-map}
 use Rattle.course_catalog.specs.Sections.{Section}
-use Rattle.bundle_rules.specs.Sets.{has}
+use Rattle.market_units.specs.Members.{has}
 use Rattle.held_seats.specs.Floors.{IsFloor, held_on}
 use Rattle.dropadd_desk.specs.Halls.{IsHall}
 use Rattle.dropadd_desk.specs.HallView.{market_of, state_of}
-use Rattle.dropadd_desk.specs.Sets.{without_section}
+use Rattle.bundle_rules.specs.Sets.{without_section}
 use Rattle.dropadd_desk.specs.Step.{pass_on}
 use Rattle.dropadd_desk.proofs.BundleParts.{sections_at}
 use Rattle.dropadd_desk.proofs.DeskLemmas.{dropped_is, not_holding_is}

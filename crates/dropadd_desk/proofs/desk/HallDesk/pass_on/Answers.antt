@@ -1,7 +1,7 @@
 use Rattle.std.proofs.Common.{◌≡◌, ◌<◌, ◌≤◌, ◌+◌, ◌∙◌, [], ap, sym, subst, arith, length, drop, get_or, None, Some, false}
 use Rattle.std.proofs.lemmas.List.{drop_all}
 use Rattle.std.proofs.lemmas.Option.{slice_get-get_or}
-use Rattle.bundle_rules.specs.Sets.{has}
+use Rattle.market_units.specs.Members.{has}
 use Rattle.held_seats.specs.Floors.{held_on}
 use Rattle.dropadd_desk.specs.declared.reply.HallReply.TheVariants as reply
 use Rattle.dropadd_desk.specs.Halls.{IsHall}

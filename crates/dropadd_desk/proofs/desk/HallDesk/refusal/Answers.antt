@@ -1,7 +1,7 @@
 use Rattle.std.proofs.Common.{◌∙◌, ap, sym, refl}
 use Rattle.std.specs.Prelude.{option_map}
-use Rattle.bundle_rules.specs.Sets.{has}
-use Rattle.dropadd_desk.specs.Fits.{lowest_clash, passes_credits, passes_courses}
+use Rattle.market_units.specs.Members.{has}
+use Rattle.dropadd_desk.specs.Fits.{lowest_clash, exceeds_credits, exceeds_courses}
 use Rattle.dropadd_desk.specs.HallView.{market_of}
 use Rattle.dropadd_desk.proofs.DeskLemmas.{any_has, refused_holding, refused_waiting, refused_clash, refused_credits, refused_courses, refused_none}
 use Rattle.dropadd_desk.proofs.desk.HallDesk.refusal.Goals as goal
@@ -23,27 +23,27 @@ returns-in-Some-clause-refusal c =
     ∙ sym c.contains.ensures.value ∙ c.if-contains.false)
     (ap (lowest_clash (market_of c.args.self.now) c.args.section.0) (sym c.bundle-held.ensures.value) ∙ sym c.in-Some.ensures)
 
-pub returns-then-passes_credits-clause-refusal : goal.returns-then-passes_credits-clause-refusal
-returns-then-passes_credits-clause-refusal c =
+pub returns-then-exceeds_credits-clause-refusal : goal.returns-then-exceeds_credits-clause-refusal
+returns-then-exceeds_credits-clause-refusal c =
     refused_credits _ _ _ _ _ (ap (λ l. has l c.args.section.0) (sym c.bundle-held.ensures.value) ∙ sym c.has.ensures ∙ c.if-has.false)
     (ap (λ l. has l c.args.student.0) (sym c.waiting.ensures.waiting) ∙ sym (any_has _ c.args.student.0 (λ y. refl) c.waiting.result.now)
     ∙ sym c.contains.ensures.value ∙ c.if-contains.false)
     (ap (lowest_clash (market_of c.args.self.now) c.args.section.0) (sym c.bundle-held.ensures.value) ∙ sym c.lowest_clash.ensures
     ∙ ap (option_map (λ s. s.0)) c.in_default.is)
-    (ap (passes_credits (market_of c.args.self.now) c.args.student.0 c.args.section.0) (sym c.bundle-held.ensures.value) ∙ sym c.passes_credits.ensures
-    ∙ c.if-passes_credits.true)
+    (ap (exceeds_credits (market_of c.args.self.now) c.args.student.0 c.args.section.0) (sym c.bundle-held.ensures.value) ∙ sym c.exceeds_credits.ensures
+    ∙ c.if-exceeds_credits.true)
 
-pub returns-then-passes_courses-clause-refusal : goal.returns-then-passes_courses-clause-refusal
-returns-then-passes_courses-clause-refusal c =
+pub returns-then-exceeds_courses-clause-refusal : goal.returns-then-exceeds_courses-clause-refusal
+returns-then-exceeds_courses-clause-refusal c =
     refused_courses _ _ _ _ _ (ap (λ l. has l c.args.section.0) (sym c.bundle-held.ensures.value) ∙ sym c.has.ensures ∙ c.if-has.false)
     (ap (λ l. has l c.args.student.0) (sym c.waiting.ensures.waiting) ∙ sym (any_has _ c.args.student.0 (λ y. refl) c.waiting.result.now)
     ∙ sym c.contains.ensures.value ∙ c.if-contains.false)
     (ap (lowest_clash (market_of c.args.self.now) c.args.section.0) (sym c.bundle-held.ensures.value) ∙ sym c.lowest_clash.ensures
     ∙ ap (option_map (λ s. s.0)) c.in_default.is)
-    (ap (passes_credits (market_of c.args.self.now) c.args.student.0 c.args.section.0) (sym c.bundle-held.ensures.value) ∙ sym c.passes_credits.ensures
-    ∙ c.if-passes_credits.false)
-    (ap (passes_courses (market_of c.args.self.now) c.args.student.0) (sym c.bundle-held.ensures.value) ∙ sym c.passes_courses.ensures.passes
-    ∙ c.if-passes_courses.true)
+    (ap (exceeds_credits (market_of c.args.self.now) c.args.student.0 c.args.section.0) (sym c.bundle-held.ensures.value) ∙ sym c.exceeds_credits.ensures
+    ∙ c.if-exceeds_credits.false)
+    (ap (exceeds_courses (market_of c.args.self.now) c.args.student.0) (sym c.bundle-held.ensures.value) ∙ sym c.exceeds_courses.ensures.exceeds
+    ∙ c.if-exceeds_courses.true)
 
 pub returns-clause-refusal : goal.returns-clause-refusal
 returns-clause-refusal c =
@@ -52,7 +52,7 @@ returns-clause-refusal c =
     ∙ sym c.contains.ensures.value ∙ c.if-contains.false)
     (ap (lowest_clash (market_of c.args.self.now) c.args.section.0) (sym c.bundle-held.ensures.value) ∙ sym c.lowest_clash.ensures
     ∙ ap (option_map (λ s. s.0)) c.in_default.is)
-    (ap (passes_credits (market_of c.args.self.now) c.args.student.0 c.args.section.0) (sym c.bundle-held.ensures.value) ∙ sym c.passes_credits.ensures
-    ∙ c.if-passes_credits.false)
-    (ap (passes_courses (market_of c.args.self.now) c.args.student.0) (sym c.bundle-held.ensures.value) ∙ sym c.passes_courses.ensures.passes
-    ∙ c.if-passes_courses.false)
+    (ap (exceeds_credits (market_of c.args.self.now) c.args.student.0 c.args.section.0) (sym c.bundle-held.ensures.value) ∙ sym c.exceeds_credits.ensures
+    ∙ c.if-exceeds_credits.false)
+    (ap (exceeds_courses (market_of c.args.self.now) c.args.student.0) (sym c.bundle-held.ensures.value) ∙ sym c.exceeds_courses.ensures.exceeds
+    ∙ c.if-exceeds_courses.false)

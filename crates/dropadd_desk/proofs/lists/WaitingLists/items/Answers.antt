@@ -1,6 +1,6 @@
 use Rattle.std.proofs.Common.{◌≡◌, ◌≤◌, ◌∙◌, ap, sym, arith, length, take}
 use Rattle.std.proofs.lemmas.List.{length-take-le}
-use Rattle.dropadd_desk.specs.Fronts.{cells_of}
+use Rattle.row_region.specs.Rows.{cells_of}
 use Rattle.dropadd_desk.proofs.FrontRows.{fronts_length, shown_at}
 use Rattle.dropadd_desk.proofs.lists.WaitingLists.items.Goals as goal
 

@@ -1,7 +1,7 @@
 use Rattle.std.proofs.Common.{◌<◌, ◌∙◌, ◌||◌, length, ap, arith}
 use Rattle.std.specs.FinSet as set
 use Rattle.std.proofs.lemmas.List.{length-map}
-use Rattle.bundle_rules.specs.Sets.{has}
+use Rattle.market_units.specs.Members.{has}
 use Rattle.bundle_rules.specs.Bundles.{sections_of}
 use Rattle.held_seats.specs.Floors.{held_on}
 use Rattle.held_seats.proofs.Holding.{all_listed, below_item, there_at, may_choose_of}

@@ -2,7 +2,7 @@ use Rattle.std.proofs.Common.{ℕ, List, map, ap, sym, ◌∙◌}
 use Rattle.std.specs.List.{position}
 use Rattle.std.specs.Str.{bytes_eq}
 use Rattle.market_units.specs.Name.{name_bytes}
-use Rattle.market_certificate.specs.Tables.{section_names}
+use Rattle.course_catalog.specs.Sections.{section_names}
 use Rattle.market_certificate.proofs.NamesOf.{found_named, found_none}
 use Rattle.market_certificate.proofs.tables.TableNames.section.Goals as goal
 

@@ -1,45 +1,11 @@
-use Rattle.std.proofs.Common.{◌≡◌, ◌≤◌, ◌<◌, ◌+◌, ◌*◌, ◌∙◌, ℕ, ap, sym, subst, arith, length, slice_index}
-use Rattle.std.proofs.lemmas.List.{get_or-replicate}
-use Rattle.chronicle.specs.declared.standing.Standing.{Standing}
-use Rattle.chronicle.specs.Views.{sum_of}
-use Rattle.price_board.specs.declared.calls.BoardCall.{BoardCall}
-use Rattle.price_board.specs.declared.calls.BoardReply.{BoardReply}
-use Rattle.price_board.specs.declared.shared.Terms.{Terms}
-use Rattle.price_board.specs.Openings.{opening_of}
-use Rattle.price_board.specs.Terms.{task_count}
-use Rattle.price_board.specs.declared.shared.Progress.{Progress}
-use Rattle.price_board.proofs.Beginnings.{new_free, sum_of-replicate}
+use Rattle.std.proofs.Common.{sym, subst}
+use Rattle.task_board.specs.Openings.{no_answers}
+use Rattle.price_board.specs.declared.terms.Terms.{Terms}
+use Rattle.price_board.specs.Asked.{round_rules}
+use Rattle.price_board.specs.Tallies.{HaveTallied}
 use Rattle.price_board.proofs.board.Board.start.Goals as goal
 
-pub start-requires-clause-room : goal.start-requires-clause-room
-start-requires-clause-room c =
-    let items = c.in_ok-allotments.ensures.items_if_clones_equal (λ y is. is) in
-    let a : ℕ = sum_of c.in_ok-allotments.allotments.items in
-    let b : ℕ = c.in_ok-state.state.room in
-    let whole =
-    ap sum_of items ∙ sum_of-replicate c.args.workers (2 * c.task_count.result + 1)
-    ∙ ap (λ n. c.args.workers * (2 * n + 1)) (c.task_count.ensures.value ∙ ap task_count c.in_ok-state.ensures.terms) ∙ sym c.in_ok-state.ensures.room in
-    let same : a ≡ b = whole in
-    let goal : a ≤ b = omega arith in goal
-
-pub returns-clause-free : goal.returns-clause-free
-returns-clause-free c = λ k d below.
-    let count : length c.in_ok-chronicle.seats.items ≡ c.args.workers =
-    omega (arith, c.in_ok-chronicle.ensures.count, c.in_ok-chronicle.seats.ok.0, c.in_ok-allotments.ensures.len) in
-    let low : k < c.args.workers = subst (λ n. k < n) count below in
-    let items = c.in_ok-allotments.ensures.items_if_clones_equal (λ y is. is) in
-    let opening : c.in_ok-chronicle.chronicle.opening ≡ opening_of c.in_ok-chronicle.chronicle.base =
-    c.in_ok-chronicle.ensures.chronicle.1 ∙ (λ i. record { rows = c.in_ok-state.ensures.opening i })
-    ∙ ap opening_of (sym (c.in_ok-chronicle.ensures.chronicle.0 ∙ c.in_ok-state.ensures.terms)) in
-    new_free c.in_ok-chronicle.chronicle k (slice_index c.in_ok-allotments.allotments.items k) _
-    (c.in_ok-chronicle.ensures.seats k d (omega (arith, c.in_ok-allotments.ensures.len))) opening
-    (ap (λ l. slice_index l k) items ∙ get_or-replicate c.args.workers k (2 * c.task_count.result + 1) 0 low
-    ∙ ap (λ n. 2 * n + 1) (c.task_count.ensures.value ∙ ap task_count (sym c.in_ok-chronicle.ensures.chronicle.0)))
-
-pub returns-clause-fresh : goal.returns-clause-fresh
-returns-clause-fresh c = λ k d below.
-    let count : length c.in_ok-chronicle.seats.items ≡ c.args.workers =
-    omega (arith, c.in_ok-chronicle.ensures.count, c.in_ok-chronicle.seats.ok.0, c.in_ok-allotments.ensures.len) in
-    let low : k < c.args.workers = subst (λ n. k < n) count below in
-    let is = c.in_ok-chronicle.ensures.seats k d (omega (arith, c.in_ok-allotments.ensures.len)) in
-    (ap (λ (s : Standing Terms Progress BoardCall BoardReply). s.seen) is, ap (λ (s : Standing Terms Progress BoardCall BoardReply). s.own) is)
+pub start-requires-clause-fresh : goal.start-requires-clause-fresh
+start-requires-clause-fresh c =
+    subst (λ (t : Terms). HaveTallied t c.in_ok-tasks.tasks.tallies.items (no_answers round_rules t)) (sym c.in_ok-tasks.ensures.terms)
+    c.in_ok-tasks.ensures.fresh

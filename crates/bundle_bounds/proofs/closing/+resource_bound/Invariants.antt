@@ -1,5 +1,0 @@
-use Rattle.std.proofs.Common.{length}
-use Rattle.bundle_bounds.proofs.closing.+resource_bound.Given as goal
-
-abbrev pub decreases-resource_bound : goal.decreases-resource_bound
-decreases-resource_bound l = length l.some.now

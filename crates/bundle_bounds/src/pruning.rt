@@ -1,0 +1,353 @@
+// The bounds of the resources, and the first below a limit.
+ghost use Rattle.std.specs.Prelude.{ℕ, List, ◌≡◌, ◌<◌, ◌≤◌, ◌≤ℤ◌, ◌↔◌, ◌++◌, ◌*◌, ◌/◌, ◌+ℤ◌, ◌<ℤ◌, ◌&&◌, ◌==◌, ℤ, nat_lt, true, pos, neg_ℤ, IsTrue, IfSome, IfNone, length, All};
+ghost use Rattle.bundle_bounds.specs.Bounds.{leaf_of, at_price, resource_bounds, all_bounds, HasBound};
+ghost use Rattle.bundle_bounds.specs.Courses.{takes_of, by_course};
+ghost use Rattle.bundle_bounds.specs.Limits.{NoneBelow, IsFirstBelow};
+ghost use Rattle.bundle_bounds.specs.Known.{IsKnown};
+ghost use Rattle.bundle_bounds.specs.Modest.{IsModest};
+ghost use Rattle.bundle_bounds.specs.Tangents.{IsTangent, AreTangents};
+ghost use Rattle.bundle_bounds.specs.declared.prospects.Prospect.{Prospect};
+ghost use Rattle.bundle_bounds.specs.declared.prospects.Resource.{Resource};
+
+use crate::Leaf;
+use crate::known::Known;
+use crate::opens::Rests;
+use crate::prospects::{Prospect, Resource, at_price, at_two_prices, takes};
+use crate::tangents::{Tangent, Tangents};
+use market_units::MAX_RATINGS;
+
+// The leaf of a resource by a place.
+fn leaf_of(resource: Resource, place: u8) -> Leaf
+    ensures { result ≡ leaf_of resource place }
+{
+    match resource {
+        Resource::Money => Leaf::Budget(place),
+        Resource::Credits => Leaf::Credits(place),
+        Resource::Count => Leaf::Number(place),
+    }
+}
+
+// By how much a bound of so much above the base is above the limit at least.
+fn margin(base: i64, limit: i64, sum: u64) -> u64
+    requires low { neg_ℤ (pos 3000000000000) ≤ℤ base }
+    requires above { limit ≤ℤ (base +ℤ pos sum) }
+    requires high { sum ≤ 1000000000000000000 }
+    ensures above { (limit +ℤ pos result) ≤ℤ (base +ℤ pos sum) }
+    ensures high { result ≤ sum }
+{
+    if limit < base {
+        return sum;
+    }
+    sum - (limit - base) as u64
+}
+
+// Whether a prospect has a bound, and that is below the limit. What is known of the bounds grows
+// where it is not, and what was computed for that is the last tangent.
+#[inline(always)]
+fn is_below(
+    base: i64,
+    limit: i64,
+    rest: u32,
+    resource: Resource,
+    all: &[Prospect],
+    prospect: &Prospect,
+    known: &mut Known,
+    last: &mut Option<Tangent>,
+) -> bool
+    requires low { neg_ℤ (pos 3000000000000) ≤ℤ base }
+    requires high { base ≤ℤ pos 3000000000000 }
+    requires modest { All IsModest all.now }
+    requires few { length all.now ≤ MAX_RATINGS }
+    requires one_modest { IsModest prospect.now }
+    requires known { IsKnown base limit rest resource all.now known.old }
+    requires last { IfSome last.old (IsTangent rest resource all.now) }
+    ensures below { IsTrue result ↔ (((nat_lt 0 prospect.now.worth && nat_lt 0 (takes_of resource prospect.now)) ≡ true)
+        × ((base +ℤ pos (at_price resource rest (1000 * prospect.now.worth / takes_of resource prospect.now) all.now)) <ℤ limit)) }
+    ensures known { IsKnown base limit rest resource all.now known.new }
+    ensures last { IfSome last.new (IsTangent rest resource all.now) }
+{
+    let taken = takes(prospect, resource);
+    let worth = 1000 * u64::from(prospect.worth);
+    if known.has_ratio(worth, taken) {
+        return false;
+    }
+    if prospect.worth == 0 || taken == 0 {
+        return false;
+    }
+    let price = worth / taken;
+    let (sum, next) = at_two_prices(all, resource, rest, price);
+    let bound = base + sum as i64;
+    if bound < limit {
+        return true;
+    }
+    if price < 20_000_000 {
+        known.learn(price, sum, next, margin(base, limit, sum));
+        *last = Some(Tangent { price, sum, next });
+    }
+    false
+}
+
+// Takes in what an earlier price and the next one make, where the bound at the first is not below
+// the limit.
+fn recall(known: &mut Known, base: i64, limit: i64, tangent: Tangent)
+    requires low { neg_ℤ (pos 3000000000000) ≤ℤ base }
+    requires high { base ≤ℤ pos 3000000000000 }
+    requires price { tangent.price < 20000000 }
+    requires sum { tangent.sum ≤ 1000000000000000000 }
+    requires known { known.old.high ≤ 20000001 }
+    ensures { (rest : ℕ) (resource : Resource) (all : List Prospect)
+        → IsTangent rest resource all tangent → IsKnown base limit rest resource all known.old
+        → IsKnown base limit rest resource all known.new }
+{
+    let bound = base + tangent.sum as i64;
+    if bound < limit {
+        return;
+    }
+    let above = margin(base, limit, tangent.sum);
+    known.learn(tangent.price, tangent.sum, tangent.next, above);
+}
+
+// What the last tangent tells of the bounds.
+fn known_by(base: i64, limit: i64, last: &Option<Tangent>) -> Known
+    requires low { neg_ℤ (pos 3000000000000) ≤ℤ base }
+    requires high { base ≤ℤ pos 3000000000000 }
+    requires last { (rest : ℕ)
+        × ((resource : Resource)
+        × ((all : List Prospect) × IfSome last.now (IsTangent rest resource all))) }
+    ensures { (rest : ℕ) (resource : Resource) (all : List Prospect)
+        → IfSome last.now (IsTangent rest resource all)
+        → IsKnown base limit rest resource all result }
+{
+    let mut known = Known::nothing();
+    match last {
+        Some(tangent) => recall(&mut known, base, limit, *tangent),
+        None => {}
+    }
+    known
+}
+
+// The leaf of the first of all that has a bound below the limit.
+#[inline(always)]
+fn first_of_resource(
+    base: i64,
+    limit: i64,
+    rest: u32,
+    resource: Resource,
+    all: &[Prospect],
+    last: &mut Option<Tangent>,
+) -> Option<Leaf>
+    requires low { neg_ℤ (pos 3000000000000) ≤ℤ base }
+    requires high { base ≤ℤ pos 3000000000000 }
+    requires modest { All IsModest all.now }
+    requires few { length all.now ≤ MAX_RATINGS }
+    requires last { IfSome last.old (IsTangent rest resource all.now) }
+    ensures first { IfSome result
+        (IsFirstBelow limit (resource_bounds base rest resource all.now all.now)) }
+    ensures none { IfNone result
+        (NoneBelow limit (resource_bounds base rest resource all.now all.now)) }
+    ensures last { IfSome last.new (IsTangent rest resource all.now) }
+{
+    let mut known = known_by(base, limit, last);
+    for prospect in all {
+        if known.is_all() {
+            return None;
+        }
+        if is_below(base, limit, rest, resource, all, prospect, &mut known, last) {
+            return Some(leaf_of(resource, prospect.place));
+        }
+    }
+    None
+}
+
+/// Whether the plain bound, which is so much above the base, is below the limit.
+pub(crate) fn is_plain_below(base: i64, limit: i64, plain: u64) -> bool
+    requires low { neg_ℤ (pos 3000000000000) ≤ℤ base }
+    requires high { base ≤ℤ pos 3000000000000 }
+    requires plain_high { plain ≤ 1200000000 }
+    ensures { IsTrue result ↔ ((base +ℤ pos plain) <ℤ limit) }
+{
+    let least = base + plain as i64;
+    least < limit
+}
+
+/// The leaf of the first bound below the limit, of all bounds in their order; `None` where none is.
+pub(crate) fn first_below(base: i64, limit: i64, rests: Rests, all: &[Prospect]) -> Option<Leaf>
+    requires low { neg_ℤ (pos 3000000000000) ≤ℤ base }
+    requires high { base ≤ℤ pos 3000000000000 }
+    requires modest { All IsModest all.now }
+    requires few { length all.now ≤ MAX_RATINGS }
+    ensures first { IfSome result
+        (IsFirstBelow limit (all_bounds base rests.budget rests.credits rests.courses all.now)) }
+    ensures none { IfNone result
+        (NoneBelow limit (all_bounds base rests.budget rests.credits rests.courses all.now)) }
+{
+    let mut tangents = Tangents::none();
+    first_with(base, limit, rests, all, plain_sum(all), &mut tangents)
+}
+
+/// The same as `first_below`, where the sum of the plain bound and some tangents are at hand.
+/// Tangents that are computed on the way are kept.
+#[inline(always)]
+pub(crate) fn first_with(
+    base: i64,
+    limit: i64,
+    rests: Rests,
+    all: &[Prospect],
+    plain: u64,
+    tangents: &mut Tangents,
+) -> Option<Leaf>
+    requires low { neg_ℤ (pos 3000000000000) ≤ℤ base }
+    requires high { base ≤ℤ pos 3000000000000 }
+    requires modest { All IsModest all.now }
+    requires few { length all.now ≤ MAX_RATINGS }
+    requires plain { plain ≡ by_course (λ p. 1000 * p.worth) all.now }
+    requires plain_high { plain ≤ 1200000000 }
+    requires tangents { AreTangents rests.budget rests.credits rests.courses all.now tangents.old }
+    ensures first { IfSome result
+        (IsFirstBelow limit (all_bounds base rests.budget rests.credits rests.courses all.now)) }
+    ensures none { IfNone result
+        (NoneBelow limit (all_bounds base rests.budget rests.credits rests.courses all.now)) }
+    ensures tangents { AreTangents rests.budget rests.credits rests.courses all.now tangents.new }
+{
+    if is_plain_below(base, limit, plain) {
+        return Some(Leaf::Plain);
+    }
+    match first_of_resource(
+        base,
+        limit,
+        rests.budget,
+        Resource::Money,
+        all,
+        &mut tangents.money,
+    ) {
+        Some(leaf) => Some(leaf),
+        None => first_after_money(base, limit, rests, all, tangents),
+    }
+}
+
+// The same of the bounds of the credits and of the number of sections.
+#[inline(always)]
+fn first_after_money(
+    base: i64,
+    limit: i64,
+    rests: Rests,
+    all: &[Prospect],
+    tangents: &mut Tangents,
+) -> Option<Leaf>
+    requires low { neg_ℤ (pos 3000000000000) ≤ℤ base }
+    requires high { base ≤ℤ pos 3000000000000 }
+    requires modest { All IsModest all.now }
+    requires few { length all.now ≤ MAX_RATINGS }
+    requires tangents { AreTangents rests.budget rests.credits rests.courses all.now tangents.old }
+    ensures first { IfSome result
+        (IsFirstBelow limit
+        (resource_bounds base rests.credits Resource.Credits all.now all.now
+        ++ resource_bounds base rests.courses Resource.Count all.now all.now)) }
+    ensures none { IfNone result
+        (NoneBelow limit
+        (resource_bounds base rests.credits Resource.Credits all.now all.now
+        ++ resource_bounds base rests.courses Resource.Count all.now all.now)) }
+    ensures tangents { AreTangents rests.budget rests.credits rests.courses all.now tangents.new }
+{
+    match first_of_resource(
+        base,
+        limit,
+        rests.credits,
+        Resource::Credits,
+        all,
+        &mut tangents.credits,
+    ) {
+        Some(leaf) => Some(leaf),
+        None => first_of_resource(
+            base,
+            limit,
+            rests.courses,
+            Resource::Count,
+            all,
+            &mut tangents.courses,
+        ),
+    }
+}
+
+// Of each course the greatest worth, a thousandfold, added up.
+fn plain_sum(all: &[Prospect]) -> u64
+    requires modest { All IsModest all.now }
+    requires few { length all.now ≤ MAX_RATINGS }
+    ensures value { result ≡ by_course (λ p. 1000 * p.worth) all.now }
+    ensures high { result ≤ 1200000000 }
+{
+    at_price(all, Resource::Count, 0, 0)
+}
+
+// Whether a prospect is at this place and has a bound.
+fn has_bound_at(prospect: &Prospect, resource: Resource, place: u8) -> bool
+    requires { IsModest prospect.now }
+    ensures { result
+        ≡ (prospect.now.place == place
+        && (nat_lt 0 prospect.now.worth && nat_lt 0 (takes_of resource prospect.now))) }
+{
+    let taken = takes(prospect, resource);
+    prospect.place == place && prospect.worth > 0 && taken > 0
+}
+
+// The bound of the resource by a place that has one.
+fn resource_bound(
+    base: i64,
+    rest: u32,
+    resource: Resource,
+    all: &[Prospect],
+    some: &[Prospect],
+    place: u8,
+) -> i64
+    requires low { neg_ℤ (pos 3000000000000) ≤ℤ base }
+    requires high { base ≤ℤ pos 3000000000000 }
+    requires modest { All IsModest all.now }
+    requires few { length all.now ≤ MAX_RATINGS }
+    requires some_modest { All IsModest some.now }
+    ensures { (bound : ℤ) → HasBound (resource_bounds base rest resource all.now some.now) (leaf_of resource place) bound
+        → HasBound (resource_bounds base rest resource all.now some.now) (leaf_of resource place) result }
+{
+    match some {
+        [] => base,
+        [prospect, more @ ..] => {
+            if has_bound_at(prospect, resource, place) {
+                let taken = takes(prospect, resource);
+                let price = 1000 * u64::from(prospect.worth) / taken;
+                return base + at_price(all, resource, rest, price) as i64;
+            }
+            resource_bound(base, rest, resource, all, more, place)
+        }
+    }
+}
+
+/// The bound of a leaf, where the open places have a bound with that leaf; else the number means
+/// nothing.
+pub(crate) fn bound_of(base: i64, rests: Rests, all: &[Prospect], leaf: Leaf) -> i64
+    requires low { neg_ℤ (pos 3000000000000) ≤ℤ base }
+    requires high { base ≤ℤ pos 3000000000000 }
+    requires modest { All IsModest all.now }
+    requires few { length all.now ≤ MAX_RATINGS }
+    ensures { (bound : ℤ) → HasBound (all_bounds base rests.budget rests.credits rests.courses all.now) leaf bound
+        → HasBound (all_bounds base rests.budget rests.credits rests.courses all.now) leaf result }
+{
+    match leaf {
+        Leaf::Plain => base + plain_sum(all) as i64,
+        Leaf::Budget(place) => resource_bound(base, rests.budget, Resource::Money, all, all, place),
+        Leaf::Credits(place) => resource_bound(
+            base,
+            rests.credits,
+            Resource::Credits,
+            all,
+            all,
+            place,
+        ),
+        Leaf::Number(place) => resource_bound(
+            base,
+            rests.courses,
+            Resource::Count,
+            all,
+            all,
+            place,
+        ),
+    }
+}

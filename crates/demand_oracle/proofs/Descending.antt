@@ -1,0 +1,196 @@
+-- What holds in the search below a node, from place to place.
+use Rattle.std.proofs.Common.{◌≡◌, ◌<◌, ◌≤◌, ◌+◌, ◌-◌, ◌*◌, ◌%◌, ◌^◌, ◌++◌, ◌⊎◌, ℕ, Some, List, [], ◌∷◌, length, drop, ap, inl, inr, arith, w64}
+use Rattle.std.specs.Prelude.{bit_and}
+use Rattle.std.specs.Int.{bit_not, trailing_zeros}
+use Rattle.std.proofs.lemmas.Bool.{cases_lt}
+use Rattle.std.proofs.lemmas.Nat.Bits.{bit_at-zero}
+use Rattle.bundle_rules.specs.Menus.{section_at, credits_at, wishes_of}
+use Rattle.bundle_rules.specs.Places.{menu_sections}
+use Rattle.bundle_bounds.specs.Laws.{IsTakable, IsNode}
+use Rattle.bundle_bounds.specs.Offers.{Offer, price_at}
+use Rattle.bundle_bounds.specs.Prunings.{MayPrune}
+use Rattle.bundle_bounds.proofs.Openings.{node_later, node_with, node_without}
+use Rattle.demand_oracle.specs.declared.summed_node.SummedNode.{SummedNode}
+use Rattle.demand_oracle.specs.declared.question.Question.{Question}
+use Rattle.demand_oracle.specs.Champions.{IsChampion}
+use Rattle.demand_oracle.specs.OpenWords.{Clashes, IsWordOf, StaysOpen, IsOpenWord}
+use Rattle.demand_oracle.specs.Questions.{IsQuestion, offer_asked, wanted_in}
+use Rattle.demand_oracle.specs.Search.{IsBetter, IsSearched}
+use Rattle.demand_oracle.specs.SummedNodes.{chosen_of, IsSummed}
+use Rattle.demand_oracle.proofs.OpenPlaces.{passed_here, shut_where_clear, allowed_alone, next_open, clear_before, word_falls, word_after, word_apart}
+use Rattle.demand_oracle.proofs.Openings.{takable_where_open_at, open_at_where_takable}
+use Rattle.demand_oracle.proofs.SummedNodes.{full_to_end, ended_here, pruned_here, shut_here, open_here}
+use Rattle.demand_oracle.proofs.Wanting.{none_wanted, lacks_passed}
+
+-- the places before one of them are decided, without their sections: the word has the open ones from there on, and the search from there is the rest of that
+-- of the node
+pub record GoesOn (question : Question) (summed first : SummedNode) (word : ℕ) (champion : SummedNode) : Type 0 where
+  pub from : ℕ
+  pub later : summed.node.place ≤ from
+  pub is_word : IsOpenWord (offer_asked question) from (chosen_of summed) word
+  pub is_champion : IsChampion (offer_asked question) champion
+  pub same_result : (result : List ℕ)
+      → IsSearched (offer_asked question) (wanted_in question) from (chosen_of summed) (drop from (menu_sections question.menu.now)) (chosen_of champion) result
+      → IsSearched (offer_asked question) (wanted_in question) summed.node.place (chosen_of summed)
+      (drop summed.node.place (menu_sections question.menu.now)) (chosen_of first) result
+
+-- what is compared at the end, of the sections that the nodes have chosen
+pub compared : (question : Question) (summed champion result : SummedNode)
+    → (IsBetter (wishes_of question.menu.now) (wanted_in question) (chosen_of summed) (chosen_of champion) × (result ≡ summed))
+    ⊎ ((IsBetter (wishes_of question.menu.now) (wanted_in question) (chosen_of summed) (chosen_of champion) → ⊥) × (result ≡ champion))
+    → (k : ℕ) → IsSearched (offer_asked question) (wanted_in question) k (chosen_of summed) [] (chosen_of champion) (chosen_of result)
+compared question summed champion result (inl more) k = inl (more.0, ap chosen_of more.1)
+compared question summed champion result (inr none) k = inr (none.0, ap chosen_of none.1)
+
+module _ (question : Question) (asked : IsQuestion question) (summed : SummedNode)
+    (is_summed : IsSummed question.menu.now (offer_asked question).price summed) (node : IsNode (offer_asked question) summed.node.place (chosen_of summed)) where
+  abbrev offer : Offer
+  offer = offer_asked question
+
+  abbrev chosen : List ℕ
+  chosen = chosen_of summed
+
+  abbrev Searched : ℕ → List ℕ → List ℕ → Type 0
+  Searched k champion result = IsSearched (offer_asked question) (wanted_in question) k (chosen_of summed) (drop k (menu_sections question.menu.now)) champion result
+
+  -- as many sections are chosen as may be taken
+  pub whole_searched : (champion result : List ℕ) → question.menu.now.courses ≤ length (chosen_of summed)
+      → IsSearched (offer_asked question) (wanted_in question) summed.node.place (chosen_of summed) [] champion result
+      → Searched summed.node.place champion result
+  whole_searched champion result full ended =
+      full_to_end offer (wanted_in question) summed.node.place chosen (drop summed.node.place (menu_sections question.menu.now)) champion result full ended
+
+  -- the node is pruned
+  pub lost_searched : (champion : List ℕ) → summed.node.place < length question.menu.now.places
+      → MayPrune (offer_asked question) (wanted_in question) summed.node.place (chosen_of summed) champion → Searched summed.node.place champion champion
+  lost_searched champion low may = pruned_here offer (wanted_in question) summed.node.place chosen low champion may
+
+  module _ (first : SummedNode) (word : ℕ) (champion : SummedNode) (on : GoesOn question summed first word champion) where
+    node_from : IsNode offer on.from chosen
+    node_from = node_later offer summed.node.place on.from chosen on.later node
+
+    -- no place is open
+    pub end_searched : (result : SummedNode) → word ≡ 0
+        → ((k : ℕ) → IsSearched (offer_asked question) (wanted_in question) k (chosen_of summed) [] (chosen_of champion) (chosen_of result))
+        → Searched summed.node.place (chosen_of first) (chosen_of result)
+    end_searched result none ended =
+        let n : ℕ = length question.menu.now.places in
+        on.same_result (chosen_of result) (elim (cases_lt on.from (length question.menu.now.places)) [
+          | inl before ↦
+              passed_here offer (wanted_in question) chosen on.from n (omega arith) (omega arith)
+              (λ p at below.
+              shut_where_clear offer asked.menu on.from chosen node_from word on.is_word p at below (rw none (bit_at-zero p)))
+              (chosen_of champion) (chosen_of result)
+              (ended_here offer (wanted_in question) n chosen (chosen_of champion) (chosen_of result) (omega arith) (ended n))
+          | inr past ↦ ended_here offer (wanted_in question) on.from chosen (chosen_of champion) (chosen_of result) past (ended on.from)
+        ])
+
+    module _ (fits : word < 2 ^ 64) (some : 0 < word) where
+      abbrev place : ℕ
+      place = trailing_zeros w64 word
+
+      opened : StaysOpen offer on.from chosen place
+      opened = next_open offer asked.menu on.from chosen word fits some on.is_word
+
+      -- the next open place
+      pub next_later : summed.node.place ≤ trailing_zeros w64 word
+      next_later = let from = on.later in let at = opened.undecided in omega arith
+
+      pub next_on_menu : trailing_zeros w64 word < length question.menu.now.places
+      next_on_menu = opened.on_menu
+
+      pub node_next : IsNode (offer_asked question) (trailing_zeros w64 word) (chosen_of summed)
+      node_next = node_later offer summed.node.place place chosen next_later node
+
+      -- what the search from there gives is what that of the node gives
+      from_next : (result : List ℕ) → Searched place (chosen_of champion) result → Searched summed.node.place (chosen_of first) result
+      from_next result searched =
+          on.same_result result
+          (passed_here offer (wanted_in question) chosen on.from place opened.undecided (omega (arith, next_on_menu))
+          (λ p at below.
+          shut_where_clear offer asked.menu on.from chosen node_from word on.is_word p at (omega (arith, next_on_menu))
+          (clear_before offer asked.menu on.from chosen word fits some on.is_word p below)) (chosen_of champion) result searched)
+
+      -- the node is pruned there
+      pub prune_searched : MayPrune (offer_asked question) (wanted_in question) (trailing_zeros w64 word) (chosen_of summed) (chosen_of champion)
+          → Searched summed.node.place (chosen_of first) (chosen_of champion)
+      prune_searched may =
+          from_next (chosen_of champion) (pruned_here offer (wanted_in question) place chosen next_on_menu (chosen_of champion) may)
+
+      -- its section is within what is left exactly where it may be taken
+      pub fits_where_takable : IsTakable (offer_asked question) (chosen_of summed ++ section_at question.menu.now.places (trailing_zeros w64 word) ∷ [])
+          → (price_at (offer_asked question) (trailing_zeros w64 word) ≤ (offer_asked question).budget - summed.paid)
+          × (credits_at question.menu.now.places (trailing_zeros w64 word) ≤ question.menu.now.credits - summed.credits)
+      fits_where_takable takable =
+          let at = open_at_where_takable offer asked.menu summed is_summed summed.node.place node place next_later next_on_menu takable in (at.price, at.credits)
+
+      pub takable_where_fits : 1 ≤ question.menu.now.courses - length (chosen_of summed)
+          → price_at (offer_asked question) (trailing_zeros w64 word) ≤ (offer_asked question).budget - summed.paid
+          → credits_at question.menu.now.places (trailing_zeros w64 word) ≤ question.menu.now.credits - summed.credits
+          → IsTakable (offer_asked question) (chosen_of summed ++ section_at question.menu.now.places (trailing_zeros w64 word) ∷ [])
+      takable_where_fits courses price credits =
+          takable_where_open_at offer asked.menu summed is_summed summed.node.place node place next_later next_on_menu
+          record { allowed = allowed_alone offer place opened.alone; price = price; credits = credits; courses = courses; apart = opened.apart }
+
+      abbrev cleared : ℕ
+      cleared = bit_and word (bit_not w64 (1 * 2 ^ trailing_zeros w64 word % 2 ^ 64))
+
+      word_later : IsOpenWord offer (place + 1) chosen cleared
+      word_later = word_after offer asked.menu on.from chosen word fits some on.is_word
+
+      -- it may not be taken
+      pub shut_goes_on : (IsTakable (offer_asked question) (chosen_of summed ++ section_at question.menu.now.places (trailing_zeros w64 word) ∷ []) → ⊥)
+          → GoesOn question summed first (bit_and word (bit_not w64 (1 * 2 ^ trailing_zeros w64 word % 2 ^ 64))) champion
+      shut_goes_on shut = record {
+        from = place + 1;
+        later = omega (arith, next_later);
+        is_word = word_later;
+        is_champion = on.is_champion;
+        same_result = λ result searched. from_next result (shut_here offer (wanted_in question) place chosen next_on_menu (chosen_of champion) result shut searched);
+      }
+
+      module _ (takable : IsTakable (offer_asked question) (chosen_of summed ++ section_at question.menu.now.places (trailing_zeros w64 word) ∷ [])) where
+        abbrev taken : List ℕ
+        taken = chosen_of summed ++ section_at question.menu.now.places (trailing_zeros w64 word) ∷ []
+
+        -- the node with it
+        pub node_taken : IsNode (offer_asked question) (trailing_zeros w64 word + 1)
+            (chosen_of summed ++ section_at question.menu.now.places (trailing_zeros w64 word) ∷ [])
+        node_taken = node_with offer place chosen asked.menu next_on_menu node_next takable
+
+        pub word_taken : (clashes : ℕ) → clashes < 2 ^ 64 → IsWordOf (Clashes question.menu.now (trailing_zeros w64 word)) (length question.menu.now.places) clashes
+            → IsOpenWord (offer_asked question) (trailing_zeros w64 word + 1)
+            (chosen_of summed ++ section_at question.menu.now.places (trailing_zeros w64 word) ∷ [])
+            (bit_and (bit_and word (bit_not w64 (1 * 2 ^ trailing_zeros w64 word % 2 ^ 64))) (bit_not w64 clashes))
+        word_taken clashes clashes_fit are =
+            word_apart offer asked.menu (place + 1) place chosen next_on_menu cleared clashes (omega (arith, falls)) clashes_fit word_later are
+          where
+            falls : cleared < word
+            falls = word_falls offer asked.menu on.from chosen word fits some on.is_word
+
+        module _ (new : SummedNode) (is_new : IsChampion (offer_asked question) new)
+            (searched : IsSearched (offer_asked question) (wanted_in question) (trailing_zeros w64 word + 1)
+            (chosen_of summed ++ section_at question.menu.now.places (trailing_zeros w64 word) ∷ [])
+            (drop (trailing_zeros w64 word + 1) (menu_sections question.menu.now)) (chosen_of champion) (chosen_of new)) where
+          open_searched : (result : List ℕ) → Searched (place + 1) (chosen_of new) result → Searched summed.node.place (chosen_of first) result
+          open_searched result without =
+              from_next result
+              (open_here offer (wanted_in question) place chosen next_on_menu (chosen_of champion) (chosen_of new) result takable searched without)
+
+          -- it was taken, and is then left out
+          pub taken_goes_on : GoesOn question summed first (bit_and word (bit_not w64 (1 * 2 ^ trailing_zeros w64 word % 2 ^ 64))) new
+          taken_goes_on = record {
+            from = place + 1;
+            later = omega (arith, next_later);
+            is_word = word_later;
+            is_champion = is_new;
+            same_result = open_searched;
+          }
+
+          -- it is the given one: without it nothing is wanted
+          pub given_searched : question.given ≡ Some (trailing_zeros w64 word) → Searched summed.node.place (chosen_of first) (chosen_of new)
+          given_searched given =
+              open_searched (chosen_of new)
+              (none_wanted offer (wanted_in question) (place + 1) chosen (drop (place + 1) (menu_sections question.menu.now)) (chosen_of new)
+              (node_without offer place chosen node_next)
+              (λ bundle may completes. rw given (lacks_passed offer asked.menu place next_on_menu chosen node_next bundle may completes)))

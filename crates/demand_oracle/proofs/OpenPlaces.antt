@@ -1,0 +1,209 @@
+-- Words of open places, and the search that passes over the others.
+use Rattle.std.proofs.Common.{◌≡◌, ◌≢◌, ◌<◌, ◌≤◌, ◌+◌, ◌-◌, ◌*◌, ◌%◌, min, ◌^◌, ◌++◌, ℕ, zero, suc, Bool, true, ◌&&◌, not, List, [], ◌∷◌, length, drop, refl, sym, ◌∙◌, ap, subst, inl, inr, arith, w64}
+use Rattle.std.specs.Prelude.{bit_and}
+use Rattle.std.specs.Int.{bit_at, bit_not, trailing_zeros}
+use Rattle.std.proofs.lemmas.Bool.{cases_eq, cases_lt, true≢false, cases_Bool}
+use Rattle.std.proofs.lemmas.List.{map-append}
+use Rattle.std.proofs.lemmas.Nat.{and_le_l}
+use Rattle.std.proofs.lemmas.Nat.Bits.{bit_at-lt, bit_at-trailing_zeros, bit_at_clear_same, bit_at_clear_other, bit_at_above, bit_at_and, bit_at_not}
+use Rattle.market_units.specs.Members.{has}
+use Rattle.bundle_rules.specs.Existence.Members.{has-here, has-there}
+use Rattle.bundle_rules.specs.Menus.{IsMenu, wishes_of, section_at, place_in, clash_in}
+use Rattle.bundle_rules.specs.Places.{menu_sections}
+use Rattle.bundle_rules.proofs.Parts.{choice_part}
+use Rattle.bundle_bounds.specs.Offers.{Offer, places_of, allowed_at}
+use Rattle.bundle_bounds.specs.Opens.{is_apart}
+use Rattle.bundle_bounds.specs.Laws.{IsTakable, IsNode}
+use Rattle.bundle_bounds.proofs.ByPlace.{place_in-section_at}
+use Rattle.bundle_bounds.proofs.Openings.{both, node_later, open_where_takable}
+use Rattle.demand_oracle.specs.OpenWords.{IsAlone, IsWordOf, Clashes, StaysOpen, IsOpenWord}
+use Rattle.demand_oracle.specs.Search.{IsSearched}
+use Rattle.demand_oracle.proofs.SummedNodes.{shut_here}
+
+-- a place that is apart from chosen ones with one more
+apart_last : (offer : Offer) (cs : List ℕ) (q p : ℕ) → is_apart offer (cs ++ q ∷ []) p ≡ (is_apart offer cs p && not (clash_in offer.menu.clashes p q))
+apart_last offer [] q p = elim (cases_Bool (clash_in offer.menu.clashes p q)) [ inl is ↦ rw is refl | inr not_ ↦ rw not_ refl ]
+apart_last offer (c ∷ cs) q p = elim (cases_Bool (clash_in offer.menu.clashes p c)) [
+  | inl is ↦ rw is refl
+  | inr not_ ↦ rw not_ (apart_last offer cs q p)
+]
+
+module _ (offer : Offer) (wanted : List ℕ → Bool) (chosen : List ℕ) where
+  -- so many places from k on may not be taken, and are passed over
+  pass : (k gap : ℕ) → k + gap ≤ length offer.menu.places
+      → ((p : ℕ) → k ≤ p → p < k + gap → IsTakable offer (chosen ++ section_at offer.menu.places p ∷ []) → ⊥) → (champion result : List ℕ)
+      → IsSearched offer wanted (k + gap) chosen (drop (k + gap) (menu_sections offer.menu)) champion result
+      → IsSearched offer wanted k chosen (drop k (menu_sections offer.menu)) champion result
+  pass k zero high shut champion result searched =
+      let none : k + 0 ≡ k = omega arith in
+      subst (λ n. IsSearched offer wanted n chosen (drop n (menu_sections offer.menu)) champion result) none searched
+  pass k (suc gap) high shut champion result searched =
+      let next : k + suc gap ≡ (k + 1) + gap = omega arith in
+      shut_here offer wanted k chosen (omega arith) champion result (shut k (omega arith) (omega arith))
+      (pass (k + 1) gap (omega arith) (λ p from below. shut p (omega arith) (omega arith)) champion result
+      (subst (λ n. IsSearched offer wanted n chosen (drop n (menu_sections offer.menu)) champion result) next searched))
+
+  -- the places from k on that are before another one may not be taken
+  pub passed_here : (k place : ℕ) → k ≤ place → place ≤ length offer.menu.places
+      → ((p : ℕ) → k ≤ p → p < place → IsTakable offer (chosen ++ section_at offer.menu.places p ∷ []) → ⊥) → (champion result : List ℕ)
+      → IsSearched offer wanted place chosen (drop place (menu_sections offer.menu)) champion result
+      → IsSearched offer wanted k chosen (drop k (menu_sections offer.menu)) champion result
+  passed_here k place from high shut champion result searched =
+      let gap : k + (place - k) ≡ place = omega arith in
+      pass k (place - k) (omega arith) (λ p at below. shut p at (omega arith)) champion result
+      (subst (λ n. IsSearched offer wanted n chosen (drop n (menu_sections offer.menu)) champion result) (sym gap) searched)
+
+module _ (offer : Offer) (menu : IsMenu offer.menu) (k : ℕ) (chosen : List ℕ) (node : IsNode offer k chosen) where
+  -- a place whose section may be taken with the chosen ones stays open
+  pub open_where_it_fits : (p : ℕ) → k ≤ p → p < length offer.menu.places → IsTakable offer (chosen ++ section_at offer.menu.places p ∷ [])
+      → StaysOpen offer k chosen p
+  open_where_it_fits p later on takable =
+      let s : ℕ = section_at offer.menu.places p in
+      record {
+        undecided = later;
+        on_menu = on;
+        alone =
+            choice_part (wishes_of offer.menu) offer.price offer.budget offer.allowed (section_at offer.menu.places p ∷ [])
+            (chosen ++ section_at offer.menu.places p ∷ []) (tt, tt) (λ t is. in_front chosen s t is) takable;
+        apart = (open_where_takable offer menu p chosen (node_later offer k p chosen later node) on takable).apart;
+      }
+    where
+      in_front : (xs : List ℕ) (s t : ℕ) → has (s ∷ []) t ≡ true → has (xs ++ s ∷ []) t ≡ true
+      in_front [] s t is = is
+      in_front (x ∷ xs) s t is = has-there x (xs ++ s ∷ []) t (in_front xs s t is)
+
+  module _ (word : ℕ) (is : IsOpenWord offer k chosen word) where
+    -- a place whose bit is not set may not be taken
+    pub shut_where_clear : (p : ℕ) → k ≤ p → p < length offer.menu.places → bit_at word p ≡ 0
+        → IsTakable offer (chosen ++ section_at offer.menu.places p ∷ []) → ⊥
+    shut_where_clear p later on clear takable =
+        let set : bit_at word p ≡ 1 = (is p).1 (open_where_it_fits p later on takable) in omega arith
+
+-- the section of a place that may be taken alone is allowed
+pub allowed_alone : (offer : Offer) (p : ℕ) → IsAlone offer p → allowed_at offer p ≡ true
+allowed_alone offer p alone = alone.within (section_at offer.menu.places p) (has-here (section_at offer.menu.places p) [])
+
+module _ (offer : Offer) (menu : IsMenu offer.menu) (k : ℕ) (chosen : List ℕ) (word : ℕ) (fits : word < 2 ^ 64) (some : 0 < word)
+    (is : IsOpenWord offer k chosen word) where
+  abbrev first : ℕ
+  first = trailing_zeros w64 word
+
+  lowest : (first < 64) × (bit_at word first ≡ 1) × ((i : ℕ) → i < first → bit_at word i ≡ 0)
+  lowest = bit_at-trailing_zeros w64 word some fits
+
+  -- the next open place
+  pub next_open : StaysOpen offer k chosen (trailing_zeros w64 word)
+  next_open = (is (trailing_zeros w64 word)).0 lowest.1
+
+  -- and those before it are not
+  pub clear_before : (p : ℕ) → p < trailing_zeros w64 word → bit_at word p ≡ 0
+  clear_before p low = lowest.2 p low
+
+  abbrev cleared : ℕ
+  cleared = bit_and word (bit_not w64 (1 * 2 ^ first % 2 ^ 64))
+
+  -- it is a smaller word without the next open place
+  pub word_falls : bit_and word (bit_not w64 (1 * 2 ^ trailing_zeros w64 word % 2 ^ 64)) < word
+  word_falls = elim (cases_eq cleared word) [
+    | inl same ↦
+        let gone : bit_at cleared first ≡ 0 = bit_at_clear_same w64 word first lowest.0 in
+        absurd (let both : bit_at cleared first ≡ bit_at word first = ap (λ x. bit_at x first) same in let set : bit_at word first ≡ 1 = lowest.1 in omega arith)
+    | inr other ↦ omega (arith, and_le_l word (bit_not w64 (1 * 2 ^ first % 2 ^ 64)))
+  ]
+
+  few : (p : ℕ) → p < length offer.menu.places → p < 64
+  few p on = let cap : length offer.menu.places ≤ 60 = menu.places.few in omega arith
+
+  cleared_open : (p : ℕ) → bit_at cleared p ≡ 1 → StaysOpen offer (first + 1) chosen p
+  cleared_open p set = elim (cases_lt p 64) [
+    | inl low ↦ elim (cases_eq p first) [
+      | inl same ↦
+          let gone : bit_at cleared first ≡ 0 = bit_at_clear_same w64 word first lowest.0 in
+          absurd (let set' : bit_at cleared first ≡ 1 = ap (bit_at cleared) (sym same) ∙ set in omega arith)
+      | inr other ↦
+          let kept : bit_at cleared p ≡ bit_at word p = bit_at_clear_other w64 word first lowest.0 p low other in
+          let open_ : StaysOpen offer k chosen p = (is p).0 (sym kept ∙ set) in
+          record { undecided = above p other (sym kept ∙ set); on_menu = open_.on_menu; alone = open_.alone; apart = open_.apart }
+    ]
+    | inr high ↦ absurd (let none : bit_at cleared p ≡ 0 = bit_at_above cleared 64 p (omega (arith, word_falls)) high in omega arith)
+  ]
+    where
+      above : (p : ℕ) → p ≢ first → bit_at word p ≡ 1 → first + 1 ≤ p
+      above p other set = elim (cases_lt p first) [
+        | inl before ↦ absurd (let none : bit_at word p ≡ 0 = lowest.2 p before in omega arith)
+        | inr from ↦ elim (cases_lt first p) [ inl after ↦ omega arith | inr not_after ↦ absurd (other (omega arith)) ]
+      ]
+
+  -- the word without the next open place has those after it
+  pub word_after : IsOpenWord offer (trailing_zeros w64 word + 1) chosen (bit_and word (bit_not w64 (1 * 2 ^ trailing_zeros w64 word % 2 ^ 64)))
+  word_after p = (
+    cleared_open p,
+    λ stays.
+        let later : first + 1 ≤ p = stays.undecided in
+        let other : p ≢ first = λ same. omega arith in
+        let open_ : StaysOpen offer k chosen p =
+        record { undecided = (let at : k ≤ first = next_open.undecided in omega arith); on_menu = stays.on_menu; alone = stays.alone; apart = stays.apart } in
+        bit_at_clear_other w64 word first lowest.0 p (few p stays.on_menu) other ∙ (is p).1 open_,
+  )
+
+module _ (offer : Offer) (menu : IsMenu offer.menu) (k place : ℕ) (chosen : List ℕ) (low : place < length offer.menu.places) (word clashes : ℕ)
+    (fits : word < 2 ^ 64) (clashes_fit : clashes < 2 ^ 64) (is : IsOpenWord offer k chosen word)
+    (are : IsWordOf (Clashes offer.menu place) (length offer.menu.places) clashes) where
+  apart_now : (p : ℕ) → is_apart offer (places_of offer.menu (chosen ++ section_at offer.menu.places place ∷ [])) p
+      ≡ (is_apart offer (places_of offer.menu chosen) p && not (clash_in offer.menu.clashes p place))
+  apart_now p =
+      ap (λ cs. is_apart offer cs p)
+      (map-append (place_in offer.menu.places) chosen (section_at offer.menu.places place ∷ [])
+      ∙ ap (λ q. places_of offer.menu chosen ++ q ∷ []) (place_in-section_at offer.menu.places place menu.places.ascending low))
+      ∙ apart_last offer (places_of offer.menu chosen) place p
+
+  both_of : (p : ℕ) → p < 64 → bit_at (bit_and word (bit_not w64 clashes)) p ≡ min (bit_at word p) (1 - bit_at clashes p)
+  both_of p within = bit_at_and word (bit_not w64 clashes) p ∙ ap (min (bit_at word p)) (bit_at_not w64 clashes p clashes_fit within)
+
+  not_clashing : (p : ℕ) → p < length offer.menu.places → bit_at clashes p ≡ 0 → not (clash_in offer.menu.clashes p place) ≡ true
+  not_clashing p on none = elim (cases_Bool (clash_in offer.menu.clashes p place)) [
+    | inl clash ↦ absurd (let set : bit_at clashes p ≡ 1 = (are p).1 (on, clash) in omega arith)
+    | inr not_ ↦ ap not not_
+  ]
+
+  clear_of : (p : ℕ) → not (clash_in offer.menu.clashes p place) ≡ true → bit_at clashes p ≡ 0
+  clear_of p apart = elim (cases_lt (bit_at clashes p) 1) [
+    | inl zero_ ↦ omega arith
+    | inr one ↦
+        let below : bit_at clashes p < 2 = bit_at-lt clashes p in
+        let set : bit_at clashes p ≡ 1 = omega arith in
+        absurd (true≢false (sym apart ∙ ap not ((are p).0 set).1))
+  ]
+
+  -- with the section of a place the word has those open places that do not clash with it
+  pub word_apart : IsOpenWord offer k (chosen ++ section_at offer.menu.places place ∷ []) (bit_and word (bit_not w64 clashes))
+  word_apart p = (
+    λ set. elim (cases_lt p 64) [
+      | inl within ↦
+          let split : min (bit_at word p) (1 - bit_at clashes p) ≡ 1 = sym (both_of p within) ∙ set in
+          let first : bit_at word p ≡ 1 = (let small = bit_at-lt word p in omega arith) in
+          let second : bit_at clashes p ≡ 0 = omega arith in
+          let open_ : StaysOpen offer k chosen p = (is p).0 first in
+          record {
+            undecided = open_.undecided;
+            on_menu = open_.on_menu;
+            alone = open_.alone;
+            apart = apart_now p ∙ rw (open_.apart) (not_clashing p open_.on_menu second);
+          }
+      | inr high ↦ absurd (let none : bit_at word p ≡ 0 = bit_at_above word 64 p fits high in let split = bit_at_and word (bit_not w64 clashes) p in omega arith)
+    ],
+    λ stays.
+        let parts = both (is_apart offer (places_of offer.menu chosen) p) _ (sym (apart_now p) ∙ stays.apart) in
+        let within : p < 64 = (let cap : length offer.menu.places ≤ 60 = menu.places.few in let on = stays.on_menu in omega arith) in
+        let first : bit_at word p ≡ 1 =
+        (is p).1 record { undecided = stays.undecided; on_menu = stays.on_menu; alone = stays.alone; apart = parts.0 } in
+        let second : bit_at clashes p ≡ 0 = clear_of p parts.1 in
+        both_of p within ∙ omega arith,
+  )
+
+-- at the root each place that may be taken alone is open
+pub word_at_root : (offer : Offer) (word : ℕ) → IsWordOf (IsAlone offer) (length offer.menu.places) word → IsOpenWord offer 0 [] word
+word_at_root offer word is p = (
+  λ set. (let at = (is p).0 set in record { undecided = omega arith; on_menu = at.0; alone = at.1; apart = refl }),
+  λ stays. (is p).1 (stays.on_menu, stays.alone),
+)

@@ -1,0 +1,200 @@
+use Rattle.std.proofs.Common.{◌≡◌, ◌≤◌, ◌+◌, ◌-◌, ◌*◌, ◌%◌, ◌^◌, ◌++◌, ◌∷◌, [], length, slice_index_or, sym, ◌∙◌, ap, arith, rules, w64}
+use Rattle.std.specs.Prelude.{bit_and}
+use Rattle.std.specs.Int.{bit_not, trailing_zeros}
+use Rattle.std.proofs.lemmas.Bool.{true≢false}
+use Rattle.std.proofs.lemmas.Nat.{and_le_l}
+use Rattle.bundle_rules.specs.Menus.{section_at}
+use Rattle.demand_oracle.specs.Questions.{offer_asked, wanted_in}
+use Rattle.demand_oracle.specs.SummedNodes.{chosen_of}
+use Rattle.demand_oracle.proofs.OpenPlaces.{word_falls}
+use Rattle.demand_oracle.proofs.Descending.{compared, whole_searched, lost_searched, end_searched, next_later, next_on_menu, node_next, prune_searched, fits_where_takable, takable_where_fits, shut_goes_on, node_taken, word_taken, taken_goes_on, given_searched}
+use Rattle.demand_oracle.proofs.below.+below.Goals as goal
+
+pub returns-then-courses_left-eq0-clause-searched : goal.returns-then-courses_left-eq0-clause-searched
+returns-then-courses_left-eq0-clause-searched t c =
+    whole_searched c.args.question.now c.requires.question c.args.summed.now c.requires.summed c.requires.node _ _
+    (let left : c.courses_left.result ≡ c.args.question.now.menu.now.courses - length (chosen_of c.args.summed.now) = c.courses_left.ensures.value in
+    omega (arith, c.if-courses_left-eq0.true))
+    (compared c.args.question.now c.args.summed.now c.args.champion.now c.put_better.new.champion c.put_better.ensures c.args.summed.now.node.place)
+
+pub returns-then-is_lost-clause-searched : goal.returns-then-is_lost-clause-searched
+returns-then-is_lost-clause-searched t c =
+    lost_searched c.args.question.now c.requires.question c.args.summed.now c.requires.summed c.requires.node (chosen_of c.args.champion.now)
+    (c.is_lost.ensures.undecided c.if-is_lost.true) (c.is_lost.ensures.lost (chosen_of c.args.champion.now) c.if-is_lost.true)
+
+pub prunes-requires-clause-place : goal.prunes-requires-clause-place
+prunes-requires-clause-place t c =
+    let on = next_on_menu c.args.question.now c.requires.question c.args.summed.now c.requires.summed c.requires.node c.args.champion.now c.places.left c.places.champion
+    c.places.invariant.goes_on (search rules) (omega arith) in
+    omega arith
+
+pub returns-then-prunes-clause-searched : goal.returns-then-prunes-clause-searched
+returns-then-prunes-clause-searched t c =
+    prune_searched c.args.question.now c.requires.question c.args.summed.now c.requires.summed c.requires.node c.args.champion.now c.places.left c.places.champion
+    c.places.invariant.goes_on (search rules) (omega arith)
+    (c.prunes.ensures (wanted_in c.args.question.now) c.args.question.now.prices.now c.args.question.now.budget.0 c.args.question.now.allowed.now
+    c.requires.question.reach c.column-column.ensures c.requires.summed
+    (node_next c.args.question.now c.requires.question c.args.summed.now c.requires.summed c.requires.node c.args.champion.now c.places.left c.places.champion
+    c.places.invariant.goes_on (search rules) (omega arith))
+    c.places.invariant.goes_on.is_champion.sums c.places.invariant.goes_on.is_champion.takable c.if-prunes.true)
+
+pub fits-requires : goal.fits-requires
+fits-requires t c =
+    let on = next_on_menu c.args.question.now c.requires.question c.args.summed.now c.requires.summed c.requires.node c.args.champion.now c.places.left c.places.champion
+    c.places.invariant.goes_on (search rules) (omega arith) in
+    let few : length c.args.question.now.menu.now.places ≤ 60 = c.requires.question.menu.places.few in
+    omega arith
+
+pub places-smaller-then-not-fits : goal.places-smaller-then-not-fits
+places-smaller-then-not-fits t c =
+    word_falls (offer_asked c.args.question.now) c.requires.question.menu c.places.invariant.goes_on.from (chosen_of c.args.summed.now) c.places.left (search rules)
+    (omega arith) c.places.invariant.goes_on.is_word
+
+pub places-preserved-then-not-fits : goal.places-preserved-then-not-fits
+places-preserved-then-not-fits t c =
+    let on = next_on_menu c.args.question.now c.requires.question c.args.summed.now c.requires.summed c.requires.node c.args.champion.now c.places.left c.places.champion
+    c.places.invariant.goes_on (search rules) (omega arith) in
+    let within = c.fits.ensures (offer_asked c.args.question.now) c.requires.question.goods on in
+    record {
+      goes_on =
+          shut_goes_on c.args.question.now c.requires.question c.args.summed.now c.requires.summed c.requires.node c.args.champion.now c.places.left c.places.champion
+          c.places.invariant.goes_on (search rules) (omega arith)
+          (λ takable.
+          let left =
+          fits_where_takable c.args.question.now c.requires.question c.args.summed.now c.requires.summed c.requires.node c.args.champion.now c.places.left c.places.champion
+          c.places.invariant.goes_on (search rules) (omega arith) takable in
+          true≢false (sym (within.1 (rw c.budget_left-budget_left.ensures left.0, rw c.credits_left-credits_left.ensures.value left.1)) ∙ c.if-not-fits.true));
+      fewer =
+          let before : c.places.left ≤ c.args.word = c.places.invariant.fewer in
+          let falls =
+          word_falls (offer_asked c.args.question.now) c.requires.question.menu c.places.invariant.goes_on.from (chosen_of c.args.summed.now) c.places.left
+          (search rules) (omega arith) c.places.invariant.goes_on.is_word in
+          omega arith;
+    }
+
+pub passed_to-requires : goal.passed_to-requires
+passed_to-requires t c =
+    next_later c.args.question.now c.requires.question c.args.summed.now c.requires.summed c.requires.node c.args.champion.now c.places.left c.places.champion
+    c.places.invariant.goes_on (search rules) (omega arith)
+
+pub with_next-with_it-requires-clause-next : goal.with_next-with_it-requires-clause-next
+with_next-with_it-requires-clause-next t c =
+    rw c.passed_to.ensures.place
+    (next_on_menu c.args.question.now c.requires.question c.args.summed.now c.requires.summed c.requires.node c.args.champion.now c.places.left c.places.champion
+    c.places.invariant.goes_on (search rules) (omega arith))
+
+pub bounds-question-from : goal.bounds-question-from
+bounds-question-from t c =
+    let on = next_on_menu c.args.question.now c.requires.question c.args.summed.now c.requires.summed c.requires.node c.args.champion.now c.places.left c.places.champion
+    c.places.invariant.goes_on (search rules) (omega arith) in
+    let few : length c.args.question.now.menu.now.places ≤ 60 = c.requires.question.menu.places.few in
+    omega arith
+
+pub below-requires : goal.below-requires
+below-requires t c =
+    let on = next_on_menu c.args.question.now c.requires.question c.args.summed.now c.requires.summed c.requires.node c.args.champion.now c.places.left c.places.champion
+    c.places.invariant.goes_on (search rules) (omega arith) in
+    let within = (c.fits.ensures (offer_asked c.args.question.now) c.requires.question.goods on).0 c.if-not-fits.false in
+    let takable =
+    takable_where_fits c.args.question.now c.requires.question c.args.summed.now c.requires.summed c.requires.node c.args.champion.now c.places.left c.places.champion
+    c.places.invariant.goes_on (search rules) (omega arith)
+    (let left : c.courses_left.result ≡ c.args.question.now.menu.now.courses - length (chosen_of c.args.summed.now) = c.courses_left.ensures.value in
+    omega (arith, c.if-courses_left-eq0.false)) (rw c.budget_left-budget_left.ensures at within.0)
+    (rw c.credits_left-credits_left.ensures.value at within.1) in
+    let place_is : c.with_next-with_it.result.node.place ≡ trailing_zeros w64 c.places.left + 1 =
+    c.with_next-with_it.ensures.place ∙ ap (λ n. n + 1) c.passed_to.ensures.place in
+    let chosen_is : chosen_of c.with_next-with_it.result
+    ≡ chosen_of c.args.summed.now ++ section_at c.args.question.now.menu.now.places (trailing_zeros w64 c.places.left) ∷ [] =
+    c.with_next-with_it.ensures.chosen
+    ∙ ap (λ l. l ++ section_at c.args.question.now.menu.now.places c.passed_to.result.node.place ∷ []) c.passed_to.ensures.chosen
+    ∙ ap (λ k. chosen_of c.args.summed.now ++ section_at c.args.question.now.menu.now.places k ∷ []) c.passed_to.ensures.place in
+    let falls =
+    word_falls (offer_asked c.args.question.now) c.requires.question.menu c.places.invariant.goes_on.from (chosen_of c.args.summed.now) c.places.left
+    (search rules) (omega arith) c.places.invariant.goes_on.is_word in
+    let before : c.places.left ≤ c.args.word = c.places.invariant.fewer in
+    let measure = c.decreases in (
+      omega (arith, and_le_l (bit_and c.places.left (bit_not w64 (1 * 2 ^ trailing_zeros w64 c.places.left % 2 ^ 64))) (bit_not w64 (slice_index_or c.args.question.now.goods.now.clashes c.from.result 0))),
+      (
+        c.requires.question,
+        (
+          c.with_next-with_it.ensures.summed,
+          (
+            rw (place_is, chosen_is)
+                (node_taken c.args.question.now c.requires.question c.args.summed.now c.requires.summed c.requires.node c.args.champion.now c.places.left c.places.champion
+                c.places.invariant.goes_on (search rules) (omega arith) takable),
+            (
+              rw (place_is, chosen_is)
+                  (word_taken c.args.question.now c.requires.question c.args.summed.now c.requires.summed c.requires.node c.args.champion.now c.places.left c.places.champion
+                  c.places.invariant.goes_on (search rules) (omega arith) takable
+                  (slice_index_or c.args.question.now.goods.now.clashes c.from.result 0) (search rules)
+                  (rw c.from.ensures (c.requires.question.goods.clashes (trailing_zeros w64 c.places.left) on))),
+              c.places.invariant.goes_on.is_champion,
+            ),
+          ),
+        ),
+      ),
+    )
+
+pub returns-then-is_given-clause-searched : goal.returns-then-is_given-clause-searched
+returns-then-is_given-clause-searched t c =
+    let on = next_on_menu c.args.question.now c.requires.question c.args.summed.now c.requires.summed c.requires.node c.args.champion.now c.places.left c.places.champion
+    c.places.invariant.goes_on (search rules) (omega arith) in
+    let within = (c.fits.ensures (offer_asked c.args.question.now) c.requires.question.goods on).0 c.if-not-fits.false in
+    let takable =
+    takable_where_fits c.args.question.now c.requires.question c.args.summed.now c.requires.summed c.requires.node c.args.champion.now c.places.left c.places.champion
+    c.places.invariant.goes_on (search rules) (omega arith)
+    (let left : c.courses_left.result ≡ c.args.question.now.menu.now.courses - length (chosen_of c.args.summed.now) = c.courses_left.ensures.value in
+    omega (arith, c.if-courses_left-eq0.false)) (rw c.budget_left-budget_left.ensures at within.0)
+    (rw c.credits_left-credits_left.ensures.value at within.1) in
+    let place_is : c.with_next-with_it.result.node.place ≡ trailing_zeros w64 c.places.left + 1 =
+    c.with_next-with_it.ensures.place ∙ ap (λ n. n + 1) c.passed_to.ensures.place in
+    let chosen_is : chosen_of c.with_next-with_it.result
+    ≡ chosen_of c.args.summed.now ++ section_at c.args.question.now.menu.now.places (trailing_zeros w64 c.places.left) ∷ [] =
+    c.with_next-with_it.ensures.chosen
+    ∙ ap (λ l. l ++ section_at c.args.question.now.menu.now.places c.passed_to.result.node.place ∷ []) c.passed_to.ensures.chosen
+    ∙ ap (λ k. chosen_of c.args.summed.now ++ section_at c.args.question.now.menu.now.places k ∷ []) c.passed_to.ensures.place in
+    given_searched c.args.question.now c.requires.question c.args.summed.now c.requires.summed c.requires.node c.args.champion.now c.places.left c.places.champion
+    c.places.invariant.goes_on (search rules) (omega arith) takable
+    c.below.new.champion c.below.ensures.champion (rw (place_is, chosen_is) at c.below.ensures.searched) (c.is_given.ensures.0 c.if-is_given.true)
+
+pub places-smaller : goal.places-smaller
+places-smaller t c =
+    word_falls (offer_asked c.args.question.now) c.requires.question.menu c.places.invariant.goes_on.from (chosen_of c.args.summed.now) c.places.left (search rules)
+    (omega arith) c.places.invariant.goes_on.is_word
+
+pub places-preserved : goal.places-preserved
+places-preserved t c =
+    let on = next_on_menu c.args.question.now c.requires.question c.args.summed.now c.requires.summed c.requires.node c.args.champion.now c.places.left c.places.champion
+    c.places.invariant.goes_on (search rules) (omega arith) in
+    let within = (c.fits.ensures (offer_asked c.args.question.now) c.requires.question.goods on).0 c.if-not-fits.false in
+    let takable =
+    takable_where_fits c.args.question.now c.requires.question c.args.summed.now c.requires.summed c.requires.node c.args.champion.now c.places.left c.places.champion
+    c.places.invariant.goes_on (search rules) (omega arith)
+    (let left : c.courses_left.result ≡ c.args.question.now.menu.now.courses - length (chosen_of c.args.summed.now) = c.courses_left.ensures.value in
+    omega (arith, c.if-courses_left-eq0.false)) (rw c.budget_left-budget_left.ensures at within.0)
+    (rw c.credits_left-credits_left.ensures.value at within.1) in
+    let place_is : c.with_next-with_it.result.node.place ≡ trailing_zeros w64 c.places.left + 1 =
+    c.with_next-with_it.ensures.place ∙ ap (λ n. n + 1) c.passed_to.ensures.place in
+    let chosen_is : chosen_of c.with_next-with_it.result
+    ≡ chosen_of c.args.summed.now ++ section_at c.args.question.now.menu.now.places (trailing_zeros w64 c.places.left) ∷ [] =
+    c.with_next-with_it.ensures.chosen
+    ∙ ap (λ l. l ++ section_at c.args.question.now.menu.now.places c.passed_to.result.node.place ∷ []) c.passed_to.ensures.chosen
+    ∙ ap (λ k. chosen_of c.args.summed.now ++ section_at c.args.question.now.menu.now.places k ∷ []) c.passed_to.ensures.place in
+    record {
+      goes_on =
+          taken_goes_on c.args.question.now c.requires.question c.args.summed.now c.requires.summed c.requires.node c.args.champion.now c.places.left c.places.champion
+          c.places.invariant.goes_on (search rules) (omega arith)
+          takable c.below.new.champion c.below.ensures.champion (rw (place_is, chosen_is) at c.below.ensures.searched);
+      fewer =
+          let before : c.places.left ≤ c.args.word = c.places.invariant.fewer in
+          let falls =
+          word_falls (offer_asked c.args.question.now) c.requires.question.menu c.places.invariant.goes_on.from (chosen_of c.args.summed.now) c.places.left
+          (search rules) (omega arith) c.places.invariant.goes_on.is_word in
+          omega arith;
+    }
+
+pub returns-clause-searched : goal.returns-clause-searched
+returns-clause-searched t c =
+    end_searched c.args.question.now c.requires.question c.args.summed.now c.requires.summed c.requires.node c.args.champion.now c.places.left c.places.champion
+    c.places.invariant.goes_on c.put_better-2.new.champion (omega arith)
+    (λ k. compared c.args.question.now c.args.summed.now c.places.champion c.put_better-2.new.champion c.put_better-2.ensures k)

@@ -1,0 +1,174 @@
+// The search below a node: place by place, with a call of itself for each section that is taken.
+ghost use Rattle.std.specs.Prelude.{◌≡◌, ◌<◌, ◌≤◌, ◌⊎◌, ◌↔◌, ℕ, List, Some, IfSome, IsTrue, length, drop};
+ghost use Rattle.market_units.specs.declared.limits.TheConstants.{MAX_RATINGS};
+ghost use Rattle.bundle_rules.specs.Bundles.{sections_of};
+ghost use Rattle.bundle_rules.specs.Menus.{wishes_of, credits_at};
+ghost use Rattle.bundle_rules.specs.Places.{menu_sections};
+ghost use Rattle.bundle_rules.specs.Wishes.{IsFeasible};
+ghost use Rattle.bundle_bounds.specs.Laws.{IsNode};
+ghost use Rattle.bundle_bounds.specs.Offers.{Offer, price_at};
+ghost use Rattle.bundle_bounds.specs.Prunings.{MayPrune};
+ghost use Rattle.demand_oracle.specs.AtPlaces.{IsGoods};
+ghost use Rattle.demand_oracle.specs.Champions.{IsChampion};
+ghost use Rattle.demand_oracle.specs.OpenWords.{IsOpenWord};
+ghost use Rattle.demand_oracle.specs.Questions.{IsQuestion, offer_asked, wanted_in};
+ghost use Rattle.demand_oracle.specs.Search.{wanted_by, IsBetter, IsSearched};
+ghost use Rattle.demand_oracle.specs.SummedNodes.{chosen_of, IsSummed};
+
+use crate::goods::Goods;
+use crate::question::Question;
+use crate::summed_node::SummedNode;
+use bundle_rules::{Bundle, Menu, prefers};
+
+/// Searches what completes a node, and leaves the best of that and of the champion. The word has a
+/// bit for each undecided place that may be taken alone and clashes with no chosen one. How many
+/// times it was looked up what can be reached is told.
+pub(crate) fn below(
+    question: &Question,
+    summed: &SummedNode,
+    word: u64,
+    champion: &mut SummedNode,
+) -> u64
+    requires question { IsQuestion question.now }
+    requires summed { IsSummed question.now.menu.now (offer_asked question.now).price summed.now }
+    requires node { IsNode (offer_asked question.now) summed.now.node.place (chosen_of summed.now) }
+    requires word { IsOpenWord (offer_asked question.now) summed.now.node.place
+        (chosen_of summed.now) word }
+    requires champion { IsChampion (offer_asked question.now) champion.old }
+    ensures champion { IsChampion (offer_asked question.now) champion.new }
+    ensures searched { IsSearched (offer_asked question.now) (wanted_in question.now)
+        summed.now.node.place (chosen_of summed.now)
+        (drop summed.now.node.place (menu_sections question.now.menu.now))
+        (chosen_of champion.old) (chosen_of champion.new) }
+{
+    let menu = question.menu;
+    if summed.courses_left(menu) == 0 {
+        put_better(menu, question.given, summed, champion);
+        return 0;
+    }
+    if is_lost(question, summed) {
+        return 0;
+    }
+    let column = question.reach.column(menu, question.budget, summed);
+    let budget_left = summed.budget_left(question.budget);
+    let credits_left = summed.credits_left(menu);
+    let mut opened = 0u64;
+    let mut left = word;
+    'places: while left != 0 {
+        let place = left.trailing_zeros() as u8;
+        opened = opened.saturating_add(1);
+        if question
+            .reach
+            .prunes(menu, &column, summed, place, champion)
+        {
+            return opened;
+        }
+        left &= !(1u64 << place);
+        if !fits(question.goods, place, budget_left, credits_left) {
+            continue;
+        }
+        let with_it = summed.passed_to(place).with_next(menu, question.prices);
+        let apart = left & !question.goods.clashes[usize::from(place)];
+        opened = opened.saturating_add(below(question, &with_it, apart, champion));
+        if is_given(question.given, place) {
+            return opened;
+        }
+    }
+    put_better(menu, question.given, summed, champion);
+    opened
+}
+
+// Whether the section of a place is within what is left of the budget and of the credit cap.
+#[inline(always)]
+fn fits(goods: &Goods, place: u8, budget_left: u32, credits_left: u32) -> bool
+    requires { place < MAX_RATINGS }
+    ensures { (offer : Offer) → IsGoods offer goods.now → place < length offer.menu.places
+        → IsTrue result
+        ↔ ((price_at offer place ≤ budget_left)
+        × (credits_at offer.menu.places place ≤ credits_left)) }
+{
+    if goods.prices[usize::from(place)] > budget_left {
+        return false;
+    }
+    u32::from(goods.credits[usize::from(place)]) <= credits_left
+}
+
+// Whether the given place is undecided, and its section may no more be taken with the chosen ones.
+#[inline(always)]
+fn is_lost(question: &Question, summed: &SummedNode) -> bool
+    requires question { IsQuestion question.now }
+    requires summed { IsSummed question.now.menu.now (offer_asked question.now).price summed.now }
+    requires node { IsNode (offer_asked question.now) summed.now.node.place (chosen_of summed.now) }
+    ensures undecided { IsTrue result
+        → summed.now.node.place < length question.now.menu.now.places }
+    ensures lost { (champion : List ℕ) → IsTrue result
+        → MayPrune (offer_asked question.now) (wanted_in question.now) summed.now.node.place
+        (chosen_of summed.now) champion }
+{
+    match question.given {
+        Some(place) => {
+            if place < summed.node.place {
+                return false;
+            }
+            !summed.may_take(
+                question.menu,
+                question.prices,
+                question.budget,
+                question.allowed,
+                place,
+            )
+        }
+        None => false,
+    }
+}
+
+// Whether the place is the given one.
+#[inline(always)]
+fn is_given(given: Option<u8>, place: u8) -> bool
+    ensures { IsTrue result ↔ (given ≡ Some place) }
+{
+    match given {
+        Some(other) => other == place,
+        None => false,
+    }
+}
+
+// Whether the bundle has the section of the given place, where one is given.
+#[inline(always)]
+fn is_wanted(menu: &Menu, given: Option<u8>, bundle: &Bundle) -> bool
+    requires { IfSome given (λ place. place < length menu.now.places) }
+    ensures { result ≡ wanted_by menu.now given (sections_of bundle.now) }
+{
+    match given {
+        Some(place) => bundle.has(menu.rated(place).section),
+        None => true,
+    }
+}
+
+// Puts the node in the place of the champion, where its sections are wanted and preferred to those
+// of the champion.
+#[inline(always)]
+fn put_better(menu: &Menu, given: Option<u8>, summed: &SummedNode, champion: &mut SummedNode)
+    requires given { IfSome given (λ place. place < length menu.now.places) }
+    requires summed { (price : ℕ → ℕ) × IsSummed menu.now price summed.now }
+    requires champion { (price : ℕ → ℕ) × IsSummed menu.now price champion.old }
+    requires chosen { IsFeasible (wishes_of menu.now) (chosen_of summed.now) }
+    requires held { IsFeasible (wishes_of menu.now) (chosen_of champion.old) }
+    ensures { (IsBetter (wishes_of menu.now) (wanted_by menu.now given) (chosen_of summed.now)
+        (chosen_of champion.old)
+        × (champion.new ≡ summed.now))
+        ⊎ ((¬ IsBetter (wishes_of menu.now) (wanted_by menu.now given) (chosen_of summed.now)
+        (chosen_of champion.old))
+        × (champion.new ≡ champion.old)) }
+{
+    if !is_wanted(menu, given, &summed.node.chosen) {
+        return;
+    }
+    if summed.utility() < champion.utility() {
+        return;
+    }
+    if !prefers(menu, &summed.node.chosen, &champion.node.chosen) {
+        return;
+    }
+    *champion = *summed;
+}

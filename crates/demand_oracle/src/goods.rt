@@ -1,0 +1,119 @@
+// What stands at each place of a menu at one demand: its price, its credits, the places that it
+// clashes with, and whether it may be taken alone.
+ghost use Rattle.std.specs.Prelude.{◌≡◌, ◌<◌, ◌↔◌, ◌⊎◌, ℕ, true, length, slice_index};
+ghost use Rattle.std.specs.Int.{bit_at};
+ghost use Rattle.bundle_rules.specs.Demand.{price_in, HasPrices};
+ghost use Rattle.bundle_rules.specs.Menus.{credits_at, section_at, IsMenu};
+ghost use Rattle.bundle_bounds.specs.Offers.{offer_of};
+ghost use Rattle.demand_oracle.specs.OpenWords.{IsWordOf, Clashes, IsAlone};
+
+use crate::summed_node::SummedNode;
+use crate::tables::PLACES;
+use bundle_bounds::price_of_place;
+use bundle_rules::Menu;
+use market_units::{SectionSet, Tokens};
+
+// Rows by place, so that a search reads one number where it asks one thing. Bit q of a word stands
+// for place q.
+#[derive(Clone, Copy)]
+pub(crate) struct Goods {
+    // In tokens.
+    pub(crate) prices: [u32; PLACES],
+    pub(crate) credits: [u16; PLACES],
+    // The places that clash with each place.
+    pub(crate) clashes: [u64; PLACES],
+    // The places whose sections may be taken alone.
+    pub(crate) alone: u64,
+}
+
+impl Goods {
+    ghost use Rattle.demand_oracle.specs.AtPlaces.{IsGoods};
+
+    /// The goods of a menu at these prices, with this budget and these allowed sections.
+    pub(crate) fn of(menu: &Menu, prices: &[Tokens], budget: Tokens, allowed: &SectionSet) -> Goods
+        requires { HasPrices menu.now prices.now }
+        ensures goods { IsGoods (offer_of menu.now prices.now budget.0 allowed.now) result }
+        ensures menu { IsMenu menu.now }
+    {
+        Goods {
+            prices: prices_of(menu, prices),
+            credits: credits_of(menu),
+            clashes: clashes_of(menu),
+            alone: alone(menu, prices, budget, allowed),
+        }
+    }
+}
+
+// The price of each place.
+fn prices_of(menu: &Menu, prices: &[Tokens]) -> [u32; PLACES]
+    requires { HasPrices menu.now prices.now }
+    ensures { (place : ℕ) → place < length menu.now.places
+        → slice_index result place ≡ price_in prices.now (section_at menu.now.places place) }
+{
+    let mut row = [0; PLACES];
+    for place in 0..menu.len() {
+        row[usize::from(place)] = price_of_place(menu, prices, place);
+    }
+    row
+}
+
+// The credits of each place.
+fn credits_of(menu: &Menu) -> [u16; PLACES]
+    ensures { (place : ℕ) → place < length menu.now.places
+        → slice_index result place ≡ credits_at menu.now.places place }
+{
+    let mut row = [0; PLACES];
+    for place in 0..menu.len() {
+        row[usize::from(place)] = menu.rated(place).credits;
+    }
+    row
+}
+
+// The word of the places that clash with each place.
+fn clashes_of(menu: &Menu) -> [u64; PLACES]
+    ensures { (place : ℕ) → place < length menu.now.places
+        → IsWordOf (Clashes menu.now place) (length menu.now.places) (slice_index result place) }
+{
+    let mut words = [0; PLACES];
+    for place in 0..menu.len() {
+        words[usize::from(place)] = clashing(menu, place);
+    }
+    words
+}
+
+// The word of the places that clash with a place.
+fn clashing(menu: &Menu, place: u8) -> u64
+    requires { place < length menu.now.places }
+    ensures { IsWordOf (Clashes menu.now place) (length menu.now.places) result }
+{
+    let mut word = 0;
+    for other in 0..menu.len() {
+        word = with_bit(word, other, menu.clash(other, place));
+    }
+    word
+}
+
+// The word of the places whose sections may be taken alone.
+fn alone(menu: &Menu, prices: &[Tokens], budget: Tokens, allowed: &SectionSet) -> u64
+    requires { HasPrices menu.now prices.now }
+    ensures word { IsWordOf (IsAlone (offer_of menu.now prices.now budget.0 allowed.now))
+        (length menu.now.places) result }
+    ensures menu { IsMenu menu.now }
+{
+    let root = SummedNode::root();
+    let mut word = 0;
+    for place in 0..menu.len() {
+        let is_takable = root.may_take(menu, prices, budget, allowed, place);
+        word = with_bit(word, place, is_takable);
+    }
+    word
+}
+
+// The word with one more bit set, where that is asked.
+fn with_bit(word: u64, bit: u8, is_set: bool) -> u64
+    requires { bit < 64 }
+    ensures { (p : ℕ) → (bit_at result p ≡ 1)
+        ↔ ((bit_at word p ≡ 1) ⊎ ((p ≡ bit) × (is_set ≡ true))) }
+{
+    if is_set { word | 1 << bit } else { word }
+}

@@ -1,0 +1,154 @@
+// The text of journals and of the preferences after them.
+ghost use Rattle.std.specs.Prelude.{◌≡◌, All};
+ghost use Rattle.preference_desk.specs.DeskView.{entries_of, names_of};
+ghost use Rattle.utility_language.specs.Commands.{HasShortNumber};
+ghost use Rattle.preference_text.specs.Texts.{HasShortCommand};
+
+use crate::readers::{catalog_in, roll_in};
+use preference_desk::Desk;
+use preference_text::preferences_text;
+use std::alloc::Global;
+use std::process::Abort;
+use std::test::Fail;
+use utility_language::{Command, read_line};
+
+const CATALOG: &[u8] = b"section,course,seats,credits,meetings\nA,AA,1,1,\nB,BB,1,1,\nC,CC,1,1,\n";
+
+const ROLL: &[u8] = b"student,budget,credits,courses\nann,100,10,1\nbob,100,10,1\n";
+
+// Lines with their sessions, and the text after them: student by student, sections ascending, lower
+// sections first.
+const STUDENT_BY_STUDENT: [(u16, &[u8]); 7] = [
+    (1, b"pair bob C A 7"),
+    (1, b"rate bob C 1"),
+    (1, b"rate ann B 2"),
+    (1, b"pair ann B A -3"),
+    (1, b"rate ann A 4"),
+    (1, b"rate bob A 5"),
+    (1, b"pair ann C B 6"),
+];
+
+const STUDENT_BY_STUDENT_TEXT: &[u8] = b"entry 1 done pair bob C A 7
+entry 1 done rate bob C 1
+entry 1 done rate ann B 2
+entry 1 done pair ann B A -3
+entry 1 done rate ann A 4
+entry 1 done rate bob A 5
+entry 1 done pair ann C B 6
+rate ann A 4
+rate ann B 2
+pair ann A B -3
+pair ann B C 6
+rate bob A 5
+rate bob C 1
+pair bob A C 7
+";
+
+// An adjustment stays when a rating goes.
+const STAYING: [(u16, &[u8]); 3] = [
+    (1, b"rate ann A 4"),
+    (1, b"pair ann A B 9"),
+    (1, b"rate ann A 0"),
+];
+
+const STAYING_TEXT: &[u8] = b"entry 1 done rate ann A 4
+entry 1 done pair ann A B 9
+entry 1 done rate ann A 0
+pair ann A B 9
+";
+
+// Two sessions, and each reply but the one that there are too many.
+const REPLIES: [(u16, &[u8]); 8] = [
+    (1, b"rate zoe Q 101"),
+    (64, b"rate ann Q 101"),
+    (1, b"pair ann A A 999"),
+    (1, b"rate ann A -1"),
+    (64, b"rate ann A -0"),
+    (64, b"rate ann A 20"),
+    (1, b"close"),
+    (64, b"clear ann"),
+];
+
+const REPLIES_TEXT: &[u8] = b"entry 1 no-student rate zoe Q 101
+entry 64 no-section rate ann Q 101
+entry 1 same-pair pair ann A A 999
+entry 1 out-of-range rate ann A -1
+entry 64 unreadable unreadable
+entry 64 done rate ann A 20
+entry 1 done close
+entry 64 closed clear ann
+rate ann A 20
+";
+
+// The command of a line.
+fn command_of(line: &[u8]) -> Command
+    ensures { HasShortNumber result }
+{
+    match read_line(line) {
+        Some(command) => command,
+        None => Command::Unreadable,
+    }
+}
+
+// Posts the line's command in the session's name.
+fn say(rt: &impl Abort, desk: &mut Desk, session: u16, line: &[u8])
+    requires { All HasShortCommand (entries_of desk.old) }
+    ensures names { names_of desk.new ≡ names_of desk.old }
+    ensures short { All HasShortCommand (entries_of desk.new) }
+{
+    let command = command_of(line);
+    assert!(rt; desk.room() >= 1);
+    desk.post(session, command);
+}
+
+// Posts each line's command in its session's name.
+fn say_each(rt: &impl Abort, desk: &mut Desk, said: &[(u16, &[u8])])
+    requires { All HasShortCommand (entries_of desk.old) }
+    ensures names { names_of desk.new ≡ names_of desk.old }
+    ensures short { All HasShortCommand (entries_of desk.new) }
+{
+    for (session, line) in said {
+        say(rt, desk, *session, line);
+    }
+}
+
+// The text after these lines is this one.
+fn try_text(
+    rt: &impl Abort,
+    alloc: Global,
+    said: &[(u16, &[u8])],
+    text: &[u8],
+) -> Result<(), Fail> {
+    let catalog = catalog_in(rt, alloc, CATALOG);
+    let roll = roll_in(rt, alloc, ROLL);
+    let mut desk = Desk::prepare(alloc, &catalog, &roll, 20)?;
+    say_each(rt, &mut desk, said);
+    let printed = preferences_text(alloc, &catalog, &roll, &desk)?;
+    assert_eq!(rt; printed.as_slice(), text);
+    Ok(())
+}
+
+#[test]
+fn preferences_student_by_student(rt: HostRuntime) -> Result<(), Fail> {
+    try_text(
+        &rt,
+        rt.alloc(),
+        &STUDENT_BY_STUDENT,
+        STUDENT_BY_STUDENT_TEXT,
+    )
+}
+
+#[test]
+fn adjustments_stay_when_a_rating_goes(rt: HostRuntime) -> Result<(), Fail> {
+    try_text(&rt, rt.alloc(), &STAYING, STAYING_TEXT)
+}
+
+#[test]
+fn replies_of_two_sessions(rt: HostRuntime) -> Result<(), Fail> {
+    try_text(&rt, rt.alloc(), &REPLIES, REPLIES_TEXT)
+}
+
+#[test]
+fn nothing_said(rt: HostRuntime) -> Result<(), Fail> {
+    try_text(&rt, rt.alloc(), &[], b"")
+}

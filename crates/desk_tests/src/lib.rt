@@ -1,0 +1,18 @@
+//! Tests of the desk and its students: histories of calls, desks and halls, the text of a journal,
+//! menus and budgets. There is nothing else here, so that what they stand on is proved once.
+#![tactic(auto)]
+
+#[cfg(test)]
+mod budgets;
+#[cfg(test)]
+mod desks;
+#[cfg(test)]
+mod halls;
+#[cfg(test)]
+mod histories;
+#[cfg(test)]
+mod journals;
+#[cfg(test)]
+mod menus;
+#[cfg(test)]
+mod readers;

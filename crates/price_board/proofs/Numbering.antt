@@ -1,0 +1,93 @@
+-- The numbers of a round's tasks.
+use Rattle.std.proofs.Common.{ℕ, suc, ◌≡◌, ◌<◌, ◌≤◌, ◌+◌, ◌-◌, ◌*◌, ◌/◌, ◌%◌, ◌==◌, ◌&&◌, ◌∙◌, Bool, true, false, List, [], ◌∷◌, Option, None, Some, length, min, refl, sym, ap, subst, arith, take, drop}
+use Rattle.std.specs.Prelude.{IfSome}
+use Rattle.std.proofs.lemmas.Bool.{false≢true}
+use Rattle.std.proofs.lemmas.Bool.Decides.{nat_tests}
+use Rattle.std.proofs.lemmas.List.{length-take, length-drop}
+use Rattle.std.proofs.lemmas.Nat.{div-mul-add, mod-mul-add}
+use Rattle.std.proofs.Math.Nat.{mul-le-mul_right, suc-mul}
+use Rattle.bundle_rules.specs.declared.bundle.Bundle.{Bundle}
+use Rattle.bundle_rules.specs.Bundles.{sections_of}
+use Rattle.price_board.specs.declared.terms.Terms.{Terms}
+use Rattle.price_board.specs.Asked.{is_taken, version_at, student_at}
+use Rattle.price_board.specs.Rows.{number_of, row_of}
+use Rattle.price_board.specs.Terms.{student_count, task_count, version_count, demand_of, same_sections}
+
+-- so many rows of this width come before the end of a row
+pub row_end : (v versions n : ℕ) → v < versions → v * n + n ≤ versions * n
+row_end v versions n low =
+    let a : ℕ = v * n in
+    let b : ℕ = versions * n in
+    let far : suc v * n ≤ b = mul-le-mul_right n (let goal : suc v ≤ versions = omega arith in goal) in
+    let next : suc v * n ≡ a + n = suc-mul v n in
+    let goal : a + n ≤ b = omega arith in goal
+
+pub number-below : (terms : Terms) (v s : ℕ) → v < version_count terms → s < student_count terms → number_of terms v s < task_count terms
+number-below terms v s low within =
+    let n : ℕ = student_count terms in
+    let a : ℕ = v * n in
+    let b : ℕ = version_count terms * n in
+    let ends : a + n ≤ b = row_end v (version_count terms) n low in
+    let w : s < n = within in
+    let goal : a + s < b = omega arith in goal
+
+pub version-at : (terms : Terms) (v s : ℕ) → s < student_count terms → version_at terms (number_of terms v s) ≡ v
+version-at terms v s within = div-mul-add v (student_count terms) s within
+
+pub student-at : (terms : Terms) (v s : ℕ) → s < student_count terms → student_at terms (number_of terms v s) ≡ s
+student-at terms v s within = mod-mul-add v (student_count terms) s within
+
+-- a row has a place for each student
+pub row-length : {X : Type 0} (terms : Terms) (list : List X) (v : ℕ) → length list ≡ task_count terms → v < version_count terms
+    → length (row_of terms list v) ≡ student_count terms
+row-length terms list v each low =
+    let n : ℕ = student_count terms in
+    let a : ℕ = v * n in
+    let k : ℕ = length list in
+    let b : ℕ = version_count terms * n in
+    let long : k ≡ b = each in
+    let ends : a + n ≤ b = row_end v (version_count terms) n low in
+    length-take n (drop a list) ∙ ap (min n) (length-drop a list) ∙ (let goal : min n (k - a) ≡ n = omega arith in goal)
+
+-- ---- right bundles
+
+and_parts : (a b : Bool) → (a && b) ≡ true → (a ≡ true) × (b ≡ true)
+and_parts true b both = (refl, both)
+and_parts false b both = absurd (false≢true both)
+
+same_sections-is : (xs ys : List ℕ) → same_sections xs ys ≡ true → xs ≡ ys
+same_sections-is [] [] same = refl
+same_sections-is [] (y ∷ ys) same = absurd (false≢true same)
+same_sections-is (x ∷ xs) [] same = absurd (false≢true same)
+same_sections-is (x ∷ xs) (y ∷ ys) same =
+    let parts = and_parts (x == y) (same_sections xs ys) same in
+    let first : (x == y) ≡ true = parts.0 in
+    let head : x ≡ y = grind (arith, nat_tests) in
+    let rest = same_sections-is xs ys parts.1 in
+    λ i. head i ∷ rest i
+
+same_sections-own : (xs : List ℕ) → same_sections xs xs ≡ true
+same_sections-own [] = refl
+same_sections-own (x ∷ xs) = let first : (x == x) ≡ true = grind (arith, nat_tests) in rw first (same_sections-own xs)
+
+module _ (terms : Terms) (v s : ℕ) (bundle : Bundle) (within : s < student_count terms) where
+  at_task : (v ≡ version_at terms (number_of terms v s)) × (s ≡ student_at terms (number_of terms v s))
+  at_task = (sym (version-at terms v s within), sym (student-at terms v s within))
+
+  pub right_bundle : is_taken terms (number_of terms v s) bundle ≡ true → sections_of bundle ≡ demand_of terms v s
+  right_bundle right =
+      same_sections-is (sections_of bundle) (demand_of terms (version_at terms (number_of terms v s)) (student_at terms (number_of terms v s))) right
+      ∙ ap (λ w. demand_of terms w (student_at terms (number_of terms v s))) (sym at_task.0) ∙ ap (demand_of terms v) (sym at_task.1)
+
+  pub is_right_bundle : sections_of bundle ≡ demand_of terms v s → is_taken terms (number_of terms v s) bundle ≡ true
+  is_right_bundle is =
+      ap (λ w. same_sections (sections_of bundle) (demand_of terms w (student_at terms (number_of terms v s)))) (sym at_task.0)
+      ∙ ap (λ t. same_sections (sections_of bundle) (demand_of terms v t)) (sym at_task.1)
+      ∙ subst (λ l. same_sections (sections_of bundle) l ≡ true) is (same_sections-own (sections_of bundle))
+
+-- a posted bundle is what the student takes
+pub right_posted : (terms : Terms) (v s n : ℕ) (bundle : Option Bundle) → n ≡ number_of terms v s → s < student_count terms
+    → IfSome bundle (λ b. is_taken terms n b ≡ true) → IfSome bundle (λ b. sections_of b ≡ demand_of terms v s)
+right_posted terms v s n None is within right = right
+right_posted terms v s n (Some bundle) is within right =
+    right_bundle terms v s bundle within (subst (λ k. is_taken terms k bundle ≡ true) is right)

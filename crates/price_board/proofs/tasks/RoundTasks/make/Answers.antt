@@ -1,0 +1,48 @@
+use Rattle.std.proofs.Common.{ℕ, ◌≡◌, ◌≤◌, ◌<◌, ◌∙◌, length, replicate, arith, ap, sym, vec_len, Fits, w32}
+use Rattle.std.specs.Arc.{arc_value}
+use Rattle.std.proofs.lemmas.List.{length-map, length-replicate}
+use Rattle.demand_api.specs.declared.crowd.Crowd.{Crowd}
+use Rattle.demand_api.specs.Views.{data_of}
+use Rattle.demand_api.proofs.Parts.{students_few, students_length}
+use Rattle.price_board.specs.declared.tally.Tally.{Tally}
+use Rattle.price_board.specs.Openings.{terms_of}
+use Rattle.price_board.specs.Terms.{student_count, version_count}
+use Rattle.price_board.proofs.Tallying.{nothing_tallied}
+use Rattle.price_board.proofs.tasks.RoundTasks.make.Goals as goal
+
+-- a student for each menu
+counted : (n : ℕ) (crowd seen : Crowd) → n ≡ vec_len seen.menus → seen ≡ crowd → n ≡ length (data_of crowd).students
+counted n crowd seen is same = is ∙ ap (λ (x : Crowd). vec_len x.menus) same ∙ crowd.menus.ok.0 ∙ sym (students_length crowd)
+
+pub overflow_cast-students : goal.overflow_cast-students
+overflow_cast-students c =
+    let n : ℕ = c.len-students.result in
+    let few : length (data_of (arc_value c.args.crowd)).students ≤ 2000 = students_few (arc_value c.args.crowd) in
+    let is : n ≡ length (data_of (arc_value c.args.crowd)).students =
+    counted c.len-students.result (arc_value c.args.crowd) c.deref.result.now c.len-students.ensures c.deref.ensures in
+    let goal : Fits w32 n = omega arith in goal
+
+pub invariant_of-result : goal.invariant_of-result
+invariant_of-result c =
+    let few : length (data_of (arc_value c.args.crowd)).students ≤ 2000 = students_few (arc_value c.args.crowd) in
+    let is : c.len-students.result ≡ length (data_of (arc_value c.args.crowd)).students =
+    counted c.len-students.result (arc_value c.args.crowd) c.deref.result.now c.len-students.ensures c.deref.ensures in
+    record {
+      students_are = is;
+      few_students = (let goal : c.len-students.result ≤ 2000 = omega arith in goal);
+      few_versions = c.requires.round.few;
+      asked = c.requires.round.asks;
+      tallied =
+          ap length (c.in_ok-tallies.ensures.items_if_clones_equal (λ y is. is))
+          ∙ length-replicate c.len.result (let t : Tally = record { unfilled = c.len-students.result; count = 0 } in t)
+          ∙ c.len.ensures ∙ c.args.round.versions.ok.0 ∙ sym (length-map c.args.round.versions.items _);
+    }
+
+pub returns-clause-fresh : goal.returns-clause-fresh
+returns-clause-fresh c =
+    nothing_tallied (terms_of (arc_value c.args.crowd) c.args.round) c.in_ok-tallies.tallies.items
+    (c.in_ok-tallies.ensures.items_if_clones_equal (λ y is. is)
+    ∙ ap (λ n. replicate {A = Tally} n (record { unfilled = c.len-students.result; count = 0 }))
+    (c.len.ensures ∙ c.args.round.versions.ok.0 ∙ sym (length-map c.args.round.versions.items _))
+    ∙ ap (λ m. replicate {A = Tally} (version_count (terms_of (arc_value c.args.crowd) c.args.round)) (record { unfilled = m; count = 0 }))
+    (counted c.len-students.result (arc_value c.args.crowd) c.deref.result.now c.len-students.ensures c.deref.ensures))

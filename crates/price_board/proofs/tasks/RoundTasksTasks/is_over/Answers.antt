@@ -1,0 +1,12 @@
+use Rattle.std.specs.Arc.{arc_value}
+use Rattle.task_board.specs.Marks.{answers_in}
+use Rattle.price_board.specs.Openings.{terms_of}
+use Rattle.price_board.proofs.Tallying.{over_found}
+use Rattle.price_board.proofs.tasks.RoundTasksTasks.is_over.Goals as goal
+
+pub returns : goal.returns
+returns c =
+    let tasks = c.args.self.now in
+    over_found (terms_of (arc_value tasks.crowd) tasks.round) tasks.tallies.items (answers_in c.args._marks.now) c.requires.noted tasks.asked c.args.task
+    c.version_of-version.result c.index-2.result.now c.index.result.now c.version_of-version.ensures.version c.version_of-version.ensures.below
+    c.index-2.ensures c.index.ensures c.settles.result c.settles.ensures

@@ -1,0 +1,19 @@
+//! Tests of the stages: the search for prices, its neighbours, own prices, the elimination, seats
+//! that are held, and the aftermarket. There is nothing else here, so that what they stand on is
+//! proved once.
+#![tactic(auto)]
+
+#[cfg(test)]
+mod aftermarkets;
+#[cfg(test)]
+mod crowds;
+#[cfg(test)]
+mod eliminations;
+#[cfg(test)]
+mod floors;
+#[cfg(test)]
+mod neighbours;
+#[cfg(test)]
+mod own_prices;
+#[cfg(test)]
+mod searches;

@@ -1,0 +1,176 @@
+// Searches over small crowds, with one seat for each section.
+use crate::crowds::{crowd_of, join, nobody, rated, rivals};
+use demand_api::{Crowd, PlainDemands};
+use market_settings::{Settings, StepSizes, are_step_sizes};
+use std::alloc::Global;
+use std::process::Abort;
+use std::sync::{Arc, Wait};
+use std::test::Fail;
+use std::thread::Threads;
+use tabu_search::{Found, SearchEnd, search};
+
+// Settings of a search: the seed, the accepted error, the turns, the tabu window, the patience, and
+// the steps.
+fn settings_of<R: Abort>(rt: &R, alloc: Global, numbers: [u32; 5], steps: &[u32]) -> Settings {
+    let [seed, accept, turns, tabu, patience] = numbers;
+    assert!(rt; are_step_sizes(steps));
+    Settings {
+        seed: u64::from(seed),
+        spread: 0,
+        accept: u64::from(accept),
+        turns,
+        tabu,
+        patience,
+        steps: StepSizes::from_vec(steps.to_vec(alloc).expect(rt, "memory")),
+        raise: 10,
+    }
+}
+
+fn searched<R: Abort + Threads + Wait + Sync>(
+    rt: &R,
+    alloc: Global,
+    crowd: Crowd,
+    settings: &Settings,
+) -> Result<Found, SearchEnd> {
+    let seats = vec![in alloc; 1u16; usize::from(crowd.sections)].expect(rt, "memory");
+    let mut demands = PlainDemands::make(Arc::new(alloc, crowd).expect(rt, "memory"));
+    search(rt, alloc, &mut demands, &seats, settings)
+}
+
+// What such a search finds: the prices and their error, or why there are none. It gives the turns
+// that were made.
+fn try_search<R: Abort + Threads + Wait + Sync>(
+    rt: &R,
+    alloc: Global,
+    crowd: Crowd,
+    numbers: [u32; 5],
+    steps: &[u32],
+    wanted: &str,
+) -> Result<u32, Fail> {
+    let settings = settings_of(rt, alloc, numbers, steps);
+    let (told, turns) = match searched(rt, alloc, crowd, &settings) {
+        Ok(found) => {
+            let prices = found.prices.as_slice();
+            let error = found.error;
+            (format!(in alloc; "{prices:?} {error}")?, found.turns)
+        }
+        Err(end) => (format!(in alloc; "{end:?}")?, 0),
+    };
+    assert_eq!(rt; told.as_str(), wanted);
+    Ok(turns)
+}
+
+#[test]
+fn a_search_moves(rt: HostRuntime) -> Result<(), Fail> {
+    let alloc = rt.alloc();
+    let crowd = rivals(&rt, alloc, &[100, 105]);
+    // The zero vector has error 1. Price 1 is tabu, and 101 clears the market.
+    let turns = try_search(&rt, alloc, crowd, [0, 0, 3, 5, 3], &[1], "[Tokens(101)] 0")?;
+    assert_eq!(rt; turns, 1);
+    Ok(())
+}
+
+#[test]
+fn no_turn_is_made(rt: HostRuntime) -> Result<(), Fail> {
+    let alloc = rt.alloc();
+    let crowd = rivals(&rt, alloc, &[100, 105]);
+    let none = "NoPrices { least: 1 }";
+    try_search(&rt, alloc, crowd, [0, 0, 0, 5, 3], &[1], none)?;
+    // An error of 1 is accepted where it may be 1.
+    let crowd = rivals(&rt, alloc, &[100, 105]);
+    try_search(&rt, alloc, crowd, [0, 1, 0, 5, 3], &[1], "[Tokens(0)] 1")?;
+    Ok(())
+}
+
+#[test]
+fn nobody_searches(rt: HostRuntime) -> Result<(), Fail> {
+    let alloc = rt.alloc();
+    let crowd = crowd_of(&rt, nobody(alloc), 2);
+    let free = "[Tokens(0), Tokens(0)] 0";
+    let turns = try_search(&rt, alloc, crowd, [0, 0, 3, 5, 3], &[1], free)?;
+    assert_eq!(rt; turns, 0);
+    Ok(())
+}
+
+// Four students of three sections.
+fn four_students<R: Abort>(rt: &R, alloc: Global) -> Crowd {
+    let mut students = nobody(alloc);
+    let places = [rated(0, 0, 50), rated(1, 1, 40)];
+    join(rt, alloc, &mut students, (100, 2), &places, &[], &[0, 0]);
+    let places = [rated(0, 0, 50), rated(2, 2, 45)];
+    join(rt, alloc, &mut students, (103, 2), &places, &[], &[0, 0]);
+    let places = [rated(1, 1, 50), rated(2, 2, 20)];
+    join(rt, alloc, &mut students, (103, 2), &places, &[], &[0, 0]);
+    let places = [rated(0, 0, 60), rated(1, 1, 61)];
+    join(
+        rt,
+        alloc,
+        &mut students,
+        (106, 2),
+        &places,
+        &[(0, 1, -30)],
+        &[0, 0],
+    );
+    crowd_of(rt, students, 3)
+}
+
+#[test]
+fn restarts_draw_prices(rt: HostRuntime) -> Result<(), Fail> {
+    let alloc = rt.alloc();
+    let crowd = four_students(&rt, alloc);
+    let prices = "[Tokens(80), Tokens(104), Tokens(40)] 1";
+    try_search(&rt, alloc, crowd, [5, 1, 60, 2, 1], &[40], prices)?;
+    Ok(())
+}
+
+// Four students of one budget who each may take one of two sections; two of them rate both.
+fn four_of_one_budget<R: Abort>(rt: &R, alloc: Global) -> Crowd {
+    let mut students = nobody(alloc);
+    let both = [rated(0, 0, 50), rated(1, 1, 2)];
+    join(rt, alloc, &mut students, (100, 1), &both, &[], &[0, 0]);
+    join(rt, alloc, &mut students, (100, 1), &both, &[], &[0, 0]);
+    join(rt, alloc, &mut students, (100, 1), &both[..1], &[], &[0]);
+    join(rt, alloc, &mut students, (100, 1), &both[..1], &[], &[0]);
+    crowd_of(rt, students, 2)
+}
+
+#[test]
+fn no_prices_after_restarts(rt: HostRuntime) -> Result<(), Fail> {
+    let alloc = rt.alloc();
+    let crowd = four_of_one_budget(&rt, alloc);
+    let none = "NoPrices { least: 2 }";
+    try_search(&rt, alloc, crowd, [3, 0, 30, 1, 1], &[7, 1], none)?;
+    Ok(())
+}
+
+// Two students of budget 9: one wants the second section, the other both, the first one more.
+fn two_sections<R: Abort>(rt: &R, alloc: Global) -> Crowd {
+    let mut students = nobody(alloc);
+    join(
+        rt,
+        alloc,
+        &mut students,
+        (9, 1),
+        &[rated(1, 1, 40)],
+        &[],
+        &[0],
+    );
+    let places = [rated(0, 0, 90), rated(1, 1, 40)];
+    join(rt, alloc, &mut students, (9, 2), &places, &[], &[0, 0]);
+    crowd_of(rt, students, 2)
+}
+
+// A window of four counts leads out of the circle in which one alone is caught. What is wanted was
+// told by a plain program of the whole market, of another hand and without proofs, for this market
+// with either window.
+#[test]
+fn a_tabu_candidate_is_passed_over(rt: HostRuntime) -> Result<(), Fail> {
+    let alloc = rt.alloc();
+    let crowd = two_sections(&rt, alloc);
+    let prices = "[Tokens(6), Tokens(9)] 0";
+    try_search(&rt, alloc, crowd, [1, 0, 8, 4, 100], &[2], prices)?;
+    let crowd = two_sections(&rt, alloc);
+    let none = "NoPrices { least: 1 }";
+    try_search(&rt, alloc, crowd, [1, 0, 8, 1, 100], &[2], none)?;
+    Ok(())
+}

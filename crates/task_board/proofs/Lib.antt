@@ -1,0 +1,7 @@
+pub mod Beginnings
+pub mod Endings
+pub mod Histories
+pub mod Keeping
+pub mod Marking
+pub mod SeatTurns
+pub mod Stepping

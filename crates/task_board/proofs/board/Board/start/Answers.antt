@@ -1,0 +1,45 @@
+use Rattle.std.proofs.Common.{◌≡◌, ◌≤◌, ◌<◌, ◌+◌, ◌*◌, ◌∙◌, ℕ, ap, sym, subst, arith, length, slice_index, replicate}
+use Rattle.std.proofs.lemmas.List.{get_or-replicate}
+use Rattle.chronicle.specs.Views.{sum_of}
+use Rattle.task_board.specs.Openings.{opening_of}
+use Rattle.task_board.specs.Shared.{progress}
+use Rattle.task_board.proofs.Beginnings.{new_free, sum_of-replicate}
+use Rattle.task_board.proofs.board.Board.start.Goals as goal
+
+pub start-requires-clause-room : goal.start-requires-clause-room
+start-requires-clause-room g c =
+    let a : ℕ = sum_of c.in_ok-allotments.allotments.items in
+    let b : ℕ = c.in_ok-state.state.room in
+    let same : a ≡ b =
+    ap sum_of (c.in_ok-allotments.ensures.items_if_clones_equal (λ y is. is)) ∙ sum_of-replicate c.from-2.result (2 * c.from.result + 1)
+    ∙ ap (λ w. w * (2 * c.from.result + 1)) c.from-2.ensures
+    ∙ ap (λ n. c.args.workers * (2 * n + 1)) (c.from.ensures ∙ c.count.ensures ∙ ap g.T.Tasks.rules.count c.in_ok-state.ensures.terms)
+    ∙ sym c.in_ok-state.ensures.room in
+    let goal : a ≤ b = omega arith in goal
+
+pub returns-clause-numbers : goal.returns-clause-numbers
+returns-clause-numbers g c = λ n d low.
+    ap (λ s. s.number) (c.in_ok-chronicle.ensures.seats n d (omega (arith, low, c.in_ok-allotments.ensures.len, c.from-2.ensures)))
+
+pub returns-clause-free : goal.returns-clause-free
+returns-clause-free g c = λ k d below.
+    let count : length c.in_ok-chronicle.seats.items ≡ c.args.workers =
+    omega (arith, c.in_ok-chronicle.ensures.count, c.in_ok-chronicle.seats.ok.0, c.in_ok-allotments.ensures.len, c.from-2.ensures) in
+    let low : k < c.args.workers = subst (λ n. k < n) count below in
+    let inside : k < c.from-2.result = subst (λ n. k < n) (sym c.from-2.ensures) low in
+    let opening : c.in_ok-chronicle.chronicle.opening ≡ opening_of g.T.Tasks.rules c.in_ok-chronicle.chronicle.base =
+    c.in_ok-chronicle.ensures.chronicle.1 ∙ ap progress c.in_ok-state.ensures.opening
+    ∙ ap (opening_of g.T.Tasks.rules) (sym (c.in_ok-chronicle.ensures.chronicle.0 ∙ c.in_ok-state.ensures.terms)) in
+    new_free g.T.Tasks.rules c.in_ok-chronicle.chronicle k (slice_index c.in_ok-allotments.allotments.items k) _
+    (c.in_ok-chronicle.ensures.seats k d (omega (arith, low, c.in_ok-allotments.ensures.len, c.from-2.ensures))) opening
+    (ap (λ l. slice_index l k) (c.in_ok-allotments.ensures.items_if_clones_equal (λ y is. is))
+    ∙ get_or-replicate c.from-2.result k (2 * c.from.result + 1) 0 inside
+    ∙ ap (λ n. 2 * n + 1) (c.from.ensures ∙ c.count.ensures ∙ ap g.T.Tasks.rules.count (sym c.in_ok-chronicle.ensures.chronicle.0)))
+
+pub returns-clause-fresh : goal.returns-clause-fresh
+returns-clause-fresh g c = λ k d below.
+    let count : length c.in_ok-chronicle.seats.items ≡ c.args.workers =
+    omega (arith, c.in_ok-chronicle.ensures.count, c.in_ok-chronicle.seats.ok.0, c.in_ok-allotments.ensures.len, c.from-2.ensures) in
+    let low : k < c.args.workers = subst (λ n. k < n) count below in
+    let is = c.in_ok-chronicle.ensures.seats k d (omega (arith, low, c.in_ok-allotments.ensures.len, c.from-2.ensures)) in
+    (ap (λ s. s.seen) is, ap (λ s. s.own) is)

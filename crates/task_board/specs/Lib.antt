@@ -1,0 +1,10 @@
+pub mod Closings
+pub mod Fates
+pub mod Kept
+pub mod Marks
+pub mod Openings
+pub mod Rules
+pub mod Seats
+pub mod Shared
+pub mod Steps
+pub mod Turns

@@ -1,0 +1,21 @@
+-- What the tasks of a board ask.
+use Rattle.std.specs.Prelude.{ℕ, ◌≡◌, ◌<◌, Bool, true, Option, Some, None, List, length, slice_index_or, slice_set}
+
+-- By the terms B, the rules of tasks that are numbered from 0 and have answers A
+pub record Rules (B A : Type 0) : Type 0 where
+  -- how many tasks there are
+  pub count : B → ℕ
+  -- whether this is a right answer to the task
+  pub is_right : B → ℕ → A → Bool
+  -- whether the task is over, where these answers were posted: it is no longer asked
+  pub is_over : B → List (Option A) → ℕ → Bool
+  -- the number that is told to who posts the task when it is over
+  pub tally : B → List (Option A) → ℕ → ℕ
+
+-- a task that is over stays over, whichever answer is posted next
+abbrev pub IsLasting : {B A : Type 0} → Rules B A → Type 0
+IsLasting {B = B} {A = A} rules =
+    (terms : B) (answers : List (Option A)) (task other : ℕ) (answer : A)
+    → length answers ≡ rules.count terms → other < length answers
+    → slice_index_or answers other (Some answer) ≡ None → rules.is_over terms answers task ≡ true
+    → rules.is_over terms (slice_set answers other (Some answer)) task ≡ true

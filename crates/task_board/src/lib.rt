@@ -1,0 +1,22 @@
+//! The task board: tasks in a fixed order, which workers draw and answer, each from its seat, with
+//! the one legal history of their calls.
+// Neither: that threads run beside each other on it; that a draw and a post take constant time, as
+// they do in the code; progress and waiting times of the threads.
+#![tactic(auto)]
+
+mod answers;
+mod board;
+mod calls;
+mod data;
+mod mark;
+mod shared;
+mod state;
+mod tasks;
+
+pub use answers::Answers;
+pub use board::{Board, BoardSeat};
+pub use calls::{Call, Posted, Reply};
+pub use data::{AnswersData, Progress, StateData};
+pub use mark::Mark;
+pub use state::BoardState;
+pub use tasks::Tasks;
