@@ -1,10 +1,9 @@
 // Whether a published text is accepted.
-ghost use Rattle.std.specs.Prelude.{◌≡◌, ◌≤◌, List, ℕ, map, MatchResult};
+ghost use Rattle.std.specs.Prelude.{◌≡◌, ◌≤◌, List, ℕ, map};
 ghost use Rattle.std.specs.String.{string_bytes};
-ghost use Rattle.market_host.specs.Lines.{line_of};
-ghost use Rattle.market_host.specs.Outcomes.{IsEnded, IsStopped};
+ghost use Rattle.market_host.specs.Outcomes.{IsAnswer};
 ghost use Rattle.market_host.specs.Sights.{sight};
-ghost use Rattle.market_host.specs.Traces.{AreReadTo, AreUsed, trace};
+ghost use Rattle.market_host.specs.Traces.{AreUsedFor, trace};
 ghost use Rattle.market_words.specs.Forms.{HasForm};
 
 use crate::Status;
@@ -21,14 +20,12 @@ use std::alloc::Global;
 /// the first finding on it, or why there is neither.
 pub fn check<H: Shelf>(alloc: Global, words: &[String], shelf: &mut H) -> Result<Ended, Trouble>
     requires { HasForm (map string_bytes words.now) Form.Check }
-    ensures answer { MatchResult result (IsEnded (map string_bytes words.now) (sight H.Shelf shelf.old shelf.new))
-        (λ stop. IsStopped (map string_bytes words.now) (sight H.Shelf shelf.old shelf.new) stop (line_of stop)) }
+    ensures answer { IsAnswer (map string_bytes words.now) (sight H.Shelf shelf.old shelf.new)
+        result }
     ensures holds { H.holds shelf.new ≡ H.holds shelf.old }
     ensures later { (other : List ℕ) → H.faults shelf.old other ≤ H.faults shelf.new other }
-    ensures used { MatchResult result
-        (λ ended. AreUsed (map string_bytes words.now) (trace H.Shelf shelf.old shelf.new)
-        ended.status)
-        (AreReadTo (map string_bytes words.now) (trace H.Shelf shelf.old shelf.new)) }
+    ensures used { AreUsedFor (map string_bytes words.now) (trace H.Shelf shelf.old shelf.new)
+        result }
 {
     let published = take_published(
         alloc,

@@ -1,5 +1,5 @@
 // Why a student does not have a section.
-ghost use Rattle.std.specs.Prelude.{◌≡◌, ◌≤◌, ◌<◌, ◌^◌, ◌-◌, List, ℕ, IfOk, length, map, MatchResult};
+ghost use Rattle.std.specs.Prelude.{◌≡◌, ◌≤◌, ◌<◌, ◌^◌, ◌-◌, List, ℕ, IfOk, length, map};
 ghost use Rattle.std.specs.String.{string_bytes};
 ghost use Rattle.market_settings.specs.Settings.{AreInRange};
 ghost use Rattle.market_units.specs.Name.{name_bytes};
@@ -8,10 +8,10 @@ ghost use Rattle.published_parts.specs.Markets.{market_of};
 ghost use Rattle.session_hall.specs.Streams.{command_lists};
 ghost use Rattle.market_host.specs.Endings.{bytes_of};
 ghost use Rattle.market_host.specs.Explains.{IsReasonEnd};
-ghost use Rattle.market_host.specs.Lines.{line_of, unknown_line};
-ghost use Rattle.market_host.specs.Outcomes.{IsEnded, IsStopped};
+ghost use Rattle.market_host.specs.Lines.{unknown_line};
+ghost use Rattle.market_host.specs.Outcomes.{IsAnswer};
 ghost use Rattle.market_host.specs.Sights.{sight};
-ghost use Rattle.market_host.specs.Traces.{AreReadTo, AreUsed, trace};
+ghost use Rattle.market_host.specs.Traces.{AreUsedFor, trace};
 
 use crate::Status;
 use crate::ended::{Ended, Output};
@@ -41,14 +41,12 @@ pub fn explain<H: Shelf>(
     section: Name,
 ) -> Result<Ended, Trouble>
     requires { HasForm (map string_bytes words.now) (Form.Explain student section) }
-    ensures answer { MatchResult result (IsEnded (map string_bytes words.now) (sight H.Shelf shelf.old shelf.new))
-        (λ stop. IsStopped (map string_bytes words.now) (sight H.Shelf shelf.old shelf.new) stop (line_of stop)) }
+    ensures answer { IsAnswer (map string_bytes words.now) (sight H.Shelf shelf.old shelf.new)
+        result }
     ensures holds { H.holds shelf.new ≡ H.holds shelf.old }
     ensures later { (other : List ℕ) → H.faults shelf.old other ≤ H.faults shelf.new other }
-    ensures used { MatchResult result
-        (λ ended. AreUsed (map string_bytes words.now) (trace H.Shelf shelf.old shelf.new)
-        ended.status)
-        (AreReadTo (map string_bytes words.now) (trace H.Shelf shelf.old shelf.new)) }
+    ensures used { AreUsedFor (map string_bytes words.now) (trace H.Shelf shelf.old shelf.new)
+        result }
 {
     let published = take_published(
         alloc,

@@ -1,14 +1,13 @@
 // From the words to the status, and from the inputs to the output.
-ghost use Rattle.std.specs.Prelude.{◌≡◌, ◌≢◌, ◌≤◌, List, ℕ, map, MatchResult};
+ghost use Rattle.std.specs.Prelude.{◌≡◌, ◌≢◌, ◌≤◌, List, ℕ, map};
 ghost use Rattle.std.specs.String.{string_bytes};
 ghost use Rattle.market_edge.specs.Faults.{Rose};
 ghost use Rattle.market_edge.specs.Sinks.{Takes, TakesFront};
 ghost use Rattle.market_words.specs.Forms.{HasForm};
 ghost use Rattle.market_host.specs.Answers.{IsAnswered, IsWordless};
-ghost use Rattle.market_host.specs.Lines.{line_of};
-ghost use Rattle.market_host.specs.Outcomes.{IsEnded, IsStopped};
+ghost use Rattle.market_host.specs.Outcomes.{IsAnswer};
 ghost use Rattle.market_host.specs.Sights.{sight, writing};
-ghost use Rattle.market_host.specs.Traces.{AreReadTo, AreUsed, trace};
+ghost use Rattle.market_host.specs.Traces.{AreUsedFor, trace};
 
 use crate::Status;
 use crate::audit::audit;
@@ -100,12 +99,10 @@ fn answer<R: Threads + Wait + Sync, H: Shelf>(
     gate: &(dyn Gate + Sync),
 ) -> Result<Ended, Trouble>
     requires { HasForm (map string_bytes words.now) form }
-    ensures answer { MatchResult result (IsEnded (map string_bytes words.now) (sight H.Shelf shelf.old shelf.new))
-        (λ stop. IsStopped (map string_bytes words.now) (sight H.Shelf shelf.old shelf.new) stop (line_of stop)) }
-    ensures used { MatchResult result
-        (λ ended. AreUsed (map string_bytes words.now) (trace H.Shelf shelf.old shelf.new)
-        ended.status)
-        (AreReadTo (map string_bytes words.now) (trace H.Shelf shelf.old shelf.new)) }
+    ensures answer { IsAnswer (map string_bytes words.now) (sight H.Shelf shelf.old shelf.new)
+        result }
+    ensures used { AreUsedFor (map string_bytes words.now) (trace H.Shelf shelf.old shelf.new)
+        result }
     ensures holds { H.holds shelf.new ≡ H.holds shelf.old }
     ensures later { (other : List ℕ) → H.faults shelf.old other ≤ H.faults shelf.new other }
 {

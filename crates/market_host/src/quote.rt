@@ -1,13 +1,12 @@
 // One student's best bundle at zero prices.
-ghost use Rattle.std.specs.Prelude.{◌≡◌, ◌≤◌, List, ℕ, [], ◌∷◌, map, length, nat_lt, MatchResult, IfOk};
+ghost use Rattle.std.specs.Prelude.{◌≡◌, ◌≤◌, List, ℕ, [], ◌∷◌, map, length, nat_lt, IfOk};
 ghost use Rattle.std.specs.String.{string_bytes};
 ghost use Rattle.bundle_rules.specs.Bundles.{sections_of};
 ghost use Rattle.bundle_rules.specs.Demand.{IsBest};
 ghost use Rattle.bundle_rules.specs.Menus.{wishes_of};
-ghost use Rattle.market_host.specs.Lines.{line_of};
-ghost use Rattle.market_host.specs.Outcomes.{IsEnded, IsStopped};
+ghost use Rattle.market_host.specs.Outcomes.{IsAnswer};
 ghost use Rattle.market_host.specs.Sights.{sight};
-ghost use Rattle.market_host.specs.Traces.{AreReadTo, AreUsed, trace};
+ghost use Rattle.market_host.specs.Traces.{AreUsedFor, trace};
 ghost use Rattle.market_host.specs.Quotes.{IsQuote, state_of_new_desk};
 ghost use Rattle.market_units.specs.Name.{name_bytes};
 ghost use Rattle.market_words.specs.Forms.{HasForm};
@@ -47,14 +46,12 @@ pub fn quote<H: Shelf>(
     courses: u8,
 ) -> Result<Ended, Trouble>
     requires { HasForm (map string_bytes words.now) (Form.Quote name credits courses) }
-    ensures answer { MatchResult result (IsEnded (map string_bytes words.now) (sight H.Shelf shelf.old shelf.new))
-        (λ stop. IsStopped (map string_bytes words.now) (sight H.Shelf shelf.old shelf.new) stop (line_of stop)) }
+    ensures answer { IsAnswer (map string_bytes words.now) (sight H.Shelf shelf.old shelf.new)
+        result }
     ensures holds { H.holds shelf.new ≡ H.holds shelf.old }
     ensures later { (other : List ℕ) → H.faults shelf.old other ≤ H.faults shelf.new other }
-    ensures used { MatchResult result
-        (λ ended. AreUsed (map string_bytes words.now) (trace H.Shelf shelf.old shelf.new)
-        ended.status)
-        (AreReadTo (map string_bytes words.now) (trace H.Shelf shelf.old shelf.new)) }
+    ensures used { AreUsedFor (map string_bytes words.now) (trace H.Shelf shelf.old shelf.new)
+        result }
 {
     let catalog: Catalog = take_input(alloc, shelf, words[1].as_str(), 1)?;
     let commands = take_session(alloc, shelf, words[2].as_str(), 2, MAX_COMMANDS)?;
