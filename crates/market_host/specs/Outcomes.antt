@@ -1,6 +1,6 @@
 -- The outcome of a call: a status and the text that it writes, with all that must hold of them, by
 -- cases of the status.
-use Rattle.std.specs.Prelude.{ℕ, ◌≡◌, List, [], ◌∷◌, ◌++◌, Result, MatchResult}
+use Rattle.std.specs.Prelude.{ℕ, ◌≡◌, List, [], ◌∷◌, ◌++◌}
 use Rattle.made_run.specs.Made.{IsMadeSummary}
 use Rattle.market_units.specs.Name.{name_bytes}
 use Rattle.market_words.specs.declared.words.Form.{Form}
@@ -124,8 +124,3 @@ IsOutcome words seen SinkFault text = ⊥
 -- the outcome of a call whose inputs were read and are in order
 abbrev pub IsEnded : List (List ℕ) → Sight → Ended → Type 0
 IsEnded words seen ended = IsOutcome words seen ended.status (bytes_of ended.output)
-
--- what a form answers to a call with these words: an outcome, or what stops the call
-abbrev pub IsAnswer : List (List ℕ) → Sight → Result Ended Trouble → Type 0
-IsAnswer words seen result =
-    MatchResult result (IsEnded words seen) (λ stop. IsStopped words seen stop (line_of stop))

@@ -5,7 +5,6 @@ use Rattle.market_edge.specs.declared.shelf.Shelf as Shelf
 use Rattle.market_edge.specs.Openings.{Opening, Changes, read_out, with_read_out}
 use Rattle.market_words.specs.declared.words.Form.{Form}
 use Rattle.market_words.specs.Forms.{HasForm, inputs_of}
-use Rattle.market_host.specs.declared.ended.Ended.{Ended}
 use Rattle.market_host.specs.declared.status.Status.{Status}
 use Rattle.market_host.specs.declared.status.Status.TheVariants.{Done, Usage, ShelfFault, Refused, TooLong, NoPrices, Found, Unknown, SinkFault, OutOfMemory}
 use Rattle.market_host.specs.declared.trouble.Trouble.{Trouble}
@@ -96,8 +95,3 @@ AreUsed words seen (Refused number row cause) =
 AreUsed words seen (TooLong number) = AreReadTo words seen (trouble.TooLong number)
 AreUsed words seen OutOfMemory = AreReadTo words seen trouble.OutOfMemory
 AreUsed words seen SinkFault = ⊥
-
--- how a call with these words uses its inputs for which a form answers this
-abbrev pub AreUsedFor : List (List ℕ) → Trace → Result Ended Trouble → Type 0
-AreUsedFor words seen result =
-    MatchResult result (λ ended. AreUsed words seen ended.status) (AreReadTo words seen)
