@@ -1,8 +1,10 @@
 -- What a form answers is an outcome of the call.
 use Rattle.std.proofs.Common.{ℕ, ◌≡◌, ◌≢◌, List, ◌++◌, refl, subst, sym}
+use Rattle.std.specs.Prelude.{Result}
 use Rattle.market_edge.specs.declared.shelf.Shelf as Shelf
 use Rattle.market_words.specs.declared.words.Form.{Form}
 use Rattle.market_words.specs.Forms.{HasForm, inputs_of}
+use Rattle.market_host.specs.declared.ended.Ended.{Ended}
 use Rattle.market_host.specs.declared.status.Status.{Status}
 use Rattle.market_host.specs.declared.status.Status.TheVariants.{Done, Usage, ShelfFault, Refused, TooLong, NoPrices, Found, Unknown, SinkFault, OutOfMemory}
 use Rattle.market_host.specs.declared.trouble.Trouble.{Trouble}
@@ -11,11 +13,19 @@ use Rattle.market_host.specs.Outcomes.{IsOutcome, IsStopped}
 use Rattle.market_host.specs.Sights.{sight}
 use Rattle.market_host.specs.Taking.{AreTaken, OneStops}
 use Rattle.market_host.specs.Traces.{AreReadTo, AreUsed, trace}
-use Rattle.market_host.specs.Works.{Ends}
+use Rattle.market_host.specs.Works.{Ends, IsAnswer}
 
 -- no work ends with a sink fault
 pub ended_apart : (form : Form) (texts : List (List ℕ)) (status : Status) (text : List ℕ) → Ends form texts status text → status ≢ SinkFault
 ended_apart form texts status text ends is = subst (λ (s : Status). Ends form texts s text) is ends
+
+-- what is answered for a form, by the names that its inputs are known to have
+pub answered_for : {H : Type 0} (shelf : Shelf.Ghosts H) (words : List (List ℕ)) (form known : Form) (names : List (List ℕ)) (a b : H)
+    (result : Result Ended Trouble) → form ≡ known → inputs_of known words ≡ names → IsAnswer shelf known names a b result
+    → IsAnswer shelf form (inputs_of form words) a b result
+answered_for shelf words form known names a b result is named answer =
+    subst (λ (f : Form). IsAnswer shelf f (inputs_of f words) a b result) (sym is)
+    (subst (λ (all : List (List ℕ)). IsAnswer shelf known all a b result) (sym named) answer)
 
 module _ {H : Type 0} (shelf : Shelf.Ghosts H) (form : Form) (a b : H) where
   -- names by another equation

@@ -1,8 +1,9 @@
-use Rattle.std.proofs.Common.{[], map, refl}
+use Rattle.std.proofs.Common.{[], map}
 use Rattle.std.specs.String.{string_bytes}
 use Rattle.std.proofs.lemmas.Result.{err_from_is_err_and}
-use Rattle.market_words.specs.declared.words.Form.TheVariants.{Make}
+use Rattle.market_words.specs.declared.words.Form.TheVariants.{Audit, Check, Demand, Explain, Hall, Make, Prefer, Quote, Run}
 use Rattle.market_host.proofs.Taking.{memory_stops, none_taken}
+use Rattle.market_host.proofs.Works.{answered_for}
 use Rattle.market_host.proofs.host.answer.Goals as goal
 
 pub quote-requires : goal.quote-requires
@@ -11,7 +12,8 @@ quote-requires g c = (map string_bytes c.args.words.now, (rw c.in-Quote.is at c.
 pub returns-in-Quote : goal.returns-in-Quote
 returns-in-Quote g c =
     let are = (rw c.in-Quote.is at c.names_of.ensures) tt in
-    rw (c.in-Quote.is, are.named) c.quote.ensures
+    answered_for g.H.Shelf (map string_bytes c.args.words.now) c.args.form (Quote c.in-Quote.name c.in-Quote.credits c.in-Quote.courses) _ c.args.shelf.now c.quote.new.shelf c.quote.result c.in-Quote.is are.named
+    c.quote.ensures
 
 pub check-requires : goal.check-requires
 check-requires g c = (map string_bytes c.args.words.now, (rw c.in-Check.is at c.names_of.ensures) tt)
@@ -19,7 +21,8 @@ check-requires g c = (map string_bytes c.args.words.now, (rw c.in-Check.is at c.
 pub returns-in-Check : goal.returns-in-Check
 returns-in-Check g c =
     let are = (rw c.in-Check.is at c.names_of.ensures) tt in
-    rw (c.in-Check.is, are.named) c.check.ensures
+    answered_for g.H.Shelf (map string_bytes c.args.words.now) c.args.form Check _ c.args.shelf.now c.check.new.shelf c.check.result c.in-Check.is are.named
+    c.check.ensures
 
 pub explain-requires : goal.explain-requires
 explain-requires g c = (map string_bytes c.args.words.now, (rw c.in-Explain.is at c.names_of.ensures) tt)
@@ -27,7 +30,8 @@ explain-requires g c = (map string_bytes c.args.words.now, (rw c.in-Explain.is a
 pub returns-in-Explain : goal.returns-in-Explain
 returns-in-Explain g c =
     let are = (rw c.in-Explain.is at c.names_of.ensures) tt in
-    rw (c.in-Explain.is, are.named) c.explain.ensures
+    answered_for g.H.Shelf (map string_bytes c.args.words.now) c.args.form (Explain c.in-Explain.student c.in-Explain.section) _ c.args.shelf.now c.explain.new.shelf c.explain.result c.in-Explain.is are.named
+    c.explain.ensures
 
 pub hall-requires : goal.hall-requires
 hall-requires g c = (map string_bytes c.args.words.now, (rw c.in-Hall.is at c.names_of.ensures) tt)
@@ -35,7 +39,8 @@ hall-requires g c = (map string_bytes c.args.words.now, (rw c.in-Hall.is at c.na
 pub returns-in-Hall : goal.returns-in-Hall
 returns-in-Hall g c =
     let are = (rw c.in-Hall.is at c.names_of.ensures) tt in
-    rw (c.in-Hall.is, are.named) c.hall.ensures
+    answered_for g.H.Shelf (map string_bytes c.args.words.now) c.args.form Hall _ c.args.shelf.now c.hall.new.shelf c.hall.result c.in-Hall.is are.named
+    c.hall.ensures
 
 pub audit-requires : goal.audit-requires
 audit-requires g c = (map string_bytes c.args.words.now, (rw c.in-Audit.is at c.names_of.ensures) tt)
@@ -43,7 +48,8 @@ audit-requires g c = (map string_bytes c.args.words.now, (rw c.in-Audit.is at c.
 pub returns-in-Audit : goal.returns-in-Audit
 returns-in-Audit g c =
     let are = (rw c.in-Audit.is at c.names_of.ensures) tt in
-    rw (c.in-Audit.is, are.named) c.audit.ensures
+    answered_for g.H.Shelf (map string_bytes c.args.words.now) c.args.form (Audit c.in-Audit.workers) _ c.args.shelf.now c.audit.new.shelf c.audit.result c.in-Audit.is are.named
+    c.audit.ensures
 
 pub prefer-requires : goal.prefer-requires
 prefer-requires g c = (map string_bytes c.args.words.now, (rw c.in-Prefer.is at c.names_of.ensures) tt)
@@ -51,7 +57,8 @@ prefer-requires g c = (map string_bytes c.args.words.now, (rw c.in-Prefer.is at 
 pub returns-in-Prefer : goal.returns-in-Prefer
 returns-in-Prefer g c =
     let are = (rw c.in-Prefer.is at c.names_of.ensures) tt in
-    rw (c.in-Prefer.is, are.named) c.prefer.ensures
+    answered_for g.H.Shelf (map string_bytes c.args.words.now) c.args.form Prefer _ c.args.shelf.now c.prefer.new.shelf c.prefer.result c.in-Prefer.is are.named
+    c.prefer.ensures
 
 pub demand-requires : goal.demand-requires
 demand-requires g c = (map string_bytes c.args.words.now, (rw c.in-Demand.is at c.names_of.ensures) tt)
@@ -59,7 +66,8 @@ demand-requires g c = (map string_bytes c.args.words.now, (rw c.in-Demand.is at 
 pub returns-in-Demand : goal.returns-in-Demand
 returns-in-Demand g c =
     let are = (rw c.in-Demand.is at c.names_of.ensures) tt in
-    rw (c.in-Demand.is, are.named) c.demand.ensures
+    answered_for g.H.Shelf (map string_bytes c.args.words.now) c.args.form (Demand c.in-Demand.workers) _ c.args.shelf.now c.demand.new.shelf c.demand.result c.in-Demand.is are.named
+    c.demand.ensures
 
 pub run-requires : goal.run-requires
 run-requires g c = (map string_bytes c.args.words.now, (rw c.in-Run.is at c.names_of.ensures) tt)
@@ -67,7 +75,8 @@ run-requires g c = (map string_bytes c.args.words.now, (rw c.in-Run.is at c.name
 pub returns-in-Run : goal.returns-in-Run
 returns-in-Run g c =
     let are = (rw c.in-Run.is at c.names_of.ensures) tt in
-    rw (c.in-Run.is, are.named) c.run.ensures
+    answered_for g.H.Shelf (map string_bytes c.args.words.now) c.args.form (Run c.in-Run.workers) _ c.args.shelf.now c.run.new.shelf c.run.result c.in-Run.is are.named
+    c.run.ensures
 
 pub make-requires : goal.make-requires
 make-requires g c = (map string_bytes c.args.words.now, rw c.in-Make.is at c.requires)
