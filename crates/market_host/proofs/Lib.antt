@@ -21,6 +21,7 @@ pub mod Shelves
 pub mod StreamFacts
 pub mod SureEnds
 pub mod Taking
+pub mod ToldEnds
 pub mod TraceFacts
 pub mod WordFacts
 pub mod Works

@@ -7,12 +7,10 @@ ghost use Rattle.market_host.specs.Endings.{bytes_of};
 ghost use Rattle.market_host.specs.Works.{AreNamesOf, EndsFor, IsAnswer, names_in};
 ghost use Rattle.market_words.specs.Forms.{AreWorkers};
 
-use crate::Status;
-use crate::ended::{Ended, Output};
+use crate::ended::{Ended, told_end};
 use crate::names::InputNames;
 use crate::published::{Published, take_published};
 use crate::trouble::Trouble;
-use certificate_checker::{CheckEnd, finding_line};
 use fairness_audit::published_audit;
 use market_edge::{Gate, Passed, Shelf};
 use market_units::{MAX_TEXT_BYTES, NoMemory};
@@ -64,7 +62,7 @@ fn audited<R: Threads + Wait + Sync>(
         streams,
     } = published;
     let passed = Passed { gate };
-    match published_audit(
+    let told = published_audit(
         rt,
         alloc,
         workers,
@@ -74,15 +72,6 @@ fn audited<R: Threads + Wait + Sync>(
         &streams,
         text,
         &passed,
-    ) {
-        Ok(text) => Ok(Ended {
-            status: Status::Done,
-            output: Output::Text(text),
-        }),
-        Err(CheckEnd::Found(finding)) => Ok(Ended {
-            status: Status::Found { finding },
-            output: Output::Line(finding_line(&market.catalog, &market.roll, finding)),
-        }),
-        Err(CheckEnd::NoMemory) => Err(NoMemory),
-    }
+    );
+    told_end(&market.catalog, &market.roll, told)
 }

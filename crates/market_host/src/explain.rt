@@ -10,12 +10,11 @@ ghost use Rattle.market_host.specs.Lines.{unknown_line};
 ghost use Rattle.market_host.specs.Works.{AreNamesOf, IsAnswer, names_in};
 
 use crate::Status;
-use crate::ended::{Ended, Output};
+use crate::ended::{Ended, Output, told_end};
 use crate::line::unknown_name;
 use crate::names::InputNames;
 use crate::published::{Published, take_published};
 use crate::trouble::Trouble;
-use certificate_checker::{CheckEnd, finding_line};
 use explain_desk::published_reason;
 use market_edge::Shelf;
 use market_units::{MAX_TEXT_BYTES, Name, NoMemory};
@@ -70,7 +69,7 @@ fn reason_for(
     let Some(listed) = market.catalog.find(section) else {
         return Ok(unknown(SECTION_WORD));
     };
-    match published_reason(
+    let told = published_reason(
         alloc,
         &market.catalog,
         &market.roll,
@@ -79,17 +78,8 @@ fn reason_for(
         text,
         enrolled,
         listed,
-    ) {
-        Ok(text) => Ok(Ended {
-            status: Status::Done,
-            output: Output::Text(text),
-        }),
-        Err(CheckEnd::Found(finding)) => Ok(Ended {
-            status: Status::Found { finding },
-            output: Output::Line(finding_line(&market.catalog, &market.roll, finding)),
-        }),
-        Err(CheckEnd::NoMemory) => Err(NoMemory),
-    }
+    );
+    told_end(&market.catalog, &market.roll, told)
 }
 
 // The end of a call one of whose words, this one, names nothing.

@@ -4,14 +4,12 @@ ghost use Rattle.dropadd_hall.specs.Streams.{request_count, request_lists};
 ghost use Rattle.market_host.specs.Endings.{bytes_of};
 ghost use Rattle.market_host.specs.Works.{AreNamesOf, HallEndsFor, IsAnswer, names_in};
 
-use crate::Status;
-use crate::ended::{Ended, Output};
+use crate::ended::{Ended, told_end};
 use crate::names::InputNames;
 use crate::published::take_text;
 use crate::sessions::take_sessions;
 use crate::tables::{Tables, take_tables};
 use crate::trouble::Trouble;
-use certificate_checker::{CheckEnd, finding_line};
 use dropadd_desk::HallCommand;
 use dropadd_hall::published_hall;
 use market_edge::{Gate, Passed, Shelf};
@@ -61,7 +59,7 @@ fn opened<R: Threads + Wait + Sync>(
         (request_lists streams.now) ended.status (bytes_of ended.output)) }
 {
     let passed = Passed { gate };
-    match published_hall(
+    let told = published_hall(
         rt,
         alloc,
         &tables.catalog,
@@ -69,15 +67,6 @@ fn opened<R: Threads + Wait + Sync>(
         text,
         streams,
         &passed,
-    ) {
-        Ok(text) => Ok(Ended {
-            status: Status::Done,
-            output: Output::Text(text),
-        }),
-        Err(CheckEnd::Found(finding)) => Ok(Ended {
-            status: Status::Found { finding },
-            output: Output::Line(finding_line(&tables.catalog, &tables.roll, finding)),
-        }),
-        Err(CheckEnd::NoMemory) => Err(NoMemory),
-    }
+    );
+    told_end(&tables.catalog, &tables.roll, told)
 }
