@@ -1,5 +1,5 @@
 -- The words of a call that name its inputs.
-use Rattle.std.proofs.Common.{ℕ, ◌≡◌, ◌≤◌, ◌+◌, ◌-◌, List, [], ◌∷◌, ◌++◌, length, take, drop, get_or, map, arith, ap, sym, ◌∙◌, Global}
+use Rattle.std.proofs.Common.{ℕ, ◌≡◌, ◌≤◌, ◌+◌, ◌-◌, List, [], ◌∷◌, ◌++◌, length, take, drop, get_or, map, arith, ap, refl, sym, ◌∙◌, Global}
 use Rattle.std.specs.Prelude.{String}
 use Rattle.std.specs.String.{string_bytes}
 use Rattle.std.proofs.lemmas.List.{drop-drop, drop-map, length-drop, length-map, map-append, take-append-drop, take_all}

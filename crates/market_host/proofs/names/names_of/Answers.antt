@@ -22,8 +22,8 @@ returns-in-Prefer c =
       few = omega (arith, said.streams, long.0, long.1);
     })
 
-pub names_at-in-Demand-requires-clause-within : goal.names_at-in-Demand-requires-clause-within
-names_at-in-Demand-requires-clause-within c =
+pub names_at-requires-in-Demand-clause-within : goal.names_at-requires-in-Demand-clause-within
+names_at-requires-in-Demand-clause-within c =
     let has = rw c.in-Demand.is at c.requires in
     omega (arith, (long_demand c.args.words.now c.in-Demand.workers has).0)
 
@@ -40,8 +40,8 @@ returns-in-Demand c =
       few = omega (arith, said.streams, long.0, long.1);
     })
 
-pub names_at-in-Run-requires-clause-within : goal.names_at-in-Run-requires-clause-within
-names_at-in-Run-requires-clause-within c =
+pub names_at-requires-in-Run-clause-within : goal.names_at-requires-in-Run-clause-within
+names_at-requires-in-Run-clause-within c =
     let has = rw c.in-Run.is at c.requires in
     omega (arith, (long_run c.args.words.now c.in-Run.workers has).0)
 
@@ -58,8 +58,8 @@ returns-in-Run c =
       few = omega (arith, said.streams, long.0, long.1);
     })
 
-pub names_at-in-Check-requires-clause-within : goal.names_at-in-Check-requires-clause-within
-names_at-in-Check-requires-clause-within c =
+pub names_at-requires-in-Check-clause-within : goal.names_at-requires-in-Check-clause-within
+names_at-requires-in-Check-clause-within c =
     let has = rw c.in-Check.is at c.requires in
     omega (arith, (long_check c.args.words.now has).0)
 
@@ -76,8 +76,8 @@ returns-in-Check c =
       few = omega (arith, said.streams, long.0, long.1);
     })
 
-pub names_at-in-Hall-requires-clause-within : goal.names_at-in-Hall-requires-clause-within
-names_at-in-Hall-requires-clause-within c =
+pub names_at-requires-in-Hall-clause-within : goal.names_at-requires-in-Hall-clause-within
+names_at-requires-in-Hall-clause-within c =
     let has = rw c.in-Hall.is at c.requires in
     omega (arith, (long_hall c.args.words.now has).0)
 
@@ -94,8 +94,8 @@ returns-in-Hall c =
       few = omega (arith, said.streams, long.0, long.1);
     })
 
-pub names_at-in-Audit-requires-clause-within : goal.names_at-in-Audit-requires-clause-within
-names_at-in-Audit-requires-clause-within c =
+pub names_at-requires-in-Audit-clause-within : goal.names_at-requires-in-Audit-clause-within
+names_at-requires-in-Audit-clause-within c =
     let has = rw c.in-Audit.is at c.requires in
     omega (arith, (long_audit c.args.words.now c.in-Audit.workers has).0)
 

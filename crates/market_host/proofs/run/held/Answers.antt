@@ -8,8 +8,8 @@ returns-in-Ok g c =
     let market = c.args.market.now in
     run_done (market_of market.catalog market.roll market.settings) (command_lists c.args.streams.now) c.args.workers c.in-Ok.text.items c.in-Ok.ensures.text
 
-pub returns-in-Err-NoPrices : goal.returns-in-Err-NoPrices
-returns-in-Err-NoPrices g c =
+pub returns-in_ok-unpriced_text-in-Err-NoPrices : goal.returns-in_ok-unpriced_text-in-Err-NoPrices
+returns-in_ok-unpriced_text-in-Err-NoPrices g c =
     let market = c.args.market.now in
     run_unpriced (market_of market.catalog market.roll market.settings) (command_lists c.args.streams.now) c.args.workers c.in-Err-NoPrices.least
     c.in-Err-NoPrices.order.items _ (c.in-Err-NoPrices.ensures.no_prices c.in-Err-NoPrices.order c.in-Err-NoPrices.least (cc))
