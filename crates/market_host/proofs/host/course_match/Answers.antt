@@ -60,5 +60,5 @@ returns-in-Err-clause-holds g c = c.in-Err.ensures.kept.holds
 pub returns-in-Err-clause-later : goal.returns-in-Err-clause-later
 returns-in-Err-clause-later g c = c.in-Err.ensures.kept.later
 
-pub finish-in-Ok-requires : goal.finish-in-Ok-requires
-finish-in-Ok-requires g c = ended_apart c.in-Some.form c.in-Ok.ensures.0 c.in-Ok.ended.status (bytes_of c.in-Ok.ended.output) c.in-Ok.ensures.2
+pub finish-requires-in-Ok : goal.finish-requires-in-Ok
+finish-requires-in-Ok g c = ended_apart c.in-Some.form c.in-Ok.ensures.0 c.in-Ok.ended.status (bytes_of c.in-Ok.ended.output) c.in-Ok.ensures.2

@@ -13,8 +13,8 @@ use Rattle.market_host.proofs.Taking.{memory_stops, rest_taken, session_stops}
 use Rattle.market_host.proofs.WordFacts.{one_name}
 use Rattle.market_host.proofs.quote.quote.Goals as goal
 
-pub unreachable-2 : goal.unreachable-2
-unreachable-2 g c =
+pub unreachable-unreachable-in_default-streams : goal.unreachable-unreachable-in_default-streams
+unreachable-unreachable-in_default-streams g c =
     absurd (omega (arith, one_session c.args.name c.args.credits c.args.courses c.requires.0 c.args.names.front.now c.args.names.streams.now c.requires.1))
 
 pub returns-in_err-catalog : goal.returns-in_err-catalog
