@@ -21,7 +21,7 @@ use std::alloc::Global;
 /// That the text which `check` names is accepted for the market and the sessions that it names, or
 /// the first finding on it, or why there is neither.
 pub fn check<H: Shelf>(alloc: Global, names: InputNames, shelf: &mut H) -> Result<Ended, Trouble>
-    requires { (words : List (List ℕ))
+    requires named { (words : List (List ℕ))
         × AreNamesOf words Form.Check names.front.now names.streams.now }
     ensures { IsAnswer H.Shelf Form.Check
         (names_in names.entry.front.now names.entry.streams.now) shelf.old shelf.new result }

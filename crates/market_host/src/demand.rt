@@ -43,7 +43,7 @@ pub fn demand<R: Threads + Wait + Sync, H: Shelf>(
     shelf: &mut H,
     gate: &(dyn Gate + Sync),
 ) -> Result<Ended, Trouble>
-    requires { (words : List (List ℕ))
+    requires named { (words : List (List ℕ))
         × AreNamesOf words (Form.Demand workers) names.front.now names.streams.now }
     ensures { IsAnswer H.Shelf (Form.Demand workers)
         (names_in names.entry.front.now names.entry.streams.now) shelf.old shelf.new result }

@@ -36,7 +36,7 @@ pub fn explain<H: Shelf>(
     student: Name,
     section: Name,
 ) -> Result<Ended, Trouble>
-    requires { (words : List (List ℕ))
+    requires named { (words : List (List ℕ))
         × AreNamesOf words (Form.Explain student section) names.front.now names.streams.now }
     ensures { IsAnswer H.Shelf (Form.Explain student section)
         (names_in names.entry.front.now names.entry.streams.now) shelf.old shelf.new result }

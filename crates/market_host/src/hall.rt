@@ -28,7 +28,8 @@ pub fn hall<R: Threads + Wait + Sync, H: Shelf>(
     shelf: &mut H,
     gate: &(dyn Gate + Sync),
 ) -> Result<Ended, Trouble>
-    requires { (words : List (List ℕ)) × AreNamesOf words Form.Hall names.front.now names.streams.now }
+    requires named { (words : List (List ℕ))
+        × AreNamesOf words Form.Hall names.front.now names.streams.now }
     ensures { IsAnswer H.Shelf Form.Hall (names_in names.entry.front.now names.entry.streams.now)
         shelf.old shelf.new result }
 {

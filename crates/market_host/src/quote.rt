@@ -42,7 +42,7 @@ pub fn quote<H: Shelf>(
     credits: u16,
     courses: u8,
 ) -> Result<Ended, Trouble>
-    requires { (words : List (List ℕ))
+    requires named { (words : List (List ℕ))
         × AreNamesOf words (Form.Quote name credits courses) names.front.now names.streams.now }
     ensures { IsAnswer H.Shelf (Form.Quote name credits courses)
         (names_in names.entry.front.now names.entry.streams.now) shelf.old shelf.new result }

@@ -5,13 +5,13 @@ use Rattle.market_host.proofs.Taking.{memory_stops}
 use Rattle.market_host.proofs.check.check.Goals as goal
 
 pub take_published-requires-clause-front : goal.take_published-requires-clause-front
-take_published-requires-clause-front g c = c.requires.1.front_long
+take_published-requires-clause-front g c = c.requires.named.1.front_long
 
 pub take_published-requires-clause-some : goal.take_published-requires-clause-some
-take_published-requires-clause-some g c = c.requires.1.some
+take_published-requires-clause-some g c = c.requires.named.1.some
 
 pub take_published-requires-clause-few : goal.take_published-requires-clause-few
-take_published-requires-clause-few g c = c.requires.1.few
+take_published-requires-clause-few g c = c.requires.named.1.few
 
 pub returns-in_err-published : goal.returns-in_err-published
 returns-in_err-published g c =

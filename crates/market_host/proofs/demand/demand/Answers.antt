@@ -26,7 +26,7 @@ returns-in_err-market g c =
     let p = err_from_is_err_and c.from_residual.result c.from_residual.ensures.1 in
     let named =
     four_names c.args.names.front.now c.catalog-item.result c.roll-item.result c.settings-item.result c.prices-item.result c.as_str.result.now
-    c.as_str-2.result.now c.as_str-3.result.now (string_bytes c.prices-item.result) c.requires.1.front_long c.catalog-item.is c.roll-item.is c.settings-item.is c.prices-item.is
+    c.as_str-2.result.now c.as_str-3.result.now (string_bytes c.prices-item.result) c.requires.named.1.front_long c.catalog-item.is c.roll-item.is c.settings-item.is c.prices-item.is
     c.as_str.ensures.value c.as_str-2.ensures.value c.as_str-3.ensures.value refl in
     let names = map string_bytes c.args.names.streams.now in
     rw (p.1, p.2) (stops_named g.H.Shelf (Demand c.args.workers) c.args.shelf.now c.take_market.new.shelf (map string_bytes c.args.names.front.now) _ names
@@ -37,7 +37,7 @@ returns-in_err-prices g c =
     let p = err_from_is_err_and c.from_residual-in_err-prices.result c.from_residual-in_err-prices.ensures.1 in
     let named =
     four_names c.args.names.front.now c.catalog-item.result c.roll-item.result c.settings-item.result c.prices-item.result c.as_str.result.now
-    c.as_str-2.result.now c.as_str-3.result.now c.as_str-4.result.now c.requires.1.front_long c.catalog-item.is c.roll-item.is c.settings-item.is c.prices-item.is
+    c.as_str-2.result.now c.as_str-3.result.now c.as_str-4.result.now c.requires.named.1.front_long c.catalog-item.is c.roll-item.is c.settings-item.is c.prices-item.is
     c.as_str.ensures.value c.as_str-2.ensures.value c.as_str-3.ensures.value c.as_str-4.ensures.value in
     let names = map string_bytes c.args.names.streams.now in
     let market = market_of c.in_ok-market.market.catalog c.in_ok-market.market.roll c.in_ok-market.market.settings in
@@ -51,7 +51,7 @@ returns-in_err-streams g c =
     let p = err_from_is_err_and c.from_residual-in_err-streams.result c.from_residual-in_err-streams.ensures.1 in
     let named =
     four_names c.args.names.front.now c.catalog-item.result c.roll-item.result c.settings-item.result c.prices-item.result c.as_str.result.now
-    c.as_str-2.result.now c.as_str-3.result.now c.as_str-4.result.now c.requires.1.front_long c.catalog-item.is c.roll-item.is c.settings-item.is c.prices-item.is
+    c.as_str-2.result.now c.as_str-3.result.now c.as_str-4.result.now c.requires.named.1.front_long c.catalog-item.is c.roll-item.is c.settings-item.is c.prices-item.is
     c.as_str.ensures.value c.as_str-2.ensures.value c.as_str-3.ensures.value c.as_str-4.ensures.value in
     let names = map string_bytes c.args.names.streams.now in
     let market = market_of c.in_ok-market.market.catalog c.in_ok-market.market.roll c.in_ok-market.market.settings in
@@ -67,7 +67,7 @@ returns-in_err-streams g c =
     (record { holds = c.in_err-streams.ensures.holds; later = c.in_err-streams.ensures.later })))
 
 pub text_of-requires-clause-workers : goal.text_of-requires-clause-workers
-text_of-requires-clause-workers g c κs within = c.requires.1.has.6
+text_of-requires-clause-workers g c κs within = c.requires.named.1.has.6
 
 pub text_of-requires-clause-prices : goal.text_of-requires-clause-prices
 text_of-requires-clause-prices g c κs within =
@@ -81,7 +81,7 @@ text_of-requires-clause-sessions g c κs within =
     streams_of_names IsCommandOf (g.H.Shelf.holds c.take_prices.new.shelf) (map string_bytes c.args.names.streams.now) read.0 c.in_ok-streams.streams.items
     read.1 read.2 in
     let long = length-map c.args.names.streams.now string_bytes in
-    rw c.deref-2.ensures.value (omega (arith, count, long, c.requires.1.some), omega (arith, count, long, c.requires.1.few))
+    rw c.deref-2.ensures.value (omega (arith, count, long, c.requires.named.1.some), omega (arith, count, long, c.requires.named.1.few))
 
 pub text_of-requires-clause-commands : goal.text_of-requires-clause-commands
 text_of-requires-clause-commands g c κs within =
@@ -95,7 +95,7 @@ returns-in_err-text g c =
     let p = err_from_is_err_and c.from_residual-in_err-text.result c.from_residual-in_err-text.ensures.1 in
     let named =
     four_names c.args.names.front.now c.catalog-item.result c.roll-item.result c.settings-item.result c.prices-item.result c.as_str.result.now
-    c.as_str-2.result.now c.as_str-3.result.now c.as_str-4.result.now c.requires.1.front_long c.catalog-item.is c.roll-item.is c.settings-item.is c.prices-item.is
+    c.as_str-2.result.now c.as_str-3.result.now c.as_str-4.result.now c.requires.named.1.front_long c.catalog-item.is c.roll-item.is c.settings-item.is c.prices-item.is
     c.as_str.ensures.value c.as_str-2.ensures.value c.as_str-3.ensures.value c.as_str-4.ensures.value in
     let names = map string_bytes c.args.names.streams.now in
     let market = market_of c.in_ok-market.market.catalog c.in_ok-market.market.roll c.in_ok-market.market.settings in
@@ -108,7 +108,7 @@ returns-in_err-text g c =
     let said =
     inputs_taken g.H.Shelf (Demand c.args.workers) c.args.shelf.now c.take_prices.new.shelf c.take_sessions.new.shelf front (c.in_ok-prices.ensures.text ∷ [])
     market names read.0 read.1 c.in_ok-streams.streams.items priced refl refl read.2
-    (omega (arith, length-map c.args.names.streams.now string_bytes, c.requires.1.some)) c.in_ok-streams.ensures.end c.in_ok-streams.ensures.used
+    (omega (arith, length-map c.args.names.streams.now string_bytes, c.requires.named.1.some)) c.in_ok-streams.ensures.end c.in_ok-streams.ensures.used
     (record { holds = c.in_ok-streams.ensures.holds; later = c.in_ok-streams.ensures.later }) in
     rw (p.1, p.2) (stops_named g.H.Shelf (Demand c.args.workers) c.args.shelf.now c.take_sessions.new.shelf (map string_bytes c.args.names.front.now) front names _
     named (memory_stops g.H.Shelf (Demand c.args.workers) _ said.0 c.args.shelf.now c.take_sessions.new.shelf said.1))
@@ -117,7 +117,7 @@ pub returns : goal.returns
 returns g c =
     let named =
     four_names c.args.names.front.now c.catalog-item.result c.roll-item.result c.settings-item.result c.prices-item.result c.as_str.result.now
-    c.as_str-2.result.now c.as_str-3.result.now c.as_str-4.result.now c.requires.1.front_long c.catalog-item.is c.roll-item.is c.settings-item.is c.prices-item.is
+    c.as_str-2.result.now c.as_str-3.result.now c.as_str-4.result.now c.requires.named.1.front_long c.catalog-item.is c.roll-item.is c.settings-item.is c.prices-item.is
     c.as_str.ensures.value c.as_str-2.ensures.value c.as_str-3.ensures.value c.as_str-4.ensures.value in
     let names = map string_bytes c.args.names.streams.now in
     let market = market_of c.in_ok-market.market.catalog c.in_ok-market.market.roll c.in_ok-market.market.settings in
@@ -130,7 +130,7 @@ returns g c =
     let said =
     inputs_taken g.H.Shelf (Demand c.args.workers) c.args.shelf.now c.take_prices.new.shelf c.take_sessions.new.shelf front (c.in_ok-prices.ensures.text ∷ [])
     market names read.0 read.1 c.in_ok-streams.streams.items priced refl refl read.2
-    (omega (arith, length-map c.args.names.streams.now string_bytes, c.requires.1.some)) c.in_ok-streams.ensures.end c.in_ok-streams.ensures.used
+    (omega (arith, length-map c.args.names.streams.now string_bytes, c.requires.named.1.some)) c.in_ok-streams.ensures.end c.in_ok-streams.ensures.used
     (record { holds = c.in_ok-streams.ensures.holds; later = c.in_ok-streams.ensures.later }) in
     taken_named g.H.Shelf (Demand c.args.workers) c.args.shelf.now c.take_sessions.new.shelf (map string_bytes c.args.names.front.now) front names
     (λ texts. Ends (Demand c.args.workers) texts Done c.in_ok-text.text.items) named (

@@ -23,7 +23,7 @@ returns-in_err-tables g c =
     let p = err_from_is_err_and c.from_residual.result c.from_residual.ensures.1 in
     let named =
     three_names c.args.names.front.now c.catalog-item.result c.roll-item.result c.text-item.result c.as_str.result.now c.as_str-2.result.now
-    (string_bytes c.text-item.result) c.requires.1.front_long c.catalog-item.is c.roll-item.is c.text-item.is c.as_str.ensures.value c.as_str-2.ensures.value
+    (string_bytes c.text-item.result) c.requires.named.1.front_long c.catalog-item.is c.roll-item.is c.text-item.is c.as_str.ensures.value c.as_str-2.ensures.value
     refl in
     let names = map string_bytes c.args.names.streams.now in
     rw (p.1, p.2) (stops_named g.H.Shelf Hall c.args.shelf.now c.take_tables.new.shelf (map string_bytes c.args.names.front.now) _ names
@@ -34,7 +34,7 @@ returns-in_err-text g c =
     let p = err_from_is_err_and c.from_residual-in_err-text.result c.from_residual-in_err-text.ensures.1 in
     let named =
     three_names c.args.names.front.now c.catalog-item.result c.roll-item.result c.text-item.result c.as_str.result.now c.as_str-2.result.now
-    c.as_str-3.result.now c.requires.1.front_long c.catalog-item.is c.roll-item.is c.text-item.is c.as_str.ensures.value c.as_str-2.ensures.value
+    c.as_str-3.result.now c.requires.named.1.front_long c.catalog-item.is c.roll-item.is c.text-item.is c.as_str.ensures.value c.as_str-2.ensures.value
     c.as_str-3.ensures.value in
     let names = map string_bytes c.args.names.streams.now in
     rw (p.1, p.2) (stops_named g.H.Shelf Hall c.args.shelf.now c.take_text.new.shelf (map string_bytes c.args.names.front.now) _ names
@@ -48,7 +48,7 @@ returns-in_err-streams g c =
     let p = err_from_is_err_and c.from_residual-in_err-streams.result c.from_residual-in_err-streams.ensures.1 in
     let named =
     three_names c.args.names.front.now c.catalog-item.result c.roll-item.result c.text-item.result c.as_str.result.now c.as_str-2.result.now
-    c.as_str-3.result.now c.requires.1.front_long c.catalog-item.is c.roll-item.is c.text-item.is c.as_str.ensures.value c.as_str-2.ensures.value
+    c.as_str-3.result.now c.requires.named.1.front_long c.catalog-item.is c.roll-item.is c.text-item.is c.as_str.ensures.value c.as_str-2.ensures.value
     c.as_str-3.ensures.value in
     let names = map string_bytes c.args.names.streams.now in
     let front = c.as_str.result.now ∷ c.as_str-2.result.now ∷ c.as_str-3.result.now ∷ [] in
@@ -75,7 +75,7 @@ opened-requires-clause-sessions g c κs within =
     streams_of_names IsRequestOf (g.H.Shelf.holds c.take_text.new.shelf) (map string_bytes c.args.names.streams.now) read.0 c.in_ok-streams.streams.items
     read.1 read.2 in
     let long = length-map c.args.names.streams.now string_bytes in
-    rw c.deref-2.ensures.value (omega (arith, count, long, c.requires.1.some), omega (arith, count, long, c.requires.1.few))
+    rw c.deref-2.ensures.value (omega (arith, count, long, c.requires.named.1.some), omega (arith, count, long, c.requires.named.1.few))
 
 pub opened-requires-clause-requests : goal.opened-requires-clause-requests
 opened-requires-clause-requests g c κs within =
@@ -89,7 +89,7 @@ returns-in_err-ended g c =
     let p = err_from_is_err_and c.from_residual-in_err-ended.result c.from_residual-in_err-ended.ensures.1 in
     let named =
     three_names c.args.names.front.now c.catalog-item.result c.roll-item.result c.text-item.result c.as_str.result.now c.as_str-2.result.now
-    c.as_str-3.result.now c.requires.1.front_long c.catalog-item.is c.roll-item.is c.text-item.is c.as_str.ensures.value c.as_str-2.ensures.value
+    c.as_str-3.result.now c.requires.named.1.front_long c.catalog-item.is c.roll-item.is c.text-item.is c.as_str.ensures.value c.as_str-2.ensures.value
     c.as_str-3.ensures.value in
     let names = map string_bytes c.args.names.streams.now in
     let front = c.as_str.result.now ∷ c.as_str-2.result.now ∷ c.as_str-3.result.now ∷ [] in
@@ -101,7 +101,7 @@ returns-in_err-ended g c =
     let read = c.in_ok-streams.ensures.read in
     let taken =
     rest_taken g.H.Shelf Hall c.args.shelf.now c.take_text.new.shelf c.take_sessions.new.shelf front (tables.0 ++ one.text ∷ []) third names read.0 refl refl
-    read.2.each (omega (arith, read.2.count)) (omega (arith, length-map c.args.names.streams.now string_bytes, c.requires.1.some)) c.in_ok-streams.ensures.end
+    read.2.each (omega (arith, read.2.count)) (omega (arith, length-map c.args.names.streams.now string_bytes, c.requires.named.1.some)) c.in_ok-streams.ensures.end
     c.in_ok-streams.ensures.used (record { holds = c.in_ok-streams.ensures.holds; later = c.in_ok-streams.ensures.later }) in
     rw (p.1, p.2) (stops_named g.H.Shelf Hall c.args.shelf.now c.take_sessions.new.shelf (map string_bytes c.args.names.front.now) front names _ named
     (memory_stops g.H.Shelf Hall (front ++ names) ((tables.0 ++ one.text ∷ []) ++ read.0) c.args.shelf.now c.take_sessions.new.shelf taken))
@@ -110,7 +110,7 @@ pub returns : goal.returns
 returns g c =
     let named =
     three_names c.args.names.front.now c.catalog-item.result c.roll-item.result c.text-item.result c.as_str.result.now c.as_str-2.result.now
-    c.as_str-3.result.now c.requires.1.front_long c.catalog-item.is c.roll-item.is c.text-item.is c.as_str.ensures.value c.as_str-2.ensures.value
+    c.as_str-3.result.now c.requires.named.1.front_long c.catalog-item.is c.roll-item.is c.text-item.is c.as_str.ensures.value c.as_str-2.ensures.value
     c.as_str-3.ensures.value in
     let names = map string_bytes c.args.names.streams.now in
     let front = c.as_str.result.now ∷ c.as_str-2.result.now ∷ c.as_str-3.result.now ∷ [] in
@@ -122,7 +122,7 @@ returns g c =
     let read = c.in_ok-streams.ensures.read in
     let taken =
     rest_taken g.H.Shelf Hall c.args.shelf.now c.take_text.new.shelf c.take_sessions.new.shelf front (tables.0 ++ one.text ∷ []) third names read.0 refl refl
-    read.2.each (omega (arith, read.2.count)) (omega (arith, length-map c.args.names.streams.now string_bytes, c.requires.1.some)) c.in_ok-streams.ensures.end
+    read.2.each (omega (arith, read.2.count)) (omega (arith, length-map c.args.names.streams.now string_bytes, c.requires.named.1.some)) c.in_ok-streams.ensures.end
     c.in_ok-streams.ensures.used (record { holds = c.in_ok-streams.ensures.holds; later = c.in_ok-streams.ensures.later }) in
     let ended = c.in_ok-ended.ended in
     taken_named g.H.Shelf Hall c.args.shelf.now c.take_sessions.new.shelf (map string_bytes c.args.names.front.now) front names

@@ -6,8 +6,8 @@ use Rattle.market_host.proofs.Taking.{memory_stops, none_taken}
 use Rattle.market_host.proofs.Works.{answered_for}
 use Rattle.market_host.proofs.host.answer.Goals as goal
 
-pub quote-requires : goal.quote-requires
-quote-requires g c = (map string_bytes c.args.words.now, (rw c.in-Quote.is at c.names_of-names.ensures) tt)
+pub quote-requires-clause-named : goal.quote-requires-clause-named
+quote-requires-clause-named g c = (map string_bytes c.args.words.now, (rw c.in-Quote.is at c.names_of-names.ensures) tt)
 
 pub returns-in-Quote : goal.returns-in-Quote
 returns-in-Quote g c =
@@ -15,8 +15,8 @@ returns-in-Quote g c =
     answered_for g.H.Shelf (map string_bytes c.args.words.now) c.args.form (Quote c.in-Quote.name c.in-Quote.credits c.in-Quote.courses) _ c.args.shelf.now c.quote.new.shelf c.quote.result c.in-Quote.is are.named
     c.quote.ensures
 
-pub check-requires : goal.check-requires
-check-requires g c = (map string_bytes c.args.words.now, (rw c.in-Check.is at c.names_of-names.ensures) tt)
+pub check-requires-clause-named : goal.check-requires-clause-named
+check-requires-clause-named g c = (map string_bytes c.args.words.now, (rw c.in-Check.is at c.names_of-names.ensures) tt)
 
 pub returns-in-Check : goal.returns-in-Check
 returns-in-Check g c =
@@ -24,8 +24,8 @@ returns-in-Check g c =
     answered_for g.H.Shelf (map string_bytes c.args.words.now) c.args.form Check _ c.args.shelf.now c.check.new.shelf c.check.result c.in-Check.is are.named
     c.check.ensures
 
-pub explain-requires : goal.explain-requires
-explain-requires g c = (map string_bytes c.args.words.now, (rw c.in-Explain.is at c.names_of-names.ensures) tt)
+pub explain-requires-clause-named : goal.explain-requires-clause-named
+explain-requires-clause-named g c = (map string_bytes c.args.words.now, (rw c.in-Explain.is at c.names_of-names.ensures) tt)
 
 pub returns-in-Explain : goal.returns-in-Explain
 returns-in-Explain g c =
@@ -33,8 +33,8 @@ returns-in-Explain g c =
     answered_for g.H.Shelf (map string_bytes c.args.words.now) c.args.form (Explain c.in-Explain.student c.in-Explain.section) _ c.args.shelf.now c.explain.new.shelf c.explain.result c.in-Explain.is are.named
     c.explain.ensures
 
-pub hall-requires : goal.hall-requires
-hall-requires g c κs within = (map string_bytes c.args.words.now, (rw c.in-Hall.is at c.names_of-names.ensures) tt)
+pub hall-requires-clause-named : goal.hall-requires-clause-named
+hall-requires-clause-named g c κs within = (map string_bytes c.args.words.now, (rw c.in-Hall.is at c.names_of-names.ensures) tt)
 
 pub returns-in-Hall : goal.returns-in-Hall
 returns-in-Hall g c =
@@ -42,8 +42,8 @@ returns-in-Hall g c =
     answered_for g.H.Shelf (map string_bytes c.args.words.now) c.args.form Hall _ c.args.shelf.now c.hall.new.shelf c.hall.result c.in-Hall.is are.named
     c.hall.ensures
 
-pub audit-requires : goal.audit-requires
-audit-requires g c κs within = (map string_bytes c.args.words.now, (rw c.in-Audit.is at c.names_of-names.ensures) tt)
+pub audit-requires-clause-named : goal.audit-requires-clause-named
+audit-requires-clause-named g c κs within = (map string_bytes c.args.words.now, (rw c.in-Audit.is at c.names_of-names.ensures) tt)
 
 pub returns-in-Audit : goal.returns-in-Audit
 returns-in-Audit g c =
@@ -51,8 +51,8 @@ returns-in-Audit g c =
     answered_for g.H.Shelf (map string_bytes c.args.words.now) c.args.form (Audit c.in-Audit.workers) _ c.args.shelf.now c.audit.new.shelf c.audit.result c.in-Audit.is are.named
     c.audit.ensures
 
-pub prefer-requires : goal.prefer-requires
-prefer-requires g c κs within = (map string_bytes c.args.words.now, (rw c.in-Prefer.is at c.names_of-names.ensures) tt)
+pub prefer-requires-clause-named : goal.prefer-requires-clause-named
+prefer-requires-clause-named g c κs within = (map string_bytes c.args.words.now, (rw c.in-Prefer.is at c.names_of-names.ensures) tt)
 
 pub returns-in-Prefer : goal.returns-in-Prefer
 returns-in-Prefer g c =
@@ -60,8 +60,8 @@ returns-in-Prefer g c =
     answered_for g.H.Shelf (map string_bytes c.args.words.now) c.args.form Prefer _ c.args.shelf.now c.prefer.new.shelf c.prefer.result c.in-Prefer.is are.named
     c.prefer.ensures
 
-pub demand-requires : goal.demand-requires
-demand-requires g c κs within = (map string_bytes c.args.words.now, (rw c.in-Demand.is at c.names_of-names.ensures) tt)
+pub demand-requires-clause-named : goal.demand-requires-clause-named
+demand-requires-clause-named g c κs within = (map string_bytes c.args.words.now, (rw c.in-Demand.is at c.names_of-names.ensures) tt)
 
 pub returns-in-Demand : goal.returns-in-Demand
 returns-in-Demand g c =
@@ -69,8 +69,8 @@ returns-in-Demand g c =
     answered_for g.H.Shelf (map string_bytes c.args.words.now) c.args.form (Demand c.in-Demand.workers) _ c.args.shelf.now c.demand.new.shelf c.demand.result c.in-Demand.is are.named
     c.demand.ensures
 
-pub run-requires : goal.run-requires
-run-requires g c κs within = (map string_bytes c.args.words.now, (rw c.in-Run.is at c.names_of-names.ensures) tt)
+pub run-requires-clause-named : goal.run-requires-clause-named
+run-requires-clause-named g c κs within = (map string_bytes c.args.words.now, (rw c.in-Run.is at c.names_of-names.ensures) tt)
 
 pub returns-in-Run : goal.returns-in-Run
 returns-in-Run g c =

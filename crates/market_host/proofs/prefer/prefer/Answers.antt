@@ -21,7 +21,7 @@ pub returns-in_err-tables : goal.returns-in_err-tables
 returns-in_err-tables g c =
     let p = err_from_is_err_and c.from_residual.result c.from_residual.ensures.1 in
     let named =
-    two_names c.args.names.front.now c.catalog-item.result c.roll-item.result c.as_str.result.now c.as_str-2.result.now c.requires.1.front_long
+    two_names c.args.names.front.now c.catalog-item.result c.roll-item.result c.as_str.result.now c.as_str-2.result.now c.requires.named.1.front_long
     c.catalog-item.is c.roll-item.is c.as_str.ensures.value c.as_str-2.ensures.value in
     let names = map string_bytes c.args.names.streams.now in
     let front = c.as_str.result.now ∷ c.as_str-2.result.now ∷ [] in
@@ -32,7 +32,7 @@ pub returns-in_err-streams : goal.returns-in_err-streams
 returns-in_err-streams g c =
     let p = err_from_is_err_and c.from_residual-in_err-streams.result c.from_residual-in_err-streams.ensures.1 in
     let named =
-    two_names c.args.names.front.now c.catalog-item.result c.roll-item.result c.as_str.result.now c.as_str-2.result.now c.requires.1.front_long
+    two_names c.args.names.front.now c.catalog-item.result c.roll-item.result c.as_str.result.now c.as_str-2.result.now c.requires.named.1.front_long
     c.catalog-item.is c.roll-item.is c.as_str.ensures.value c.as_str-2.ensures.value in
     let names = map string_bytes c.args.names.streams.now in
     let front = c.as_str.result.now ∷ c.as_str-2.result.now ∷ [] in
@@ -50,7 +50,7 @@ text_of-requires-clause-sessions g c κs within =
     streams_of_names IsCommandOf (g.H.Shelf.holds c.take_tables.new.shelf) (map string_bytes c.args.names.streams.now) read.0 c.in_ok-streams.streams.items
     read.1 read.2 in
     let long = length-map c.args.names.streams.now string_bytes in
-    rw c.deref.ensures.value (omega (arith, count, long, c.requires.1.some), omega (arith, count, long, c.requires.1.few))
+    rw c.deref.ensures.value (omega (arith, count, long, c.requires.named.1.some), omega (arith, count, long, c.requires.named.1.few))
 
 pub text_of-requires-clause-commands : goal.text_of-requires-clause-commands
 text_of-requires-clause-commands g c κs within =
@@ -63,7 +63,7 @@ pub returns-in_err-text : goal.returns-in_err-text
 returns-in_err-text g c =
     let p = err_from_is_err_and c.from_residual-in_err-text.result c.from_residual-in_err-text.ensures.1 in
     let named =
-    two_names c.args.names.front.now c.catalog-item.result c.roll-item.result c.as_str.result.now c.as_str-2.result.now c.requires.1.front_long
+    two_names c.args.names.front.now c.catalog-item.result c.roll-item.result c.as_str.result.now c.as_str-2.result.now c.requires.named.1.front_long
     c.catalog-item.is c.roll-item.is c.as_str.ensures.value c.as_str-2.ensures.value in
     let names = map string_bytes c.args.names.streams.now in
     let front = c.as_str.result.now ∷ c.as_str-2.result.now ∷ [] in
@@ -71,7 +71,7 @@ returns-in_err-text g c =
     let read = c.in_ok-streams.ensures.read in
     let taken =
     rest_taken g.H.Shelf Prefer c.args.shelf.now c.take_tables.new.shelf c.take_sessions.new.shelf front tables.0 tables.1 names read.0 refl refl read.2.each
-    (omega (arith, read.2.count)) (omega (arith, length-map c.args.names.streams.now string_bytes, c.requires.1.some)) c.in_ok-streams.ensures.end
+    (omega (arith, read.2.count)) (omega (arith, length-map c.args.names.streams.now string_bytes, c.requires.named.1.some)) c.in_ok-streams.ensures.end
     c.in_ok-streams.ensures.used (record { holds = c.in_ok-streams.ensures.holds; later = c.in_ok-streams.ensures.later }) in
     rw (p.1, p.2) (stops_named g.H.Shelf Prefer c.args.shelf.now c.take_sessions.new.shelf (map string_bytes c.args.names.front.now) front names _ named
     (memory_stops g.H.Shelf Prefer (front ++ names) (tables.0 ++ read.0) c.args.shelf.now c.take_sessions.new.shelf taken))
@@ -79,7 +79,7 @@ returns-in_err-text g c =
 pub returns : goal.returns
 returns g c =
     let named =
-    two_names c.args.names.front.now c.catalog-item.result c.roll-item.result c.as_str.result.now c.as_str-2.result.now c.requires.1.front_long
+    two_names c.args.names.front.now c.catalog-item.result c.roll-item.result c.as_str.result.now c.as_str-2.result.now c.requires.named.1.front_long
     c.catalog-item.is c.roll-item.is c.as_str.ensures.value c.as_str-2.ensures.value in
     let names = map string_bytes c.args.names.streams.now in
     let front = c.as_str.result.now ∷ c.as_str-2.result.now ∷ [] in
@@ -87,7 +87,7 @@ returns g c =
     let read = c.in_ok-streams.ensures.read in
     let taken =
     rest_taken g.H.Shelf Prefer c.args.shelf.now c.take_tables.new.shelf c.take_sessions.new.shelf front tables.0 tables.1 names read.0 refl refl read.2.each
-    (omega (arith, read.2.count)) (omega (arith, length-map c.args.names.streams.now string_bytes, c.requires.1.some)) c.in_ok-streams.ensures.end
+    (omega (arith, read.2.count)) (omega (arith, length-map c.args.names.streams.now string_bytes, c.requires.named.1.some)) c.in_ok-streams.ensures.end
     c.in_ok-streams.ensures.used (record { holds = c.in_ok-streams.ensures.holds; later = c.in_ok-streams.ensures.later }) in
     taken_named g.H.Shelf Prefer c.args.shelf.now c.take_sessions.new.shelf (map string_bytes c.args.names.front.now) front names
     (λ texts. Ends Prefer texts Done c.in_ok-text.text.items) named (

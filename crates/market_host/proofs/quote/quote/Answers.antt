@@ -15,13 +15,13 @@ use Rattle.market_host.proofs.quote.quote.Goals as goal
 
 pub unreachable-unreachable-in_default-streams : goal.unreachable-unreachable-in_default-streams
 unreachable-unreachable-in_default-streams g c =
-    absurd (omega (arith, one_session c.args.name c.args.credits c.args.courses c.requires.0 c.args.names.front.now c.args.names.streams.now c.requires.1))
+    absurd (omega (arith, one_session c.args.name c.args.credits c.args.courses c.requires.named.0 c.args.names.front.now c.args.names.streams.now c.requires.named.1))
 
 pub returns-in_err-catalog : goal.returns-in_err-catalog
 returns-in_err-catalog g c =
     let p = err_from_is_err_and c.from_residual.result c.from_residual.ensures.1 in
     let named =
-    one_name c.args.names.front.now c.catalog-item.result c.as_str.result.now c.requires.1.front_long c.catalog-item.is c.as_str.ensures.value in
+    one_name c.args.names.front.now c.catalog-item.result c.as_str.result.now c.requires.named.1.front_long c.catalog-item.is c.as_str.ensures.value in
     let other = one_name c.args.names.streams.now c.session-item.result (string_bytes c.session-item.result) (omega arith) c.session-item.is refl in
     rw (p.1, p.2, named, other) (catalog_stops g.H.Shelf (Quote c.args.name c.args.credits c.args.courses) c.args.shelf.now c.take_input.new.shelf c.as_str.result.now
     (string_bytes c.session-item.result ∷ []) c.in_err-catalog.field-0.0 refl c.in_err-catalog.ensures.taken)
@@ -30,7 +30,7 @@ pub returns-in_err-commands : goal.returns-in_err-commands
 returns-in_err-commands g c =
     let p = err_from_is_err_and c.from_residual-in_err-commands.result c.from_residual-in_err-commands.ensures.1 in
     let named =
-    one_name c.args.names.front.now c.catalog-item.result c.as_str.result.now c.requires.1.front_long c.catalog-item.is c.as_str.ensures.value in
+    one_name c.args.names.front.now c.catalog-item.result c.as_str.result.now c.requires.named.1.front_long c.catalog-item.is c.as_str.ensures.value in
     let other = one_name c.args.names.streams.now c.session-item.result c.as_str-2.result.now (omega arith) c.session-item.is c.as_str-2.ensures.value in
     let one = c.in_ok-catalog.ensures.taken in
     rw (p.1, p.2, named, other) (session_stops g.H.Shelf (Quote c.args.name c.args.credits c.args.courses) c.args.shelf.now c.take_input.new.shelf c.take_session.new.shelf (c.as_str.result.now ∷ [])
@@ -45,16 +45,16 @@ best_text-requires-clause-few g c =
     rw c.deref.ensures.value (omega (arith, many, read.3.1))
 
 pub best_text-requires-clause-credits : goal.best_text-requires-clause-credits
-best_text-requires-clause-credits g c = c.requires.1.has.3
+best_text-requires-clause-credits g c = c.requires.named.1.has.3
 
 pub best_text-requires-clause-courses : goal.best_text-requires-clause-courses
-best_text-requires-clause-courses g c = c.requires.1.has.4
+best_text-requires-clause-courses g c = c.requires.named.1.has.4
 
 pub returns-in_err-text : goal.returns-in_err-text
 returns-in_err-text g c =
     let p = err_from_is_err_and c.from_residual-in_err-text.result c.from_residual-in_err-text.ensures.1 in
     let named =
-    one_name c.args.names.front.now c.catalog-item.result c.as_str.result.now c.requires.1.front_long c.catalog-item.is c.as_str.ensures.value in
+    one_name c.args.names.front.now c.catalog-item.result c.as_str.result.now c.requires.named.1.front_long c.catalog-item.is c.as_str.ensures.value in
     let other = one_name c.args.names.streams.now c.session-item.result c.as_str-2.result.now (omega arith) c.session-item.is c.as_str-2.ensures.value in
     let one = c.in_ok-catalog.ensures.taken in
     let read = c.in_ok-commands.ensures.read in
@@ -72,7 +72,7 @@ returns-in_err-text g c =
 pub returns : goal.returns
 returns g c =
     let named =
-    one_name c.args.names.front.now c.catalog-item.result c.as_str.result.now c.requires.1.front_long c.catalog-item.is c.as_str.ensures.value in
+    one_name c.args.names.front.now c.catalog-item.result c.as_str.result.now c.requires.named.1.front_long c.catalog-item.is c.as_str.ensures.value in
     let other = one_name c.args.names.streams.now c.session-item.result c.as_str-2.result.now (omega arith) c.session-item.is c.as_str-2.ensures.value in
     let one = c.in_ok-catalog.ensures.taken in
     let read = c.in_ok-commands.ensures.read in

@@ -23,7 +23,7 @@ returns-in_err-market g c =
     let p = err_from_is_err_and c.from_residual.result c.from_residual.ensures.1 in
     let named =
     three_names c.args.names.front.now c.catalog-item.result c.roll-item.result c.settings-item.result c.as_str.result.now c.as_str-2.result.now
-    c.as_str-3.result.now c.requires.1.front_long c.catalog-item.is c.roll-item.is c.settings-item.is c.as_str.ensures.value c.as_str-2.ensures.value
+    c.as_str-3.result.now c.requires.named.1.front_long c.catalog-item.is c.roll-item.is c.settings-item.is c.as_str.ensures.value c.as_str-2.ensures.value
     c.as_str-3.ensures.value in
     let names = map string_bytes c.args.names.streams.now in
     rw (p.1, p.2) (stops_named g.H.Shelf (Run c.args.workers) c.args.shelf.now c.take_market.new.shelf (map string_bytes c.args.names.front.now) _ names
@@ -34,7 +34,7 @@ returns-in_err-streams g c =
     let p = err_from_is_err_and c.from_residual-in_err-streams.result c.from_residual-in_err-streams.ensures.1 in
     let named =
     three_names c.args.names.front.now c.catalog-item.result c.roll-item.result c.settings-item.result c.as_str.result.now c.as_str-2.result.now
-    c.as_str-3.result.now c.requires.1.front_long c.catalog-item.is c.roll-item.is c.settings-item.is c.as_str.ensures.value c.as_str-2.ensures.value
+    c.as_str-3.result.now c.requires.named.1.front_long c.catalog-item.is c.roll-item.is c.settings-item.is c.as_str.ensures.value c.as_str-2.ensures.value
     c.as_str-3.ensures.value in
     let names = map string_bytes c.args.names.streams.now in
     let front = c.as_str.result.now ∷ c.as_str-2.result.now ∷ c.as_str-3.result.now ∷ [] in
@@ -46,14 +46,14 @@ returns-in_err-streams g c =
     (record { holds = c.in_err-streams.ensures.holds; later = c.in_err-streams.ensures.later })))
 
 pub held-requires-clause-workers : goal.held-requires-clause-workers
-held-requires-clause-workers g c κs within = c.requires.1.has.5
+held-requires-clause-workers g c κs within = c.requires.named.1.has.5
 
 pub held-requires-clause-sessions : goal.held-requires-clause-sessions
 held-requires-clause-sessions g c κs within =
     let read = c.in_ok-streams.ensures.read in
     let count = streams_of_names IsCommandOf (g.H.Shelf.holds c.take_market.new.shelf) (map string_bytes c.args.names.streams.now) read.0 c.in_ok-streams.streams.items read.1 read.2 in
     let long = length-map c.args.names.streams.now string_bytes in
-    rw c.deref.ensures.value (omega (arith, count, long, c.requires.1.some), omega (arith, count, long, c.requires.1.few))
+    rw c.deref.ensures.value (omega (arith, count, long, c.requires.named.1.some), omega (arith, count, long, c.requires.named.1.few))
 
 pub held-requires-clause-commands : goal.held-requires-clause-commands
 held-requires-clause-commands g c κs within =
@@ -67,7 +67,7 @@ returns-in_err-ended g c =
     let p = err_from_is_err_and c.from_residual-in_err-ended.result c.from_residual-in_err-ended.ensures.1 in
     let named =
     three_names c.args.names.front.now c.catalog-item.result c.roll-item.result c.settings-item.result c.as_str.result.now c.as_str-2.result.now
-    c.as_str-3.result.now c.requires.1.front_long c.catalog-item.is c.roll-item.is c.settings-item.is c.as_str.ensures.value c.as_str-2.ensures.value
+    c.as_str-3.result.now c.requires.named.1.front_long c.catalog-item.is c.roll-item.is c.settings-item.is c.as_str.ensures.value c.as_str-2.ensures.value
     c.as_str-3.ensures.value in
     let names = map string_bytes c.args.names.streams.now in
     let front = c.as_str.result.now ∷ c.as_str-2.result.now ∷ c.as_str-3.result.now ∷ [] in
@@ -76,7 +76,7 @@ returns-in_err-ended g c =
     let said =
     inputs_taken g.H.Shelf (Run c.args.workers) c.args.shelf.now c.take_market.new.shelf c.take_sessions.new.shelf front [] market names read.0 read.1
     c.in_ok-streams.streams.items (c.in_ok-market.ensures.taken (Run c.args.workers) ([], refl)) refl refl read.2
-    (omega (arith, length-map c.args.names.streams.now string_bytes, c.requires.1.some)) c.in_ok-streams.ensures.end c.in_ok-streams.ensures.used
+    (omega (arith, length-map c.args.names.streams.now string_bytes, c.requires.named.1.some)) c.in_ok-streams.ensures.end c.in_ok-streams.ensures.used
     (record { holds = c.in_ok-streams.ensures.holds; later = c.in_ok-streams.ensures.later }) in
     rw (p.1, p.2) (stops_named g.H.Shelf (Run c.args.workers) c.args.shelf.now c.take_sessions.new.shelf (map string_bytes c.args.names.front.now) front names _
     named (memory_stops g.H.Shelf (Run c.args.workers) _ said.0 c.args.shelf.now c.take_sessions.new.shelf said.1))
@@ -85,7 +85,7 @@ pub returns : goal.returns
 returns g c =
     let named =
     three_names c.args.names.front.now c.catalog-item.result c.roll-item.result c.settings-item.result c.as_str.result.now c.as_str-2.result.now
-    c.as_str-3.result.now c.requires.1.front_long c.catalog-item.is c.roll-item.is c.settings-item.is c.as_str.ensures.value c.as_str-2.ensures.value
+    c.as_str-3.result.now c.requires.named.1.front_long c.catalog-item.is c.roll-item.is c.settings-item.is c.as_str.ensures.value c.as_str-2.ensures.value
     c.as_str-3.ensures.value in
     let names = map string_bytes c.args.names.streams.now in
     let front = c.as_str.result.now ∷ c.as_str-2.result.now ∷ c.as_str-3.result.now ∷ [] in
@@ -96,6 +96,6 @@ returns g c =
     (λ texts. AreInputs texts market [] (command_lists c.in_ok-streams.streams.items)) named
     (inputs_taken g.H.Shelf (Run c.args.workers) c.args.shelf.now c.take_market.new.shelf c.take_sessions.new.shelf front [] market names read.0 read.1
     c.in_ok-streams.streams.items (c.in_ok-market.ensures.taken (Run c.args.workers) ([], refl)) refl refl read.2
-    (omega (arith, length-map c.args.names.streams.now string_bytes, c.requires.1.some)) c.in_ok-streams.ensures.end c.in_ok-streams.ensures.used
+    (omega (arith, length-map c.args.names.streams.now string_bytes, c.requires.named.1.some)) c.in_ok-streams.ensures.end c.in_ok-streams.ensures.used
     (record { holds = c.in_ok-streams.ensures.holds; later = c.in_ok-streams.ensures.later })) in
     (said.0, said.1, (rw c.deref.ensures.value at c.in_ok-ended.ensures) said.0 said.2)
