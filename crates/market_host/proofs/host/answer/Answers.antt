@@ -6,8 +6,8 @@ use Rattle.market_host.proofs.Taking.{memory_stops, none_taken}
 use Rattle.market_host.proofs.Works.{answered_for}
 use Rattle.market_host.proofs.host.answer.Goals as goal
 
-pub quote-requires-clause-named : goal.quote-requires-clause-named
-quote-requires-clause-named g c = (map string_bytes c.args.words.now, (rw c.in-Quote.is at c.names_of-names.ensures) tt)
+pub quote-requires : goal.quote-requires
+quote-requires g c = record { named = (map string_bytes c.args.words.now, (rw c.in-Quote.is at c.names_of-names.ensures) tt) }
 
 pub returns-in-Quote : goal.returns-in-Quote
 returns-in-Quote g c =
@@ -15,8 +15,8 @@ returns-in-Quote g c =
     answered_for g.H.Shelf (map string_bytes c.args.words.now) c.args.form (Quote c.in-Quote.name c.in-Quote.credits c.in-Quote.courses) _ c.args.shelf.now c.quote.new.shelf c.quote.result c.in-Quote.is are.named
     c.quote.ensures
 
-pub check-requires-clause-named : goal.check-requires-clause-named
-check-requires-clause-named g c = (map string_bytes c.args.words.now, (rw c.in-Check.is at c.names_of-names.ensures) tt)
+pub check-requires : goal.check-requires
+check-requires g c = record { named = (map string_bytes c.args.words.now, (rw c.in-Check.is at c.names_of-names.ensures) tt) }
 
 pub returns-in-Check : goal.returns-in-Check
 returns-in-Check g c =
@@ -24,8 +24,8 @@ returns-in-Check g c =
     answered_for g.H.Shelf (map string_bytes c.args.words.now) c.args.form Check _ c.args.shelf.now c.check.new.shelf c.check.result c.in-Check.is are.named
     c.check.ensures
 
-pub explain-requires-clause-named : goal.explain-requires-clause-named
-explain-requires-clause-named g c = (map string_bytes c.args.words.now, (rw c.in-Explain.is at c.names_of-names.ensures) tt)
+pub explain-requires : goal.explain-requires
+explain-requires g c = record { named = (map string_bytes c.args.words.now, (rw c.in-Explain.is at c.names_of-names.ensures) tt) }
 
 pub returns-in-Explain : goal.returns-in-Explain
 returns-in-Explain g c =
