@@ -1,5 +1,5 @@
 -- What `audit` writes.
-use Rattle.std.proofs.Common.{ℕ, ◌≡◌, List, [], ◌∷◌, ◌++◌, subst, sym}
+use Rattle.std.proofs.Common.{ℕ, ◌≡◌, List, [], ◌∷◌, subst, sym}
 use Rattle.certificate_checker.specs.declared.findings.Finding.{Finding}
 use Rattle.certificate_checker.specs.Certificates.{IsAccepted}
 use Rattle.certificate_checker.specs.Findings.{IsFirstFinding}

@@ -1,6 +1,6 @@
 -- The published text of `hall`, and what it writes.
-use Rattle.std.proofs.Common.{ℕ, ◌≡◌, List, [], ◌∷◌, ◌++◌, arith, ap, sym, subst, ◌∙◌, refl, Global}
-use Rattle.std.specs.Prelude.{Ok, Option, Vec, ⊤}
+use Rattle.std.proofs.Common.{ℕ, ◌≡◌, List, [], ◌∷◌, ◌++◌, arith, sym, subst, refl, Global}
+use Rattle.std.specs.Prelude.{Option, Vec, ⊤}
 use Rattle.certificate_checker.specs.declared.findings.Finding.{Finding}
 use Rattle.certificate_checker.specs.Words.{finding_line}
 use Rattle.course_catalog.specs.Catalog.{CatalogData}

@@ -1,5 +1,5 @@
 -- The inputs of a call that says a market: the first ones, and then sessions.
-use Rattle.std.proofs.Common.{ℕ, ◌≡◌, ◌<◌, ◌≤◌, ◌+◌, List, [], ◌∷◌, ◌++◌, length, arith, ap, refl, ◌∙◌, Global}
+use Rattle.std.proofs.Common.{ℕ, ◌≡◌, ◌<◌, ◌≤◌, List, [], ◌∷◌, ◌++◌, length, arith, ap, refl, ◌∙◌, Global}
 use Rattle.std.specs.Prelude.{Ok, Vec, ⊤}
 use Rattle.course_catalog.specs.Catalog.{CatalogData}
 use Rattle.course_catalog.specs.Reading.{catalog_of}

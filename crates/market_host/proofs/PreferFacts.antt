@@ -1,8 +1,7 @@
 -- What `prefer` prints.
-use Rattle.std.proofs.Common.{ℕ, ◌≡◌, ◌≤◌, List, [], ◌∷◌, ◌++◌, arith, ap, sym, subst, refl, Global}
+use Rattle.std.proofs.Common.{ℕ, ◌≡◌, List, ◌++◌, sym, subst, Global}
 use Rattle.std.specs.Prelude.{Vec}
 use Rattle.course_catalog.specs.Catalog.{CatalogData}
-use Rattle.market_edge.specs.declared.shelf.Shelf as Shelf
 use Rattle.market_words.specs.declared.words.Form.TheVariants.{Prefer}
 use Rattle.preference_desk.specs.declared.entry.Entry.{Entry}
 use Rattle.preference_desk.specs.Journals.{IsLegalJournal, MergesStreams}

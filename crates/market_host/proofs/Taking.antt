@@ -1,6 +1,6 @@
 -- Inputs that are taken one behind another.
 use Rattle.std.proofs.Common.{ℕ, ◌≡◌, ◌<◌, ◌≤◌, ◌+◌, List, [], ◌∷◌, ◌++◌, length, arith, ap, sym, subst, ◌∙◌, refl, Global}
-use Rattle.std.specs.Prelude.{Err, IfErr, IfOk, Ok, OnOk, Result, Vec, ⊤}
+use Rattle.std.specs.Prelude.{Err, IfErr, IfOk, Ok, OnOk, Result, Vec}
 use Rattle.std.specs.List.{AllZip}
 use Rattle.std.proofs.lemmas.List.{length-append}
 use Rattle.market_edge.specs.declared.shelf.Shelf as Shelf
@@ -11,7 +11,7 @@ use Rattle.market_host.specs.declared.cause.Cause.{Cause}
 use Rattle.market_host.specs.declared.trouble.Trouble.{Trouble}
 use Rattle.market_host.specs.declared.trouble.Trouble.TheVariants.{OutOfMemory}
 use Rattle.market_host.specs.Inputs.{AreRead, HasFault, IsOfGrammar, commands_among}
-use Rattle.market_host.specs.Kinds.{Kind, OpensWith, Published, Session, front_of, kind_behind, kind_of, limit_of, streams_of}
+use Rattle.market_host.specs.Kinds.{Kind, OpensWith, Session, front_of, kind_behind, kind_of, limit_of, streams_of}
 use Rattle.market_host.specs.Outcomes.{IsLastAtEnd}
 use Rattle.market_host.specs.Reading.{IsRefusal, IsTroubleOfSession, IsTroubleOfSessions, IsUnread}
 use Rattle.market_host.specs.Sessions.{command_count}

@@ -1,5 +1,5 @@
 -- Inputs that are used one after another.
-use Rattle.std.proofs.Common.{ℕ, Bool, true, false, cond, ◌≡◌, ◌+◌, List, [], ◌∷◌, ◌++◌, length, map, Some, None, arith, ap, subst, sym, ◌∙◌, refl, append_assoc}
+use Rattle.std.proofs.Common.{ℕ, Bool, true, false, cond, ◌≡◌, ◌+◌, List, [], ◌∷◌, ◌++◌, length, map, Some, None, arith, ap, sym, ◌∙◌, refl, append_assoc}
 use Rattle.std.specs.Prelude.{IsTrue, Option, Result, Ok, Err, IfErr}
 use Rattle.std.proofs.lemmas.List.{append-nil, length-append, map-append}
 use Rattle.market_edge.specs.declared.shelf.Shelf as Shelf

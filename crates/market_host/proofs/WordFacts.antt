@@ -3,11 +3,10 @@ use Rattle.std.proofs.Common.{ℕ, ◌≡◌, ◌≤◌, ◌+◌, ◌-◌, List,
 use Rattle.std.specs.Prelude.{String}
 use Rattle.std.specs.String.{string_bytes}
 use Rattle.std.proofs.lemmas.List.{drop-drop, drop-map, length-drop, length-map, map-append, take-append-drop, take_all}
-use Rattle.market_words.specs.declared.words.Form.{Form}
 use Rattle.market_words.specs.declared.words.Form.TheVariants.{Audit, Check, Demand, Explain, Hall, Prefer, Quote, Run}
-use Rattle.market_words.specs.Forms.{HasForm, inputs_of}
+use Rattle.market_words.specs.Forms.{HasForm}
 use Rattle.market_units.specs.declared.names.Name.{Name}
-use Rattle.market_host.specs.Works.{AreNamesOf, names_in}
+use Rattle.market_host.specs.Works.{names_in}
 
 -- the words from one place on, cut at a later one
 pub names_cut : (words : List (String Global)) (first streams : ℕ) → first ≤ streams → streams ≤ length words

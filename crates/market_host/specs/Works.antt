@@ -9,7 +9,7 @@ use Rattle.market_words.specs.declared.words.Form.TheVariants.{Hall, Make}
 use Rattle.market_words.specs.Forms.{HasForm, inputs_of}
 use Rattle.market_host.specs.declared.ended.Ended.{Ended}
 use Rattle.market_host.specs.declared.status.Status.{Status}
-use Rattle.market_host.specs.declared.status.Status.TheVariants.{Done, Usage, ShelfFault, Refused, TooLong, NoPrices, Found, Unknown, SinkFault, OutOfMemory}
+use Rattle.market_host.specs.declared.status.Status.TheVariants.{Done, NoPrices, Found, Unknown}
 use Rattle.market_host.specs.declared.trouble.Trouble.{Trouble}
 use Rattle.market_host.specs.Endings.{bytes_of}
 use Rattle.market_host.specs.Kinds.{front_of}

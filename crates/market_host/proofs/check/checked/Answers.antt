@@ -1,6 +1,5 @@
 use Rattle.published_parts.specs.Markets.{market_of}
 use Rattle.session_hall.specs.Streams.{command_lists}
-use Rattle.std.proofs.Common.{arith}
 use Rattle.market_host.proofs.CheckFacts.{check_done, check_found}
 use Rattle.market_host.proofs.check.checked.Goals as goal
 

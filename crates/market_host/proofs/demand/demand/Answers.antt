@@ -1,4 +1,4 @@
-use Rattle.std.proofs.Common.{◌≡◌, [], ◌∷◌, arith, length, map, refl}
+use Rattle.std.proofs.Common.{◌≡◌, [], ◌∷◌, arith, map, refl}
 use Rattle.std.specs.String.{string_bytes}
 use Rattle.std.specs.Vec.{vec_len}
 use Rattle.std.proofs.lemmas.List.{length-map}

@@ -1,4 +1,3 @@
-use Rattle.std.proofs.Common.{refl}
 use Rattle.market_host.proofs.make.make.Goals as goal
 
 pub returns-in-Ok : goal.returns-in-Ok

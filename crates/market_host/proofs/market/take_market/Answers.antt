@@ -1,4 +1,4 @@
-use Rattle.std.proofs.Common.{[], ◌∷◌}
+use Rattle.std.proofs.Common.{◌∷◌}
 use Rattle.std.proofs.lemmas.Result.{err_from_is_err_and}
 use Rattle.market_host.proofs.MarketFacts.{market_taken, opens_tables, settings_stop}
 use Rattle.market_host.proofs.market.take_market.Goals as goal

@@ -1,5 +1,4 @@
-use Rattle.std.proofs.Common.{◌≡◌, ◌≤◌, ◌-◌, arith, drop, length, map, take, refl}
-use Rattle.std.specs.String.{string_bytes}
+use Rattle.std.proofs.Common.{◌≡◌, ◌-◌, arith, drop, length, take}
 use Rattle.std.proofs.lemmas.List.{length-drop, length-take-le}
 use Rattle.market_host.proofs.WordFacts.{explain_named, long_audit, long_check, long_demand, long_explain, long_hall, long_prefer, long_quote, long_run, quote_named}
 use Rattle.market_host.proofs.names.names_of.Goals as goal

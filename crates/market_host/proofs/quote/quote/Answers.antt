@@ -1,4 +1,4 @@
-use Rattle.std.proofs.Common.{◌≡◌, [], ◌∷◌, arith, length, map, refl}
+use Rattle.std.proofs.Common.{◌≡◌, [], ◌∷◌, arith, length, refl}
 use Rattle.std.specs.String.{string_bytes}
 use Rattle.std.proofs.lemmas.Result.{err_from_is_err_and}
 use Rattle.market_words.specs.declared.words.Form.TheVariants.{Quote}

@@ -1,4 +1,4 @@
-use Rattle.std.proofs.Common.{[], ◌∷◌}
+use Rattle.std.proofs.Common.{◌∷◌}
 use Rattle.std.proofs.lemmas.Result.{err_from_is_err_and}
 use Rattle.market_host.proofs.MarketFacts.{catalog_stops, first_is_catalog, roll_stops, tables_taken}
 use Rattle.market_host.proofs.tables.take_tables.Goals as goal
