@@ -1,115 +1,24 @@
--- The inputs of `check`, and what it writes.
-use Rattle.std.proofs.Common.{ℕ, ◌≡◌, ◌≤◌, ◌+◌, ◌-◌, List, [], ◌∷◌, length, take, drop, get_or, map, arith, ap, sym, subst, ◌∙◌, refl, Global}
-use Rattle.std.specs.Prelude.{Ok, String, Vec}
-use Rattle.std.specs.String.{string_bytes}
-use Rattle.std.proofs.lemmas.List.{length-map}
+-- What `check` writes.
+use Rattle.std.proofs.Common.{ℕ, ◌≡◌, List, [], ◌∷◌, subst, sym}
 use Rattle.certificate_checker.specs.declared.findings.Finding.{Finding}
 use Rattle.certificate_checker.specs.Certificates.{IsAccepted}
 use Rattle.certificate_checker.specs.Findings.{IsFirstFinding}
 use Rattle.certificate_checker.specs.Words.{finding_line}
-use Rattle.course_catalog.specs.Catalog.{CatalogData}
-use Rattle.course_catalog.specs.Reading.{catalog_of}
-use Rattle.market_settings.specs.declared.reader.Settings.{Settings as SettingsData}
-use Rattle.market_settings.specs.Settings.{settings_of}
-use Rattle.market_words.specs.declared.words.Form.{Form}
 use Rattle.market_words.specs.declared.words.Form.TheVariants.{Check}
-use Rattle.market_words.specs.Forms.{HasForm, inputs_of}
-use Rattle.published_parts.specs.Markets.{market_of, tables_in}
-use Rattle.session_hall.specs.Streams.{command_lists}
-use Rattle.student_roll.specs.Rolls.{roll_of}
-use Rattle.student_roll.specs.Students.{RollData}
+use Rattle.published_parts.specs.Markets.{Market, tables_in}
 use Rattle.utility_language.specs.declared.commands.Command.{Command}
 use Rattle.market_host.specs.declared.status.Status.TheVariants.{Done, Found}
 use Rattle.market_host.specs.Checks.{accepted_line}
-use Rattle.market_host.specs.Inputs.{AreRead}
-use Rattle.market_host.specs.Kinds.{Catalog, OpensPublished, Published, Roll, Settings}
-use Rattle.market_host.specs.Marks.{without_mark}
-use Rattle.market_host.specs.Outcomes.{IsLastAtEnd, IsOutcome, IsWorkedOut, Prints, TellsFinding}
-use Rattle.market_host.specs.Reading.{AreReadSessions, IsRead}
-use Rattle.market_host.specs.Markets.{IsMarketOf}
-use Rattle.market_host.specs.Sights.{Sight}
-use Rattle.market_host.proofs.PublishedFacts.{published_read}
-use Rattle.market_host.proofs.ReadOut.{behind_at_end}
-use Rattle.market_host.proofs.WordFacts.{words_behind}
+use Rattle.market_host.specs.Works.{Ends, EndsFor}
 
--- the inputs of `check` are a market, a published text and sessions
-pub opens_check : OpensPublished Check
-opens_check = (refl, refl)
+module _ (market : Market) (streams : List (List Command)) (published : List ℕ) where
+  -- the text is accepted
+  pub check_done : (line : List ℕ) → IsAccepted market streams published → line ≡ accepted_line → EndsFor Check market (published ∷ []) streams Done line
+  check_done line accepted is texts said =
+      subst (λ (all : List (List ℕ)). Ends Check all Done line) (sym said.are) ((market, streams, said.say, accepted), is)
 
--- the words of `check`: the verb, a catalogue, a roll, settings, a published text, and 1 to 64 sessions
-pub length-check : (words : List (String Global)) → HasForm (map string_bytes words) Check → (6 ≤ length words) × (length words ≤ 69)
-length-check words has =
-    let long : length words ≡ 5 + length has.4 = sym (length-map words string_bytes) ∙ ap length has.5 ∙ omega arith in
-    let some : 1 ≤ length has.4 = has.6.0 in
-    let few : length has.4 ≤ 64 = has.6.1 in
-    (omega arith, omega arith)
-
-four_words : (words : List (String Global)) (a b c d : String Global) → 6 ≤ length words → a ≡ get_or words 1 a → b ≡ get_or words 2 b → c ≡ get_or words 3 c
-    → d ≡ get_or words 4 d
-    → drop 1 (map string_bytes words) ≡ string_bytes a ∷ string_bytes b ∷ string_bytes c ∷ string_bytes d ∷ drop 5 (map string_bytes words)
-four_words (u ∷ v ∷ w ∷ x ∷ y ∷ more) a b c d some p q r s = cc
-four_words (u ∷ v ∷ w ∷ x ∷ []) a b c d some p q r s = absurd (omega arith)
-four_words (u ∷ v ∷ w ∷ []) a b c d some p q r s = absurd (omega arith)
-four_words (u ∷ v ∷ []) a b c d some p q r s = absurd (omega arith)
-four_words (u ∷ []) a b c d some p q r s = absurd (omega arith)
-four_words [] a b c d some p q r s = absurd (omega arith)
-
--- its inputs are the words behind the verb
-pub inputs-check : (words : List (String Global)) (a b c d : String Global) → 6 ≤ length words → a ≡ get_or words 1 a → b ≡ get_or words 2 b
-    → c ≡ get_or words 3 c → d ≡ get_or words 4 d
-    → inputs_of Check (map string_bytes words)
-    ≡ string_bytes a ∷ string_bytes b ∷ string_bytes c ∷ string_bytes d ∷ map string_bytes (take (length words - 5) (drop 5 words))
-inputs-check words a b c d some p q r s =
-    four_words words a b c d some p q r s
-    ∙ ap (λ (more : List (List ℕ)). string_bytes a ∷ string_bytes b ∷ string_bytes c ∷ string_bytes d ∷ more) (words_behind words 5)
-
--- the words of `check`, what is seen of the shelf, and inputs that were read
-module _ (words : List (List ℕ)) (seen : Sight) (a b c d : List ℕ) (names sessions : List (List ℕ)) (room : ℕ) (offered : CatalogData) (enrolled : RollData)
-    (rules : SettingsData) (text : List ℕ) (streams : List (Vec Command Global))
-    (has : HasForm words Check) (inputs : inputs_of Check words ≡ a ∷ b ∷ c ∷ d ∷ names) (some : 1 ≤ length names)
-    (first : IsRead Catalog seen.held a (λ bytes. catalog_of bytes ≡ Ok offered))
-    (second : IsRead Roll seen.held b (λ bytes. roll_of bytes ≡ Ok enrolled))
-    (third : IsRead Settings seen.held c (λ bytes. settings_of (without_mark bytes) ≡ Ok rules))
-    (fourth : IsRead Published seen.held d (λ bytes. bytes ≡ text))
-    (are : AreReadSessions seen.held names sessions streams room) (ended : IsLastAtEnd seen names) where
-  worked_out : (P : Form → List (List ℕ) → Type 0) → P Check (first.0 ∷ second.0 ∷ third.0 ∷ fourth.0 ∷ sessions) → IsWorkedOut words seen P
-  worked_out P holds = (
-    Check,
-    has,
-    first.0 ∷ second.0 ∷ third.0 ∷ fourth.0 ∷ sessions,
-    subst (λ given. AreRead Check seen.held given (first.0 ∷ second.0 ∷ third.0 ∷ fourth.0 ∷ sessions)) (sym inputs)
-        (published_read Check opens_check seen.held a b c d names sessions room offered enrolled rules text streams first second third fourth are),
-    behind_at_end seen (inputs_of Check words) (a ∷ b ∷ c ∷ d ∷ []) names inputs some ended,
-    holds,
-  )
-
-  market_read : IsMarketOf first.0 second.0 third.0 sessions (market_of offered enrolled rules) (command_lists streams)
-  market_read = record { catalog_says = first.3; roll_says = second.3; settings_say = third.3; sessions_say = are.items }
-
-  -- the text that was read is accepted
-  pub check_done : (line : List ℕ) → IsAccepted (market_of offered enrolled rules) (command_lists streams) text → line ≡ accepted_line
-      → IsOutcome words seen Done line
-  check_done line accepted is =
-      worked_out (λ form texts. Prints form texts line) (
-        (
-          market_of offered enrolled rules,
-          command_lists streams,
-          market_read,
-          subst (IsAccepted (market_of offered enrolled rules) (command_lists streams)) (sym fourth.3) accepted,
-        ),
-        is,
-      )
-
-  -- the first finding on it was told
-  pub check_found : (finding : Finding) (line : List ℕ) → ¬ IsAccepted (market_of offered enrolled rules) (command_lists streams) text
-      → IsFirstFinding (market_of offered enrolled rules) (command_lists streams) text finding
-      → line ≡ finding_line (tables_in (market_of offered enrolled rules)) finding → IsOutcome words seen (Found finding) line
-  check_found finding line refused found is =
-      worked_out (λ form texts. TellsFinding form texts finding line) (
-        market_of offered enrolled rules,
-        command_lists streams,
-        market_read,
-        subst (λ bytes. ¬ IsAccepted (market_of offered enrolled rules) (command_lists streams) bytes) (sym fourth.3) refused,
-        subst (λ bytes. IsFirstFinding (market_of offered enrolled rules) (command_lists streams) bytes finding) (sym fourth.3) found,
-        is,
-      )
+  -- the first finding on it is told
+  pub check_found : (finding : Finding) (line : List ℕ) → ¬ IsAccepted market streams published → IsFirstFinding market streams published finding
+      → line ≡ finding_line (tables_in market) finding → EndsFor Check market (published ∷ []) streams (Found finding) line
+  check_found finding line refused first is texts said =
+      subst (λ (all : List (List ℕ)). Ends Check all (Found finding) line) (sym said.are) (market, streams, said.say, refused, first, is)

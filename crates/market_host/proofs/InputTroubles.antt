@@ -1,23 +1,19 @@
 -- Inputs that were read, and inputs that stopped the reading.
 use Rattle.std.proofs.Common.{ℕ, ◌≡◌, ◌<◌, ◌≤◌, ◌+◌, List, [], ◌∷◌, ◌++◌, length, drop, arith, ap, sym, subst, ◌∙◌, refl, append_assoc, inl}
-use Rattle.std.specs.Prelude.{◌⊎◌, Option, Ok}
+use Rattle.std.specs.Prelude.{◌⊎◌, Option}
 use Rattle.std.proofs.lemmas.List.{append-nil, length-append}
 use Rattle.std.proofs.Math.ListN.{drop_of_length-le}
 use Rattle.market_units.specs.Totals.{total}
 use Rattle.std.proofs.lemmas.Slice.Zip.{AllZip-long}
 use Rattle.std.proofs.lemmas.List.Elements.{AllZip-push}
-use Rattle.course_catalog.specs.Reading.{catalog_of}
-use Rattle.course_catalog.specs.Catalog.{CatalogData}
-use Rattle.student_roll.specs.Rolls.{roll_of}
-use Rattle.student_roll.specs.Students.{RollData}
 use Rattle.market_edge.specs.Holdings.{Holding, IsTextOf, TakesExactly}
 use Rattle.market_words.specs.declared.words.Form.{Form}
 use Rattle.market_host.specs.declared.cause.Cause.{Cause}
 use Rattle.market_host.specs.declared.trouble.Trouble.{Trouble}
 use Rattle.market_host.specs.declared.trouble.Trouble.TheVariants.{ShelfFault, Refused, TooLong, OutOfMemory}
 use Rattle.market_host.specs.Inputs.{AreInOrder, AreRead, HasFault, IsInOrder, IsOfGrammar, commands_among, commands_in}
-use Rattle.market_host.specs.Kinds.{Kind, Catalog, Roll, front_of, kind_of, limit_of, streams_of}
-use Rattle.market_host.specs.Reading.{IsRead, IsRefusal, IsUnread}
+use Rattle.market_host.specs.Kinds.{Kind, front_of, kind_of, limit_of, streams_of}
+use Rattle.market_host.specs.Reading.{IsRefusal, IsUnread}
 use Rattle.market_host.specs.Sights.{Sight}
 use Rattle.market_host.specs.Troubles.{AtInput, HasSurplus, HasTrouble, IsAtEnd, IsFailed, IsFaulty, IsPastLimit}
 use Rattle.market_host.proofs.Shelves.{seen_from}
@@ -67,20 +63,6 @@ front_read form held names texts name text kind read is front whole within gramm
 -- no input was read yet
 pub none_read : (form : Form) (held : Option Holding) → AreRead form held [] []
 none_read form held = record { each = tt; order = tt }
-
--- the catalogue was read, which is the first input
-pub catalog_first : (form : Form) (held : Option Holding) (a : List ℕ) (catalog : CatalogData) → kind_of form 0 ≡ Catalog → 0 < length (front_of form)
-    → (read : IsRead Catalog held a (λ bytes. catalog_of bytes ≡ Ok catalog)) → AreRead form held (a ∷ []) (read.0 ∷ [])
-catalog_first form held a catalog of front read = front_read form held [] [] a read.0 Catalog (none_read form held) of front read.1 read.2 (catalog, read.3)
-
--- and the roll, which is the second
-pub roll_second : (form : Form) (held : Option Holding) (a b : List ℕ) (catalog : CatalogData) (roll : RollData) → kind_of form 0 ≡ Catalog
-    → 1 < length (front_of form) → kind_of form 1 ≡ Roll
-    → (first : IsRead Catalog held a (λ bytes. catalog_of bytes ≡ Ok catalog)) (second : IsRead Roll held b (λ bytes. roll_of bytes ≡ Ok roll))
-    → AreRead form held (a ∷ b ∷ []) (first.0 ∷ second.0 ∷ [])
-roll_second form held a b catalog roll of front next first second =
-    front_read form held (a ∷ []) (first.0 ∷ []) b second.0 Roll (catalog_first form held a catalog of (omega arith) first) next front second.1 second.2
-    (roll, second.3)
 
 -- a form, what is seen of the shelf, and an input with those before and behind it
 module _ (form : Form) (seen : Sight) (earlier texts later : List (List ℕ)) (name : List ℕ) (number : ℕ) (read : AreRead form seen.held earlier texts)

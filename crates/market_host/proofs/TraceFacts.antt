@@ -1,5 +1,5 @@
 -- Inputs that are used one after another.
-use Rattle.std.proofs.Common.{ℕ, Bool, true, false, cond, ◌≡◌, ◌+◌, List, [], ◌∷◌, ◌++◌, length, map, Some, None, arith, ap, subst, sym, ◌∙◌, refl, append_assoc}
+use Rattle.std.proofs.Common.{ℕ, Bool, true, false, cond, ◌≡◌, ◌+◌, List, [], ◌∷◌, ◌++◌, length, map, Some, None, arith, ap, sym, ◌∙◌, refl, append_assoc}
 use Rattle.std.specs.Prelude.{IsTrue, Option, Result, Ok, Err, IfErr}
 use Rattle.std.proofs.lemmas.List.{append-nil, length-append, map-append}
 use Rattle.market_edge.specs.declared.shelf.Shelf as Shelf
@@ -8,10 +8,8 @@ use Rattle.market_host.specs.declared.cause.Cause.{Cause}
 use Rattle.market_host.specs.declared.trouble.Trouble.{Trouble}
 use Rattle.market_host.specs.declared.trouble.Trouble.TheVariants.{ShelfFault, Refused, TooLong, OutOfMemory}
 use Rattle.market_host.specs.Statuses.{status_of}
-use Rattle.market_words.specs.declared.words.Form.{Form}
-use Rattle.market_words.specs.Forms.{HasForm, inputs_of}
 use Rattle.market_host.specs.Reading.{IsRefusal, IsSurplus}
-use Rattle.market_host.specs.Traces.{AreAllRead, AreReadOut, AreReadTo, AreReadUntil, AreUsed, CountsStand, IsLastBegun, Trace, Uses, only_begun, trace, with_begun_too}
+use Rattle.market_host.specs.Traces.{AreReadOut, AreReadTo, AreReadUntil, AreUsed, CountsStand, IsLastBegun, Trace, Uses, only_begun, trace, with_begun_too}
 
 changes_by : (old new : Option (List Opening)) (change other : List Opening → List Opening) → ((openings : List Opening) → change openings ≡ other openings)
     → Changes old new change → Changes old new other
@@ -161,57 +159,10 @@ module _ {H : Type 0} (shelf : Shelf.Ghosts H) where
   until_surplus a b name text room number (Refused n row cause) p surplus = absurd surplus
 
   -- the same, by what is made of the text
-  pub uses_refused : {A : Type 0} (a b : H) (name : List ℕ) (number : ℕ) (IsSo : ℕ → Cause → Type 0) (result : Result A Trouble)
-      → AreReadOut (trace shelf a b) (name ∷ []) → IfErr result (IsRefusal IsSo number) → Uses (trace shelf a b) (name ∷ []) number result
-  uses_refused a b name number IsSo (Ok x) p refused = p
-  uses_refused a b name number IsSo (Err stop) p refused = until_refused a b name number IsSo stop p refused
-
   pub uses_surplus : {A : Type 0} (a b : H) (name text : List ℕ) (room number : ℕ) (result : Result A Trouble) → AreReadOut (trace shelf a b) (name ∷ [])
       → IfErr result (IsSurplus text room number) → Uses (trace shelf a b) (name ∷ []) number result
   uses_surplus a b name text room number (Ok x) p surplus = p
   uses_surplus a b name text room number (Err stop) p surplus = until_surplus a b name text room number stop p surplus
-
--- words of a form
-module _ {H : Type 0} (shelf : Shelf.Ghosts H) (words : List (List ℕ)) (form : Form) (has : HasForm words form) where
-  -- one of its first inputs stops the call
-  pub front_stops : (a b : H) (names more : List (List ℕ)) (stop : Trouble) → inputs_of form words ≡ names ++ more → AreReadUntil (trace shelf a b) names 1 stop
-      → AreReadTo words (trace shelf a b) stop
-  front_stops a b names more stop named until =
-      (form, has, subst (λ all. AreReadUntil (trace shelf a b) all 1 stop) (sym named) (until_before shelf a b names more 1 stop until))
-
-  -- one of its next inputs stops the call
-  pub next_stops : (a b c : H) (front names more : List (List ℕ)) (stop : Trouble) → inputs_of form words ≡ front ++ (names ++ more)
-      → AreReadOut (trace shelf a b) front
-      → AreReadUntil (trace shelf b c) names (1 + length front) stop → AreReadTo words (trace shelf a c) stop
-  next_stops a b c front names more stop named p until = (
-    form,
-    has,
-    subst (λ all. AreReadUntil (trace shelf a c) all 1 stop) (sym named)
-        (until_behind shelf a b c front (names ++ more) 1 stop p (until_before shelf b c names more (1 + length front) stop until)),
-  )
-
-  -- one of its last inputs stops the call
-  pub last_stops : (a b c : H) (front names : List (List ℕ)) (stop : Trouble) → inputs_of form words ≡ front ++ names → AreReadOut (trace shelf a b) front
-      → AreReadUntil (trace shelf b c) names (1 + length front) stop → AreReadTo words (trace shelf a c) stop
-  last_stops a b c front names stop named p until =
-      (form, has, subst (λ all. AreReadUntil (trace shelf a c) all 1 stop) (sym named) (until_behind shelf a b c front names 1 stop p until))
-
-  pub last_stops_once : (a b : H) (names : List (List ℕ)) (stop : Trouble) → inputs_of form words ≡ names → AreReadUntil (trace shelf a b) names 1 stop
-      → AreReadTo words (trace shelf a b) stop
-  last_stops_once a b names stop named until = (form, has, subst (λ all. AreReadUntil (trace shelf a b) all 1 stop) (sym named) until)
-
-  -- all its inputs are read
-  pub all_read : (a b c : H) (front names : List (List ℕ)) → inputs_of form words ≡ front ++ names → AreReadOut (trace shelf a b) front
-      → AreReadOut (trace shelf b c) names → AreAllRead words (trace shelf a c)
-  all_read a b c front names named p q = (form, has, subst (AreReadOut (trace shelf a c)) (sym named) (read_behind shelf a b c front names p q))
-
-  pub all_read_once : (a b : H) (names : List (List ℕ)) → inputs_of form words ≡ names → AreReadOut (trace shelf a b) names → AreAllRead words (trace shelf a b)
-  all_read_once a b names named p = (form, has, subst (AreReadOut (trace shelf a b)) (sym named) p)
-
--- all inputs are read, and memory is wanted
-pub memory_wanted : {H : Type 0} (shelf : Shelf.Ghosts H) (words : List (List ℕ)) (a b : H) → AreAllRead words (trace shelf a b)
-    → AreReadTo words (trace shelf a b) OutOfMemory
-memory_wanted shelf words a b (form, has, p) = (form, has, until_memory shelf a b (inputs_of form words) 1 p)
 
 -- what stops a call, by its status
 pub stopped_used : (words : List (List ℕ)) (seen : Trace) (stop : Trouble) → AreReadTo words seen stop → AreUsed words seen (status_of stop)

@@ -1,6 +1,6 @@
 -- The kinds of inputs. Limits, grammars and faults go by kind; a form says which kinds its inputs
 -- have.
-use Rattle.std.specs.Prelude.{ℕ, ◌≡◌, zero, suc, List, [], ◌∷◌}
+use Rattle.std.specs.Prelude.{ℕ, ◌≡◌, zero, suc, List, [], ◌∷◌, ◌++◌}
 use Rattle.market_units.specs.declared.limits.TheConstants.{MAX_INPUT_BYTES, MAX_TEXT_BYTES}
 use Rattle.market_words.specs.declared.words.Form.{Form}
 use Rattle.market_words.specs.declared.words.Form.TheVariants.{Audit, Check, Demand, Explain, Hall, Make, Prefer, Quote, Run}
@@ -25,9 +25,9 @@ front_of (Explain student section) = Catalog ∷ Roll ∷ Settings ∷ Published
 front_of Hall = Catalog ∷ Roll ∷ Published ∷ []
 front_of (Audit workers) = Catalog ∷ Roll ∷ Settings ∷ Published ∷ []
 
--- the first three inputs of a form are a catalogue, a roll and settings
-abbrev pub OpensMarket : Form → Type 0
-OpensMarket form = (kinds : List Kind) × (front_of form ≡ Catalog ∷ Roll ∷ Settings ∷ kinds)
+-- the first inputs of a form have these kinds
+abbrev pub OpensWith : List Kind → Form → Type 0
+OpensWith kinds form = (more : List Kind) × (front_of form ≡ kinds ++ more)
 
 -- the kind of a form's streams of commands; a stream of requests is read as a session is
 abbrev pub streams_of : Form → Kind

@@ -25,5 +25,7 @@ pub mod Runs
 pub mod Sessions
 pub mod Sights
 pub mod Statuses
+pub mod Taking
 pub mod Traces
 pub mod Troubles
+pub mod Works

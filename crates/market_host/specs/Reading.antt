@@ -3,7 +3,6 @@ use Rattle.std.specs.Prelude.{ℕ, ◌≡◌, ◌+◌, ◌<◌, ◌≤◌, List,
 use Rattle.std.proofs.Common.{Global}
 use Rattle.std.specs.List.{AllZip}
 use Rattle.market_units.specs.declared.limits.TheConstants.{MAX_COMMANDS}
-use Rattle.course_catalog.specs.Catalog.{CatalogData}
 use Rattle.market_edge.specs.Holdings.{Holding, IsTextOf, TakesExactly}
 use Rattle.market_units.specs.Totals.{total}
 use Rattle.market_words.specs.declared.words.Form.{Form}
@@ -12,8 +11,8 @@ use Rattle.utility_language.specs.Commands.{IsCommandOf}
 use Rattle.market_host.specs.declared.cause.Cause.{Cause}
 use Rattle.market_host.specs.declared.trouble.Trouble.{Trouble}
 use Rattle.market_host.specs.declared.trouble.Trouble.TheVariants.{ShelfFault, Refused, TooLong, OutOfMemory}
-use Rattle.market_host.specs.Inputs.{AreRead, BeginWithCatalog, commands_among}
-use Rattle.market_host.specs.Kinds.{Kind, Prices, Session, OpensMarket, OpensPublished, front_of, kind_of, limit_of, streams_of}
+use Rattle.market_host.specs.Inputs.{AreRead, commands_among}
+use Rattle.market_host.specs.Kinds.{Kind, Session, front_of, kind_of, limit_of, streams_of}
 use Rattle.market_host.specs.Sessions.{AreItems, command_count}
 use Rattle.market_host.specs.Sights.{Sight}
 use Rattle.market_host.specs.Troubles.{HasTrouble, IsFailed}
@@ -48,35 +47,12 @@ IsRead kind held name P =
     (text : List ℕ) × IsTextOf held name text × (length text ≤ limit_of kind) × P text
 
 -- An input of this kind, name and number stopped the reading: so it is for each form of which it is
--- an input, where the inputs before it were read.
-abbrev pub IsTroubleOf : Sight → Kind → List ℕ → ℕ → Trouble → Type 0
-IsTroubleOf seen kind name number trouble =
+-- an input, where the inputs before it were read and Q holds of their texts.
+abbrev pub IsTroubleOf : Sight → Kind → List ℕ → ℕ → (List (List ℕ) → Type 0) → Trouble → Type 0
+IsTroubleOf seen kind name number Q trouble =
     (form : Form) (earlier texts later : List (List ℕ)) → AreRead form seen.held earlier texts
-    → kind_of form (length earlier) ≡ kind → number ≡ length earlier + 1
+    → kind_of form (length earlier) ≡ kind → number ≡ length earlier + 1 → Q texts
     → HasTrouble form seen (earlier ++ name ∷ later) trouble
-
--- the same of prices, where the first input is this catalogue
-abbrev pub IsTroubleOfPrices : Sight → CatalogData → List ℕ → ℕ → Trouble → Type 0
-IsTroubleOfPrices seen catalog name number trouble =
-    (form : Form) (earlier texts later : List (List ℕ)) → AreRead form seen.held earlier texts
-    → kind_of form (length earlier) ≡ Prices → number ≡ length earlier + 1
-    → BeginWithCatalog texts catalog
-    → HasTrouble form seen (earlier ++ name ∷ later) trouble
-
--- the same of some of the first three inputs, for each form that begins with a catalogue, a roll
--- and settings
-abbrev pub IsTroubleOfMarket : Sight → List ℕ → List ℕ → List ℕ → Trouble → Type 0
-IsTroubleOfMarket seen catalog roll settings trouble =
-    (form : Form) (later : List (List ℕ)) → OpensMarket form
-    → HasTrouble form seen (catalog ∷ roll ∷ settings ∷ later) trouble
-
--- the same of some of all inputs, for each form whose inputs are a catalogue, a roll, settings, a
--- published text and sessions
-abbrev pub IsTroubleOfPublished : Sight → List ℕ → List ℕ → List ℕ → List ℕ → List (List ℕ)
-    → Trouble → Type 0
-IsTroubleOfPublished seen catalog roll settings text sessions trouble =
-    (form : Form) → OpensPublished form
-    → HasTrouble form seen (catalog ∷ roll ∷ settings ∷ text ∷ sessions) trouble
 
 -- the same of a session, where the sessions before it leave room for so many commands
 abbrev pub IsTroubleOfSession : Sight → ℕ → List ℕ → ℕ → Trouble → Type 0

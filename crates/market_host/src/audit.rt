@@ -1,19 +1,19 @@
 // Whom the students of a published text envy.
-ghost use Rattle.std.specs.Prelude.{◌≡◌, ◌≤◌, List, ℕ, map, MatchResult};
-ghost use Rattle.std.specs.String.{string_bytes};
-ghost use Rattle.market_host.specs.Lines.{line_of};
-ghost use Rattle.market_host.specs.Outcomes.{IsEnded, IsStopped};
-ghost use Rattle.market_host.specs.Sights.{sight};
-ghost use Rattle.market_host.specs.Traces.{AreReadTo, AreUsed, trace};
-ghost use Rattle.market_words.specs.Forms.{HasForm};
+ghost use Rattle.std.specs.Prelude.{◌≤◌, List, ℕ, [], ◌∷◌, IfOk, length};
+ghost use Rattle.market_settings.specs.Settings.{AreInRange};
+ghost use Rattle.published_parts.specs.Markets.{market_of};
+ghost use Rattle.session_hall.specs.Streams.{command_lists};
+ghost use Rattle.market_host.specs.Endings.{bytes_of};
+ghost use Rattle.market_host.specs.Works.{AreNamesOf, EndsFor, IsAnswer, names_in};
+ghost use Rattle.market_words.specs.Forms.{AreWorkers};
 
-use crate::Status;
-use crate::ended::{Ended, Output};
+use crate::ended::{Ended, told_end};
+use crate::names::InputNames;
 use crate::published::{Published, take_published};
 use crate::trouble::Trouble;
-use certificate_checker::{CheckEnd, finding_line};
 use fairness_audit::published_audit;
 use market_edge::{Gate, Passed, Shelf};
+use market_units::{MAX_TEXT_BYTES, NoMemory};
 use market_words::Form;
 use std::alloc::Global;
 use std::sync::Wait;
@@ -24,37 +24,45 @@ use std::thread::Threads;
 pub fn audit<R: Threads + Wait + Sync, H: Shelf>(
     rt: &R,
     alloc: Global,
-    words: &[String],
+    names: InputNames,
     workers: u16,
     shelf: &mut H,
     gate: &(dyn Gate + Sync),
 ) -> Result<Ended, Trouble>
-    requires { HasForm (map string_bytes words.now) (Form.Audit workers) }
-    ensures answer { MatchResult result (IsEnded (map string_bytes words.now) (sight H.Shelf shelf.old shelf.new))
-        (λ stop. IsStopped (map string_bytes words.now) (sight H.Shelf shelf.old shelf.new) stop (line_of stop)) }
-    ensures holds { H.holds shelf.new ≡ H.holds shelf.old }
-    ensures later { (other : List ℕ) → H.faults shelf.old other ≤ H.faults shelf.new other }
-    ensures used { MatchResult result
-        (λ ended. AreUsed (map string_bytes words.now) (trace H.Shelf shelf.old shelf.new)
-        ended.status)
-        (AreReadTo (map string_bytes words.now) (trace H.Shelf shelf.old shelf.new)) }
+    requires named { (words : List (List ℕ))
+        × AreNamesOf words (Form.Audit workers) names.front.now names.streams.now }
+    ensures { IsAnswer H.Shelf (Form.Audit workers)
+        (names_in names.entry.front.now names.entry.streams.now) shelf.old shelf.new result }
 {
-    let published = take_published(
-        alloc,
-        shelf,
-        words[2].as_str(),
-        words[3].as_str(),
-        words[4].as_str(),
-        words[5].as_str(),
-        &words[6..],
-    )?;
+    let published = take_published(alloc, names, shelf)?;
+    let ended = audited(rt, alloc, workers, published, gate)?;
+    Ok(ended)
+}
+
+// How it ends for what the inputs say.
+fn audited<R: Threads + Wait + Sync>(
+    rt: &R,
+    alloc: Global,
+    workers: u16,
+    published: Published,
+    gate: &(dyn Gate + Sync),
+) -> Result<Ended, NoMemory>
+    requires workers { AreWorkers workers }
+    requires in_range { AreInRange published.market.settings }
+    requires short { length published.text.items ≤ MAX_TEXT_BYTES }
+    ensures { IfOk result
+        (λ ended. EndsFor (Form.Audit workers)
+        (market_of published.market.catalog published.market.roll published.market.settings)
+        (published.text.items ∷ []) (command_lists published.streams.items) ended.status
+        (bytes_of ended.output)) }
+{
     let Published {
         market,
         text,
         streams,
     } = published;
     let passed = Passed { gate };
-    match published_audit(
+    let told = published_audit(
         rt,
         alloc,
         workers,
@@ -64,15 +72,6 @@ pub fn audit<R: Threads + Wait + Sync, H: Shelf>(
         &streams,
         text,
         &passed,
-    ) {
-        Ok(text) => Ok(Ended {
-            status: Status::Done,
-            output: Output::Text(text),
-        }),
-        Err(CheckEnd::Found(finding)) => Ok(Ended {
-            status: Status::Found { finding },
-            output: Output::Line(finding_line(&market.catalog, &market.roll, finding)),
-        }),
-        Err(CheckEnd::NoMemory) => Err(Trouble::OutOfMemory),
-    }
+    );
+    told_end(&market.catalog, &market.roll, told)
 }

@@ -1,44 +1,46 @@
 // Whether a published text is accepted.
-ghost use Rattle.std.specs.Prelude.{◌≡◌, ◌≤◌, List, ℕ, map, MatchResult};
-ghost use Rattle.std.specs.String.{string_bytes};
-ghost use Rattle.market_host.specs.Lines.{line_of};
-ghost use Rattle.market_host.specs.Outcomes.{IsEnded, IsStopped};
-ghost use Rattle.market_host.specs.Sights.{sight};
-ghost use Rattle.market_host.specs.Traces.{AreReadTo, AreUsed, trace};
-ghost use Rattle.market_words.specs.Forms.{HasForm};
+ghost use Rattle.std.specs.Prelude.{◌≤◌, List, ℕ, [], ◌∷◌, IfOk, length};
+ghost use Rattle.market_settings.specs.Settings.{AreInRange};
+ghost use Rattle.published_parts.specs.Markets.{market_of};
+ghost use Rattle.session_hall.specs.Streams.{command_lists};
+ghost use Rattle.market_host.specs.Endings.{bytes_of};
+ghost use Rattle.market_host.specs.Works.{AreNamesOf, EndsFor, IsAnswer, names_in};
 
 use crate::Status;
 use crate::ended::{Ended, Output};
 use crate::line::accepted;
+use crate::names::InputNames;
 use crate::published::{Published, take_published};
 use crate::trouble::Trouble;
 use certificate_checker::{CheckEnd, check_owned, finding_line};
 use market_edge::Shelf;
+use market_units::{MAX_TEXT_BYTES, NoMemory};
 use market_words::Form;
 use std::alloc::Global;
 
 /// That the text which `check` names is accepted for the market and the sessions that it names, or
 /// the first finding on it, or why there is neither.
-pub fn check<H: Shelf>(alloc: Global, words: &[String], shelf: &mut H) -> Result<Ended, Trouble>
-    requires { HasForm (map string_bytes words.now) Form.Check }
-    ensures answer { MatchResult result (IsEnded (map string_bytes words.now) (sight H.Shelf shelf.old shelf.new))
-        (λ stop. IsStopped (map string_bytes words.now) (sight H.Shelf shelf.old shelf.new) stop (line_of stop)) }
-    ensures holds { H.holds shelf.new ≡ H.holds shelf.old }
-    ensures later { (other : List ℕ) → H.faults shelf.old other ≤ H.faults shelf.new other }
-    ensures used { MatchResult result
-        (λ ended. AreUsed (map string_bytes words.now) (trace H.Shelf shelf.old shelf.new)
-        ended.status)
-        (AreReadTo (map string_bytes words.now) (trace H.Shelf shelf.old shelf.new)) }
+pub fn check<H: Shelf>(alloc: Global, names: InputNames, shelf: &mut H) -> Result<Ended, Trouble>
+    requires named { (words : List (List ℕ))
+        × AreNamesOf words Form.Check names.front.now names.streams.now }
+    ensures { IsAnswer H.Shelf Form.Check
+        (names_in names.entry.front.now names.entry.streams.now) shelf.old shelf.new result }
 {
-    let published = take_published(
-        alloc,
-        shelf,
-        words[1].as_str(),
-        words[2].as_str(),
-        words[3].as_str(),
-        words[4].as_str(),
-        &words[5..],
-    )?;
+    let published = take_published(alloc, names, shelf)?;
+    let ended = checked(alloc, published)?;
+    Ok(ended)
+}
+
+// How it ends for what the inputs say.
+fn checked(alloc: Global, published: Published) -> Result<Ended, NoMemory>
+    requires in_range { AreInRange published.market.settings }
+    requires short { length published.text.items ≤ MAX_TEXT_BYTES }
+    ensures { IfOk result
+        (λ ended. EndsFor Form.Check
+        (market_of published.market.catalog published.market.roll published.market.settings)
+        (published.text.items ∷ []) (command_lists published.streams.items) ended.status
+        (bytes_of ended.output)) }
+{
     let Published {
         market,
         text,
@@ -60,6 +62,6 @@ pub fn check<H: Shelf>(alloc: Global, words: &[String], shelf: &mut H) -> Result
             status: Status::Found { finding },
             output: Output::Line(finding_line(&market.catalog, &market.roll, finding)),
         }),
-        Err(CheckEnd::NoMemory) => Err(Trouble::OutOfMemory),
+        Err(CheckEnd::NoMemory) => Err(NoMemory),
     }
 }

@@ -1,16 +1,12 @@
 // What the students take at given prices.
-ghost use Rattle.std.specs.Prelude.{◌≡◌, ◌≤◌, List, ℕ, length, map, MatchResult, IfOk};
-ghost use Rattle.std.specs.String.{string_bytes};
+ghost use Rattle.std.specs.Prelude.{◌≡◌, ◌≤◌, List, ℕ, length, map, IfOk};
 ghost use Rattle.demand_api.specs.Views.{data_of};
 ghost use Rattle.demand_api.specs.Crowds.{CrowdData};
 ghost use Rattle.demand_text.specs.Taken.{IsTakenBy, taken_at};
 ghost use Rattle.demand_text.specs.Texts as texts;
-ghost use Rattle.market_host.specs.Lines.{line_of};
-ghost use Rattle.market_host.specs.Outcomes.{IsEnded, IsStopped};
-ghost use Rattle.market_host.specs.Sights.{sight};
-ghost use Rattle.market_host.specs.Traces.{AreReadTo, AreUsed, trace};
+ghost use Rattle.market_host.specs.Works.{AreNamesOf, IsAnswer, names_in};
 ghost use Rattle.market_settings.specs.Settings.{AreInRange};
-ghost use Rattle.market_words.specs.Forms.{AreWorkers, HasForm};
+ghost use Rattle.market_words.specs.Forms.{AreWorkers};
 ghost use Rattle.preference_desk.specs.Journals.{IsLegalJournal, MergesStreams};
 ghost use Rattle.preference_desk.specs.MarketNames.{market_names};
 ghost use Rattle.preference_desk.specs.declared.entry.Entry.{Entry};
@@ -21,6 +17,7 @@ ghost use Rattle.session_hall.specs.Streams.{command_count, command_lists};
 use crate::Status;
 use crate::ended::{Ended, Output};
 use crate::market::{Market, take_market};
+use crate::names::InputNames;
 use crate::prices::take_prices;
 use crate::sessions::take_sessions;
 use crate::trouble::Trouble;
@@ -41,30 +38,28 @@ use utility_language::Command;
 pub fn demand<R: Threads + Wait + Sync, H: Shelf>(
     rt: &R,
     alloc: Global,
-    words: &[String],
+    names: InputNames,
     workers: u16,
     shelf: &mut H,
     gate: &(dyn Gate + Sync),
 ) -> Result<Ended, Trouble>
-    requires { HasForm (map string_bytes words.now) (Form.Demand workers) }
-    ensures answer { MatchResult result (IsEnded (map string_bytes words.now) (sight H.Shelf shelf.old shelf.new))
-        (λ stop. IsStopped (map string_bytes words.now) (sight H.Shelf shelf.old shelf.new) stop (line_of stop)) }
-    ensures holds { H.holds shelf.new ≡ H.holds shelf.old }
-    ensures later { (other : List ℕ) → H.faults shelf.old other ≤ H.faults shelf.new other }
-    ensures used { MatchResult result
-        (λ ended. AreUsed (map string_bytes words.now) (trace H.Shelf shelf.old shelf.new)
-        ended.status)
-        (AreReadTo (map string_bytes words.now) (trace H.Shelf shelf.old shelf.new)) }
+    requires named { (words : List (List ℕ))
+        × AreNamesOf words (Form.Demand workers) names.front.now names.streams.now }
+    ensures { IsAnswer H.Shelf (Form.Demand workers)
+        (names_in names.entry.front.now names.entry.streams.now) shelf.old shelf.new result }
 {
+    let [catalog, roll, settings, prices] = names.front else {
+        unreachable!();
+    };
     let market = take_market(
         alloc,
         shelf,
-        words[2].as_str(),
-        words[3].as_str(),
-        words[4].as_str(),
+        catalog.as_str(),
+        roll.as_str(),
+        settings.as_str(),
     )?;
-    let prices = take_prices(alloc, shelf, words[5].as_str(), 4, &market.catalog)?;
-    let streams = take_sessions(alloc, shelf, &words[6..], 5)?;
+    let prices = take_prices(alloc, shelf, prices.as_str(), 4, &market.catalog)?;
+    let streams = take_sessions(alloc, shelf, names.streams, 5)?;
     let text = text_of(rt, alloc, workers, &market, &prices, &streams, gate)?;
     Ok(Ended {
         status: Status::Done,

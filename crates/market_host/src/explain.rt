@@ -1,27 +1,23 @@
 // Why a student does not have a section.
-ghost use Rattle.std.specs.Prelude.{◌≡◌, ◌≤◌, ◌<◌, ◌^◌, ◌-◌, List, ℕ, IfOk, length, map, MatchResult};
-ghost use Rattle.std.specs.String.{string_bytes};
+ghost use Rattle.std.specs.Prelude.{◌≡◌, ◌≤◌, List, ℕ, IfOk, length};
 ghost use Rattle.market_settings.specs.Settings.{AreInRange};
 ghost use Rattle.market_units.specs.Name.{name_bytes};
-ghost use Rattle.market_words.specs.Forms.{HasForm};
 ghost use Rattle.published_parts.specs.Markets.{market_of};
 ghost use Rattle.session_hall.specs.Streams.{command_lists};
 ghost use Rattle.market_host.specs.Endings.{bytes_of};
 ghost use Rattle.market_host.specs.Explains.{IsReasonEnd};
-ghost use Rattle.market_host.specs.Lines.{line_of, unknown_line};
-ghost use Rattle.market_host.specs.Outcomes.{IsEnded, IsStopped};
-ghost use Rattle.market_host.specs.Sights.{sight};
-ghost use Rattle.market_host.specs.Traces.{AreReadTo, AreUsed, trace};
+ghost use Rattle.market_host.specs.Lines.{unknown_line};
+ghost use Rattle.market_host.specs.Works.{AreNamesOf, IsAnswer, names_in};
 
 use crate::Status;
-use crate::ended::{Ended, Output};
+use crate::ended::{Ended, Output, told_end};
 use crate::line::unknown_name;
+use crate::names::InputNames;
 use crate::published::{Published, take_published};
 use crate::trouble::Trouble;
-use certificate_checker::{CheckEnd, finding_line};
 use explain_desk::published_reason;
 use market_edge::Shelf;
-use market_units::{Name, NoMemory};
+use market_units::{MAX_TEXT_BYTES, Name, NoMemory};
 use market_words::Form;
 use std::alloc::Global;
 
@@ -35,30 +31,17 @@ const SECTION_WORD: u16 = 7;
 /// none of these.
 pub fn explain<H: Shelf>(
     alloc: Global,
-    words: &[String],
+    names: InputNames,
     shelf: &mut H,
     student: Name,
     section: Name,
 ) -> Result<Ended, Trouble>
-    requires { HasForm (map string_bytes words.now) (Form.Explain student section) }
-    ensures answer { MatchResult result (IsEnded (map string_bytes words.now) (sight H.Shelf shelf.old shelf.new))
-        (λ stop. IsStopped (map string_bytes words.now) (sight H.Shelf shelf.old shelf.new) stop (line_of stop)) }
-    ensures holds { H.holds shelf.new ≡ H.holds shelf.old }
-    ensures later { (other : List ℕ) → H.faults shelf.old other ≤ H.faults shelf.new other }
-    ensures used { MatchResult result
-        (λ ended. AreUsed (map string_bytes words.now) (trace H.Shelf shelf.old shelf.new)
-        ended.status)
-        (AreReadTo (map string_bytes words.now) (trace H.Shelf shelf.old shelf.new)) }
+    requires named { (words : List (List ℕ))
+        × AreNamesOf words (Form.Explain student section) names.front.now names.streams.now }
+    ensures { IsAnswer H.Shelf (Form.Explain student section)
+        (names_in names.entry.front.now names.entry.streams.now) shelf.old shelf.new result }
 {
-    let published = take_published(
-        alloc,
-        shelf,
-        words[1].as_str(),
-        words[2].as_str(),
-        words[3].as_str(),
-        words[4].as_str(),
-        &words[7..],
-    )?;
+    let published = take_published(alloc, names, shelf)?;
     let ended = reason_for(alloc, published, &student, &section)?;
     Ok(ended)
 }
@@ -70,7 +53,7 @@ fn reason_for(
     student: &Name,
     section: &Name,
 ) -> Result<Ended, NoMemory>
-    requires short { length published.text.items < 2 ^ 32 - 1 }
+    requires short { length published.text.items ≤ MAX_TEXT_BYTES }
     requires in_range { AreInRange published.market.settings }
     ensures { IfOk result (λ ended. IsReasonEnd (market_of published.market.catalog published.market.roll published.market.settings) (command_lists published.streams.items)
         published.text.items (name_bytes student.now) (name_bytes section.now) ended.status (bytes_of ended.output)) }
@@ -86,7 +69,7 @@ fn reason_for(
     let Some(listed) = market.catalog.find(section) else {
         return Ok(unknown(SECTION_WORD));
     };
-    match published_reason(
+    let told = published_reason(
         alloc,
         &market.catalog,
         &market.roll,
@@ -95,17 +78,8 @@ fn reason_for(
         text,
         enrolled,
         listed,
-    ) {
-        Ok(text) => Ok(Ended {
-            status: Status::Done,
-            output: Output::Text(text),
-        }),
-        Err(CheckEnd::Found(finding)) => Ok(Ended {
-            status: Status::Found { finding },
-            output: Output::Line(finding_line(&market.catalog, &market.roll, finding)),
-        }),
-        Err(CheckEnd::NoMemory) => Err(NoMemory),
-    }
+    );
+    told_end(&market.catalog, &market.roll, told)
 }
 
 // The end of a call one of whose words, this one, names nothing.

@@ -1,61 +1,73 @@
 // Drop and add after publication.
-ghost use Rattle.std.specs.Prelude.{◌≡◌, ◌≤◌, List, ℕ, map, MatchResult};
-ghost use Rattle.std.specs.String.{string_bytes};
-ghost use Rattle.market_host.specs.Lines.{line_of};
-ghost use Rattle.market_host.specs.Outcomes.{IsEnded, IsStopped};
-ghost use Rattle.market_host.specs.Sights.{sight};
-ghost use Rattle.market_host.specs.Traces.{AreReadTo, AreUsed, trace};
-ghost use Rattle.market_words.specs.Forms.{HasForm};
+ghost use Rattle.std.specs.Prelude.{◌≤◌, List, ℕ, IfOk, length};
+ghost use Rattle.dropadd_hall.specs.Streams.{request_count, request_lists};
+ghost use Rattle.market_host.specs.Endings.{bytes_of};
+ghost use Rattle.market_host.specs.Works.{AreNamesOf, HallEndsFor, IsAnswer, names_in};
 
-use crate::Status;
-use crate::ended::{Ended, Output};
-use crate::input::take_input;
+use crate::ended::{Ended, told_end};
+use crate::names::InputNames;
 use crate::published::take_text;
 use crate::sessions::take_sessions;
+use crate::tables::{Tables, take_tables};
 use crate::trouble::Trouble;
-use certificate_checker::{CheckEnd, finding_line};
-use course_catalog::Catalog;
+use dropadd_desk::HallCommand;
 use dropadd_hall::published_hall;
 use market_edge::{Gate, Passed, Shelf};
+use market_units::{MAX_COMMANDS, MAX_SESSIONS, MAX_TEXT_BYTES, NoMemory};
 use market_words::Form;
 use std::alloc::Global;
 use std::sync::Wait;
 use std::thread::Threads;
-use student_roll::Roll;
 
 /// The text of the hall that opens with the published text which `hall` names, or the first
 /// finding, where none opens with it, or why there is neither.
 pub fn hall<R: Threads + Wait + Sync, H: Shelf>(
     rt: &R,
     alloc: Global,
-    words: &[String],
+    names: InputNames,
     shelf: &mut H,
     gate: &(dyn Gate + Sync),
 ) -> Result<Ended, Trouble>
-    requires { HasForm (map string_bytes words.now) Form.Hall }
-    ensures answer { MatchResult result (IsEnded (map string_bytes words.now) (sight H.Shelf shelf.old shelf.new))
-        (λ stop. IsStopped (map string_bytes words.now) (sight H.Shelf shelf.old shelf.new) stop (line_of stop)) }
-    ensures holds { H.holds shelf.new ≡ H.holds shelf.old }
-    ensures later { (other : List ℕ) → H.faults shelf.old other ≤ H.faults shelf.new other }
-    ensures used { MatchResult result
-        (λ ended. AreUsed (map string_bytes words.now) (trace H.Shelf shelf.old shelf.new)
-        ended.status)
-        (AreReadTo (map string_bytes words.now) (trace H.Shelf shelf.old shelf.new)) }
+    requires named { (words : List (List ℕ))
+        × AreNamesOf words Form.Hall names.front.now names.streams.now }
+    ensures { IsAnswer H.Shelf Form.Hall (names_in names.entry.front.now names.entry.streams.now)
+        shelf.old shelf.new result }
 {
-    let catalog: Catalog = take_input(alloc, shelf, words[1].as_str(), 1)?;
-    let roll: Roll = take_input(alloc, shelf, words[2].as_str(), 2)?;
-    let text = take_text(alloc, shelf, words[3].as_str(), 3)?;
-    let streams = take_sessions(alloc, shelf, &words[4..], 4)?;
+    let [catalog, roll, text] = names.front else {
+        unreachable!();
+    };
+    let tables = take_tables(alloc, shelf, catalog.as_str(), roll.as_str())?;
+    let text = take_text(alloc, shelf, text.as_str(), 3)?;
+    let streams = take_sessions(alloc, shelf, names.streams, 4)?;
+    let ended = opened(rt, alloc, &tables, &text, &streams, gate)?;
+    Ok(ended)
+}
+
+// How it ends for what the inputs say.
+fn opened<R: Threads + Wait + Sync>(
+    rt: &R,
+    alloc: Global,
+    tables: &Tables,
+    text: &[u8],
+    streams: &[Vec<HallCommand>],
+    gate: &(dyn Gate + Sync),
+) -> Result<Ended, NoMemory>
+    requires short { length text.now ≤ MAX_TEXT_BYTES }
+    requires sessions { (1 ≤ length streams.now) × (length streams.now ≤ MAX_SESSIONS) }
+    requires requests { request_count streams.now ≤ MAX_COMMANDS }
+    ensures { IfOk result
+        (λ ended. HallEndsFor tables.now.catalog tables.now.roll text.now
+        (request_lists streams.now) ended.status (bytes_of ended.output)) }
+{
     let passed = Passed { gate };
-    match published_hall(rt, alloc, &catalog, &roll, &text, &streams, &passed) {
-        Ok(text) => Ok(Ended {
-            status: Status::Done,
-            output: Output::Text(text),
-        }),
-        Err(CheckEnd::Found(finding)) => Ok(Ended {
-            status: Status::Found { finding },
-            output: Output::Line(finding_line(&catalog, &roll, finding)),
-        }),
-        Err(CheckEnd::NoMemory) => Err(Trouble::OutOfMemory),
-    }
+    let told = published_hall(
+        rt,
+        alloc,
+        &tables.catalog,
+        &tables.roll,
+        text,
+        streams,
+        &passed,
+    );
+    told_end(&tables.catalog, &tables.roll, told)
 }

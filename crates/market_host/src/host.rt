@@ -1,14 +1,13 @@
 // From the words to the status, and from the inputs to the output.
-ghost use Rattle.std.specs.Prelude.{◌≡◌, ◌≢◌, ◌≤◌, List, ℕ, map, MatchResult};
+ghost use Rattle.std.specs.Prelude.{◌≡◌, ◌≢◌, ◌≤◌, List, ℕ, map};
 ghost use Rattle.std.specs.String.{string_bytes};
 ghost use Rattle.market_edge.specs.Faults.{Rose};
 ghost use Rattle.market_edge.specs.Sinks.{Takes, TakesFront};
-ghost use Rattle.market_words.specs.Forms.{HasForm};
+ghost use Rattle.market_words.specs.Forms.{HasForm, inputs_of};
 ghost use Rattle.market_host.specs.Answers.{IsAnswered, IsWordless};
-ghost use Rattle.market_host.specs.Lines.{line_of};
-ghost use Rattle.market_host.specs.Outcomes.{IsEnded, IsStopped};
 ghost use Rattle.market_host.specs.Sights.{sight, writing};
-ghost use Rattle.market_host.specs.Traces.{AreReadTo, AreUsed, trace};
+ghost use Rattle.market_host.specs.Traces.{trace};
+ghost use Rattle.market_host.specs.Works.{IsAnswer};
 
 use crate::Status;
 use crate::audit::audit;
@@ -19,6 +18,7 @@ use crate::explain::explain;
 use crate::hall::hall;
 use crate::line::{line_for, usage};
 use crate::make::{Numbers, make};
+use crate::names::names_of;
 use crate::prefer::prefer;
 use crate::quote::quote;
 use crate::run::run;
@@ -100,28 +100,23 @@ fn answer<R: Threads + Wait + Sync, H: Shelf>(
     gate: &(dyn Gate + Sync),
 ) -> Result<Ended, Trouble>
     requires { HasForm (map string_bytes words.now) form }
-    ensures answer { MatchResult result (IsEnded (map string_bytes words.now) (sight H.Shelf shelf.old shelf.new))
-        (λ stop. IsStopped (map string_bytes words.now) (sight H.Shelf shelf.old shelf.new) stop (line_of stop)) }
-    ensures used { MatchResult result
-        (λ ended. AreUsed (map string_bytes words.now) (trace H.Shelf shelf.old shelf.new)
-        ended.status)
-        (AreReadTo (map string_bytes words.now) (trace H.Shelf shelf.old shelf.new)) }
-    ensures holds { H.holds shelf.new ≡ H.holds shelf.old }
-    ensures later { (other : List ℕ) → H.faults shelf.old other ≤ H.faults shelf.new other }
+    ensures { IsAnswer H.Shelf form (inputs_of form (map string_bytes words.now)) shelf.old
+        shelf.new result }
 {
+    let names = names_of(form, words);
     match form {
         Form::Quote {
             name,
             credits,
             courses,
-        } => quote(alloc, words, shelf, name, credits, courses),
-        Form::Check => check(alloc, words, shelf),
-        Form::Explain { student, section } => explain(alloc, words, shelf, student, section),
-        Form::Hall => hall(rt, alloc, words, shelf, gate),
-        Form::Audit { workers } => audit(rt, alloc, words, workers, shelf, gate),
-        Form::Prefer => prefer(rt, alloc, words, shelf, gate),
-        Form::Demand { workers } => demand(rt, alloc, words, workers, shelf, gate),
-        Form::Run { workers } => run(rt, alloc, words, workers, shelf, gate),
+        } => quote(alloc, names, shelf, name, credits, courses),
+        Form::Check => check(alloc, names, shelf),
+        Form::Explain { student, section } => explain(alloc, names, shelf, student, section),
+        Form::Hall => hall(rt, alloc, names, shelf, gate),
+        Form::Audit { workers } => audit(rt, alloc, names, workers, shelf, gate),
+        Form::Prefer => prefer(rt, alloc, names, shelf, gate),
+        Form::Demand { workers } => demand(rt, alloc, names, workers, shelf, gate),
+        Form::Run { workers } => run(rt, alloc, names, workers, shelf, gate),
         Form::Make {
             workers,
             seed,

@@ -1,12 +1,11 @@
 // One input of a call that is read by itself.
-ghost use Rattle.std.specs.Prelude.{◌≡◌, ◌<◌, ◌≤◌, ◌-◌, ◌^◌, List, ℕ, length, IfOk, IfErr, [], ◌∷◌};
+ghost use Rattle.std.specs.Prelude.{◌≡◌, ◌<◌, ◌-◌, ◌^◌, List, ℕ, length, IfOk, IfErr, ⊤};
 ghost use Rattle.market_units.specs.declared.limits.TheConstants.{MAX_INPUT_BYTES};
 ghost use Rattle.market_host.specs.declared.cause.Cause.{Cause};
 ghost use Rattle.market_host.specs.Inputs.{HasFault};
 ghost use Rattle.market_host.specs.Kinds.{Kind, limit_of};
-ghost use Rattle.market_host.specs.Reading.{IsRead, IsRefusal, IsTroubleOf};
-ghost use Rattle.market_host.specs.Sights.{sight};
-ghost use Rattle.market_host.specs.Traces.{Uses, trace};
+ghost use Rattle.market_host.specs.Reading.{IsRefusal};
+ghost use Rattle.market_host.specs.Taking.{Takes};
 
 use crate::inputs::read_input;
 use crate::trouble::Trouble;
@@ -50,14 +49,9 @@ pub fn take_input<H: Shelf, I: Input>(
     name: &str,
     input: u16,
 ) -> Result<I, Trouble>
-    ensures read { IfOk result
-        (λ said. IsRead I.kind (H.holds shelf.old) name.now (λ text. I.is_said_by text said)) }
+    ensures taken { Takes H.Shelf I.kind name.now input (λ _. ⊤) I.is_said_by shelf.old shelf.new
+        result }
     ensures sound { IfOk result I.is_sound }
-    ensures trouble { IfErr result
-        (IsTroubleOf (sight H.Shelf shelf.old shelf.new) I.kind name.now input) }
-    ensures holds { H.holds shelf.new ≡ H.holds shelf.old }
-    ensures later { (other : List ℕ) → H.faults shelf.old other ≤ H.faults shelf.new other }
-    ensures used { Uses (trace H.Shelf shelf.old shelf.new) (name.now ∷ []) input result }
 {
     let bytes = read_input(alloc, shelf, name, input, MAX_INPUT_BYTES)?;
     I::read_from(alloc, &bytes, input)

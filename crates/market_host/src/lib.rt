@@ -19,6 +19,7 @@ pub mod laws;
 mod line;
 mod make;
 mod market;
+mod names;
 mod prefer;
 mod prices;
 mod program;
@@ -32,6 +33,7 @@ mod settings;
 mod status;
 mod stream_item;
 mod sure;
+mod tables;
 mod text;
 mod trouble;
 

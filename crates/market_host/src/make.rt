@@ -1,8 +1,7 @@
 // The summary of a made market.
 ghost use Rattle.std.specs.Prelude.{List, ℕ, [], IfOk};
-ghost use Rattle.market_host.specs.Outcomes.{IsEnded};
-ghost use Rattle.market_host.specs.Sights.{Sight};
-ghost use Rattle.market_host.specs.Traces.{AreReadOut, AreUsed, Trace};
+ghost use Rattle.market_host.specs.Endings.{bytes_of};
+ghost use Rattle.market_host.specs.Works.{Ends};
 ghost use Rattle.market_words.specs.Forms.{HasForm};
 
 use crate::Status;
@@ -38,16 +37,9 @@ pub fn make<R: Threads + Wait + Sync>(
     requires { (words : List (List ℕ))
         × HasForm words (Form.Make workers numbers.seed numbers.students numbers.sections
         numbers.accept) }
-    ensures ended { IfOk result
-        (λ ended. (words : List (List ℕ)) (seen : Sight)
-        → HasForm words (Form.Make workers numbers.seed numbers.students numbers.sections
-        numbers.accept)
-        → IsEnded words seen ended) }
-    ensures used { IfOk result
-        (λ ended. (words : List (List ℕ)) (seen : Trace)
-        → HasForm words (Form.Make workers numbers.seed numbers.students numbers.sections
-        numbers.accept)
-        → AreReadOut seen [] → AreUsed words seen ended.status) }
+    ensures { IfOk result
+        (λ ended. Ends (Form.Make workers numbers.seed numbers.students numbers.sections
+        numbers.accept) [] ended.status (bytes_of ended.output)) }
 {
     let Numbers {
         seed,

@@ -1,15 +1,13 @@
-// The first three inputs of a call that holds a market.
-ghost use Rattle.std.specs.Prelude.{◌≡◌, ◌≤◌, List, ℕ, Ok, IfOk, IfErr, [], ◌∷◌};
-ghost use Rattle.course_catalog.specs.Reading.{catalog_of};
-ghost use Rattle.market_settings.specs.Settings.{AreInRange, settings_of};
-ghost use Rattle.student_roll.specs.Rolls.{roll_of};
+// The catalogue, the roll and the settings of a call.
+ghost use Rattle.std.specs.Prelude.{[], ◌∷◌, IfOk};
+ghost use Rattle.market_settings.specs.Settings.{AreInRange};
+ghost use Rattle.published_parts.specs.Markets.{market_of};
 ghost use Rattle.market_host.specs.Kinds as kind;
-ghost use Rattle.market_host.specs.Marks.{without_mark};
-ghost use Rattle.market_host.specs.Reading.{IsRead, IsTroubleOfMarket};
-ghost use Rattle.market_host.specs.Sights.{sight};
-ghost use Rattle.market_host.specs.Traces.{Uses, trace};
+ghost use Rattle.market_host.specs.Markets.{AreMarket};
+ghost use Rattle.market_host.specs.Taking.{TakesFirst};
 
 use crate::input::take_input;
+use crate::tables::{Tables, take_tables};
 use crate::trouble::Trouble;
 use course_catalog::Catalog;
 use market_edge::Shelf;
@@ -33,26 +31,15 @@ pub fn take_market<H: Shelf>(
     roll: &str,
     settings: &str,
 ) -> Result<Market, Trouble>
-    ensures catalog { IfOk result
-        (λ market. IsRead kind.Catalog (H.holds shelf.old) catalog.now
-        (λ text. catalog_of text ≡ Ok market.catalog)) }
-    ensures roll { IfOk result
-        (λ market. IsRead kind.Roll (H.holds shelf.old) roll.now
-        (λ text. roll_of text ≡ Ok market.roll)) }
-    ensures settings { IfOk result
-        (λ market. IsRead kind.Settings (H.holds shelf.old) settings.now
-        (λ text. settings_of (without_mark text) ≡ Ok market.settings)) }
+    ensures taken { TakesFirst H.Shelf (kind.Catalog ∷ kind.Roll ∷ kind.Settings ∷ [])
+        (catalog.now ∷ roll.now ∷ settings.now ∷ [])
+        (λ texts market. AreMarket texts (market_of market.catalog market.roll market.settings) [])
+        shelf.old shelf.new result }
     ensures in_range { IfOk result (λ market. AreInRange market.settings) }
-    ensures trouble { IfErr result
-        (IsTroubleOfMarket (sight H.Shelf shelf.old shelf.new) catalog.now roll.now settings.now) }
-    ensures holds { H.holds shelf.new ≡ H.holds shelf.old }
-    ensures later { (other : List ℕ) → H.faults shelf.old other ≤ H.faults shelf.new other }
-    ensures used { Uses (trace H.Shelf shelf.old shelf.new)
-        (catalog.now ∷ roll.now ∷ settings.now ∷ []) 1 result }
 {
-    let catalog: Catalog = take_input(alloc, shelf, catalog, 1)?;
-    let roll: Roll = take_input(alloc, shelf, roll, 2)?;
+    let tables = take_tables(alloc, shelf, catalog, roll)?;
     let settings: Settings = take_input(alloc, shelf, settings, 3)?;
+    let Tables { catalog, roll } = tables;
     Ok(Market {
         catalog,
         roll,

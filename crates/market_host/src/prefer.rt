@@ -1,12 +1,7 @@
 // The journal of the sessions, and the preferences that it closes with.
-ghost use Rattle.std.specs.Prelude.{◌≡◌, ◌≤◌, List, ℕ, length, map, MatchResult, IfOk};
-ghost use Rattle.std.specs.String.{string_bytes};
-ghost use Rattle.market_host.specs.Lines.{line_of};
-ghost use Rattle.market_host.specs.Outcomes.{IsEnded, IsStopped};
-ghost use Rattle.market_host.specs.Sights.{sight};
-ghost use Rattle.market_host.specs.Traces.{AreReadTo, AreUsed, trace};
+ghost use Rattle.std.specs.Prelude.{◌≡◌, ◌≤◌, List, ℕ, length, IfOk};
 ghost use Rattle.market_host.specs.Sessions.{AreStreams};
-ghost use Rattle.market_words.specs.Forms.{HasForm};
+ghost use Rattle.market_host.specs.Works.{AreNamesOf, IsAnswer, names_in};
 ghost use Rattle.preference_desk.specs.Journals.{IsLegalJournal, MergesStreams};
 ghost use Rattle.preference_desk.specs.MarketNames.{market_names};
 ghost use Rattle.preference_text.specs.Texts as texts;
@@ -14,8 +9,9 @@ ghost use Rattle.session_hall.specs.Streams.{command_count, command_lists};
 
 use crate::Status;
 use crate::ended::{Ended, Output};
-use crate::input::take_input;
+use crate::names::InputNames;
 use crate::sessions::take_sessions;
+use crate::tables::take_tables;
 use crate::trouble::Trouble;
 use course_catalog::Catalog;
 use market_edge::{Gate, Passed, Shelf};
@@ -34,24 +30,21 @@ use utility_language::Command;
 pub fn prefer<R: Threads + Wait + Sync, H: Shelf>(
     rt: &R,
     alloc: Global,
-    words: &[String],
+    names: InputNames,
     shelf: &mut H,
     gate: &(dyn Gate + Sync),
 ) -> Result<Ended, Trouble>
-    requires { HasForm (map string_bytes words.now) Form.Prefer }
-    ensures answer { MatchResult result (IsEnded (map string_bytes words.now) (sight H.Shelf shelf.old shelf.new))
-        (λ stop. IsStopped (map string_bytes words.now) (sight H.Shelf shelf.old shelf.new) stop (line_of stop)) }
-    ensures holds { H.holds shelf.new ≡ H.holds shelf.old }
-    ensures later { (other : List ℕ) → H.faults shelf.old other ≤ H.faults shelf.new other }
-    ensures used { MatchResult result
-        (λ ended. AreUsed (map string_bytes words.now) (trace H.Shelf shelf.old shelf.new)
-        ended.status)
-        (AreReadTo (map string_bytes words.now) (trace H.Shelf shelf.old shelf.new)) }
+    requires named { (words : List (List ℕ))
+        × AreNamesOf words Form.Prefer names.front.now names.streams.now }
+    ensures { IsAnswer H.Shelf Form.Prefer
+        (names_in names.entry.front.now names.entry.streams.now) shelf.old shelf.new result }
 {
-    let catalog: Catalog = take_input(alloc, shelf, words[1].as_str(), 1)?;
-    let roll: Roll = take_input(alloc, shelf, words[2].as_str(), 2)?;
-    let streams = take_sessions(alloc, shelf, &words[3..], 3)?;
-    let text = text_of(rt, alloc, &catalog, &roll, &streams, gate)?;
+    let [catalog, roll] = names.front else {
+        unreachable!();
+    };
+    let tables = take_tables(alloc, shelf, catalog.as_str(), roll.as_str())?;
+    let streams = take_sessions(alloc, shelf, names.streams, 3)?;
+    let text = text_of(rt, alloc, &tables.catalog, &tables.roll, &streams, gate)?;
     Ok(Ended {
         status: Status::Done,
         output: Output::Text(text),

@@ -1,11 +1,11 @@
 // The prices of a call.
-ghost use Rattle.std.specs.Prelude.{◌≡◌, ◌≢◌, ◌<◌, ◌≤◌, ◌-◌, ◌^◌, List, ℕ, Ok, Err, IfOk, IfErr, length, map, [], ◌∷◌};
+ghost use Rattle.std.specs.Prelude.{◌≡◌, ◌≢◌, ◌<◌, ◌-◌, ◌^◌, Ok, Err, IfOk, IfErr, length, map};
 ghost use Rattle.price_sheet.specs.Sheets.{prices_of};
 ghost use Rattle.market_host.specs.Kinds as kind;
-ghost use Rattle.market_host.specs.Reading.{IsRead, IsRefusal, IsTroubleOfPrices};
+ghost use Rattle.market_host.specs.Inputs.{BeginWithCatalog};
+ghost use Rattle.market_host.specs.Reading.{IsRefusal};
 ghost use Rattle.market_host.specs.Refusals.{AreNoPrices};
-ghost use Rattle.market_host.specs.Sights.{sight};
-ghost use Rattle.market_host.specs.Traces.{Uses, trace};
+ghost use Rattle.market_host.specs.Taking.{Takes};
 
 use crate::Cause;
 use crate::inputs::read_input;
@@ -28,15 +28,10 @@ pub fn take_prices<H: Shelf>(
     input: u16,
     catalog: &Catalog,
 ) -> Result<Vec<Tokens>, Trouble>
-    ensures read { IfOk result
-        (λ prices. IsRead kind.Prices (H.holds shelf.old) name.now
-        (λ text. prices_of catalog.now.sections text
-        ≡ Ok (map (λ price. price.0) prices.items))) }
-    ensures trouble { IfErr result
-        (IsTroubleOfPrices (sight H.Shelf shelf.old shelf.new) catalog.now name.now input) }
-    ensures holds { H.holds shelf.new ≡ H.holds shelf.old }
-    ensures later { (other : List ℕ) → H.faults shelf.old other ≤ H.faults shelf.new other }
-    ensures used { Uses (trace H.Shelf shelf.old shelf.new) (name.now ∷ []) input result }
+    ensures { Takes H.Shelf kind.Prices name.now input
+        (λ texts. BeginWithCatalog texts catalog.now)
+        (λ text prices. prices_of catalog.now.sections text
+        ≡ Ok (map (λ price. price.0) prices.items)) shelf.old shelf.new result }
 {
     let bytes = read_input(alloc, shelf, name, input, MAX_INPUT_BYTES)?;
     prices_in(alloc, catalog, &bytes, input)

@@ -1,16 +1,11 @@
 // One student's best bundle at zero prices.
-ghost use Rattle.std.specs.Prelude.{◌≡◌, ◌≤◌, List, ℕ, [], ◌∷◌, map, length, nat_lt, MatchResult, IfOk};
-ghost use Rattle.std.specs.String.{string_bytes};
+ghost use Rattle.std.specs.Prelude.{◌≡◌, ◌≤◌, List, ℕ, length, nat_lt, IfOk};
 ghost use Rattle.bundle_rules.specs.Bundles.{sections_of};
 ghost use Rattle.bundle_rules.specs.Demand.{IsBest};
 ghost use Rattle.bundle_rules.specs.Menus.{wishes_of};
-ghost use Rattle.market_host.specs.Lines.{line_of};
-ghost use Rattle.market_host.specs.Outcomes.{IsEnded, IsStopped};
-ghost use Rattle.market_host.specs.Sights.{sight};
-ghost use Rattle.market_host.specs.Traces.{AreReadTo, AreUsed, trace};
 ghost use Rattle.market_host.specs.Quotes.{IsQuote, state_of_new_desk};
+ghost use Rattle.market_host.specs.Works.{AreNamesOf, IsAnswer, names_in};
 ghost use Rattle.market_units.specs.Name.{name_bytes};
-ghost use Rattle.market_words.specs.Forms.{HasForm};
 ghost use Rattle.preference_desk.specs.DeskView.{names_of, state_of};
 ghost use Rattle.preference_desk.specs.MarketNames.{market_names};
 ghost use Rattle.student_roll.specs.Students.{single_student};
@@ -18,6 +13,7 @@ ghost use Rattle.student_roll.specs.Students.{single_student};
 use crate::Status;
 use crate::ended::{Ended, Output};
 use crate::input::take_input;
+use crate::names::InputNames;
 use crate::session::take_session;
 use crate::text::text_of;
 use crate::trouble::Trouble;
@@ -40,24 +36,25 @@ const SECTIONS: usize = MAX_SECTIONS as usize;
 /// The text of `quote`, or why there is none.
 pub fn quote<H: Shelf>(
     alloc: Global,
-    words: &[String],
+    names: InputNames,
     shelf: &mut H,
     name: Name,
     credits: u16,
     courses: u8,
 ) -> Result<Ended, Trouble>
-    requires { HasForm (map string_bytes words.now) (Form.Quote name credits courses) }
-    ensures answer { MatchResult result (IsEnded (map string_bytes words.now) (sight H.Shelf shelf.old shelf.new))
-        (λ stop. IsStopped (map string_bytes words.now) (sight H.Shelf shelf.old shelf.new) stop (line_of stop)) }
-    ensures holds { H.holds shelf.new ≡ H.holds shelf.old }
-    ensures later { (other : List ℕ) → H.faults shelf.old other ≤ H.faults shelf.new other }
-    ensures used { MatchResult result
-        (λ ended. AreUsed (map string_bytes words.now) (trace H.Shelf shelf.old shelf.new)
-        ended.status)
-        (AreReadTo (map string_bytes words.now) (trace H.Shelf shelf.old shelf.new)) }
+    requires named { (words : List (List ℕ))
+        × AreNamesOf words (Form.Quote name credits courses) names.front.now names.streams.now }
+    ensures { IsAnswer H.Shelf (Form.Quote name credits courses)
+        (names_in names.entry.front.now names.entry.streams.now) shelf.old shelf.new result }
 {
-    let catalog: Catalog = take_input(alloc, shelf, words[1].as_str(), 1)?;
-    let commands = take_session(alloc, shelf, words[2].as_str(), 2, MAX_COMMANDS)?;
+    let [catalog] = names.front else {
+        unreachable!();
+    };
+    let [session] = names.streams else {
+        unreachable!();
+    };
+    let catalog: Catalog = take_input(alloc, shelf, catalog.as_str(), 1)?;
+    let commands = take_session(alloc, shelf, session.as_str(), 2, MAX_COMMANDS)?;
     let text = best_text(alloc, &catalog, &commands, name, credits, courses)?;
     Ok(Ended {
         status: Status::Done,

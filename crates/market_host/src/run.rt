@@ -1,54 +1,77 @@
 // What a market publishes.
-ghost use Rattle.std.specs.Prelude.{◌≡◌, ◌≤◌, ◌++◌, List, ℕ, map, MatchResult, IfOk};
-ghost use Rattle.std.specs.String.{string_bytes};
-ghost use Rattle.market_host.specs.Lines.{line_of, no_prices_line};
-ghost use Rattle.market_host.specs.Outcomes.{IsEnded, IsStopped};
-ghost use Rattle.market_host.specs.Sights.{sight};
-ghost use Rattle.market_host.specs.Traces.{AreReadTo, AreUsed, trace};
-ghost use Rattle.market_words.specs.Forms.{HasForm};
+ghost use Rattle.std.specs.Prelude.{◌≡◌, ◌≤◌, ◌++◌, List, ℕ, [], length, IfOk};
+ghost use Rattle.market_host.specs.Endings.{bytes_of};
+ghost use Rattle.market_host.specs.Lines.{no_prices_line};
+ghost use Rattle.market_host.specs.Works.{AreNamesOf, EndsFor, IsAnswer, names_in};
+ghost use Rattle.market_settings.specs.Settings.{AreInRange};
+ghost use Rattle.market_words.specs.Forms.{AreWorkers};
+ghost use Rattle.published_parts.specs.Markets.{market_of};
+ghost use Rattle.session_hall.specs.Streams.{command_count, command_lists};
 
 use crate::Status;
 use crate::ended::{Ended, Output};
 use crate::line::no_prices;
-use crate::market::take_market;
+use crate::market::{Market, take_market};
+use crate::names::InputNames;
 use crate::sessions::take_sessions;
 use crate::trouble::Trouble;
 use market_edge::{Gate, Shelf};
 use market_run::{HeldEnd, held_text};
-use market_units::NoMemory;
+use market_units::{MAX_COMMANDS, MAX_SESSIONS, NoMemory};
 use market_words::Form;
 use std::alloc::Global;
 use std::sync::Wait;
 use std::thread::Threads;
+use utility_language::Command;
 
 /// The published text of the market that `run` names, or the order in which its sessions' commands
 /// were taken and the least error where no prices are found, or why there is neither.
 pub fn run<R: Threads + Wait + Sync, H: Shelf>(
     rt: &R,
     alloc: Global,
-    words: &[String],
+    names: InputNames,
     workers: u16,
     shelf: &mut H,
     gate: &(dyn Gate + Sync),
 ) -> Result<Ended, Trouble>
-    requires { HasForm (map string_bytes words.now) (Form.Run workers) }
-    ensures answer { MatchResult result (IsEnded (map string_bytes words.now) (sight H.Shelf shelf.old shelf.new))
-        (λ stop. IsStopped (map string_bytes words.now) (sight H.Shelf shelf.old shelf.new) stop (line_of stop)) }
-    ensures holds { H.holds shelf.new ≡ H.holds shelf.old }
-    ensures later { (other : List ℕ) → H.faults shelf.old other ≤ H.faults shelf.new other }
-    ensures used { MatchResult result
-        (λ ended. AreUsed (map string_bytes words.now) (trace H.Shelf shelf.old shelf.new)
-        ended.status)
-        (AreReadTo (map string_bytes words.now) (trace H.Shelf shelf.old shelf.new)) }
+    requires named { (words : List (List ℕ))
+        × AreNamesOf words (Form.Run workers) names.front.now names.streams.now }
+    ensures { IsAnswer H.Shelf (Form.Run workers)
+        (names_in names.entry.front.now names.entry.streams.now) shelf.old shelf.new result }
 {
+    let [catalog, roll, settings] = names.front else {
+        unreachable!();
+    };
     let market = take_market(
         alloc,
         shelf,
-        words[2].as_str(),
-        words[3].as_str(),
-        words[4].as_str(),
+        catalog.as_str(),
+        roll.as_str(),
+        settings.as_str(),
     )?;
-    let streams = take_sessions(alloc, shelf, &words[5..], 4)?;
+    let streams = take_sessions(alloc, shelf, names.streams, 4)?;
+    let ended = held(rt, alloc, workers, &market, &streams, gate)?;
+    Ok(ended)
+}
+
+// How it ends for what the inputs say.
+fn held<R: Threads + Wait + Sync>(
+    rt: &R,
+    alloc: Global,
+    workers: u16,
+    market: &Market,
+    streams: &[Vec<Command>],
+    gate: &(dyn Gate + Sync),
+) -> Result<Ended, NoMemory>
+    requires workers { AreWorkers workers }
+    requires in_range { AreInRange market.now.settings }
+    requires sessions { (1 ≤ length streams.now) × (length streams.now ≤ MAX_SESSIONS) }
+    requires commands { command_count streams.now ≤ MAX_COMMANDS }
+    ensures { IfOk result
+        (λ ended. EndsFor (Form.Run workers)
+        (market_of market.now.catalog market.now.roll market.now.settings) []
+        (command_lists streams.now) ended.status (bytes_of ended.output)) }
+{
     match held_text(
         rt,
         alloc,
@@ -56,7 +79,7 @@ pub fn run<R: Threads + Wait + Sync, H: Shelf>(
         &market.catalog,
         &market.roll,
         &market.settings,
-        &streams,
+        streams,
         gate,
     ) {
         Ok(text) => Ok(Ended {
@@ -67,7 +90,7 @@ pub fn run<R: Threads + Wait + Sync, H: Shelf>(
             status: Status::NoPrices { least },
             output: Output::Text(unpriced_text(order, least)?),
         }),
-        Err(HeldEnd::NoMemory) => Err(Trouble::OutOfMemory),
+        Err(HeldEnd::NoMemory) => Err(NoMemory),
     }
 }
 

@@ -1,95 +1,39 @@
-use Rattle.std.proofs.Common.{◌≡◌, ◌-◌, arith, drop, length, map, refl, take, ◌∷◌}
-use Rattle.std.specs.String.{string_bytes}
+use Rattle.std.proofs.Common.{refl}
 use Rattle.std.proofs.lemmas.Result.{err_from_is_err_and}
 use Rattle.market_words.specs.declared.words.Form.TheVariants.{Explain}
+use Rattle.market_host.proofs.Taking.{memory_stops}
+use Rattle.published_parts.specs.Markets.{market_of}
+use Rattle.session_hall.specs.Streams.{command_lists}
 use Rattle.market_host.specs.Endings.{bytes_of}
-use Rattle.market_host.specs.Sights.{sight}
-use Rattle.market_host.specs.Traces.{trace}
-use Rattle.market_host.proofs.ExplainFacts.{explain_ended, inputs-explain, length-explain, opens_explain}
-use Rattle.market_host.proofs.PublishedFacts.{published_stops}
-use Rattle.market_host.proofs.WordFacts.{length-words}
-use Rattle.market_host.proofs.ReasonTraces.{reason_used}
-use Rattle.market_host.proofs.TraceFacts.{all_read_once, last_stops_once, memory_wanted}
+use Rattle.market_host.proofs.ExplainFacts.{explain_ended}
 use Rattle.market_host.proofs.explain.explain.Goals as goal
 
-pub returns-in_err-published-clause-answer : goal.returns-in_err-published-clause-answer
-returns-in_err-published-clause-answer g c =
+pub take_published-requires-clause-front : goal.take_published-requires-clause-front
+take_published-requires-clause-front g c = c.requires.named.1.front_long
+
+pub take_published-requires-clause-some : goal.take_published-requires-clause-some
+take_published-requires-clause-some g c = c.requires.named.1.some
+
+pub take_published-requires-clause-few : goal.take_published-requires-clause-few
+take_published-requires-clause-few g c = c.requires.named.1.few
+
+pub returns-in_err-published : goal.returns-in_err-published
+returns-in_err-published g c =
     let p = err_from_is_err_and c.from_residual.result c.from_residual.ensures.1 in
-    let words = map string_bytes c.args.words.now in
-    let long = length-explain c.args.words.now c.args.student c.args.section c.requires in
-    let named =
-    inputs-explain c.args.words.now c.args.student c.args.section c.index-words-1.result c.index-words-2.result c.index-words-3.result c.index-words-4.result
-    long.0 c.index-words-1.is c.index-words-2.is c.index-words-3.is c.index-words-4.is in
-    rw (p.1, p.2) (published_stops words (Explain c.args.student c.args.section) (sight g.H.Shelf c.args.shelf.now c.take_published.new.shelf) (string_bytes c.index-words-1.result) (string_bytes c.index-words-2.result) (string_bytes c.index-words-3.result)
-    (string_bytes c.index-words-4.result) (map string_bytes (take (length c.args.words.now - 7) (drop 7 c.args.words.now))) c.in_err-published.field-0.0
-    c.requires named (opens_explain c.args.student c.args.section)
-    (rw (c.as_str.ensures.value, c.as_str-2.ensures.value, c.as_str-3.ensures.value, c.as_str-4.ensures.value) at c.in_err-published.ensures.trouble))
+    rw (p.1, p.2) (c.in_err-published.ensures.taken (Explain c.args.student c.args.section) (refl, refl))
 
-pub returns-in_err-ended-clause-answer : goal.returns-in_err-ended-clause-answer
-returns-in_err-ended-clause-answer g c =
+pub returns-in_err-ended : goal.returns-in_err-ended
+returns-in_err-ended g c =
     let p = err_from_is_err_and c.from_residual-in_err-ended.result c.from_residual-in_err-ended.ensures.1 in
-    rw (p.1, p.2) (Explain c.args.student c.args.section, c.requires, tt, refl)
+    let said = c.in_ok-published.ensures.taken (Explain c.args.student c.args.section) (refl, refl) in
+    rw (p.1, p.2) (memory_stops g.H.Shelf (Explain c.args.student c.args.section) _ said.0 c.args.shelf.now c.take_published.new.shelf said.1)
 
-pub returns-clause-answer : goal.returns-clause-answer
-returns-clause-answer g c =
-    let words = map string_bytes c.args.words.now in
-    let names = map string_bytes (take (length c.args.words.now - 7) (drop 7 c.args.words.now)) in
-    let long = length-explain c.args.words.now c.args.student c.args.section c.requires in
-    let named =
-    inputs-explain c.args.words.now c.args.student c.args.section c.index-words-1.result c.index-words-2.result c.index-words-3.result c.index-words-4.result
-    long.0 c.index-words-1.is c.index-words-2.is c.index-words-3.is c.index-words-4.is in
-    let count : length (map string_bytes (take (length c.args.words.now - 7) (drop 7 c.args.words.now))) ≡ length c.args.words.now - 7 =
-    length-words c.args.words.now 7 (omega (arith, long.0)) in
-    let said = c.in_ok-published.ensures in
+pub returns : goal.returns
+returns g c =
     let published = c.in_ok-published.published in
-    explain_ended words (sight g.H.Shelf c.args.shelf.now c.take_published.new.shelf) c.args.student c.args.section (string_bytes c.index-words-1.result)
-    (string_bytes c.index-words-2.result) (string_bytes c.index-words-3.result)
-    (string_bytes c.index-words-4.result) names said.sessions.0 said.sessions.1 published.market.catalog published.market.roll published.market.settings
-    published.text.items published.streams.items c.requires named (omega (arith, count, long.0))
-    (rw c.as_str.ensures.value at said.catalog) (rw c.as_str-2.ensures.value at said.roll) (rw c.as_str-3.ensures.value at said.settings)
-    (rw c.as_str-4.ensures.value at said.text) said.sessions.2 said.end
-    c.in_ok-ended.ended.status (bytes_of c.in_ok-ended.ended.output) c.in_ok-ended.ensures
-
-pub returns-in_err-published-clause-used : goal.returns-in_err-published-clause-used
-returns-in_err-published-clause-used g c =
-    let p = err_from_is_err_and c.from_residual.result c.from_residual.ensures.1 in
-    let words = map string_bytes c.args.words.now in
-    let long = length-explain c.args.words.now c.args.student c.args.section c.requires in
-    let named =
-    inputs-explain c.args.words.now c.args.student c.args.section c.index-words-1.result c.index-words-2.result c.index-words-3.result c.index-words-4.result
-    long.0 c.index-words-1.is c.index-words-2.is c.index-words-3.is c.index-words-4.is in
-    rw (p.1, p.2)
-    (last_stops_once g.H.Shelf words (Explain c.args.student c.args.section) c.requires c.args.shelf.now c.take_published.new.shelf
-    (string_bytes c.index-words-1.result ∷ string_bytes c.index-words-2.result ∷ string_bytes c.index-words-3.result
-    ∷ string_bytes c.index-words-4.result ∷ map string_bytes (take (length c.args.words.now - 7) (drop 7 c.args.words.now)))
-    c.in_err-published.field-0.0 named
-    (rw (c.as_str.ensures.value, c.as_str-2.ensures.value, c.as_str-3.ensures.value, c.as_str-4.ensures.value) at c.in_err-published.ensures.used))
-
-pub returns-in_err-ended-clause-used : goal.returns-in_err-ended-clause-used
-returns-in_err-ended-clause-used g c =
-    let words = map string_bytes c.args.words.now in
-    let p = err_from_is_err_and c.from_residual-in_err-ended.result c.from_residual-in_err-ended.ensures.1 in
-    let long = length-explain c.args.words.now c.args.student c.args.section c.requires in
-    let named =
-    inputs-explain c.args.words.now c.args.student c.args.section c.index-words-1.result c.index-words-2.result c.index-words-3.result c.index-words-4.result
-    long.0 c.index-words-1.is c.index-words-2.is c.index-words-3.is c.index-words-4.is in
-    rw (p.1, p.2)
-    (memory_wanted g.H.Shelf words c.args.shelf.now c.take_published.new.shelf
-    (all_read_once g.H.Shelf words (Explain c.args.student c.args.section) c.requires c.args.shelf.now c.take_published.new.shelf
-    (string_bytes c.index-words-1.result ∷ string_bytes c.index-words-2.result ∷ string_bytes c.index-words-3.result
-    ∷ string_bytes c.index-words-4.result ∷ map string_bytes (take (length c.args.words.now - 7) (drop 7 c.args.words.now)))
-    named
-    (rw (c.as_str.ensures.value, c.as_str-2.ensures.value, c.as_str-3.ensures.value, c.as_str-4.ensures.value) at c.in_ok-published.ensures.used)))
-
-pub returns-clause-used : goal.returns-clause-used
-returns-clause-used g c =
-    let words = map string_bytes c.args.words.now in
-    let long = length-explain c.args.words.now c.args.student c.args.section c.requires in
-    let named =
-    inputs-explain c.args.words.now c.args.student c.args.section c.index-words-1.result c.index-words-2.result c.index-words-3.result c.index-words-4.result
-    long.0 c.index-words-1.is c.index-words-2.is c.index-words-3.is c.index-words-4.is in
-    reason_used _ _ _ _ _ _ words (trace g.H.Shelf c.args.shelf.now c.take_published.new.shelf) c.in_ok-ended.ended.status c.in_ok-ended.ensures
-    (all_read_once g.H.Shelf words (Explain c.args.student c.args.section) c.requires c.args.shelf.now c.take_published.new.shelf
-    (string_bytes c.index-words-1.result ∷ string_bytes c.index-words-2.result ∷ string_bytes c.index-words-3.result
-    ∷ string_bytes c.index-words-4.result ∷ map string_bytes (take (length c.args.words.now - 7) (drop 7 c.args.words.now)))
-    named (rw (c.as_str.ensures.value, c.as_str-2.ensures.value, c.as_str-3.ensures.value, c.as_str-4.ensures.value) at c.in_ok-published.ensures.used))
+    let said = c.in_ok-published.ensures.taken (Explain c.args.student c.args.section) (refl, refl) in (
+      said.0,
+      said.1,
+      (explain_ended (market_of published.market.catalog published.market.roll published.market.settings) (command_lists published.streams.items)
+          published.text.items c.args.student c.args.section c.in_ok-ended.ended.status (bytes_of c.in_ok-ended.ended.output) c.in_ok-ended.ensures said.0 said.2),
+    )

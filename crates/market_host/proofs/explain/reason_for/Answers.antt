@@ -1,10 +1,15 @@
 use Rattle.std.proofs.Common.{inl, inr, refl}
+use Rattle.std.proofs.lemmas.Result.{IfOk-weaker}
+use Rattle.certificate_checker.specs.Certificates.{IsAccepted}
+use Rattle.certificate_checker.specs.Findings.{IsFirstFinding}
 use Rattle.course_catalog.specs.Sections.{section_names}
 use Rattle.market_units.specs.Name.{name_bytes}
-use Rattle.published_parts.specs.Markets.{market_of}
+use Rattle.published_parts.specs.Markets.{market_of, tables_in}
 use Rattle.session_hall.specs.Streams.{command_lists}
 use Rattle.student_roll.specs.Students.{names_of}
 use Rattle.market_host.specs.Endings.{bytes_of}
+use Rattle.market_host.specs.Explains.{IsReasonEnd}
+use Rattle.market_host.proofs.ToldEnds.{told_ends}
 use Rattle.market_host.proofs.ExplainFacts.{found_at, not_among, reason_of, unknown_end}
 use Rattle.market_host.proofs.explain.reason_for.Goals as goal
 
@@ -32,31 +37,32 @@ returns-in_default-find c =
           c.in_default-find.is,
     ))
 
-pub returns-in-Ok : goal.returns-in-Ok
-returns-in-Ok c =
-    let market = c.args.published.market in
-    reason_of (market_of market.catalog market.roll market.settings) (command_lists c.args.published.streams.items) c.args.published.text.items
-    (name_bytes c.args.student.now) (name_bytes c.args.section.now) c.in-Ok.text.items
-    c.in-Some.enrolled.0 c.in-Some-find.listed.0
-    (found_at (λ s. s.0) c.find.result c.in-Some.enrolled (name_bytes c.args.student.now) (names_of market.roll.students) c.find.ensures.place c.in-Some.is)
-    (found_at (λ s. s.0) c.find-2.result c.in-Some-find.listed (name_bytes c.args.section.now) (section_names market.catalog.sections) c.find-2.ensures.place
-    c.in-Some-find.is)
-    c.in-Some-find.ensures.found (rw c.deref.ensures.value at c.in-Ok.ensures.told)
-
-pub returns-in-Err-Found : goal.returns-in-Err-Found
-returns-in-Err-Found c =
-    let market = c.args.published.market in record {
-      enrolled = (
-        c.in-Some.enrolled.0,
-        found_at (λ s. s.0) c.find.result c.in-Some.enrolled (name_bytes c.args.student.now) (names_of market.roll.students) c.find.ensures.place
-            c.in-Some.is,
-      );
-      listed = (
-        c.in-Some-find.listed.0,
-        found_at (λ s. s.0) c.find-2.result c.in-Some-find.listed (name_bytes c.args.section.now) (section_names market.catalog.sections)
-            c.find-2.ensures.place c.in-Some-find.is,
-      );
-      refused = rw (c.in-Err-Found.field-0-is, c.deref.ensures.value) at c.in-Err-Found.ensures.refused;
-      first = rw (c.in-Err-Found.field-0-is, c.deref.ensures.value) at c.in-Err-Found.ensures.first;
-      told = c.finding_line.ensures;
-    }
+pub returns : goal.returns
+returns c =
+    let said = c.args.published.market in
+    let market = market_of said.catalog said.roll said.settings in
+    let streams = command_lists c.args.published.streams.items in
+    let text = c.args.published.text.items in
+    let student = name_bytes c.args.student.now in
+    let section = name_bytes c.args.section.now in
+    let told = c.published_reason-told.result in
+    let is = c.published_reason-told.ensures in
+    let enrolled =
+    found_at (λ s. s.0) c.find.result c.in-Some.enrolled (name_bytes c.args.student.now) (names_of said.roll.students) c.find.ensures.place c.in-Some.is in
+    let listed =
+    found_at (λ s. s.0) c.find-2.result c.in-Some-find.listed (name_bytes c.args.section.now) (section_names said.catalog.sections) c.find-2.ensures.place
+    c.in-Some-find.is in
+    IfOk-weaker c.told_end.result _ _
+    (λ ended. told_ends (tables_in market) told ended (IsReasonEnd market streams text student section) (λ _. ¬ IsAccepted market streams text)
+    (IsFirstFinding market streams text)
+    (IfOk-weaker told _ _ (λ made. reason_of market streams text student section made.items c.in-Some.enrolled.0 c.in-Some-find.listed.0 enrolled listed
+    c.in-Some-find.ensures.found) (rw c.deref.ensures.value at is.told))
+    (rw c.deref.ensures.value at is.refused) (rw c.deref.ensures.value at is.first)
+    (λ finding refused first. record {
+      enrolled = (c.in-Some.enrolled.0, enrolled);
+      listed = (c.in-Some-find.listed.0, listed);
+      refused = refused;
+      first = first;
+      told = refl;
+    }))
+    c.told_end.ensures

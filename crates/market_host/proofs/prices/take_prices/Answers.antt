@@ -1,39 +1,27 @@
-use Rattle.std.proofs.lemmas.Result.{IfErr-weaker, IfOk-weaker, err_from_is_err_and}
+use Rattle.std.proofs.Common.{◌≡◌, map}
+use Rattle.std.specs.Prelude.{Ok}
+use Rattle.std.proofs.lemmas.Result.{err_from_is_err_and}
+use Rattle.price_sheet.specs.Sheets.{prices_of}
+use Rattle.market_host.specs.Inputs.{BeginWithCatalog}
 use Rattle.market_host.specs.Kinds.{Prices}
 use Rattle.market_host.specs.Refusals.{AreNoPrices}
-use Rattle.market_host.specs.Sights.{sight}
-use Rattle.market_host.proofs.InputTroubles.{trouble_of_refusal, trouble_of_unread}
-use Rattle.market_host.proofs.TraceFacts.{uses_refused}
+use Rattle.market_host.proofs.Taking.{read_takes, unread_stops}
 use Rattle.market_host.proofs.prices.take_prices.Goals as goal
 
-pub returns-in_err-bytes-clause-trouble : goal.returns-in_err-bytes-clause-trouble
-returns-in_err-bytes-clause-trouble g c =
+pub returns-in_err-bytes : goal.returns-in_err-bytes
+returns-in_err-bytes g c =
     let p = err_from_is_err_and c.from_residual.result c.from_residual.ensures.1 in
-    rw (p.1, p.2) (λ form earlier texts later read of number begins. trouble_of_unread form (sight g.H.Shelf c.args.shelf.now c.read_input.new.shelf) earlier texts later c.args.name.now c.args.input read number Prices _ of
-    c.in_err-bytes.ensures.unread)
+    rw (p.1, p.2) (unread_stops g.H.Shelf c.args.shelf.now c.read_input.new.shelf Prices c.args.name.now c.args.input
+    (λ texts. BeginWithCatalog texts c.args.catalog.now) (record { holds = c.in_err-bytes.ensures.holds; later = c.in_err-bytes.ensures.later }) c.in_err-bytes.field-0.0
+    c.in_err-bytes.ensures.unread c.in_err-bytes.ensures.used)
 
-pub returns-clause-read : goal.returns-clause-read
-returns-clause-read g c =
-    IfOk-weaker c.prices_in.result _ _
-    (λ prices is. (c.in_ok-bytes.bytes.items, c.in_ok-bytes.ensures.whole, c.in_ok-bytes.ensures.within, rw c.deref.ensures.value at is))
-    c.prices_in.ensures.read
-
-pub returns-clause-trouble : goal.returns-clause-trouble
-returns-clause-trouble g c =
-    IfErr-weaker c.prices_in.result _ _
-    (λ stop refusal form earlier texts later read of number begins. trouble_of_refusal form (sight g.H.Shelf c.args.shelf.now c.read_input.new.shelf) earlier texts later c.args.name.now c.args.input read number Prices
-    (AreNoPrices c.args.catalog.now.sections c.in_ok-bytes.bytes.items) c.in_ok-bytes.bytes.items stop of c.in_ok-bytes.ensures.end c.in_ok-bytes.ensures.whole
-    c.in_ok-bytes.ensures.within
-    (λ row cause is. (c.args.catalog.now, begins, is)) (rw c.deref.ensures.value at refusal))
-    c.prices_in.ensures.refused
-
-pub returns-in_err-bytes-clause-used : goal.returns-in_err-bytes-clause-used
-returns-in_err-bytes-clause-used g c =
-    let p = err_from_is_err_and c.from_residual.result c.from_residual.ensures.1 in
-    rw (p.1, p.2) c.in_err-bytes.ensures.used
-
-pub returns-clause-used : goal.returns-clause-used
-returns-clause-used g c =
-    uses_refused g.H.Shelf c.args.shelf.now c.read_input.new.shelf c.args.name.now c.args.input
-    (AreNoPrices c.args.catalog.now.sections c.in_ok-bytes.bytes.items) c.prices_in.result c.in_ok-bytes.ensures.used
+pub returns : goal.returns
+returns g c =
+    let bytes = c.in_ok-bytes.bytes.items in
+    read_takes g.H.Shelf c.args.shelf.now c.read_input.new.shelf Prices c.args.name.now c.args.input (λ texts. BeginWithCatalog texts c.args.catalog.now)
+    (record { holds = c.in_ok-bytes.ensures.holds; later = c.in_ok-bytes.ensures.later })
+    (λ text prices. prices_of c.args.catalog.now.sections text ≡ Ok (map (λ price. price.0) prices.items))
+    (AreNoPrices c.args.catalog.now.sections bytes) bytes c.prices_in.result
+    c.in_ok-bytes.ensures.whole c.in_ok-bytes.ensures.within c.in_ok-bytes.ensures.end c.in_ok-bytes.ensures.used
+    (λ texts begins row cause is. (c.args.catalog.now, begins, is)) (rw c.deref.ensures.value at c.prices_in.ensures.read)
     (rw c.deref.ensures.value at c.prices_in.ensures.refused)

@@ -1,85 +1,87 @@
-use Rattle.std.proofs.Common.{◌∙◌, [], ◌∷◌, arith, map, refl, subst, sym}
+use Rattle.std.proofs.Common.{◌≤◌, [], ◌∷◌, arith, length, map, refl, subst, sym}
 use Rattle.std.specs.String.{string_bytes}
+use Rattle.std.proofs.lemmas.List.{length-map}
 use Rattle.std.proofs.lemmas.Result.{err_from_is_err_and}
-use Rattle.market_host.specs.Kinds.{Published}
-use Rattle.market_host.specs.Outcomes.{IsLastAtEnd}
-use Rattle.market_host.specs.Sights.{sight}
-use Rattle.market_host.proofs.MarketFacts.{market_third, trouble_later}
-use Rattle.market_host.proofs.PublishedFacts.{fourth_is_published, front_long, opens_market, published_fourth, sessions_trouble}
-use Rattle.market_host.proofs.Shelves.{seen_from}
-use Rattle.market_host.proofs.TraceFacts.{read_behind, until_before, until_behind}
+use Rattle.published_parts.specs.Markets.{market_of}
+use Rattle.session_hall.specs.Streams.{command_lists}
+use Rattle.market_host.specs.Markets.{AreInputs}
+use Rattle.market_host.proofs.MarketFacts.{four, inputs_taken, opens_market, text_stops, text_taken}
+use Rattle.market_host.proofs.Taking.{rest_stops}
+use Rattle.market_host.proofs.WordFacts.{four_names}
+use Rattle.market_host.proofs.Works.{stops_named, taken_named}
 use Rattle.market_host.proofs.published.take_published.Goals as goal
 
-pub returns-in_err-market-clause-trouble : goal.returns-in_err-market-clause-trouble
-returns-in_err-market-clause-trouble g c =
+pub returns-in_err-market-clause-taken : goal.returns-in_err-market-clause-taken
+returns-in_err-market-clause-taken g c =
     let p = err_from_is_err_and c.from_residual.result c.from_residual.ensures.1 in
-    rw (p.1, p.2) (λ form opens. c.in_err-market.ensures.trouble form (c.args.text.now ∷ map string_bytes c.args.sessions.now) (opens_market form opens))
+    let named =
+    four_names c.args.names.front.now c.catalog-item.result c.roll-item.result c.settings-item.result c.text-item.result c.as_str.result.now
+    c.as_str-2.result.now c.as_str-3.result.now (string_bytes c.text-item.result) c.requires.front c.catalog-item.is c.roll-item.is c.settings-item.is c.text-item.is
+    c.as_str.ensures.value c.as_str-2.ensures.value c.as_str-3.ensures.value refl in
+    let names = map string_bytes c.args.names.streams.now in
+    rw (p.1, p.2) (λ form opens. stops_named g.H.Shelf form c.args.shelf.now c.take_market.new.shelf (map string_bytes c.args.names.front.now) _ names
+    c.in_err-market.field-0.0 named
+    (c.in_err-market.ensures.taken form (opens_market form opens) (string_bytes c.text-item.result ∷ names)))
 
-pub returns-in_err-text-clause-trouble : goal.returns-in_err-text-clause-trouble
-returns-in_err-text-clause-trouble g c =
+pub returns-in_err-text-clause-taken : goal.returns-in_err-text-clause-taken
+returns-in_err-text-clause-taken g c =
     let p = err_from_is_err_and c.from_residual-in_err-text.result c.from_residual-in_err-text.ensures.1 in
-    let held = g.H.Shelf.holds c.args.shelf.now in
-    let said = c.in_ok-market.ensures in
-    rw (p.1, p.2) (λ form opens. trouble_later form held (g.H.Shelf.faults c.args.shelf.now) (sight g.H.Shelf c.take_market.new.shelf c.take_text.new.shelf) (c.args.catalog.now ∷ c.args.roll.now ∷ c.args.settings.now ∷ [])
-    (said.catalog.0 ∷ said.roll.0 ∷ said.settings.0 ∷ []) (map string_bytes c.args.sessions.now) Published c.args.text.now 4 c.in_err-text.field-0.0 said.holds
-    said.later
-    (market_third form (opens_market form opens) held c.args.catalog.now c.args.roll.now c.args.settings.now c.in_ok-market.market.catalog
-    c.in_ok-market.market.roll c.in_ok-market.market.settings said.catalog said.roll said.settings)
-    (fourth_is_published form opens) refl c.in_err-text.ensures.trouble)
+    let named =
+    four_names c.args.names.front.now c.catalog-item.result c.roll-item.result c.settings-item.result c.text-item.result c.as_str.result.now
+    c.as_str-2.result.now c.as_str-3.result.now c.as_str-4.result.now c.requires.front c.catalog-item.is c.roll-item.is c.settings-item.is c.text-item.is
+    c.as_str.ensures.value c.as_str-2.ensures.value c.as_str-3.ensures.value c.as_str-4.ensures.value in
+    let names = map string_bytes c.args.names.streams.now in
+    let market = market_of c.in_ok-market.market.catalog c.in_ok-market.market.roll c.in_ok-market.market.settings in
+    rw (p.1, p.2) (λ form opens. stops_named g.H.Shelf form c.args.shelf.now c.take_text.new.shelf (map string_bytes c.args.names.front.now) _ names
+    c.in_err-text.field-0.0 named
+    (text_stops g.H.Shelf form opens c.args.shelf.now c.take_market.new.shelf c.take_text.new.shelf c.as_str.result.now c.as_str-2.result.now
+    c.as_str-3.result.now c.as_str-4.result.now market names c.in_err-text.field-0.0 (c.in_ok-market.ensures.taken form (opens_market form opens))
+    c.in_err-text.ensures))
 
-pub returns-in_err-streams-clause-trouble : goal.returns-in_err-streams-clause-trouble
-returns-in_err-streams-clause-trouble g c =
+pub returns-in_err-streams-clause-taken : goal.returns-in_err-streams-clause-taken
+returns-in_err-streams-clause-taken g c =
     let p = err_from_is_err_and c.from_residual-in_err-streams.result c.from_residual-in_err-streams.ensures.1 in
-    let held = g.H.Shelf.holds c.args.shelf.now in
-    let said = c.in_ok-market.ensures in
-    let fourth = rw said.holds at c.in_ok-text.ensures.read in
-    rw (p.1, p.2) (λ form opens. sessions_trouble form held (g.H.Shelf.faults c.args.shelf.now) (sight g.H.Shelf c.take_text.new.shelf c.take_sessions.new.shelf)
-    (c.args.catalog.now ∷ c.args.roll.now ∷ c.args.settings.now ∷ c.args.text.now ∷ []) (said.catalog.0 ∷ said.roll.0 ∷ said.settings.0 ∷ fourth.0 ∷ [])
-    (map string_bytes c.args.sessions.now) 5 c.in_err-streams.field-0.0
-    (c.in_ok-text.ensures.holds ∙ said.holds) (λ other. omega (arith, said.later other, c.in_ok-text.ensures.later other))
-    (published_fourth form opens held c.args.catalog.now c.args.roll.now c.args.settings.now c.args.text.now c.in_ok-market.market.catalog c.in_ok-market.market.roll c.in_ok-market.market.settings c.in_ok-text.text.items
-    said.catalog said.roll said.settings fourth) opens.1 (sym (front_long form opens)) refl c.in_err-streams.ensures.trouble)
+    let named =
+    four_names c.args.names.front.now c.catalog-item.result c.roll-item.result c.settings-item.result c.text-item.result c.as_str.result.now
+    c.as_str-2.result.now c.as_str-3.result.now c.as_str-4.result.now c.requires.front c.catalog-item.is c.roll-item.is c.settings-item.is c.text-item.is
+    c.as_str.ensures.value c.as_str-2.ensures.value c.as_str-3.ensures.value c.as_str-4.ensures.value in
+    let names = map string_bytes c.args.names.streams.now in
+    let front = c.as_str.result.now ∷ c.as_str-2.result.now ∷ c.as_str-3.result.now ∷ c.as_str-4.result.now ∷ [] in
+    let market = market_of c.in_ok-market.market.catalog c.in_ok-market.market.roll c.in_ok-market.market.settings in
+    rw (p.1, p.2) (λ form opens. (let said =
+    text_taken g.H.Shelf form opens c.args.shelf.now c.take_market.new.shelf c.take_text.new.shelf c.as_str.result.now c.as_str-2.result.now
+    c.as_str-3.result.now c.as_str-4.result.now market c.in_ok-text.text.items (c.in_ok-market.ensures.taken form (opens_market form opens))
+    c.in_ok-text.ensures in
+    stops_named g.H.Shelf form c.args.shelf.now c.take_sessions.new.shelf (map string_bytes c.args.names.front.now) front names c.in_err-streams.field-0.0 named
+    (rest_stops g.H.Shelf form c.args.shelf.now c.take_text.new.shelf c.take_sessions.new.shelf front said.0 said.1 names 5 c.in_err-streams.field-0.0 opens.1
+    (sym (four g.H.Shelf form opens)) refl c.in_err-streams.ensures.trouble c.in_err-streams.ensures.used
+    (record { holds = c.in_err-streams.ensures.holds; later = c.in_err-streams.ensures.later }))))
 
-pub returns-clause-text : goal.returns-clause-text
-returns-clause-text g c = rw c.in_ok-market.ensures.holds at c.in_ok-text.ensures.read
+pub returns-clause-taken : goal.returns-clause-taken
+returns-clause-taken g c =
+    let named =
+    four_names c.args.names.front.now c.catalog-item.result c.roll-item.result c.settings-item.result c.text-item.result c.as_str.result.now
+    c.as_str-2.result.now c.as_str-3.result.now c.as_str-4.result.now c.requires.front c.catalog-item.is c.roll-item.is c.settings-item.is c.text-item.is
+    c.as_str.ensures.value c.as_str-2.ensures.value c.as_str-3.ensures.value c.as_str-4.ensures.value in
+    let names = map string_bytes c.args.names.streams.now in
+    let front = c.as_str.result.now ∷ c.as_str-2.result.now ∷ c.as_str-3.result.now ∷ c.as_str-4.result.now ∷ [] in
+    let market = market_of c.in_ok-market.market.catalog c.in_ok-market.market.roll c.in_ok-market.market.settings in
+    let read = c.in_ok-streams.ensures.read in
+    λ form opens. (let said =
+    text_taken g.H.Shelf form opens c.args.shelf.now c.take_market.new.shelf c.take_text.new.shelf c.as_str.result.now c.as_str-2.result.now
+    c.as_str-3.result.now c.as_str-4.result.now market c.in_ok-text.text.items (c.in_ok-market.ensures.taken form (opens_market form opens))
+    c.in_ok-text.ensures in
+    taken_named g.H.Shelf form c.args.shelf.now c.take_sessions.new.shelf (map string_bytes c.args.names.front.now) front names
+    (λ texts. AreInputs texts market (c.in_ok-text.text.items ∷ []) (command_lists c.in_ok-streams.streams.items)) named
+    (inputs_taken g.H.Shelf form c.args.shelf.now c.take_text.new.shelf c.take_sessions.new.shelf front (c.in_ok-text.text.items ∷ []) market names read.0 read.1
+    c.in_ok-streams.streams.items said opens.1 (sym (four g.H.Shelf form opens)) read.2
+    (omega (arith, (length-map c.args.names.streams.now string_bytes), c.requires.some)) c.in_ok-streams.ensures.end c.in_ok-streams.ensures.used
+    (record { holds = c.in_ok-streams.ensures.holds; later = c.in_ok-streams.ensures.later })))
 
-pub returns-clause-sessions : goal.returns-clause-sessions
-returns-clause-sessions g c = rw (c.in_ok-text.ensures.holds, c.in_ok-market.ensures.holds) at c.in_ok-streams.ensures.read
+pub returns-clause-in_range : goal.returns-clause-in_range
+returns-clause-in_range g c = c.in_ok-market.ensures.in_range
 
-pub returns-clause-end : goal.returns-clause-end
-returns-clause-end g c =
-    subst
-    (λ h. IsLastAtEnd (seen_from h (g.H.Shelf.faults c.args.shelf.now) (sight g.H.Shelf c.take_text.new.shelf c.take_sessions.new.shelf))
-    (map string_bytes c.args.sessions.now))
-    (c.in_ok-text.ensures.holds ∙ c.in_ok-market.ensures.holds) c.in_ok-streams.ensures.end
-
-pub returns-in_err-market-clause-used : goal.returns-in_err-market-clause-used
-returns-in_err-market-clause-used g c =
-    let p = err_from_is_err_and c.from_residual.result c.from_residual.ensures.1 in
-    rw (p.1, p.2)
-    (until_before g.H.Shelf c.args.shelf.now c.take_market.new.shelf (c.args.catalog.now ∷ c.args.roll.now ∷ c.args.settings.now ∷ [])
-    (c.args.text.now ∷ map string_bytes c.args.sessions.now) 1 c.in_err-market.field-0.0 c.in_err-market.ensures.used)
-
-pub returns-in_err-text-clause-used : goal.returns-in_err-text-clause-used
-returns-in_err-text-clause-used g c =
-    let p = err_from_is_err_and c.from_residual-in_err-text.result c.from_residual-in_err-text.ensures.1 in
-    rw (p.1, p.2) (until_behind g.H.Shelf c.args.shelf.now c.take_market.new.shelf c.take_text.new.shelf (c.args.catalog.now ∷ c.args.roll.now ∷ c.args.settings.now ∷ []) (c.args.text.now ∷ map string_bytes c.args.sessions.now) 1 c.in_err-text.field-0.0 c.in_ok-market.ensures.used
-    (until_before g.H.Shelf c.take_market.new.shelf c.take_text.new.shelf (c.args.text.now ∷ []) (map string_bytes c.args.sessions.now) 4 c.in_err-text.field-0.0 c.in_err-text.ensures.used))
-
-pub returns-in_err-streams-clause-used : goal.returns-in_err-streams-clause-used
-returns-in_err-streams-clause-used g c =
-    let p = err_from_is_err_and c.from_residual-in_err-streams.result c.from_residual-in_err-streams.ensures.1 in
-    let front =
-    read_behind g.H.Shelf c.args.shelf.now c.take_market.new.shelf c.take_text.new.shelf (c.args.catalog.now ∷ c.args.roll.now ∷ c.args.settings.now ∷ [])
-    (c.args.text.now ∷ []) c.in_ok-market.ensures.used c.in_ok-text.ensures.used in
-    rw (p.1, p.2) (until_behind g.H.Shelf c.args.shelf.now c.take_text.new.shelf c.take_sessions.new.shelf (c.args.catalog.now ∷ c.args.roll.now ∷ c.args.settings.now ∷ c.args.text.now ∷ []) (map string_bytes c.args.sessions.now) 1 c.in_err-streams.field-0.0 front
-    c.in_err-streams.ensures.used)
-
-pub returns-clause-used : goal.returns-clause-used
-returns-clause-used g c =
-    let front =
-    read_behind g.H.Shelf c.args.shelf.now c.take_market.new.shelf c.take_text.new.shelf (c.args.catalog.now ∷ c.args.roll.now ∷ c.args.settings.now ∷ [])
-    (c.args.text.now ∷ []) c.in_ok-market.ensures.used c.in_ok-text.ensures.used in
-    read_behind g.H.Shelf c.args.shelf.now c.take_text.new.shelf c.take_sessions.new.shelf
-    (c.args.catalog.now ∷ c.args.roll.now ∷ c.args.settings.now ∷ c.args.text.now ∷ []) (map string_bytes c.args.sessions.now) front
-    c.in_ok-streams.ensures.used
+pub returns-clause-short : goal.returns-clause-short
+returns-clause-short g c =
+    let one = c.in_ok-text.ensures in
+    subst (λ bytes. length bytes ≤ 67108864) one.says one.within

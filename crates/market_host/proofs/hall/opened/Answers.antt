@@ -1,0 +1,24 @@
+use Rattle.std.proofs.Common.{refl}
+use Rattle.std.proofs.lemmas.Result.{IfOk-weaker}
+use Rattle.dropadd_desk.specs.Market.{Market}
+use Rattle.dropadd_hall.specs.Openings.{CanOpen, IsOpeningFinding, tables_in}
+use Rattle.dropadd_hall.specs.Streams.{request_lists}
+use Rattle.market_host.specs.Works.{HallEndsFor}
+use Rattle.market_host.proofs.HallFacts.{hall_done, hall_found}
+use Rattle.market_host.proofs.ToldEnds.{told_ends}
+use Rattle.market_host.proofs.hall.opened.Goals as goal
+
+pub returns : goal.returns
+returns g c =
+    let offered = c.args.tables.now.catalog in
+    let enrolled = c.args.tables.now.roll in
+    let market : Market = record { catalog = offered; roll = enrolled } in
+    let text = c.args.text.now in
+    let streams = request_lists c.args.streams.now in
+    let told = c.published_hall-told.result in
+    let is = c.published_hall-told.ensures in
+    IfOk-weaker c.told_end.result _ _
+    (λ ended. told_ends (tables_in market) told ended (HallEndsFor offered enrolled text streams) (λ _. ¬ CanOpen market text) (IsOpeningFinding market text)
+    (IfOk-weaker told _ _ (λ made. hall_done offered enrolled text streams made.items) is.told) is.refused is.first
+    (λ finding refused first. hall_found offered enrolled text streams finding _ refused first refl))
+    c.told_end.ensures

@@ -1,0 +1,77 @@
+-- How the inputs of a call are taken from the shelf, one behind another.
+use Rattle.std.specs.Prelude.{ℕ, ◌≡◌, ◌≤◌, List, [], ◌∷◌, ◌++◌, length, Result, MatchResult}
+use Rattle.market_edge.specs.declared.shelf.Shelf as Shelf
+use Rattle.market_edge.specs.Holdings.{IsTextOf}
+use Rattle.market_words.specs.declared.words.Form.{Form}
+use Rattle.market_host.specs.declared.trouble.Trouble.{Trouble}
+use Rattle.market_host.specs.Inputs.{AreRead}
+use Rattle.market_host.specs.Kinds.{Kind, OpensWith, limit_of}
+use Rattle.market_host.specs.Outcomes.{IsLastAtEnd}
+use Rattle.market_host.specs.Reading.{IsTroubleOf}
+use Rattle.market_host.specs.Sights.{sight}
+use Rattle.market_host.specs.Traces.{AreReadOut, AreReadUntil, trace}
+use Rattle.market_host.specs.Troubles.{HasTrouble, IsAtEnd}
+
+-- what a shelf holds stays, and no count of faults falls
+pub record Keeps {H : Type 0} (shelf : Shelf.Ghosts H) (old new : H) : Type 0 where
+  pub holds : shelf.holds new ≡ shelf.holds old
+  pub later : (other : List ℕ) → shelf.faults old other ≤ shelf.faults new other
+
+-- an input of this kind and this name was read to its end, and P holds of its text
+pub record IsTaken {H : Type 0} (shelf : Shelf.Ghosts H) (kind : Kind) (name : List ℕ)
+    (P : List ℕ → Type 0) (old new : H) : Type 0 where
+  pub text : List ℕ
+  pub whole : IsTextOf (shelf.holds old) name text
+  pub within : length text ≤ limit_of kind
+  pub says : P text
+  pub ended : IsAtEnd (sight shelf old new) name
+  pub used : AreReadOut (trace shelf old new) (name ∷ [])
+  pub kept : Keeps shelf old new
+
+-- an input of this kind, name and number stops the call, where Q holds of the texts of those before
+-- it
+pub record Stops {H : Type 0} (shelf : Shelf.Ghosts H) (kind : Kind) (name : List ℕ) (number : ℕ)
+    (Q : List (List ℕ) → Type 0) (old new : H) (stop : Trouble) : Type 0 where
+  pub trouble : IsTroubleOf (sight shelf old new) kind name number Q stop
+  pub used : AreReadUntil (trace shelf old new) (name ∷ []) number stop
+  pub kept : Keeps shelf old new
+
+-- what an input of this kind, name and number says is had, or it stops the call
+abbrev pub Takes : {H A : Type 0} → Shelf.Ghosts H → Kind → List ℕ → ℕ → (List (List ℕ) → Type 0)
+    → (List ℕ → A → Type 0) → H → H → Result A Trouble → Type 0
+Takes shelf kind name number Q IsSaidBy old new result =
+    MatchResult result (λ said. IsTaken shelf kind name (λ text. IsSaidBy text said) old new)
+    (Stops shelf kind name number Q old new)
+
+-- the inputs of a form that have these names were read to their ends, and have these texts
+pub record AreTaken {H : Type 0} (shelf : Shelf.Ghosts H) (form : Form)
+    (names texts : List (List ℕ)) (old new : H) : Type 0 where
+  pub read : AreRead form (shelf.holds old) names texts
+  pub ended : IsLastAtEnd (sight shelf old new) names
+  pub used : AreReadOut (trace shelf old new) names
+  pub kept : Keeps shelf old new
+
+-- one of the inputs of a form, which have these names, stops the call
+pub record OneStops {H : Type 0} (shelf : Shelf.Ghosts H) (form : Form) (names : List (List ℕ))
+    (old new : H) (stop : Trouble) : Type 0 where
+  pub trouble : HasTrouble form (sight shelf old new) names stop
+  pub used : AreReadUntil (trace shelf old new) names 1 stop
+  pub kept : Keeps shelf old new
+
+-- all inputs of a form, which have these names, are taken, and P holds of their texts and what is
+-- had; or one of them stops the call
+abbrev pub TakesAll : {H A : Type 0} → Shelf.Ghosts H → Form → List (List ℕ)
+    → (List (List ℕ) → A → Type 0) → H → H → Result A Trouble → Type 0
+TakesAll shelf form names P old new result =
+    MatchResult result
+    (λ said. (texts : List (List ℕ)) × AreTaken shelf form names texts old new × P texts said)
+    (OneStops shelf form names old new)
+
+-- the same of inputs of these kinds and names, for each form whose first inputs they are
+abbrev pub TakesFirst : {H A : Type 0} → Shelf.Ghosts H → List Kind → List (List ℕ)
+    → (List (List ℕ) → A → Type 0) → H → H → Result A Trouble → Type 0
+TakesFirst shelf kinds names P old new result =
+    (form : Form) → OpensWith kinds form
+    → MatchResult result
+    (λ said. (texts : List (List ℕ)) × AreTaken shelf form names texts old new × P texts said)
+    (λ stop. (later : List (List ℕ)) → OneStops shelf form (names ++ later) old new stop)
