@@ -21,7 +21,7 @@ pub struct AuditTasks {
 }
 
 impl AuditTasks {
-    // The tasks of these students with these bundles.
+    /// The tasks of these students with these bundles: one for each student, its row.
     pub(crate) fn of(crowd: Arc<Crowd>, bundles: Arc<Vec<Bundle>>) -> AuditTasks
         ensures { allocation_of (arc_value result.crowd) (arc_value result.bundles).items
             ≡ allocation_of (arc_value crowd) (arc_value bundles).items }

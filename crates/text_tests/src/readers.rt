@@ -32,7 +32,8 @@ pub fn commands_in(rt: &impl Abort, alloc: Global, text: &[u8]) -> Vec<Command> 
     read_stream(alloc, text, 100).expect(rt, "commands")
 }
 
-// The streams of one session that says this.
+/// The streams of one session that says this, at most 100 commands; the test fails where they are
+/// not read.
 pub fn streams_in(rt: &impl Abort, alloc: Global, text: &[u8]) -> Vec<Vec<Command>> {
     let mut streams = Vec::new(alloc);
     streams
