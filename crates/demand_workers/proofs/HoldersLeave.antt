@@ -438,9 +438,6 @@ written_twice [] i a b = refl
 written_twice (x ∷ xs) zero a b = refl
 written_twice (x ∷ xs) (suc i) a b = ap (λ ys. x ∷ ys) (written_twice xs i a b)
 
-pub put_back : (prices : List Tokens) (i : ℕ) (a d : Tokens) → slice_set (slice_set prices i a) i (slice_index_or prices i d) ≡ prices
-put_back prices i a d = written_twice prices i a (slice_index_or prices i d) ∙ set-get_or prices i d
-
 -- a holder that was found at the present prices, however they are read
 pub keeps_now : (crowd : CrowdData) (prices read : List Tokens) (s i : ℕ) (holder : ℕ × ℕ) → read ≡ prices → holder.1 ≡ i → holder.0 ≤ 1000001
     → price_in read s < leaves holder → leaves holder ≤ top crowd → takes crowd (price_in read) s (leaves holder - 1) i ≡ true
@@ -448,12 +445,6 @@ pub keeps_now : (crowd : CrowdData) (prices read : List Tokens) (s i : ℕ) (hol
 keeps_now crowd prices read s i holder same is room later capped still =
     subst (λ (ps : List Tokens). Keeps crowd (price_in ps) s (price_in ps s) holder) same
     record { room = room; some = omega arith; later = omega arith; capped = capped; still = ap (takes crowd (price_in read) s (leaves holder - 1)) is ∙ still }
-
--- the trial, once the next price is written
-pub trial_there : (prices trial : List Tokens) (s place : ℕ) (least next : Tokens) → place ≡ s → trial ≡ slice_set prices place least
-    → slice_set trial place next ≡ slice_set prices s next
-trial_there prices trial s place least next at is =
-    ap (λ (l : List Tokens). slice_set l place next) is ∙ written_twice prices place least next ∙ ap (λ (k : ℕ). slice_set prices k next) at
 
 -- what was taken there tells whether the section is taken at that price
 pub asked_there : (crowd : CrowdData) (prices read : List Tokens) (s q i : ℕ) (bundle : List ℕ) → ArePricesFor crowd prices → s < crowd.sections

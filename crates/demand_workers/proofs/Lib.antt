@@ -4,6 +4,7 @@ pub mod HolderSums
 pub mod HoldersLeave
 pub mod Recalling
 pub mod Rounds
+pub mod Seats
 pub mod Working
 pub mod Noting
 pub mod Listing

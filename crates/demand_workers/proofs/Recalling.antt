@@ -79,22 +79,6 @@ places_low crowd n i menu size low is =
     let P : ℕ → Type 0 = λ m. All (λ (rated : Rated). rated.section.0 < m) menu.places in
     subst P (sym size) within
 
--- what was read at a version, as it came back
-pub remembered_at : (crowd asked : CrowdData) (batch : List (Vec Tokens Global)) (versions : List (List Tokens)) (v : ℕ) (d : Vec Tokens Global)
-    (prices : List Tokens) (len : ℕ) (new old : List Bundle)
-    → v < length batch → AreVersionsFor crowd batch
-    → prices ≡ (slice_index_or batch v d).items → len ≡ length new → asked ≡ crowd → versions ≡ prices_of batch
-    → AreTaken asked (slice_index_or versions v []) new → AreRemembered crowd prices (take len (new ++ drop (length new) old))
-remembered_at crowd asked batch versions v d prices len new old low are copied whole same listed taken =
-    let read : slice_index_or versions v [] ≡ prices =
-    ap (λ l. slice_index_or l v []) listed ∙ get_or-map (λ (w : Vec Tokens Global). w.items) batch v d [] low ∙ sym copied in
-    let told : AreTaken crowd prices new =
-    subst (λ (p : List Tokens). AreTaken crowd p new) read (subst (λ (c : CrowdData). AreTaken c (slice_index_or versions v []) new) same taken) in
-    record {
-      sized = λ some. ap length copied ∙ (are v d low).same;
-      taken = subst (λ (bundles : List Bundle). AreTaken crowd prices bundles) (sym (lent_back len new old whole)) told;
-    }
-
 -- the same of the one version of a round
 pub remembered_once : (crowd asked : CrowdData) (prices : List Tokens) (version : Vec Tokens Global) (versions : List (List Tokens)) (len : ℕ)
     (new old : List Bundle)

@@ -1,19 +1,15 @@
 -- A round and the seats of its board.
-use Rattle.std.proofs.Common.{ℕ, ◌≡◌, ◌<◌, ◌≤◌, ◌+◌, ◌∙◌, ◌++◌, List, Vec, Global, All, length, take, drop, slice_index_or, refl, ap, sym, subst, arith}
-use Rattle.std.specs.List.{Any}
-use Rattle.std.proofs.lemmas.List.{length-map}
+use Rattle.std.proofs.Common.{ℕ, ◌≡◌, ◌<◌, ◌≤◌, ◌∙◌, List, [], Vec, Global, All, length, slice_index_or, ap, sym, subst, arith}
+use Rattle.std.proofs.lemmas.List.{get_or-map, length-map}
 use Rattle.std.proofs.lemmas.List.Elements.{All-map}
-use Rattle.chronicle.proofs.SeatLists.{all_at_their_numbers}
 use Rattle.market_units.specs.declared.units.Tokens.{Tokens}
 use Rattle.demand_api.specs.declared.crowd.Crowd.{Crowd}
-use Rattle.demand_api.specs.Crowds.{top}
-use Rattle.demand_api.specs.Asking.{AreSectionPrices}
+use Rattle.demand_api.specs.Crowds.{CrowdData, top}
+use Rattle.demand_api.specs.Asking.{ArePricesFor, AreSectionPrices}
 use Rattle.demand_api.specs.Views.{data_of}
 use Rattle.demand_api.proofs.Parts.{top_high}
-use Rattle.demand_api.proofs.Takers.{lent_back}
 use Rattle.price_board.specs.declared.round.Ask.{Ask}
 use Rattle.price_board.specs.Openings.{IsAskOf, IsRound}
-use Rattle.price_board.specs.Seats.{RoundSeat}
 use Rattle.demand_workers.specs.Rounds.{prices_of, AreVersionsFor}
 
 -- versions for a crowd, and as many asks, are a round of it
@@ -40,12 +36,16 @@ versions_are_round crowd versions copies asks are some few many among same =
       sections = among;
     }
 
--- each number below the count is that of a seat, of the seats that were lent whole and came back as many
-pub every_number : (count len : ℕ) (lent new old : List (RoundSeat)) → length lent ≡ count → len ≡ length lent
-    → length new ≡ length lent
-    → ((n : ℕ) (d : RoundSeat) → n < length lent → (slice_index_or new n d).number ≡ n)
-    → (n : ℕ) → n < count → Any (λ (s : RoundSeat). s.number ≡ n) (take len (new ++ drop (length new) old))
-every_number count len lent new old counted whole back numbers n low =
-    subst (λ seats. Any (λ (s : RoundSeat). s.number ≡ n) seats) (sym (lent_back len new old (whole ∙ sym back)))
-    (all_at_their_numbers count new (let goal : count ≤ length new = omega arith in goal)
-    (λ k d below. numbers k d (let goal : k < length lent = omega arith in goal)) n low)
+-- copies of versions are versions
+pub copies_priced : (crowd : CrowdData) (versions copies : List (Vec Tokens Global)) → prices_of copies ≡ prices_of versions → AreVersionsFor crowd versions
+    → AreVersionsFor crowd copies
+copies_priced crowd versions copies same are k d low =
+    let n : ℕ = length copies in
+    let m : ℕ = length versions in
+    let many : n ≡ m =
+    sym (length-map copies (λ (w : Vec Tokens Global). w.items)) ∙ ap length same ∙ length-map versions (λ (w : Vec Tokens Global). w.items) in
+    let inside : k < m = (let h : k < n = low in omega arith) in
+    let there : (slice_index_or versions k d).items ≡ (slice_index_or copies k d).items =
+    sym (get_or-map (λ (w : Vec Tokens Global). w.items) versions k d [] inside) ∙ ap (λ l. slice_index_or l k []) (sym same)
+    ∙ get_or-map (λ (w : Vec Tokens Global). w.items) copies k d [] low in
+    subst (ArePricesFor crowd) there (are k d inside)

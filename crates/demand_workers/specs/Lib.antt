@@ -1,7 +1,9 @@
-pub mod Batches
+pub mod Asked
+pub mod Found
+pub mod Inquiring
 pub mod Leaving
 pub mod Remembered
 pub mod Rounds
 pub mod Notes
-pub mod Questions
+pub mod Surveys
 pub mod Walks

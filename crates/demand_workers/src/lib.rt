@@ -1,26 +1,30 @@
-//! The demands of a crowd, found by workers that draw their tasks from a price board, each in a
-//! thread of its own.
+//! The demands of a crowd, found by workers that draw their tasks from a board, each in a thread of
+//! its own.
 // Neither: that workers run beside one another, beyond a test of the whole program; which students
 // are asked, how many ahead, and by which thread; that all memory of a call is taken before its
 // first thread starts (between two boards memory may be wanted, when no thread runs); how long it
 // takes.
 #![tactic(auto)]
 
-mod ahead;
 mod answering;
-mod batch;
+mod asker;
+mod asking;
 mod beside;
 mod cheaper;
-mod effort;
+mod foreseen;
+mod inquiry;
 mod leaving;
+mod noted;
 mod pool;
 mod pooled_demands;
-mod questions;
-mod raised;
 mod remembered;
 mod round;
 mod taking;
+mod tasks;
+mod terms;
+mod trial;
 mod unsettled;
+mod walks;
 mod worker;
 
 pub use pool::Pool;

@@ -42,6 +42,7 @@ impl Pool {
 
     /// The workspaces, one for each worker.
     pub(crate) fn workspaces(&self) -> &[Mutex<Workspace>]
+        ensures each { length result.now ≡ self.now.workers }
         ensures some { 1 ≤ length result.now }
         ensures few { length result.now ≤ MAX_WORKERS }
     {

@@ -5,45 +5,44 @@ ghost use Rattle.bundle_rules.specs.Demand.{price_in};
 ghost use Rattle.demand_api.specs.Asking.{ArePricesFor};
 ghost use Rattle.demand_api.specs.Crowds.{counts};
 ghost use Rattle.demand_api.specs.Prices.{AreLeastPrices};
-ghost use Rattle.demand_workers.specs.Batches.{IsFound, IsSurvey};
-ghost use Rattle.demand_workers.specs.Remembered.{AreRemembered, AreTaken};
 ghost use Rattle.demand_api.specs.Views.{data_of};
-ghost use Rattle.demand_workers.specs.Rounds.{AreVersionsFor};
+ghost use Rattle.demand_workers.specs.Found.{AreFound, terms_of};
+ghost use Rattle.demand_workers.specs.Remembered.{AreRemembered, AreTaken};
+ghost use Rattle.demand_workers.specs.Rounds.{AreVersionsFor, prices_of};
+ghost use Rattle.demand_workers.specs.Surveys.{IsSurvey};
 
 use crate::Pool;
-use crate::ahead::{answers_at, ask_ahead};
 use crate::answering::read_all;
-use crate::batch::bundles_at;
-use crate::effort::{few_at, few_listed};
-use crate::leaving::{least_for_each, least_price};
-use crate::raised::raised_memory;
+use crate::asking::ask;
+use crate::foreseen::answers_at;
+use crate::inquiry::Inquiries;
 use crate::remembered::Remembered;
-use crate::round::ask_workers;
-use crate::taking::{count_all, count_takers, take_all, take_listed};
-use crate::unsettled::{Survey, ask_few};
+use crate::round::{ask_workers, copies_of};
+use crate::taking::{count_all, read_listed};
+use crate::unsettled::{bundles_at, unsettled};
 use bundle_rules::Bundle;
 use demand_api::{Crowd, Demands};
 use market_edge::{AnyGate, Gate};
-use market_units::{MAX_STUDENTS, NoMemory, SectionNo, StudentNo, Tokens};
+use market_units::{NoMemory, SectionNo, StudentNo, Tokens};
 use price_board::Ask;
 use std::alloc::Global;
 use std::sync::{Arc, Wait};
 use std::thread::Threads;
 
-/// A crowd that is asked by the workers of a pool, each with a workspace of its own. They draw the
-/// tasks of a call, or of one version of it, from one board, each in a thread of its own where one
-/// can be started, and pass the gate before their first draw and after each post. Where what is
-/// remembered of earlier calls leaves few students to ask, the caller's own thread asks them,
-/// without a board. Students who are surely asked, at several versions of which few are asked, or
-/// on the walk to a least price, are asked by several workers at once where they are enough for
-/// that, also without a board. Its one form is `PooledDemands<AnyGate>`, which `make` gives.
+/// A crowd that is asked by the workers of a pool, each with a workspace of its own. What each
+/// student takes at some prices is remembered. Whom that does not settle at the versions of a call
+/// is asked in one round: an inquiry for each student and version, which workers draw from a board,
+/// each in a thread of its own where one can be started, or the first worker alone, in the caller's
+/// thread, where the inquiries are few. Where nothing is remembered, each student is a task of a
+/// price board. Workers pass the gate before their first draw and after each post. Students on the
+/// walks to least prices are asked in such rounds too. Its one form is `PooledDemands<AnyGate>`, which `make` gives.
 #[derive(Drop)]
 pub struct PooledDemands<G> {
-    crowd: Arc<Crowd>,
-    pool: Pool,
-    gate: G,
+    pub(crate) crowd: Arc<Crowd>,
+    pub(crate) pool: Pool,
+    pub(crate) gate: G,
     asked: u64,
-    remembered: Remembered,
+    pub(crate) remembered: Remembered,
     ghost right: { AreRemembered (data_of (arc_value crowd)) remembered.prices.items remembered.bundles.items },
 }
 
@@ -82,19 +81,45 @@ impl<'g> PooledDemands<AnyGate<'g>> {
         ensures taken { IfOk result
             (λ bundles. AreTaken (data_of (arc_value self.now.crowd)) prices.now bundles.items) }
     {
-        if few_at(&self.remembered, &self.crowd, prices) {
-            let mut bundles = vec![in alloc; Bundle::empty(); self.crowd.menus.len()]?;
-            let mut workspace = self.pool.workspaces()[0].lock(rt);
-            take_all(
-                &mut workspace,
-                &self.remembered,
-                &self.crowd,
-                prices,
-                &mut bundles,
-            );
-            return Ok(bundles);
+        if self.remembered.bundles.len() != self.crowd.menus.len() {
+            return self.board_bundles(rt, alloc, prices);
         }
-        self.board_bundles(rt, alloc, prices)
+        let version = prices.to_vec(alloc)?;
+        let inquiries = self.survey(alloc, &[version])?;
+        let found = ask(
+            rt,
+            alloc,
+            &self.pool,
+            self.gate,
+            &self.remembered,
+            &inquiries,
+        )?;
+        bundles_at(alloc, &self.remembered, &inquiries, &found, 0)
+    }
+
+    // The inquiries at these versions of those whom what is remembered does not settle.
+    fn survey(&self, alloc: Global, versions: &[Vec<Tokens>]) -> Result<Arc<Inquiries>, NoMemory>
+        requires all { length self.now.remembered.bundles.items
+            ≡ length (arc_value self.now.crowd).menus.items }
+        requires versions { AreVersionsFor (data_of (arc_value self.now.crowd)) versions.now }
+        ensures crowd { IfOk result
+            (λ inquiries. arc_value (arc_value inquiries).crowd ≡ arc_value self.now.crowd) }
+        ensures versions { IfOk result
+            (λ inquiries. prices_of (arc_value inquiries).versions.items
+            ≡ prices_of versions.now) }
+        ensures survey { IfOk result
+            (λ inquiries. IsSurvey (data_of (arc_value self.now.crowd))
+            self.now.remembered.bundles.items (prices_of versions.now) (length versions.now)
+            (arc_value inquiries).list.items) }
+    {
+        let list = unsettled(alloc, &self.remembered, &self.crowd, versions)?;
+        let inquiries = Inquiries {
+            crowd: Arc::try_clone(&self.crowd)?,
+            versions: copies_of(alloc, versions)?,
+            list,
+        };
+        let shared = Arc::new(alloc, inquiries)?;
+        Ok(shared)
     }
 
     // The same, where all workers draw the students from a board.
@@ -173,34 +198,6 @@ impl<'g> PooledDemands<AnyGate<'g>> {
         Ok(())
     }
 
-    // Remembers what each student takes at these prices, but where few of the listed ones have to
-    // be asked and many of all.
-    fn recall_for<R: Threads + Wait + Sync>(
-        &mut self,
-        rt: &R,
-        alloc: Global,
-        prices: &[Tokens],
-        students: &[StudentNo],
-    ) -> Result<(), NoMemory>
-        requires prices { ArePricesFor (data_of (arc_value self.old.crowd)) prices.now }
-        requires students { All
-            (λ student. student.0 < length (arc_value self.old.crowd).menus.items) students.now }
-        requires few { length students.now ≤ MAX_STUDENTS }
-        ensures crowd { self.new.crowd ≡ self.old.crowd }
-        ensures asked { self.new.asked ≡ self.old.asked }
-    {
-        if self.remembered.is_of(self.crowd.menus.len(), prices) {
-            return Ok(());
-        }
-        if few_at(&self.remembered, &self.crowd, prices) {
-            return self.recall(rt, alloc, prices);
-        }
-        if few_listed(&self.remembered, &self.crowd, prices, students) {
-            return Ok(());
-        }
-        self.recall(rt, alloc, prices)
-    }
-
     // The least price of one section at which at most so many take it, the other prices as
     // remembered. What is taken there is remembered: whoever raises the price asks for it next.
     fn least_alone<R: Threads + Wait + Sync>(
@@ -221,39 +218,11 @@ impl<'g> PooledDemands<AnyGate<'g>> {
             (λ found. AreLeastPrices (data_of (arc_value self.old.crowd))
             (price_in self.old.remembered.prices.items) ((section, limit) ∷ []) found.items) }
     {
-        let mut trial = self.remembered.prices.as_slice().to_vec(alloc)?;
-        let walks = ask_ahead(
-            rt,
-            alloc,
-            self.pool.workspaces(),
-            &self.remembered,
-            &self.crowd,
-            &[(section, limit)],
-        )?;
-        let answered = answers_at(&self.crowd, &walks, 0);
-        let (least, memory) = {
-            let mut workspace = self.pool.workspaces()[0].lock(rt);
-            let walk = least_price(
-                alloc,
-                &mut workspace,
-                &self.remembered,
-                &self.crowd,
-                answered,
-                &mut trial,
-                section,
-                limit,
-            )?;
-            let memory = raised_memory(
-                alloc,
-                &mut workspace,
-                &self.remembered,
-                &self.crowd,
-                section,
-                &walk,
-            )?;
-            (walk.least, memory)
-        };
-        let found = vec![in alloc; least; 1]?;
+        let walks = self.foresee(rt, alloc, &[(section, limit)])?;
+        let answered = answers_at(&self.crowd, &self.remembered.prices, &walks, 0, section);
+        let walk = self.least_price(rt, alloc, answered, section, limit)?;
+        let memory = self.raised_memory(rt, alloc, section, &walk)?;
+        let found = vec![in alloc; walk.least; 1]?;
         self.remembered = memory;
         Ok(found)
     }
@@ -279,70 +248,36 @@ impl<'g> PooledDemands<AnyGate<'g>> {
         self.recall(rt, alloc, prices)
     }
 
-    // How many students take each section at a version of the batch.
-    fn counted<R: Threads + Wait + Sync>(
+    // How many students take each section at a version of a survey.
+    fn counted(
         &self,
-        rt: &R,
         alloc: Global,
-        survey: &Survey,
-        batch: &[Vec<Tokens>],
+        inquiries: &Inquiries,
+        found: &[Bundle],
         version: usize,
     ) -> Result<Vec<u32>, NoMemory>
         requires all { length self.now.remembered.bundles.items
             ≡ length (arc_value self.now.crowd).menus.items }
-        requires batch { AreVersionsFor (data_of (arc_value self.now.crowd)) batch.now }
-        requires version { version < length batch.now }
-        requires survey { IsSurvey (arc_value self.now.crowd) self.now.remembered.bundles.items
-            batch.now survey.now.few.items survey.now.inquiries.items }
-        requires found { All (IsFound (data_of (arc_value self.now.crowd)) batch.now)
-            survey.now.inquiries.items }
+        requires crowd { arc_value inquiries.now.crowd ≡ arc_value self.now.crowd }
+        requires survey { IsSurvey (data_of (arc_value self.now.crowd))
+            self.now.remembered.bundles.items (prices_of inquiries.now.versions.items)
+            (length inquiries.now.versions.items) inquiries.now.list.items }
+        requires found { AreFound (terms_of inquiries.now) found.now }
+        requires version { version < length inquiries.now.versions.items }
         ensures { IfOk result
-            (λ found. (d : _)
-            → found.items
+            (λ counted. counted.items
             ≡ counts (data_of (arc_value self.now.crowd))
-            (price_in (slice_index_or batch.now version d).items)) }
+            (price_in (slice_index_or (prices_of inquiries.now.versions.items) version []))) }
     {
-        let mut found = vec![in alloc; 0; usize::from(self.crowd.sections)]?;
-        let bundles = self.surveyed(rt, alloc, survey, batch, version)?;
-        count_all(&self.crowd, &batch[version], &bundles, &mut found);
-        Ok(found)
-    }
-
-    // What each student takes at a version of the batch.
-    fn surveyed<R: Threads + Wait + Sync>(
-        &self,
-        rt: &R,
-        alloc: Global,
-        survey: &Survey,
-        batch: &[Vec<Tokens>],
-        version: usize,
-    ) -> Result<Vec<Bundle>, NoMemory>
-        requires all { length self.now.remembered.bundles.items
-            ≡ length (arc_value self.now.crowd).menus.items }
-        requires batch { AreVersionsFor (data_of (arc_value self.now.crowd)) batch.now }
-        requires version { version < length batch.now }
-        requires survey { IsSurvey (arc_value self.now.crowd) self.now.remembered.bundles.items
-            batch.now survey.now.few.items survey.now.inquiries.items }
-        requires found { All (IsFound (data_of (arc_value self.now.crowd)) batch.now)
-            survey.now.inquiries.items }
-        ensures len { IfOk result
-            (λ bundles. length bundles.items ≡ length (arc_value self.now.crowd).menus.items) }
-        ensures taken { IfOk result
-            (λ bundles. (d : _)
-            → AreTaken (data_of (arc_value self.now.crowd))
-            (slice_index_or batch.now version d).items bundles.items) }
-    {
-        if !survey.few[version] {
-            return self.board_bundles(rt, alloc, &batch[version]);
-        }
-        bundles_at(
-            alloc,
-            &self.remembered,
+        let mut counted = vec![in alloc; 0; usize::from(self.crowd.sections)]?;
+        let bundles = bundles_at(alloc, &self.remembered, inquiries, found, version)?;
+        count_all(
             &self.crowd,
-            batch,
-            &survey.inquiries,
-            version,
-        )
+            &inquiries.versions[version],
+            &bundles,
+            &mut counted,
+        );
+        Ok(counted)
     }
 }
 
@@ -371,16 +306,18 @@ impl Demands for PooledDemands<AnyGate<'_>> {
         // What is remembered once stays as it is here: a search counts its neighbours and then asks
         // again near the vector where it stands.
         self.recall_first(rt, alloc, &batch[0])?;
-        let survey = ask_few(
+        let inquiries = self.survey(alloc, batch)?;
+        let bundles = ask(
             rt,
             alloc,
-            self.pool.workspaces(),
+            &self.pool,
+            self.gate,
             &self.remembered,
-            &self.crowd,
-            batch,
+            &inquiries,
         )?;
+        let asked: &Inquiries = &inquiries;
         for version in 0..batch.len() {
-            let counts = self.counted(rt, alloc, &survey, batch, version)?;
+            let counts = self.counted(alloc, asked, &bundles, version)?;
             found.push(counts)?;
         }
         Ok(found)
@@ -395,16 +332,8 @@ impl Demands for PooledDemands<AnyGate<'_>> {
     ) -> Result<Vec<Bundle>, NoMemory> {
         self.asked = self.asked.saturating_add(1);
         let mut bundles = vec![in alloc; Bundle::empty(); students.len()]?;
-        self.recall_for(rt, alloc, prices, students)?;
-        let mut workspace = self.pool.workspaces()[0].lock(rt);
-        take_listed(
-            &mut workspace,
-            &self.remembered,
-            &self.crowd,
-            prices,
-            students,
-            &mut bundles,
-        );
+        self.recall(rt, alloc, prices)?;
+        read_listed(&self.crowd, &self.remembered, students, &mut bundles);
         Ok(bundles)
     }
 
@@ -417,17 +346,6 @@ impl Demands for PooledDemands<AnyGate<'_>> {
         limit: u32,
     ) -> Result<bool, NoMemory> {
         self.asked = self.asked.saturating_add(1);
-        if few_at(&self.remembered, &self.crowd, prices) {
-            let mut workspace = self.pool.workspaces()[0].lock(rt);
-            let takers = count_takers(
-                &mut workspace,
-                &self.remembered,
-                &self.crowd,
-                prices,
-                section,
-            );
-            return Ok(takers > limit);
-        }
         let version = prices.to_vec(alloc)?;
         let asks = vec![in alloc; Ask::Exceeds { section, limit }; 1]?;
         let answers = ask_workers(
@@ -457,22 +375,6 @@ impl Demands for PooledDemands<AnyGate<'_>> {
         if let [(section, limit)] = pairs {
             return self.least_alone(rt, alloc, *section, *limit);
         }
-        let walks = ask_ahead(
-            rt,
-            alloc,
-            self.pool.workspaces(),
-            &self.remembered,
-            &self.crowd,
-            pairs,
-        )?;
-        let mut workspace = self.pool.workspaces()[0].lock(rt);
-        least_for_each(
-            alloc,
-            &mut workspace,
-            &self.remembered,
-            &self.crowd,
-            &walks,
-            pairs,
-        )
+        self.least_for_each(rt, alloc, pairs)
     }
 }

@@ -92,8 +92,11 @@ fn work_and_close<R: Threads + Wait + Sync>(
     board.close(seats)
 }
 
-// Copies of these vectors of prices.
-fn copies_of(alloc: Global, versions: &[Vec<Tokens>]) -> Result<Vec<Vec<Tokens>>, NoMemory>
+/// Copies of these vectors of prices. The only error is that memory was not given.
+pub(crate) fn copies_of(
+    alloc: Global,
+    versions: &[Vec<Tokens>],
+) -> Result<Vec<Vec<Tokens>>, NoMemory>
     ensures { IfOk result (λ copies. prices_of copies.items ≡ prices_of versions.now) }
 {
     let mut copies = Vec::with_capacity(alloc, versions.len())?;

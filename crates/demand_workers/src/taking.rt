@@ -4,7 +4,7 @@ ghost use Rattle.std.specs.FinSet as set;
 ghost use Rattle.bundle_rules.specs.Bundles.{sections_of};
 ghost use Rattle.bundle_rules.specs.Demand.{price_in};
 ghost use Rattle.demand_api.specs.Asking.{ArePricesFor};
-ghost use Rattle.demand_api.specs.Crowds.{count, counts, demand_of};
+ghost use Rattle.demand_api.specs.Crowds.{counts, demand_of};
 ghost use Rattle.demand_workers.specs.Remembered.{AreRemembered, AreTaken};
 ghost use Rattle.demand_api.specs.Views.{data_of};
 
@@ -12,7 +12,7 @@ use crate::remembered::Remembered;
 use bundle_rules::Bundle;
 use demand_api::{Crowd, count_bundle};
 use demand_oracle::{Workspace, demand, demand_from};
-use market_units::{SectionNo, SectionSet, StudentNo, Tokens};
+use market_units::{SectionSet, StudentNo, Tokens};
 
 /// What a student takes at these prices, of all sections: remembered, or asked.
 pub(crate) fn taken(
@@ -89,50 +89,26 @@ pub(crate) fn asked(
     )
 }
 
-/// Writes what each listed student takes at these prices, in the order of the list.
-pub(crate) fn take_listed(
-    workspace: &mut Workspace,
+/// Writes what each listed student takes at the remembered prices, in the order of the list.
+pub(crate) fn read_listed(
+    _crowd: &Crowd,
     remembered: &Remembered,
-    crowd: &Crowd,
-    prices: &[Tokens],
     students: &[StudentNo],
     bundles: &mut [Bundle],
 )
-    requires remembered { AreRemembered (data_of crowd.now) remembered.now.prices.items
+    requires all { length remembered.now.bundles.items ≡ length _crowd.now.menus.items }
+    requires taken { AreTaken (data_of _crowd.now) remembered.now.prices.items
         remembered.now.bundles.items }
-    requires prices { ArePricesFor (data_of crowd.now) prices.now }
-    requires students { All (λ student. student.0 < length crowd.now.menus.items) students.now }
+    requires students { All (λ student. student.0 < length _crowd.now.menus.items) students.now }
     requires same { length bundles.old ≡ length students.now }
     ensures { map sections_of bundles.new
-        ≡ map (λ student. demand_of (data_of crowd.now) (price_in prices.now) student.0)
+        ≡ map
+        (λ student. demand_of (data_of _crowd.now) (price_in remembered.now.prices.items)
+        student.0)
         students.now }
 {
-    let allowed = SectionSet::full(crowd.sections);
     for place in 0..students.len() {
-        let student = students[place];
-        bundles[place] = taken(workspace, remembered, crowd, prices, &allowed, student);
-    }
-}
-
-/// Writes what each student takes at these prices, in the crowd's order.
-pub(crate) fn take_all(
-    workspace: &mut Workspace,
-    remembered: &Remembered,
-    crowd: &Crowd,
-    prices: &[Tokens],
-    bundles: &mut [Bundle],
-)
-    requires remembered { AreRemembered (data_of crowd.now) remembered.now.prices.items
-        remembered.now.bundles.items }
-    requires prices { ArePricesFor (data_of crowd.now) prices.now }
-    requires same { length bundles.old ≡ length crowd.now.menus.items }
-    ensures len { length bundles.new ≡ length bundles.old }
-    ensures taken { AreTaken (data_of crowd.now) prices.now bundles.new }
-{
-    let allowed = SectionSet::full(crowd.sections);
-    for place in 0..bundles.len() {
-        let student = StudentNo(place as u16);
-        bundles[place] = taken(workspace, remembered, crowd, prices, &allowed, student);
+        bundles[place] = remembered.bundles[usize::from(students[place].0)];
     }
 }
 
@@ -146,29 +122,4 @@ pub(crate) fn count_all(_crowd: &Crowd, _prices: &[Tokens], bundles: &[Bundle], 
     for place in 0..bundles.len() {
         count_bundle(found, bundles[place].sections());
     }
-}
-
-/// How many students take the section at these prices.
-pub(crate) fn count_takers(
-    workspace: &mut Workspace,
-    remembered: &Remembered,
-    crowd: &Crowd,
-    prices: &[Tokens],
-    section: SectionNo,
-) -> u32
-    requires remembered { AreRemembered (data_of crowd.now) remembered.now.prices.items
-        remembered.now.bundles.items }
-    requires prices { ArePricesFor (data_of crowd.now) prices.now }
-    ensures { result ≡ count (data_of crowd.now) (price_in prices.now) section.0 }
-{
-    let allowed = SectionSet::full(crowd.sections);
-    let mut count = 0;
-    for place in 0..crowd.menus.len() {
-        let student = StudentNo(place as u16);
-        let bundle = taken(workspace, remembered, crowd, prices, &allowed, student);
-        if bundle.has(section) {
-            count += 1;
-        }
-    }
-    count
 }

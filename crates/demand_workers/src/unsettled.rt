@@ -1,129 +1,143 @@
-// Students whom what is remembered does not settle, asked by several workers.
-ghost use Rattle.std.specs.Prelude.{◌≡◌, ◌<◌, ◌≤◌, All, IfOk, IfSome, length, slice_index_or};
-ghost use Rattle.demand_workers.specs.Batches.{AreOthersKept, IsFound, IsInquiry, IsSurvey};
-ghost use Rattle.demand_workers.specs.Remembered.{AreRemembered};
+// Students whom what is remembered does not settle.
+ghost use Rattle.std.specs.Prelude.{◌≡◌, ◌<◌, ◌+◌, ℕ, [], All, IfOk, length, slice_index_or};
+ghost use Rattle.std.specs.Arc.{arc_value};
+ghost use Rattle.bundle_rules.specs.Bundles.{sections_of};
+ghost use Rattle.bundle_rules.specs.Demand.{price_in};
+ghost use Rattle.demand_api.specs.Crowds.{demand_of};
 ghost use Rattle.demand_api.specs.Views.{data_of};
-ghost use Rattle.demand_workers.specs.Rounds.{AreVersionsFor};
+ghost use Rattle.demand_workers.specs.Asked.{no_inquiry};
+ghost use Rattle.demand_workers.specs.Found.{AreFound, terms_of};
+ghost use Rattle.demand_workers.specs.Remembered.{AreRemembered, AreTaken};
+ghost use Rattle.demand_workers.specs.Rounds.{AreVersionsFor, prices_of};
+ghost use Rattle.demand_workers.specs.Surveys.{AreOthersKept, IsSurvey};
 
-use crate::batch::{Inquiry, answer_batch};
 use crate::cheaper::Cheaper;
-use crate::effort::are_few_of_batch;
+use crate::inquiry::{Inquiries, Inquiry};
 use crate::remembered::Remembered;
 use bundle_rules::Bundle;
 use demand_api::Crowd;
-use demand_oracle::Workspace;
 use market_units::{NoMemory, StudentNo, Tokens};
 use std::alloc::Global;
-use std::sync::{Mutex, Wait};
-use std::thread::Threads;
 
-// At which versions of a batch few students have to be asked, and what was asked of them there.
-#[derive(Drop)]
-pub(crate) struct Survey {
-    pub few: Vec<bool>,
-    pub inquiries: Vec<Inquiry>,
-}
-
-/// What those take who have to be asked at the versions of a batch, asked by so many workers as
-/// they are worth, but for versions at which they are not few. What each student takes at some
-/// prices is remembered. The only error is that memory was not given.
-pub(crate) fn ask_few<R: Threads + Wait + Sync>(
-    rt: &R,
-    alloc: Global,
-    workspaces: &[Mutex<Workspace>],
-    remembered: &Remembered,
-    crowd: &Crowd,
-    batch: &[Vec<Tokens>],
-) -> Result<Survey, NoMemory>
-    requires remembered { AreRemembered (data_of crowd.now) remembered.now.prices.items
-        remembered.now.bundles.items }
-    requires all { length remembered.now.bundles.items ≡ length crowd.now.menus.items }
-    requires batch { AreVersionsFor (data_of crowd.now) batch.now }
-    requires workers { 1 ≤ length workspaces.now }
-    ensures survey { IfOk result
-        (λ survey. IsSurvey crowd.now remembered.now.bundles.items batch.now survey.few.items
-        survey.inquiries.items) }
-    ensures found { IfOk result
-        (λ survey. All (IsFound (data_of crowd.now) batch.now) survey.inquiries.items) }
-{
-    let mut survey = few_of_all(alloc, remembered, crowd, batch)?;
-    answer_batch(
-        rt,
-        workspaces,
-        remembered,
-        crowd,
-        batch,
-        &mut survey.inquiries,
-    );
-    Ok(survey)
-}
-
-// The inquiries of all versions, not yet answered.
-fn few_of_all(
+/// An inquiry for each student at each of these versions at which what is remembered does not
+/// settle what it takes. What each student takes at some prices is remembered. The only error is
+/// that memory was not given.
+pub(crate) fn unsettled(
     alloc: Global,
     remembered: &Remembered,
     crowd: &Crowd,
-    batch: &[Vec<Tokens>],
-) -> Result<Survey, NoMemory>
+    versions: &[Vec<Tokens>],
+) -> Result<Vec<Inquiry>, NoMemory>
     requires remembered { AreRemembered (data_of crowd.now) remembered.now.prices.items
         remembered.now.bundles.items }
     requires all { length remembered.now.bundles.items ≡ length crowd.now.menus.items }
-    requires batch { AreVersionsFor (data_of crowd.now) batch.now }
-    ensures survey { IfOk result
-        (λ survey. IsSurvey crowd.now remembered.now.bundles.items batch.now survey.few.items
-        survey.inquiries.items) }
+    requires versions { AreVersionsFor (data_of crowd.now) versions.now }
+    ensures { IfOk result
+        (λ inquiries. IsSurvey (data_of crowd.now) remembered.now.bundles.items
+        (prices_of versions.now) (length versions.now) inquiries.items) }
 {
-    let mut few = Vec::with_capacity(alloc, batch.len())?;
     let mut inquiries = Vec::new(alloc);
-    for version in 0..batch.len() {
-        let Some(mut more) = few_of_one(alloc, remembered, crowd, batch, version)? else {
-            few.push(false)?;
-            continue;
-        };
-        inquiries.append(&mut more)?;
-        few.push(true)?;
+    for version in 0..versions.len() {
+        add_unsettled(remembered, crowd, versions, version, &mut inquiries)?;
     }
-    Ok(Survey { few, inquiries })
+    Ok(inquiries)
 }
 
-// An inquiry for each student whom what is remembered does not settle at a version, or none of it
-// where they are not few.
-fn few_of_one(
-    alloc: Global,
+// Adds those of one version.
+fn add_unsettled(
     remembered: &Remembered,
     crowd: &Crowd,
-    batch: &[Vec<Tokens>],
+    versions: &[Vec<Tokens>],
     version: usize,
-) -> Result<Option<Vec<Inquiry>>, NoMemory>
+    inquiries: &mut Vec<Inquiry>,
+) -> Result<(), NoMemory>
     requires remembered { AreRemembered (data_of crowd.now) remembered.now.prices.items
         remembered.now.bundles.items }
     requires all { length remembered.now.bundles.items ≡ length crowd.now.menus.items }
-    requires batch { AreVersionsFor (data_of crowd.now) batch.now }
-    requires version { version < length batch.now }
-    ensures inquiries { IfOk result
-        (λ found. IfSome found (λ inquiries. All (IsInquiry crowd.now batch.now) inquiries.items)) }
-    ensures others { IfOk result
-        (λ found. IfSome found
-        (λ inquiries. (d : _)
-        → AreOthersKept (data_of crowd.now) remembered.now.bundles.items
-        (slice_index_or batch.now version d).items version inquiries.items)) }
+    requires versions { AreVersionsFor (data_of crowd.now) versions.now }
+    requires version { version < length versions.now }
+    requires survey { IsSurvey (data_of crowd.now) remembered.now.bundles.items
+        (prices_of versions.now) version inquiries.old.items }
+    ensures { IfOk result
+        (λ done. IsSurvey (data_of crowd.now) remembered.now.bundles.items
+        (prices_of versions.now) (version + 1) inquiries.new.items) }
 {
-    let prices: &[Tokens] = &batch[version];
+    let prices: &[Tokens] = &versions[version];
     let cheaper = Cheaper::between(&remembered.prices, prices);
-    let students = crowd.menus.len();
-    let mut inquiries = Vec::new(alloc);
-    for place in 0..students {
+    for place in 0..crowd.menus.len() {
         if remembered.stays(crowd, prices, cheaper, place) {
             continue;
-        }
-        if !are_few_of_batch(inquiries.len() + 1, students) {
-            return Ok(None);
         }
         inquiries.push(Inquiry {
             student: StudentNo(place as u16),
             version,
-            bundle: Bundle::empty(),
+            raised: None,
         })?;
     }
-    Ok(Some(inquiries))
+    Ok(())
+}
+
+/// What each student takes at a version: what was found for it there, or what is remembered. The
+/// only error is that memory was not given.
+pub(crate) fn bundles_at(
+    alloc: Global,
+    remembered: &Remembered,
+    inquiries: &Inquiries,
+    found: &[Bundle],
+    version: usize,
+) -> Result<Vec<Bundle>, NoMemory>
+    requires all { length remembered.now.bundles.items
+        ≡ length (arc_value inquiries.now.crowd).menus.items }
+    requires survey { IsSurvey (data_of (arc_value inquiries.now.crowd))
+        remembered.now.bundles.items (prices_of inquiries.now.versions.items)
+        (length inquiries.now.versions.items) inquiries.now.list.items }
+    requires found { AreFound (terms_of inquiries.now) found.now }
+    requires version { version < length inquiries.now.versions.items }
+    ensures len { IfOk result
+        (λ bundles. length bundles.items ≡ length (arc_value inquiries.now.crowd).menus.items) }
+    ensures taken { IfOk result
+        (λ bundles. AreTaken (data_of (arc_value inquiries.now.crowd))
+        (slice_index_or (prices_of inquiries.now.versions.items) version []) bundles.items) }
+{
+    let mut bundles = remembered.bundles.as_slice().to_vec(alloc)?;
+    write_found(
+        &inquiries.crowd,
+        &inquiries.versions[version],
+        &inquiries.list,
+        found,
+        version,
+        &mut bundles,
+    );
+    Ok(bundles)
+}
+
+/// Writes what was found at a version for those who were asked there. The others take at its prices
+/// what stands for them.
+pub(crate) fn write_found(
+    _crowd: &Crowd,
+    _prices: &[Tokens],
+    inquiries: &[Inquiry],
+    found: &[Bundle],
+    version: usize,
+    bundles: &mut [Bundle],
+)
+    requires each { length found.now ≡ length inquiries.now }
+    requires students { All (λ inquiry. inquiry.student.0 < length bundles.old) inquiries.now }
+    requires found { (k : ℕ) (d : Bundle) → k < length found.now
+        → (slice_index_or inquiries.now k no_inquiry).version ≡ version
+        → sections_of (slice_index_or found.now k d)
+        ≡ demand_of (data_of _crowd.now) (price_in _prices.now)
+        (slice_index_or inquiries.now k no_inquiry).student.0 }
+    requires others { AreOthersKept (data_of _crowd.now) bundles.old _prices.now version
+        inquiries.now }
+    ensures len { length bundles.new ≡ length bundles.old }
+    ensures taken { AreTaken (data_of _crowd.now) _prices.now bundles.new }
+{
+    for place in 0..found.len() {
+        let inquiry = inquiries[place];
+        if inquiry.version != version {
+            continue;
+        }
+        bundles[usize::from(inquiry.student.0)] = found[place];
+    }
 }

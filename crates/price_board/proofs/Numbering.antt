@@ -55,7 +55,7 @@ and_parts : (a b : Bool) → (a && b) ≡ true → (a ≡ true) × (b ≡ true)
 and_parts true b both = (refl, both)
 and_parts false b both = absurd (false≢true both)
 
-same_sections-is : (xs ys : List ℕ) → same_sections xs ys ≡ true → xs ≡ ys
+pub same_sections-is : (xs ys : List ℕ) → same_sections xs ys ≡ true → xs ≡ ys
 same_sections-is [] [] same = refl
 same_sections-is [] (y ∷ ys) same = absurd (false≢true same)
 same_sections-is (x ∷ xs) [] same = absurd (false≢true same)
@@ -66,7 +66,7 @@ same_sections-is (x ∷ xs) (y ∷ ys) same =
     let rest = same_sections-is xs ys parts.1 in
     λ i. head i ∷ rest i
 
-same_sections-own : (xs : List ℕ) → same_sections xs xs ≡ true
+pub same_sections-own : (xs : List ℕ) → same_sections xs xs ≡ true
 same_sections-own [] = refl
 same_sections-own (x ∷ xs) = let first : (x == x) ≡ true = grind (arith, nat_tests) in rw first (same_sections-own xs)
 

@@ -1,8 +1,8 @@
-use Rattle.std.proofs.Common.{◌∙◌, length, sym, subst}
+use Rattle.std.proofs.Common.{sym, subst}
 use Rattle.std.specs.Arc.{arc_value}
 use Rattle.demand_api.specs.declared.crowd.Crowd.{Crowd}
 use Rattle.price_board.specs.Openings.{IsRound, terms_of}
-use Rattle.demand_workers.proofs.Rounds.{versions_are_round, every_number}
+use Rattle.demand_workers.proofs.Rounds.{versions_are_round}
 use Rattle.demand_workers.proofs.round.ask_workers.Goals as goal
 
 pub start-requires-clause-round : goal.start-requires-clause-round

@@ -1,5 +1,5 @@
 use Rattle.std.proofs.Common.{◌∙◌, length, sym}
-use Rattle.demand_workers.proofs.Rounds.{every_number}
+use Rattle.demand_workers.proofs.Seats.{every_number}
 use Rattle.demand_workers.proofs.round.work_and_close.Goals as goal
 
 pub close-requires-clause-all : goal.close-requires-clause-all

@@ -5,16 +5,10 @@ use Rattle.demand_api.specs.declared.crowd.Crowd.{Crowd}
 use Rattle.demand_api.proofs.Parts.{students_length}
 use Rattle.demand_workers.proofs.pooled_demands.PooledDemandsAnyGateDemands.bundles.Goals as goal
 
-pub recall_for-requires-clause-students : goal.recall_for-requires-clause-students
-recall_for-requires-clause-students g c κs within =
-    let crowd = arc_value c.args.self.now.crowd in
-    subst (λ (n : ℕ). All (λ (student : StudentNo). student.0 < n) c.args.students.now)
-    (students_length crowd) c.requires.range
-
-pub take_listed-requires-clause-students : goal.take_listed-requires-clause-students
-take_listed-requires-clause-students g c =
+pub read_listed-requires-clause-students : goal.read_listed-requires-clause-students
+read_listed-requires-clause-students g c =
     let crowd = arc_value c.args.self.now.crowd in
     subst (λ (w : Crowd). All (λ (student : StudentNo). student.0 < length w.menus.items) c.args.students.now)
-    (sym (c.deref.ensures ∙ ap arc_value c.recall_for.ensures.crowd))
+    (sym (c.deref.ensures ∙ ap arc_value c.recall.ensures.crowd))
     (subst (λ (n : ℕ). All (λ (student : StudentNo). student.0 < n) c.args.students.now)
     (students_length crowd) c.requires.range)

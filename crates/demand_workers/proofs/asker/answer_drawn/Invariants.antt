@@ -1,0 +1,15 @@
+use Rattle.std.proofs.Common.{◌≡◌, ◌-◌, length}
+use Rattle.task_board.specs.Seats.{IsFree, posts}
+use Rattle.demand_workers.specs.Asked.{inquiry_rules}
+use Rattle.demand_workers.proofs.asker.answer_drawn.Given as goal
+
+-- between two inquiries the worker is free
+abbrev pub invariant-inquiries : goal.invariant-inquiries
+invariant-inquiries g l = record {
+  numbered : l.seat.number ≡ l.fn.seat.number;
+  free : IsFree inquiry_rules l.board l.seat;
+}
+
+-- the posts that are left
+abbrev pub decreases-inquiries : goal.decreases-inquiries
+decreases-inquiries g l = length l.board.base.inquiries - posts l.seat.own

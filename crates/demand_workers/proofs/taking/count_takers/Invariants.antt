@@ -1,8 +1,0 @@
-use Rattle.std.proofs.Common.{◌≡◌, ◌≤◌, take}
-use Rattle.bundle_rules.specs.Demand.{price_in}
-use Rattle.demand_api.specs.Crowds.{demands, holders}
-use Rattle.demand_api.specs.Views.{data_of}
-use Rattle.demand_workers.proofs.taking.count_takers.Given as goal
-
-abbrev pub invariant-loop-place : goal.invariant-loop-place
-invariant-loop-place l = (l.count ≡ holders l.section.0 (take l.place (demands (data_of l.crowd) (price_in l.prices)))) × (l.count ≤ l.place)

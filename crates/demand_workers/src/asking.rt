@@ -1,0 +1,180 @@
+// A round of inquiries over one board.
+ghost use Rattle.std.specs.Prelude.{◌≡◌, ◌≤◌, ◌<◌, ◌^◌, ℕ, All, IfOk, length, slice_index_or};
+ghost use Rattle.std.specs.Arc.{arc_value};
+ghost use Rattle.std.specs.Vec.{vec_len};
+ghost use Rattle.bundle_rules.specs.Bundles.{sections_of};
+ghost use Rattle.demand_api.specs.Views.{data_of};
+ghost use Rattle.task_board.specs.Kept.{AreSettled};
+ghost use Rattle.task_board.specs.Seats.{IsFinished, IsFree};
+ghost use Rattle.demand_workers.specs.Asked.{inquiry_rules, no_inquiry};
+ghost use Rattle.demand_workers.specs.Found.{AreFound, terms_of};
+ghost use Rattle.demand_workers.specs.Inquiring.{taken_at};
+ghost use Rattle.demand_workers.specs.Remembered.{AreRemembered};
+
+use crate::asker::answer_drawn;
+use crate::inquiry::Inquiries;
+use crate::pool::Pool;
+use crate::remembered::Remembered;
+use crate::tasks::InquiryTasks;
+use bundle_rules::Bundle;
+use demand_oracle::Workspace;
+use market_edge::Gate;
+use market_units::{MAX_WORKERS, NoMemory};
+use std::alloc::Global;
+use std::sync::{Arc, Mutex, Wait};
+use std::thread;
+use std::thread::Threads;
+use task_board::{Answers, Board, BoardSeat};
+
+// Fewer inquiries are not worth the start of a thread, unless each student is asked.
+const WORTHWHILE: usize = 64;
+
+/// What the students of these inquiries take, in their order, found by the workers of a pool, or by
+/// its first alone, in the caller's thread, where the inquiries are few. All memory is taken before
+/// the first worker starts, and the only error is that it was not given.
+pub(crate) fn ask<R: Threads + Wait + Sync>(
+    rt: &R,
+    alloc: Global,
+    pool: &Pool,
+    gate: &(dyn Gate + Sync),
+    remembered: &Remembered,
+    inquiries: &Arc<Inquiries>,
+) -> Result<Vec<Bundle>, NoMemory>
+    requires remembered { AreRemembered (data_of (arc_value (arc_value inquiries.now).crowd))
+        remembered.now.prices.items remembered.now.bundles.items }
+    ensures { IfOk result (λ found. AreFound (terms_of (arc_value inquiries.now)) found.items) }
+{
+    let asked = inquiries.list.len();
+    let workers = workers_for(asked, inquiries.crowd.menus.len(), pool.workers);
+    let mut found = vec![in alloc; Bundle::empty(); asked]?;
+    let tasks = InquiryTasks::of(Arc::try_clone(inquiries)?)?;
+    let (board, seats) = Board::start(alloc, tasks, workers)?;
+    answer_and_write(
+        rt,
+        board,
+        seats,
+        pool.workspaces(),
+        remembered,
+        inquiries,
+        &mut found,
+        gate,
+    );
+    Ok(found)
+}
+
+// How many of so many workers so many inquiries are worth, in a crowd of so many students.
+fn workers_for(inquiries: usize, students: usize, workers: u16) -> u16
+    requires { 1 ≤ workers }
+    ensures { (1 ≤ result) × (result ≤ workers) }
+{
+    if inquiries < WORTHWHILE && inquiries < students {
+        return 1;
+    }
+    workers
+}
+
+// From the start of the first worker to the bundles: it is given no allocator and has no error, so
+// no memory is taken meanwhile.
+fn answer_and_write<R: Threads + Wait + Sync>(
+    rt: &R,
+    board: Board<InquiryTasks>,
+    mut seats: Vec<BoardSeat<InquiryTasks>>,
+    workspaces: &[Mutex<Workspace>],
+    remembered: &Remembered,
+    inquiries: &Inquiries,
+    found: &mut [Bundle],
+    gate: &(dyn Gate + Sync),
+)
+    requires remembered { AreRemembered (data_of (arc_value inquiries.now.crowd))
+        remembered.now.prices.items remembered.now.bundles.items }
+    requires board { board.base ≡ terms_of inquiries.now }
+    requires count { (1 ≤ vec_len seats) × (vec_len seats ≤ length workspaces.now)
+        × (length workspaces.now ≤ MAX_WORKERS) × (length board.allotments ≡ vec_len seats) }
+    requires numbers { (n : ℕ) (d : _) → n < vec_len seats
+        → (slice_index_or seats.items n d).number ≡ n }
+    requires free { All (λ seat. IsFree inquiry_rules board seat) seats.items }
+    requires found { length found.old ≡ length inquiries.now.list.items }
+    requires few { length found.old < 2 ^ 32 }
+    ensures count { length found.new ≡ length found.old }
+    ensures found { AreFound (terms_of inquiries.now) found.new }
+{
+    answer_all(
+        rt,
+        &board,
+        seats.as_mut_slice(),
+        workspaces,
+        remembered,
+        inquiries,
+        gate,
+    );
+    let answers = board.close(seats);
+    write_found(&answers, found);
+}
+
+// Each worker works at its seat with a workspace of its own, in a thread of its own where one can
+// be started; one worker alone works in the caller's.
+fn answer_all<R: Threads + Wait + Sync>(
+    rt: &R,
+    board: &Board<InquiryTasks>,
+    seats: &mut [BoardSeat<InquiryTasks>],
+    workspaces: &[Mutex<Workspace>],
+    remembered: &Remembered,
+    inquiries: &Inquiries,
+    gate: &(dyn Gate + Sync),
+)
+    requires remembered { AreRemembered (data_of (arc_value inquiries.now.crowd))
+        remembered.now.prices.items remembered.now.bundles.items }
+    requires board { board.now.base ≡ terms_of inquiries.now }
+    requires count { (1 ≤ length seats.old) × (length seats.old ≤ length workspaces.now)
+        × (length workspaces.now ≤ MAX_WORKERS) }
+    requires numbers { (n : ℕ) (d : _) → n < length seats.old
+        → (slice_index_or seats.old n d).number ≡ n }
+    requires free { All (λ seat. IsFree inquiry_rules board.now seat) seats.old }
+    ensures count { length seats.new ≡ length seats.old }
+    ensures numbers { (n : ℕ) (d : _) → n < length seats.old
+        → (slice_index_or seats.new n d).number ≡ n }
+    ensures finished { All (λ seat. IsFinished inquiry_rules board.now seat) seats.new }
+{
+    let threads = seats.len();
+    thread::for_each_mut(
+        rt,
+        seats,
+        threads,
+        &|n, seat|
+            requires { (n < length workspaces.now) × (seat.now.number < MAX_WORKERS)
+                × IsFree inquiry_rules board.now seat.now
+                × AreRemembered (data_of (arc_value inquiries.now.crowd))
+                remembered.now.prices.items remembered.now.bundles.items
+                × (board.now.base ≡ terms_of inquiries.now) }
+            ensures { IsFinished inquiry_rules board.entry.now seat.exit.now
+                × (seat.exit.now.number ≡ seat.entry.now.number) }
+        { answer_drawn(rt, board, seat, &workspaces[n], remembered, inquiries, gate) },
+    );
+}
+
+// Writes what was posted for each inquiry.
+fn write_found(answers: &Answers<InquiryTasks>, found: &mut [Bundle])
+    requires settled { AreSettled inquiry_rules answers.now.terms answers.now.marks }
+    requires count { length found.old ≡ length answers.now.terms.inquiries }
+    requires few { length found.old < 2 ^ 32 }
+    ensures count { length found.new ≡ length found.old }
+    ensures found { AreFound answers.now.terms found.new }
+{
+    'inquiries: for place in 0..found.len() {
+        found[place] = posted(answers, place as u32);
+    }
+}
+
+// What was posted for an inquiry.
+fn posted(answers: &Answers<InquiryTasks>, inquiry: u32) -> Bundle
+    requires settled { AreSettled inquiry_rules answers.now.terms answers.now.marks }
+    requires inquiry { inquiry < length answers.now.terms.inquiries }
+    ensures { sections_of result
+        ≡ taken_at answers.now.terms.crowd answers.now.terms.versions
+        (slice_index_or answers.now.terms.inquiries inquiry no_inquiry) }
+{
+    match answers.answer(inquiry) {
+        Some(bundle) => bundle,
+        None => unreachable!(),
+    }
+}
