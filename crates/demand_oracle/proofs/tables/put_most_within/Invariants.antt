@@ -1,5 +1,5 @@
 use Rattle.std.proofs.Common.{◌≡◌, ◌<◌, ◌≤◌, ◌+◌, ◌-◌, ℕ, max, length, slice_index}
-use Rattle.demand_oracle.proofs.tables.most_within.Given as goal
+use Rattle.demand_oracle.proofs.tables.put_most_within.Given as goal
 
 -- the numbers of units so far are filled, and the others are those of the later row
 abbrev pub invariant-loop-units : goal.invariant-loop-units
