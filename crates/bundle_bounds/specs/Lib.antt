@@ -2,6 +2,7 @@ pub mod Offers
 pub mod Courses
 pub mod Opens
 pub mod Bounds
+pub mod Peaks
 pub mod Laws
 pub mod Modest
 pub mod Limits

@@ -13,6 +13,7 @@ mod pruning;
 mod sifting;
 mod stems;
 mod tangents;
+mod words;
 
 pub use nodes::{Leaf, Node, bound, bound_closes, is_open};
 pub use places::{adjustments_with, is_apart, price_of_place};

@@ -148,10 +148,10 @@ fn first_of_resource(
     ensures last { IfSome last.new (IsTangent rest resource all.now) }
 {
     let mut known = known_by(base, limit, last);
+    if known.is_all() {
+        return None;
+    }
     for prospect in all {
-        if known.is_all() {
-            return None;
-        }
         if is_below(base, limit, rest, resource, all, prospect, &mut known, last) {
             return Some(leaf_of(resource, prospect.place));
         }

@@ -11,7 +11,7 @@ ghost use Rattle.bundle_bounds.specs.Bounds.{bounds, IsFirstPruning, NonePrunes}
 ghost use Rattle.bundle_bounds.specs.Ahead.{limit_of};
 ghost use Rattle.bundle_bounds.specs.Laws.{IsNode};
 
-use crate::leaving::{plain_after, tangents_after};
+use crate::leaving::leave;
 use crate::nodes::{Leaf, Node};
 use crate::opens::{Rests, collect, rests_of};
 use crate::places::adjustments_with;
@@ -185,8 +185,7 @@ impl Stem {
             return;
         }
         let open_ones = &self.room[self.start..];
-        let plain = plain_after(open_ones, self.plain);
-        let tangents = tangents_after(open_ones, self.tangents);
+        let (plain, tangents) = leave(open_ones, self.plain, self.tangents);
         self.plain = plain;
         self.tangents = tangents;
         self.start += 1;

@@ -9,8 +9,8 @@ pub returns-then-is_all-clause-none : goal.returns-then-is_all-clause-none
 returns-then-is_all-clause-none c =
     let b : to_z w64 (of_z w64 c.args.base) ≡ c.args.base = omega (arith, ints) in
     let l : to_z w64 (of_z w64 c.args.limit) ≡ c.args.limit = omega (arith, ints) in
-    none_where_known c.args.base c.args.limit c.args.rest c.args.resource c.args.all.now c.loop-prospect.known (rw (b, l) at c.loop-prospect.invariant.known_is)
-    (c.is_all.ensures c.if-is_all.true) c.args.all.now c.requires.modest
+    none_where_known c.args.base c.args.limit c.args.rest c.args.resource c.args.all.now c.known_by-known.result
+    ((rw (b, l) at c.known_by-known.ensures) c.args.rest c.args.resource c.args.all.now c.requires.last) (c.is_all.ensures c.if-is_all.true) c.args.all.now c.requires.modest
 
 pub returns-then-is_below-clause-first : goal.returns-then-is_below-clause-first
 returns-then-is_below-clause-first c =
