@@ -1,51 +1,55 @@
-use Rattle.std.proofs.Common.{rules, ℕ, ◌≡◌, ◌<◌, List, All, length, heap_items, sym, subst}
+use Rattle.std.proofs.Common.{rules, ℕ, ◌≡◌, ◌<◌, List, All, heap_items, sym, subst}
 use Rattle.std.proofs.lemmas.List.Elements.{All-push}
 use Rattle.demand_api.specs.Views.{data_of}
 use Rattle.demand_api.proofs.Parts.{students_length}
-use Rattle.demand_workers.specs.declared.leaving.Note.{Note}
-use Rattle.demand_workers.specs.Notes.{IsTold}
+use Rattle.demand_workers.specs.declared.note.Note.{Note}
+use Rattle.demand_workers.specs.Notes.{IsNoted}
 use Rattle.demand_workers.proofs.Listing.{more_listed}
+use Rattle.demand_workers.proofs.Noting.{noted_asked}
 use Rattle.demand_workers.proofs.Surveying.{raised_there}
 use Rattle.demand_workers.proofs.foreseen.take_answer.Goals as goal
 
--- who leaves the section
-pub returns-then-not-has : goal.returns-then-not-has
-returns-then-not-has c =
-    let crowd = data_of c.args.crowd.now in
-    let prices = c.args.prices.now in
-    let s : ℕ = c.args.walk.now.section.0 in
+pub holder_from-requires-clause-taken : goal.holder_from-requires-clause-taken
+holder_from-requires-clause-taken c =
     let same : c.in-Some.raised.0.0 ≡ c.args.walk.now.section.0 = search rules in
-    let told = raised_there crowd prices c.args.inquiry c.in-Some.raised c.args.walk.now.section.0 _ c.requires.inquiry c.in-Some.is same c.requires.found in
-    record {
-      within = c.requires.walk.within;
-      listed = c.requires.walk.listed;
-      told =
-          subst (All (IsTold crowd prices c.args.walk.now.section.0)) (sym {A = List Note} c.in_ok-push.ensures.items)
-          (All-push (IsTold crowd prices c.args.walk.now.section.0) c.args.walk.now.answered.items _ c.requires.walk.told told);
-    }
+    raised_there (data_of c.args.crowd.now) c.args.prices.now c.args.inquiry c.in-Some.raised c.args.walk.now.section.0 _ c.requires.inquiry c.in-Some.is same
+    c.requires.found
 
-pub holder_of-holder-requires-clause-student : goal.holder_of-holder-requires-clause-student
-holder_of-holder-requires-clause-student c =
+pub holder_from-requires-clause-student : goal.holder_from-requires-clause-student
+holder_from-requires-clause-student c =
     subst (λ (n : ℕ). c.args.inquiry.student.0 < n) (students_length c.args.crowd.now) c.requires.inquiry.student
 
--- who still takes it
-pub returns : goal.returns
-returns c =
-    let crowd = data_of c.args.crowd.now in
+pub holder_from-requires-clause-price : goal.holder_from-requires-clause-price
+holder_from-requires-clause-price c = (c.requires.inquiry.its_price c.in-Some.raised c.in-Some.is).1
+
+-- who leaves the section
+pub returns-in_default-2-clause-notes : goal.returns-in_default-2-clause-notes
+returns-in_default-2-clause-notes c =
+    let crowd = c.args.crowd.now in
     let prices = c.args.prices.now in
-    let again = c.holder_of-holder in
     let same : c.in-Some.raised.0.0 ≡ c.args.walk.now.section.0 = search rules in
-    let told = raised_there crowd prices c.args.inquiry c.in-Some.raised c.args.walk.now.section.0 _ c.requires.inquiry c.in-Some.is same c.requires.found in
-    record {
-      within = c.requires.walk.within;
-      listed = more_listed crowd (heap_items c.args.walk.now.holders) (heap_items c.push-2.new.self) again.result c.in_ok-push-2.ensures.permutation
-          (record {
-            student = subst (λ (n : ℕ). n < length crowd.students) (sym again.ensures.student) c.requires.inquiry.student;
-            room = again.ensures.room;
-            capped = again.ensures.capped;
-          })
-          c.requires.walk.listed;
-      told =
-          subst (All (IsTold crowd prices c.args.walk.now.section.0)) (sym {A = List Note} c.in_ok-push.ensures.items)
-          (All-push (IsTold crowd prices c.args.walk.now.section.0) c.args.walk.now.answered.items _ c.requires.walk.told told);
-    }
+    let told = raised_there (data_of crowd) prices c.args.inquiry c.in-Some.raised c.args.walk.now.section.0 _ c.requires.inquiry c.in-Some.is same c.requires.found in
+    let low = subst (λ (n : ℕ). c.args.inquiry.student.0 < n) (students_length crowd) c.requires.inquiry.student in
+    subst (All (IsNoted (data_of crowd) prices)) (sym {A = List Note} c.in_ok-push.ensures.items)
+    (All-push (IsNoted (data_of crowd) prices) c.args.notes.now.items _ c.requires.notes
+    (noted_asked crowd prices _ c.requires.prices c.requires.walk.within low told))
+
+-- who still takes it
+pub returns-clause-walk : goal.returns-clause-walk
+returns-clause-walk c = record {
+  within = c.requires.walk.within;
+  listed =
+      more_listed (data_of c.args.crowd.now) (heap_items c.args.walk.now.holders) (heap_items c.push-2.new.self) c.in-Some-2.again
+      c.in_ok-push-2.ensures.permutation c.in-Some-2.ensures.listed c.requires.walk.listed;
+}
+
+pub returns-clause-notes : goal.returns-clause-notes
+returns-clause-notes c =
+    let crowd = c.args.crowd.now in
+    let prices = c.args.prices.now in
+    let same : c.in-Some.raised.0.0 ≡ c.args.walk.now.section.0 = search rules in
+    let told = raised_there (data_of crowd) prices c.args.inquiry c.in-Some.raised c.args.walk.now.section.0 _ c.requires.inquiry c.in-Some.is same c.requires.found in
+    let low = subst (λ (n : ℕ). c.args.inquiry.student.0 < n) (students_length crowd) c.requires.inquiry.student in
+    subst (All (IsNoted (data_of crowd) prices)) (sym {A = List Note} c.in_ok-push.ensures.items)
+    (All-push (IsNoted (data_of crowd) prices) c.args.notes.now.items _ c.requires.notes
+    (noted_asked crowd prices _ c.requires.prices c.requires.walk.within low told))
