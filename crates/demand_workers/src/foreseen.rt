@@ -60,12 +60,14 @@ pub(crate) fn walk_of(
 /// Adds what is asked next on a walk: of each of the first holders to leave, as many as there are
 /// too many, what it takes at the price from which it does not keep what it holds. None of them can
 /// be left out: while one of them stays, a later one would have to leave in its place. Of whom it
-/// is noted what it takes there is not asked.
+/// is noted what it takes there is not asked. A walk that the round does not take in has nothing
+/// that waits.
 pub(crate) fn add_next(
     crowd: &Crowd,
     prices: &[Tokens],
     notes: &Notes,
     walk: &mut Foreseen,
+    taken_in: bool,
     inquiries: &mut Vec<Inquiry>,
 ) -> Result<(), NoMemory>
     requires prices { ArePricesFor (data_of crowd.now) prices.now }
@@ -77,7 +79,7 @@ pub(crate) fn add_next(
         (λ done. All (IsInquiry (data_of crowd.now) 1) inquiries.new.items) }
 {
     let before = inquiries.len();
-    'leaving: while walk.holders.len() > walk.limit as usize {
+    'leaving: while taken_in && walk.holders.len() > walk.limit as usize {
         let Some(first) = walk.holders.pop() else {
             unreachable!();
         };

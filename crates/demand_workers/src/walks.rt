@@ -135,17 +135,16 @@ impl PooledDemands<AnyGate<'_>> {
         let mut list = Vec::new(alloc);
         let prices: &[Tokens] = &self.remembered.prices;
         'begun: for place in 0..walks.len() {
-            if !takes_in(place, needed, list.len(), enough) {
-                break;
-            }
-            add_next(&self.crowd, prices, &self.notes, &mut walks[place], &mut list)?;
+            let taken_in = takes_in(place, needed, list.len(), enough);
+            let walk = &mut walks[place];
+            add_next(&self.crowd, prices, &self.notes, walk, taken_in, &mut list)?;
         }
         'further: for place in walks.len()..pairs.len() {
             if !takes_in(place, needed, list.len(), enough) {
                 break;
             }
             let mut walk = walk_of(alloc, &self.remembered, &self.crowd, pairs[place])?;
-            add_next(&self.crowd, prices, &self.notes, &mut walk, &mut list)?;
+            add_next(&self.crowd, prices, &self.notes, &mut walk, true, &mut list)?;
             walks.push(walk)?;
         }
         Ok(list)

@@ -30,7 +30,7 @@ returns c =
     let here : c.args.note.price.0 ≤ price_in c.args.prices.now c.args.note.section.0 = omega (arith, read, above) in
     let has_it =
     budget_is crowd c.args.note.student.0 c.index-budget.result.now inside
-    (c.index-budget.ensures ∙ ap (λ (n : ℕ). slice_index_or crowd.budgets.items n c.index-budget.result.now) c.from-budget.ensures) in
+    (c.index-budget.ensures ∙ ap (λ (n : ℕ). slice_index_or crowd.budgets.items n c.index-budget.result.now) c.from-2.ensures) in
     let cost : c.price_of.result ≡ total (price_in prices) (sections_of c.args.note.bundle) =
     c.price_of.ensures.value ∙ ap (total (price_in prices)) c.sections.ensures.value in
     let paid : c.price_of.result ≤ c.index-budget.result.now.0 = search rules in
