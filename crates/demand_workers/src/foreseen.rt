@@ -34,8 +34,8 @@ pub(crate) struct Foreseen {
     waiting: usize,
 }
 
-/// The walk of this pair, on which nobody was asked. The only error is that memory was not given.
-pub(crate) fn walk_of(
+// The walk of this pair, on which nobody was asked. The only error is that memory was not given.
+fn walk_of(
     alloc: Global,
     remembered: &Remembered,
     crowd: &Crowd,
@@ -57,12 +57,87 @@ pub(crate) fn walk_of(
     })
 }
 
-/// Adds what is asked next on a walk: of each of the first holders to leave, as many as there are
-/// too many, what it takes at the price from which it does not keep what it holds. None of them can
-/// be left out: while one of them stays, a later one would have to leave in its place. Of whom it
-/// is noted what it takes there is not asked. A walk that the round does not take in has nothing
-/// that waits.
-pub(crate) fn add_next(
+/// How a round is filled: the first so many walks are taken in, and others as long as it has
+/// inquiries, but not yet enough.
+#[derive(Clone, Copy)]
+pub(crate) struct Filling {
+    pub needed: usize,
+    pub enough: usize,
+}
+
+impl Filling {
+    // Whether a round that has so many inquiries takes in the walk at this place.
+    fn takes_in(self, place: usize, asked: usize) -> bool {
+        place < self.needed || (0 < asked && asked < self.enough)
+    }
+}
+
+/// What is asked next on the walks of these pairs, those of the first pair first. A walk is begun
+/// when it is first taken in. The only error is that memory was not given.
+pub(crate) fn next_round(
+    alloc: Global,
+    remembered: &Remembered,
+    crowd: &Crowd,
+    notes: &Notes,
+    pairs: &[(SectionNo, u32)],
+    filling: Filling,
+    walks: &mut Vec<Foreseen>,
+) -> Result<Vec<Inquiry>, NoMemory>
+    requires remembered { AreRemembered (data_of crowd.now) remembered.now.prices.items
+        remembered.now.bundles.items }
+    requires all { length remembered.now.bundles.items ≡ length crowd.now.menus.items }
+    requires prices { ArePricesFor (data_of crowd.now) remembered.now.prices.items }
+    requires notes { AreKept (data_of crowd.now) remembered.now.prices.items notes.now.list.items }
+    requires sections { All (λ pair. pair.0.0 < crowd.now.sections) pairs.now }
+    requires walks { All (IsForeseen (data_of crowd.now)) walks.old.items }
+    ensures walks { IfOk result (λ list. All (IsForeseen (data_of crowd.now)) walks.new.items) }
+    ensures inquiries { IfOk result (λ list. All (IsInquiry (data_of crowd.now) 1) list.items) }
+{
+    let mut list = Vec::new(alloc);
+    let begun = walks.as_mut_slice();
+    add_begun(crowd, &remembered.prices, notes, begun, filling, &mut list)?;
+    'further: for place in walks.len()..pairs.len() {
+        if !filling.takes_in(place, list.len()) {
+            break;
+        }
+        let mut walk = walk_of(alloc, remembered, crowd, pairs[place])?;
+        add_next(crowd, &remembered.prices, notes, &mut walk, true, &mut list)?;
+        walks.push(walk)?;
+    }
+    Ok(list)
+}
+
+// Adds what is asked next on walks that were begun.
+fn add_begun(
+    crowd: &Crowd,
+    prices: &[Tokens],
+    notes: &Notes,
+    walks: &mut [Foreseen],
+    filling: Filling,
+    inquiries: &mut Vec<Inquiry>,
+) -> Result<(), NoMemory>
+    requires prices { ArePricesFor (data_of crowd.now) prices.now }
+    requires notes { AreKept (data_of crowd.now) prices.now notes.now.list.items }
+    requires walks { All (IsForeseen (data_of crowd.now)) walks.old }
+    requires inquiries { All (IsInquiry (data_of crowd.now) 1) inquiries.old.items }
+    ensures count { IfOk result (λ done. length walks.new ≡ length walks.old) }
+    ensures walks { IfOk result (λ done. All (IsForeseen (data_of crowd.now)) walks.new) }
+    ensures inquiries { IfOk result
+        (λ done. All (IsInquiry (data_of crowd.now) 1) inquiries.new.items) }
+{
+    for place in 0..walks.len() {
+        let taken_in = filling.takes_in(place, inquiries.len());
+        add_next(crowd, prices, notes, &mut walks[place], taken_in, inquiries)?;
+    }
+    Ok(())
+}
+
+// Adds what is asked next on a walk: of each of the first holders to leave, as many as there are
+// too many, what it takes at the price from which it does not keep what it holds. None of them can
+// be left out: while one of them stays, a later one would have to leave in its place. Of whom it
+// is noted what it takes there is not asked. A walk that the round does not take in has nothing
+// that waits.
+fn add_next(
     crowd: &Crowd,
     prices: &[Tokens],
     notes: &Notes,

@@ -15,7 +15,7 @@ ghost use Rattle.demand_workers.specs.Walks.{IsForeseen};
 
 use crate::PooledDemands;
 use crate::asking::ask;
-use crate::foreseen::{Foreseen, add_next, take_answers, walk_of};
+use crate::foreseen::{Filling, next_round, take_answers};
 use crate::inquiry::{Inquiries, Inquiry};
 use crate::leaving::{Walk, holder_of, holders_of};
 use crate::note::Note;
@@ -84,10 +84,20 @@ impl PooledDemands<AnyGate<'_>> {
             (λ notes. AreNoted (data_of (arc_value self.now.crowd))
             self.now.remembered.prices.items notes.items) }
     {
+        let enough = usize::from(self.pool.workers).saturating_mul(ENOUGH);
+        let filling = Filling { needed, enough };
         let mut walks = Vec::new(alloc);
         let mut notes = Vec::new(alloc);
         for _ in 0..PHASES {
-            let list = self.next_round(alloc, pairs, needed, &mut walks)?;
+            let list = next_round(
+                alloc,
+                &self.remembered,
+                &self.crowd,
+                &self.notes,
+                pairs,
+                filling,
+                &mut walks,
+            )?;
             if list.is_empty() {
                 break;
             }
@@ -110,44 +120,6 @@ impl PooledDemands<AnyGate<'_>> {
             )?;
         }
         Ok(notes)
-    }
-
-    // What is asked next on the walks of these pairs, those of the first pair first.
-    fn next_round(
-        &self,
-        alloc: Global,
-        pairs: &[(SectionNo, u32)],
-        needed: usize,
-        walks: &mut Vec<Foreseen>,
-    ) -> Result<Vec<Inquiry>, NoMemory>
-        requires all { length self.now.remembered.bundles.items
-            ≡ length (arc_value self.now.crowd).menus.items }
-        requires prices { ArePricesFor (data_of (arc_value self.now.crowd))
-            self.now.remembered.prices.items }
-        requires sections { All (λ pair. pair.0.0 < (arc_value self.now.crowd).sections) pairs.now }
-        requires walks { All (IsForeseen (data_of (arc_value self.now.crowd))) walks.old.items }
-        ensures walks { IfOk result
-            (λ list. All (IsForeseen (data_of (arc_value self.now.crowd))) walks.new.items) }
-        ensures inquiries { IfOk result
-            (λ list. All (IsInquiry (data_of (arc_value self.now.crowd)) 1) list.items) }
-    {
-        let enough = usize::from(self.pool.workers).saturating_mul(ENOUGH);
-        let mut list = Vec::new(alloc);
-        let prices: &[Tokens] = &self.remembered.prices;
-        'begun: for place in 0..walks.len() {
-            let taken_in = takes_in(place, needed, list.len(), enough);
-            let walk = &mut walks[place];
-            add_next(&self.crowd, prices, &self.notes, walk, taken_in, &mut list)?;
-        }
-        'further: for place in walks.len()..pairs.len() {
-            if !takes_in(place, needed, list.len(), enough) {
-                break;
-            }
-            let mut walk = walk_of(alloc, &self.remembered, &self.crowd, pairs[place])?;
-            add_next(&self.crowd, prices, &self.notes, &mut walk, true, &mut list)?;
-            walks.push(walk)?;
-        }
-        Ok(list)
     }
 
     // These inquiries at the remembered prices.
@@ -251,7 +223,10 @@ impl PooledDemands<AnyGate<'_>> {
             self.now.remembered.prices.items asked.new.items) }
     {
         let prices: &[Tokens] = &self.remembered.prices;
-        if let Some(bundle) = self.notes.told_at(&self.crowd, prices, section, price, student) {
+        if let Some(bundle) = self
+            .notes
+            .told_at(&self.crowd, prices, section, price, student)
+        {
             return Ok(bundle);
         }
         let bundle = self.asked_alone(rt, alloc, section, student, price)?;
@@ -391,10 +366,4 @@ impl PooledDemands<AnyGate<'_>> {
         }
         self.remembered.kept(&self.crowd, prices, student)
     }
-}
-
-// Whether a round that has so many inquiries takes in the walk at this place: one that is needed in
-// any case, another one as long as there is work for fewer than all workers, but some.
-fn takes_in(place: usize, needed: usize, asked: usize, enough: usize) -> bool {
-    place < needed || (0 < asked && asked < enough)
 }

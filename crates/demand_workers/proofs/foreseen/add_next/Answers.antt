@@ -21,9 +21,15 @@ told_at-requires-clause-student c =
     (first_listed (data_of c.args.crowd.now) (heap_items c.leaving.walk.holders) (heap_items c.pop.new.self) c.in-Some.first c.in-Some.ensures.permutation
     c.leaving.invariant.walk.listed).student
 
+pub holder_from-requires-clause-student : goal.holder_from-requires-clause-student
+holder_from-requires-clause-student c =
+    subst (λ (n : ℕ). c.in-Some.first.1 < n) (students_length c.args.crowd.now)
+    (first_listed (data_of c.args.crowd.now) (heap_items c.leaving.walk.holders) (heap_items c.pop.new.self) c.in-Some.first c.in-Some.ensures.permutation
+    c.leaving.invariant.walk.listed).student
+
 -- who is asked
-pub leaving-preserved-in_default : goal.leaving-preserved-in_default
-leaving-preserved-in_default c =
+pub leaving-preserved-in_default-told_at : goal.leaving-preserved-in_default-told_at
+leaving-preserved-in_default-told_at c =
     let crowd = data_of c.args.crowd.now in
     let first =
     first_listed crowd (heap_items c.leaving.walk.holders) (heap_items c.pop.new.self) c.in-Some.first c.in-Some.ensures.permutation
@@ -40,13 +46,13 @@ leaving-preserved-in_default c =
           (record { student = first.student; its_version = (search rules); its_price = can_be_raised crowd (c.leaving.walk.section, record { 0 = leaves c.in-Some.first }) c.leaving.invariant.walk.within first.capped }));
     }
 
-pub leaving-smaller-in_default : goal.leaving-smaller-in_default
-leaving-smaller-in_default c =
+pub leaving-smaller-in_default-told_at : goal.leaving-smaller-in_default-told_at
+leaving-smaller-in_default-told_at c =
     room_popped (heap_items c.leaving.walk.holders) (heap_items c.pop.new.self) c.in-Some.first c.in-Some.ensures.permutation
 
 -- who left, as it is noted
-pub leaving-preserved-in_default-2 : goal.leaving-preserved-in_default-2
-leaving-preserved-in_default-2 c = record {
+pub leaving-preserved-in_default-holder_from : goal.leaving-preserved-in_default-holder_from
+leaving-preserved-in_default-holder_from c = record {
   walk = record {
     within = c.leaving.invariant.walk.within;
     listed =
@@ -56,8 +62,8 @@ leaving-preserved-in_default-2 c = record {
   inquiries = c.leaving.invariant.inquiries;
 }
 
-pub leaving-smaller-in_default-2 : goal.leaving-smaller-in_default-2
-leaving-smaller-in_default-2 c =
+pub leaving-smaller-in_default-holder_from : goal.leaving-smaller-in_default-holder_from
+leaving-smaller-in_default-holder_from c =
     room_popped (heap_items c.leaving.walk.holders) (heap_items c.pop.new.self) c.in-Some.first c.in-Some.ensures.permutation
 
 -- who stayed, as it is noted
@@ -66,8 +72,8 @@ leaving-preserved c = record {
   walk = record {
     within = c.leaving.invariant.walk.within;
     listed =
-        more_listed (data_of c.args.crowd.now) (heap_items c.pop.new.self) (heap_items c.push-2.new.self) c.in-Some-3.again
-        c.in_ok-push-2.ensures.permutation c.in-Some-3.ensures.listed
+        more_listed (data_of c.args.crowd.now) (heap_items c.pop.new.self) (heap_items c.push-in-leaving.new.self) c.in-Some-holder_from.again
+        c.in_ok-push-2.ensures.permutation c.in-Some-holder_from.ensures.listed
         (rest_listed (data_of c.args.crowd.now) (heap_items c.leaving.walk.holders) (heap_items c.pop.new.self) c.in-Some.first
         c.in-Some.ensures.permutation c.leaving.invariant.walk.listed);
   };
@@ -76,6 +82,6 @@ leaving-preserved c = record {
 
 pub leaving-smaller : goal.leaving-smaller
 leaving-smaller c =
-    room_pushed (heap_items c.leaving.walk.holders) (heap_items c.pop.new.self) (heap_items c.push-2.new.self) c.in-Some.first c.in-Some-3.again
+    room_pushed (heap_items c.leaving.walk.holders) (heap_items c.pop.new.self) (heap_items c.push-in-leaving.new.self) c.in-Some.first c.in-Some-holder_from.again
     c.in-Some.ensures.permutation c.in_ok-push-2.ensures.permutation
-    (leaves_after c.in-Some.first c.in-Some-3.again c.in-Some-3.ensures.later)
+    (leaves_after c.in-Some.first c.in-Some-holder_from.again c.in-Some-holder_from.ensures.later)

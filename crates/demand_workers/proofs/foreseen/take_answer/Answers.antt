@@ -23,8 +23,8 @@ pub holder_from-requires-clause-price : goal.holder_from-requires-clause-price
 holder_from-requires-clause-price c = (c.requires.inquiry.its_price c.in-Some.raised c.in-Some.is).1
 
 -- who leaves the section
-pub returns-in_default-2-clause-notes : goal.returns-in_default-2-clause-notes
-returns-in_default-2-clause-notes c =
+pub returns-in_default-holder_from-clause-notes : goal.returns-in_default-holder_from-clause-notes
+returns-in_default-holder_from-clause-notes c =
     let crowd = c.args.crowd.now in
     let prices = c.args.prices.now in
     let same : c.in-Some.raised.0.0 ≡ c.args.walk.now.section.0 = search rules in
@@ -39,8 +39,8 @@ pub returns-clause-walk : goal.returns-clause-walk
 returns-clause-walk c = record {
   within = c.requires.walk.within;
   listed =
-      more_listed (data_of c.args.crowd.now) (heap_items c.args.walk.now.holders) (heap_items c.push-2.new.self) c.in-Some-2.again
-      c.in_ok-push-2.ensures.permutation c.in-Some-2.ensures.listed c.requires.walk.listed;
+      more_listed (data_of c.args.crowd.now) (heap_items c.args.walk.now.holders) (heap_items c.push-2.new.self) c.in-Some-holder_from.again
+      c.in_ok-push-2.ensures.permutation c.in-Some-holder_from.ensures.listed c.requires.walk.listed;
 }
 
 pub returns-clause-notes : goal.returns-clause-notes

@@ -12,7 +12,7 @@ serving-requires-clause-note c =
     subst (λ (k : Kept). IsNoted (data_of c.args.crowd.now) c.args.prices.now k.note) (sym c.index.ensures)
     (c.requires.notes c.loop.next c.index.result.now low)
 
-pub returns-then-in-Some : goal.returns-then-in-Some
-returns-then-in-Some c =
+pub returns-in-Some-serving : goal.returns-in-Some-serving
+returns-in-Some-serving c =
     let same : c.index.result.now.note.student.0 ≡ c.args.student.0 = search rules in
-    c.in-Some.ensures ∙ ap (demand_of (data_of c.args.crowd.now) (price_in c.args.prices.now)) same
+    c.in-Some-serving.ensures ∙ ap (demand_of (data_of c.args.crowd.now) (price_in c.args.prices.now)) same

@@ -14,10 +14,10 @@ told-requires-clause-notes c =
     let s : ℕ = c.args.section.0 in
     let wide : length c.args.prices.now ≡ c.args.crowd.now.sections = c.requires.prices.same in
     let low : s < length c.args.prices.now = subst (λ (n : ℕ). c.args.section.0 < n) (sym wide) c.requires.section in
-    let read : price_in c.args.prices.now c.args.section.0 ≡ c.index.result.now.0 =
-    price_at prices c.args.section.0 c.index.result.now low
-    ∙ ap (λ (t : Tokens). t.0) (sym (c.index.ensures ∙ ap (λ (n : ℕ). slice_index_or prices n c.index.result.now) c.from.ensures)) in
-    let above : c.index.result.now.0 ≤ c.args.price.0 = search rules in
+    let read : price_in c.args.prices.now c.args.section.0 ≡ (slice_index_or c.args.prices.now c.from.result (record { 0 = 0 })).0 =
+    price_at prices c.args.section.0 (record { 0 = 0 }) low
+    ∙ ap (λ (n : ℕ). (slice_index_or prices n (record { 0 = 0 })).0) (sym c.from.ensures) in
+    let above : (slice_index_or c.args.prices.now c.from.result (record { 0 = 0 })).0 ≤ c.args.price.0 = search rules in
     let up : price_in c.args.prices.now c.args.section.0 ≤ c.args.price.0 = omega (arith, read, above) in
     kept_raised (data_of c.args.crowd.now) prices c.raised_prices-trial.result.now c.args.section.0 c.args.price c.args.self.now.list.items low up
     c.raised_prices-trial.ensures c.requires.notes
