@@ -3,7 +3,6 @@ use Rattle.std.proofs.Common.{ℕ, suc, Bool, true, ◌≡◌, ◌<◌, ◌≤�
 use Rattle.std.specs.Prelude.{nat_lt}
 use Rattle.std.proofs.lemmas.Bool.{cases_Bool}
 use Rattle.std.proofs.lemmas.Bool.Decides.{nat_tests}
-use Rattle.std.proofs.lemmas.List.{get_or-map}
 use Rattle.market_units.specs.declared.units.SectionNo.{SectionNo}
 use Rattle.market_units.specs.declared.units.Tokens.{Tokens}
 use Rattle.market_units.specs.Totals.{total}
@@ -22,8 +21,8 @@ use Rattle.demand_api.proofs.Halving.{price_at}
 use Rattle.demand_api.proofs.Keeping.{best_stays}
 use Rattle.demand_api.proofs.Parts.{menus_within, top_high}
 use Rattle.demand_api.proofs.Takers.{demand_at, demand_within, found_demand, lent_back, listed_in}
-use Rattle.demand_workers.specs.Remembered.{AreRemembered, AreTaken}
-use Rattle.demand_workers.specs.Rounds.{prices_of, AreVersionsFor}
+use Rattle.demand_workers.specs.Remembered.{AreTaken}
+use Rattle.demand_workers.specs.Rounds.{prices_of}
 
 -- a rated section is at one of the places
 pub rated_no_cheaper : (places : List Rated) (before after : ℕ → ℕ) → All (λ (rated : Rated). before rated.section.0 ≤ after rated.section.0) places → (s : ℕ)

@@ -1,4 +1,4 @@
-use Rattle.std.proofs.Common.{rules, ◌<◌, ℕ, List, All, heap_items, length, sym, subst, arith}
+use Rattle.std.proofs.Common.{rules, ◌<◌, ℕ, List, All, heap_items, sym, subst}
 use Rattle.std.proofs.lemmas.List.Elements.{All-push}
 use Rattle.demand_api.specs.Views.{data_of}
 use Rattle.demand_api.proofs.Parts.{students_length}

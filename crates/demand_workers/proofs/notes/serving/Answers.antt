@@ -1,5 +1,4 @@
 use Rattle.std.proofs.Common.{rules, ◌≡◌, ◌<◌, ◌≤◌, ◌∙◌, ℕ, length, slice_index_or, ap, sym, subst, arith}
-use Rattle.market_units.specs.declared.units.Tokens.{Tokens}
 use Rattle.market_units.specs.Totals.{total}
 use Rattle.bundle_rules.specs.Bundles.{sections_of}
 use Rattle.bundle_rules.specs.Demand.{price_in}

@@ -1,5 +1,4 @@
-use Rattle.std.proofs.Common.{rules, ◌≡◌, ◌<◌, ◌≤◌, ◌∙◌, ℕ, length, slice_index_or, slice_set, ap, sym, subst, arith}
-use Rattle.market_units.specs.declared.units.Tokens.{Tokens}
+use Rattle.std.proofs.Common.{rules, ◌≡◌, ◌<◌, ◌≤◌, ◌∙◌, ℕ, length, slice_index_or, ap, sym, subst, arith}
 use Rattle.bundle_rules.specs.Demand.{price_in}
 use Rattle.demand_api.specs.Asking.{ArePricesFor}
 use Rattle.demand_api.specs.Views.{data_of}

@@ -1,8 +1,7 @@
-use Rattle.std.proofs.Common.{List, sym, subst}
+use Rattle.std.proofs.Common.{sym, subst}
 use Rattle.std.specs.Arc.{arc_value}
-use Rattle.market_units.specs.declared.units.Tokens.{Tokens}
 use Rattle.demand_api.specs.Views.{data_of}
-use Rattle.demand_workers.specs.Notes.{AreKept, AreNoted}
+use Rattle.demand_workers.specs.Notes.{AreNoted}
 use Rattle.demand_workers.proofs.pooled_demands.PooledDemands+AnyGate.look_ahead.Goals as goal
 
 pub invariant_of-self : goal.invariant_of-self
