@@ -86,26 +86,6 @@ pub trait Demands {
         ensures asked { asked self.new ≡ one_more (asked self.old) }
         ensures value { IfOk result (λ more. IsTrue more ↔ (limit < count (crowd self.old) (price_in prices.now) section.0)) };
 
-    /// Tells ahead which least prices may be asked for next at these prices: pairs of a section and
-    /// a limit, the likeliest first. Whoever has several workers can have them ask at once what the
-    /// walks to these prices will ask. It is no question, so no answer depends on it and it is not
-    /// counted. The provided body does nothing.
-    fn foresee<R: Threads + Wait + Sync>(
-        &mut self,
-        _rt: &R,
-        _alloc: Global,
-        _prices: &[Tokens],
-        _pairs: &[(SectionNo, u32)],
-    ) -> Result<(), NoMemory>
-        requires sync { IsSync R.row }
-        requires prices { ArePricesFor (crowd self.old) _prices.now }
-        requires sections { All (λ pair. pair.0.0 < (crowd self.old).sections) _pairs.now }
-        ensures crowd { crowd self.new ≡ crowd self.old }
-        ensures asked { asked self.new ≡ asked self.old }
-    {
-        Ok(())
-    }
-
     /// For each of at most 400 pairs of a section and a limit the least price of the section, from
     /// its present one up, at which at most that many students take it, the other prices as given.
     /// The number of calls made does not fall, and rises at most by the binary digits of the top,

@@ -15,6 +15,7 @@ ghost use Rattle.demand_workers.specs.Surveys.{IsSurvey};
 use crate::Pool;
 use crate::answering::read_all;
 use crate::asking::ask;
+use crate::foreseen::walks_of;
 use crate::inquiry::Inquiries;
 use crate::notes::Notes;
 use crate::remembered::Remembered;
@@ -30,15 +31,19 @@ use std::alloc::Global;
 use std::sync::{Arc, Wait};
 use std::thread::Threads;
 
+// How many rounds are made ahead of the walks of one call. What is not asked by then, the walks ask
+// for themselves.
+const PHASES: usize = 8;
+
 /// A crowd that is asked by the workers of a pool, each with a workspace of its own. What each
 /// student takes at some prices is remembered. Whom that does not settle at the versions of a call
 /// is asked in one round: an inquiry for each student and version, which workers draw from a board,
 /// each in a thread of its own where one can be started, or the first worker alone, in the caller's
 /// thread, where the inquiries are few. Where nothing is remembered, each student is a task of a
 /// price board. Workers pass the gate before their first draw and after each post. Students on the
-/// walks to least prices are asked in such rounds too, and several workers ask ahead on walks that
-/// are foreseen; what is found there is noted, and serves as long as no price falls. Its one form is
-/// `PooledDemands<AnyGate>`, which `make` gives.
+/// walks to least prices are asked in such rounds too, by several workers some ahead; what is found
+/// there is noted, and serves as long as no price falls. Its one form is `PooledDemands<AnyGate>`,
+/// which `make` gives.
 #[derive(Drop)]
 pub struct PooledDemands<G> {
     pub(crate) crowd: Arc<Crowd>,
@@ -236,15 +241,15 @@ impl<'g> PooledDemands<AnyGate<'g>> {
         Ok(found)
     }
 
-    // Remembers what each student takes at these prices, and notes what those take who are surely
-    // asked on the first so many of these pairs' walks, or most of them.
+    // Remembers what each student takes at these prices, and notes what those take who are asked on
+    // the walks of these pairs, or most of them: one round for all walks, as often as somebody is
+    // next.
     fn look_ahead<R: Threads + Wait + Sync>(
         &mut self,
         rt: &R,
         alloc: Global,
         prices: &[Tokens],
         pairs: &[(SectionNo, u32)],
-        needed: usize,
     ) -> Result<(), NoMemory>
         requires prices { ArePricesFor (data_of (arc_value self.old.crowd)) prices.now }
         requires sections { All (λ pair. pair.0.0 < (arc_value self.old.crowd).sections) pairs.now }
@@ -256,8 +261,14 @@ impl<'g> PooledDemands<AnyGate<'g>> {
             ≡ length (arc_value self.old.crowd).menus.items) }
     {
         self.recall(rt, alloc, prices)?;
-        let notes = self.foreseen(rt, alloc, pairs, needed)?;
-        self.notes.add(&notes)?;
+        let mut walks = walks_of(alloc, &self.remembered, &self.crowd, pairs)?;
+        'phases: for _ in 0..PHASES {
+            let notes = self.next_notes(rt, alloc, &mut walks)?;
+            if notes.is_empty() {
+                break;
+            }
+            self.notes.add(&notes)?;
+        }
         Ok(())
     }
 
@@ -405,24 +416,10 @@ impl Demands for PooledDemands<AnyGate<'_>> {
         prices: &[Tokens],
         pairs: &[(SectionNo, u32)],
     ) -> Result<Vec<Tokens>, NoMemory> {
-        self.look_ahead(rt, alloc, prices, pairs, pairs.len())?;
+        self.look_ahead(rt, alloc, prices, pairs)?;
         if let [(section, limit)] = pairs {
             return self.least_alone(rt, alloc, *section, *limit);
         }
         self.least_for_each(rt, alloc, pairs)
-    }
-
-    fn foresee<R: Threads + Wait + Sync>(
-        &mut self,
-        rt: &R,
-        alloc: Global,
-        prices: &[Tokens],
-        pairs: &[(SectionNo, u32)],
-    ) -> Result<(), NoMemory> {
-        // One worker would only ask, in part in vain, what it asks then anyway.
-        if self.pool.workers == 1 {
-            return Ok(());
-        }
-        self.look_ahead(rt, alloc, prices, pairs, 1)
     }
 }

@@ -15,7 +15,7 @@ ghost use Rattle.demand_workers.specs.Walks.{IsForeseen};
 
 use crate::PooledDemands;
 use crate::asking::ask;
-use crate::foreseen::{Filling, next_round, take_answers};
+use crate::foreseen::{Foreseen, next_of_all, notes_of};
 use crate::inquiry::{Inquiries, Inquiry};
 use crate::leaving::{Walk, holder_of, holders_of};
 use crate::note::Note;
@@ -29,12 +29,9 @@ use std::alloc::Global;
 use std::sync::{Arc, Wait};
 use std::thread::Threads;
 
-// How many rounds are made ahead of the walks of one call. What is not asked by then, the walks ask
-// for themselves.
-const PHASES: usize = 8;
-
-// How many inquiries of a round are enough for one worker.
-const ENOUGH: usize = 64;
+// How many holders of a section several workers ask at once, if no more are surely asked. Some of
+// them are asked in vain: those who would leave above the least price.
+const AHEAD: usize = 12;
 
 impl PooledDemands<AnyGate<'_>> {
     /// For each pair of a section and a limit the least price of the section from its remembered
@@ -64,62 +61,41 @@ impl PooledDemands<AnyGate<'_>> {
         Ok(found)
     }
 
-    /// What those take who are surely asked on the first so many of these pairs' walks, or most of
-    /// them: one round for all walks, as often as somebody is next. Where such a round has not
-    /// enough for all workers, the walks of the later pairs fill it up. The only error is that
-    /// memory was not given.
-    pub(crate) fn foreseen<R: Threads + Wait + Sync>(
+    /// Notes of what those take who are asked next on these walks: one round for all of them. There
+    /// are none where nobody is next. The only error is that memory was not given.
+    pub(crate) fn next_notes<R: Threads + Wait + Sync>(
         &self,
         rt: &R,
         alloc: Global,
-        pairs: &[(SectionNo, u32)],
-        needed: usize,
+        walks: &mut [Foreseen],
     ) -> Result<Vec<Note>, NoMemory>
-        requires all { length self.now.remembered.bundles.items
-            ≡ length (arc_value self.now.crowd).menus.items }
         requires prices { ArePricesFor (data_of (arc_value self.now.crowd))
             self.now.remembered.prices.items }
-        requires sections { All (λ pair. pair.0.0 < (arc_value self.now.crowd).sections) pairs.now }
-        ensures { IfOk result
+        requires walks { All (IsForeseen (data_of (arc_value self.now.crowd))) walks.old }
+        ensures count { IfOk result (λ notes. length walks.new ≡ length walks.old) }
+        ensures walks { IfOk result
+            (λ notes. All (IsForeseen (data_of (arc_value self.now.crowd))) walks.new) }
+        ensures notes { IfOk result
             (λ notes. AreNoted (data_of (arc_value self.now.crowd))
             self.now.remembered.prices.items notes.items) }
     {
-        let enough = usize::from(self.pool.workers).saturating_mul(ENOUGH);
-        let filling = Filling { needed, enough };
-        let mut walks = Vec::new(alloc);
-        let mut notes = Vec::new(alloc);
-        for _ in 0..PHASES {
-            let list = next_round(
-                alloc,
-                &self.remembered,
-                &self.crowd,
-                &self.notes,
-                pairs,
-                filling,
-                &mut walks,
-            )?;
-            if list.is_empty() {
-                break;
-            }
-            let inquiries = self.at_remembered(alloc, list)?;
-            let found = ask(
-                rt,
-                alloc,
-                &self.pool,
-                self.gate,
-                &self.remembered,
-                &inquiries,
-            )?;
-            take_answers(
-                &self.crowd,
-                &self.remembered.prices,
-                &mut walks,
-                &inquiries.list,
-                &found,
-                &mut notes,
-            )?;
+        let prices: &[Tokens] = &self.remembered.prices;
+        // One worker would only ask in vain, in part, what it asks then anyway.
+        let ahead = if self.pool.workers == 1 { 0 } else { AHEAD };
+        let list = next_of_all(alloc, &self.crowd, prices, &self.notes, walks, ahead)?;
+        if list.is_empty() {
+            return Ok(Vec::new(alloc));
         }
-        Ok(notes)
+        let inquiries = self.at_remembered(alloc, list)?;
+        let found = ask(
+            rt,
+            alloc,
+            &self.pool,
+            self.gate,
+            &self.remembered,
+            &inquiries,
+        )?;
+        notes_of(alloc, &self.crowd, prices, &inquiries.list, &found)
     }
 
     // These inquiries at the remembered prices.

@@ -1,10 +1,7 @@
 -- The section of greatest excess among the first ones.
 use Rattle.std.proofs.Common.{ℕ, zero, suc, ◌≡◌, ◌<◌, ◌≤◌, ◌+◌, ◌-◌, pos, ◌≤ℤ◌, ◌<ℤ◌, ◌⊎◌, List, Option, Some, None, arith, refl, sym, subst, inl, inr}
 use Rattle.std.proofs.lemmas.Int.{ints}
-use Rattle.std.specs.Prelude.{length, slice_index, slice_index_or, IfSome, IfNone}
-use Rattle.std.specs.List.{All}
-use Rattle.std.specs.List.Sorted.{IsPermutation}
-use Rattle.std.proofs.lemmas.List.Sorted.{All-permutation}
+use Rattle.std.specs.Prelude.{slice_index, IfSome, IfNone}
 use Rattle.std.proofs.lemmas.Bool.{cases_order, cases_lt}
 use Rattle.market_units.specs.declared.units.SectionNo.{SectionNo}
 use Rattle.clearing_error.specs.Errors.{excess}
@@ -129,9 +126,3 @@ pub most_none : (count : ℕ → ℕ) (seats : List ℕ) (n greatest : ℕ) (mos
     → IfNone most (AreCountsWithin n count seats)
 most_none count seats n greatest None so_far = so_far.1
 most_none count seats n greatest (Some section) so_far = tt
-
--- what stands at a place of the sorted list stood in the list before
-pub sorted_within : (n : ℕ) (before after : List (ℕ × ℕ)) (place : ℕ) (one : ℕ × ℕ) → IsPermutation before after
-    → All (λ (over : ℕ × ℕ). over.1 < n) before → place < length after → one ≡ slice_index_or after place one → one.1 < n
-sorted_within n before after place one sorted within low is =
-    subst (λ (over : ℕ × ℕ). over.1 < n) (sym is) (All-permutation (λ (over : ℕ × ℕ). over.1 < n) before after sorted within place one low)

@@ -1,6 +1,6 @@
 //! The elimination of oversubscription: prices are raised, one after another, until no section has
 //! more students than seats (Course Match: Budish, Cachon, Kessler, Othman 2017).
-// Neither: how many rounds it makes, which least prices it tells ahead, and how long it takes.
+// Neither: how many rounds it makes, and how long it takes.
 #![tactic(auto)]
 
 pub mod laws;

@@ -1,5 +1,5 @@
 // One round of the elimination.
-ghost use Rattle.std.specs.Prelude.{◌≡◌, ◌<◌, ◌≤◌, All, IfOk, IfSome, IfNone, length};
+ghost use Rattle.std.specs.Prelude.{◌≡◌, ◌≤◌, IfOk, IfSome, IfNone, length};
 ghost use Rattle.bundle_rules.specs.Demand.{price_in};
 ghost use Rattle.demand_api.specs.Crowds.{count, holders};
 ghost use Rattle.own_price.specs.Holding.{Holds};
@@ -34,37 +34,6 @@ pub(crate) fn most_over(held: &Held, seats: &[u16]) -> Option<SectionNo>
         }
     }
     most
-}
-
-/// Each section that has more students than seats, with the number of students that a round leaves
-/// it at most: first those with the most students too many, the lowest ordinal first among equals.
-/// The only error is that memory was not given.
-pub(crate) fn all_over(
-    alloc: Global,
-    held: &Held,
-    seats: &[u16],
-) -> Result<Vec<(SectionNo, u32)>, NoMemory>
-    requires seats { length seats.now ≡ length held.now.prices }
-    requires few { length seats.now ≤ MAX_SECTIONS }
-    ensures { IfOk result (λ pairs. All (λ pair. pair.0.0 < length seats.now) pairs.items) }
-{
-    let mut over = Vec::new(alloc);
-    'sections: for place in 0..seats.len() {
-        let count = held.count(SectionNo(place as u16));
-        let more = count.saturating_sub(u32::from(seats[place]));
-        if more > 0 {
-            over.push((u32::MAX - more, place as u16))?;
-        }
-    }
-    over.sort_unstable();
-    let mut pairs = Vec::with_capacity(alloc, over.len())?;
-    'sorted: for place in 0..over.len() {
-        let section = SectionNo(over[place].1);
-        let seats = u32::from(seats[usize::from(section.0)]);
-        let limit = seats + held.count(section).saturating_sub(seats) / 2;
-        pairs.push((section, limit))?;
-    }
-    Ok(pairs)
 }
 
 /// Raises the price of this section to the least one at which at most its seats and half of those

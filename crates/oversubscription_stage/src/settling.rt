@@ -3,7 +3,7 @@ ghost use Rattle.std.specs.Prelude.{◌≡◌, IfOk, length};
 ghost use Rattle.demand_api.specs.Asking.{ArePricesFor};
 ghost use Rattle.oversubscription_stage.specs.Rounds.{IsSettled, AreTaken};
 
-use crate::round::{all_over, most_over, raise_most};
+use crate::round::{most_over, raise_most};
 use bundle_rules::Bundle;
 use demand_api::Demands;
 use market_units::{NoMemory, Tokens};
@@ -48,8 +48,6 @@ pub fn settle<R: Threads + Wait + Sync, D: Demands>(
     let mut held = Held::take(rt, alloc, demands, prices)?;
     let mut rounds = 0;
     while let Some(section) = most_over(&held, seats) {
-        let pairs = all_over(alloc, &held, seats)?;
-        demands.foresee(rt, alloc, held.prices(), &pairs)?;
         raise_most(rt, alloc, demands, seats, &mut held, section)?;
         rounds += 1;
     }

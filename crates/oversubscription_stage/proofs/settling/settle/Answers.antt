@@ -17,17 +17,17 @@ loop-section-smaller g c =
     let way =
     subst (λ crowd. IsUnderWay crowd c.args.seats.now c.args.prices.now c.loop-section.held c.loop-section.rounds) (sym c.loop-section.invariant.0)
     c.loop-section.invariant.1 in
-    rw (c.raise_most.ensures.crowd ∙ c.foresee.ensures.crowd)
+    rw c.raise_most.ensures.crowd
     (round_left_falls (g.D.Demands.crowd c.loop-section.demands) c.args.seats.now c.loop-section.held.prices c.raise_most.new.held.prices way.holds.prices
-    (subst (λ crowd. IsRound crowd c.args.seats.now c.loop-section.held.prices c.raise_most.new.held.prices) c.foresee.ensures.crowd c.in_ok-raise_most.ensures.round))
+    c.in_ok-raise_most.ensures.round)
 
 pub loop-section-preserved : goal.loop-section-preserved
 loop-section-preserved g c =
-    let same = c.foresee.ensures.crowd ∙ c.loop-section.invariant.0 in
     let round =
-    subst (λ crowd. IsRound crowd c.args.seats.now c.loop-section.held.prices c.raise_most.new.held.prices) same c.in_ok-raise_most.ensures.round in
-    let holds = subst (λ crowd. Holds crowd c.raise_most.new.held) same c.in_ok-raise_most.ensures.held in (
-      c.raise_most.ensures.crowd ∙ same,
+    subst (λ crowd. IsRound crowd c.args.seats.now c.loop-section.held.prices c.raise_most.new.held.prices) c.loop-section.invariant.0
+    c.in_ok-raise_most.ensures.round in
+    let holds = subst (λ crowd. Holds crowd c.raise_most.new.held) c.loop-section.invariant.0 c.in_ok-raise_most.ensures.held in (
+      c.raise_most.ensures.crowd ∙ c.loop-section.invariant.0,
       under_way_more (g.D.Demands.crowd c.take.new.demands) c.args.seats.now c.args.prices.now c.loop-section.held c.raise_most.new.held c.loop-section.rounds
           c.loop-section.invariant.1 round holds,
     )

@@ -4,12 +4,12 @@ use Rattle.demand_api.specs.Views.{data_of}
 use Rattle.demand_workers.specs.Notes.{AreNoted}
 use Rattle.demand_workers.proofs.pooled_demands.PooledDemands+AnyGate.look_ahead.Goals as goal
 
-pub invariant_of-self : goal.invariant_of-self
-invariant_of-self g c =
-    let crowd = data_of (arc_value c.recall.new.self.crowd) in
-    let prices = c.recall.new.self.remembered.prices.items in
+pub invariant_of-self-in-phases : goal.invariant_of-self-in-phases
+invariant_of-self-in-phases g c =
+    let crowd = data_of (arc_value c.phases.self.crowd) in
+    let prices = c.phases.self.remembered.prices.items in
     record {
-      right = c.recall.new.self.right;
-      noted = c.add.ensures crowd prices c.recall.new.self.noted
-          (subst (AreNoted crowd prices) (sym c.deref.ensures.value) c.in_ok-notes.ensures);
+      right = c.phases.self.right;
+      noted = c.add.ensures crowd prices c.phases.self.noted
+          (subst (AreNoted crowd prices) (sym c.deref-in-phases.ensures.value) c.in_ok-notes.ensures.notes);
     }

@@ -2,7 +2,7 @@ use Rattle.std.proofs.Common.{◌≡◌, All, length}
 use Rattle.demand_api.specs.Views.{data_of}
 use Rattle.demand_workers.specs.Inquiring.{IsInquiry}
 use Rattle.demand_workers.specs.Walks.{IsForeseen}
-use Rattle.demand_workers.proofs.foreseen.add_begun.Given as goal
+use Rattle.demand_workers.proofs.foreseen.next_of_all.Given as goal
 
 abbrev pub invariant-loop-place : goal.invariant-loop-place
 invariant-loop-place l = record {

@@ -1,0 +1,7 @@
+use Rattle.std.proofs.Common.{All}
+use Rattle.demand_api.specs.Views.{data_of}
+use Rattle.demand_workers.specs.Walks.{IsForeseen}
+use Rattle.demand_workers.proofs.foreseen.walks_of.Given as goal
+
+abbrev pub invariant-loop-section : goal.invariant-loop-section
+invariant-loop-section l = All (IsForeseen (data_of l.crowd)) l.walks.items
