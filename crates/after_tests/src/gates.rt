@@ -3,7 +3,7 @@ ghost use Rattle.std.specs.Prelude.{◌≤◌};
 
 use crate::opened_halls::hall_of;
 use crate::told_audits::audited;
-use made_run::made_summary;
+use made_run::{Numbers, made_summary};
 use market_edge::{Gate, Stop};
 use market_units::MAX_WORKERS;
 use std::alloc::Global;
@@ -95,7 +95,13 @@ fn try_made<R: Abort + Threads + Wait + Sync>(rt: &R, alloc: Global, workers: u1
     requires { (1 ≤ workers) × (workers ≤ MAX_WORKERS) }
 {
     let watch = Watch::of(workers);
-    let made = made_summary(rt, alloc, workers, 7, 2, 2, 0, &watch);
+    let numbers = Numbers {
+        seed: 7,
+        students: 2,
+        sections: 2,
+        accept: 0,
+    };
+    let made = made_summary(rt, alloc, workers, numbers, &watch);
     assert!(rt; made.is_ok());
     let (sessions, starts, beyond) = watch.counts();
     assert!(rt; starts > 0, "{workers} workers");

@@ -22,7 +22,8 @@ use Rattle.market_certificate.specs.Views.{proved_of, publication_of}
 use Rattle.certificate_checker.specs.declared.terms.Terms.{Terms}
 use Rattle.certificate_checker.specs.Firsts.{AllBelow}
 use Rattle.certificate_checker.specs.Parts.{CanCheck}
-use Rattle.certificate_checker.specs.Students.{offer_in, proved_in, student_in}
+use Rattle.certificate_checker.specs.Students.{offer_in, proved_in}
+use Rattle.published_parts.specs.Offers.{student_in}
 
 -- two tests of numbers
 pub are_apart : (x y : ℕ) → not (nat_eq x y) ≡ true → x ≢ y

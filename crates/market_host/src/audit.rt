@@ -62,16 +62,11 @@ fn audited<R: Threads + Wait + Sync>(
         streams,
     } = published;
     let passed = Passed { gate };
-    let told = published_audit(
-        rt,
-        alloc,
-        workers,
-        &market.catalog,
-        &market.roll,
-        &market.settings,
-        &streams,
-        text,
-        &passed,
-    );
+    let lent = published_parts::Market {
+        catalog: &market.catalog,
+        roll: &market.roll,
+        settings: &market.settings,
+    };
+    let told = published_audit(rt, alloc, workers, &lent, &streams, text, &passed);
     told_end(&market.catalog, &market.roll, told)
 }

@@ -46,14 +46,12 @@ fn checked(alloc: Global, published: Published) -> Result<Ended, NoMemory>
         text,
         streams,
     } = published;
-    match check_owned(
-        alloc,
-        &market.catalog,
-        &market.roll,
-        &market.settings,
-        &streams,
-        text,
-    ) {
+    let lent = published_parts::Market {
+        catalog: &market.catalog,
+        roll: &market.roll,
+        settings: &market.settings,
+    };
+    match check_owned(alloc, &lent, &streams, text) {
         Ok(()) => Ok(Ended {
             status: Status::Done,
             output: Output::Line(accepted()),

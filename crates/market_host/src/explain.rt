@@ -69,16 +69,12 @@ fn reason_for(
     let Some(listed) = market.catalog.find(section) else {
         return Ok(unknown(SECTION_WORD));
     };
-    let told = published_reason(
-        alloc,
-        &market.catalog,
-        &market.roll,
-        &market.settings,
-        &streams,
-        text,
-        enrolled,
-        listed,
-    );
+    let lent = published_parts::Market {
+        catalog: &market.catalog,
+        roll: &market.roll,
+        settings: &market.settings,
+    };
+    let told = published_reason(alloc, &lent, &streams, text, enrolled, listed);
     told_end(&market.catalog, &market.roll, told)
 }
 

@@ -72,16 +72,12 @@ fn held<R: Threads + Wait + Sync>(
         (market_of market.now.catalog market.now.roll market.now.settings) []
         (command_lists streams.now) ended.status (bytes_of ended.output)) }
 {
-    match held_text(
-        rt,
-        alloc,
-        workers,
-        &market.catalog,
-        &market.roll,
-        &market.settings,
-        streams,
-        gate,
-    ) {
+    let lent = published_parts::Market {
+        catalog: &market.catalog,
+        roll: &market.roll,
+        settings: &market.settings,
+    };
+    match held_text(rt, alloc, workers, &lent, streams, gate) {
         Ok(text) => Ok(Ended {
             status: Status::Done,
             output: Output::Text(text),

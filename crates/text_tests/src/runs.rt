@@ -7,9 +7,10 @@ ghost use Rattle.published_parts.specs.Markets.{market_of, names_in};
 use crate::desks::{Said, has_sessions, market_said, two_students};
 use crate::summaries::TWO_STUDENTS;
 use market_edge::OpenGate;
-use market_run::{made_summary, published_text};
+use market_run::{MarketDesk, made_summary, published_text};
 use market_units::MAX_WORKERS;
 use published_market::PublishEnd;
+use published_parts::Market;
 use std::alloc::Global;
 use std::process::Abort;
 use std::sync::Wait;
@@ -36,7 +37,13 @@ fn text_by<R: Abort + Threads + Wait + Sync>(
         desk,
     } = market;
     assert!(rt; has_sessions(desk));
-    match published_text(rt, alloc, workers, catalog, roll, settings, desk, &OpenGate) {
+    let market = Market {
+        catalog,
+        roll,
+        settings,
+    };
+    let heard = MarketDesk { market, desk };
+    match published_text(rt, alloc, workers, &heard, &OpenGate) {
         Ok(text) => Ok(text),
         Err(PublishEnd::NoPrices { least }) => Err(least),
         Err(PublishEnd::NoMemory) => panic!(rt; "memory"),
@@ -71,7 +78,13 @@ fn two_by<R: Abort + Threads + Wait + Sync>(rt: &R, alloc: Global, workers: u16)
         desk,
     } = &two_students(rt, alloc);
     assert!(rt; has_sessions(desk));
-    made_summary(rt, alloc, workers, catalog, roll, settings, desk, &OpenGate).expect(rt, "prices")
+    let market = Market {
+        catalog,
+        roll,
+        settings,
+    };
+    let heard = MarketDesk { market, desk };
+    made_summary(rt, alloc, workers, &heard, &OpenGate).expect(rt, "prices")
 }
 
 const FOUR_IN_TWO_SESSIONS: &[u8] =
