@@ -1,10 +1,11 @@
 // The whole process, over whatever shelf, sink and gate it is given.
-ghost use Rattle.std.specs.Prelude.{◌≡◌, ◌≤◌, List, ℕ, drop, IfOk};
+ghost use Rattle.std.specs.Prelude.{◌≡◌, ◌≤◌, drop, IfOk};
 ghost use Rattle.std.specs.Process.{exit_status};
 ghost use Rattle.std.specs.Vec.Iter.{into_iter_items};
 ghost use Rattle.market_host.specs.Programs.{EndsProcess, words_given};
 ghost use Rattle.market_host.specs.Sights.{writing};
 ghost use Rattle.market_host.specs.Statuses.{number_of};
+ghost use Rattle.market_host.specs.Taking.{Keeps};
 
 use crate::Status;
 use crate::host::{course_match, no_memory_for_words};
@@ -35,8 +36,7 @@ pub fn exit_code<R: Threads + Wait + Sync, H: Shelf, K: Sink>(
         (writing K.Sink sink.old sink.new) status }
 
     // What the shelf holds stays, and no count of faults falls.
-    ensures holds { H.holds shelf.new ≡ H.holds shelf.old }
-    ensures later { (other : List ℕ) → H.faults shelf.old other ≤ H.faults shelf.new other }
+    ensures kept { Keeps H.Shelf shelf.old shelf.new }
     ensures sink_later { K.faults sink.old ≤ K.faults sink.new }
 {
     let status = answered(rt, alloc, args, shelf, sink, gate);
@@ -54,8 +54,7 @@ fn answered<R: Threads + Wait + Sync, H: Shelf, K: Sink>(
 ) -> Status
     ensures ends { EndsProcess (words_given args) H.Shelf shelf.old shelf.new
         (writing K.Sink sink.old sink.new) result }
-    ensures holds { H.holds shelf.new ≡ H.holds shelf.old }
-    ensures later { (other : List ℕ) → H.faults shelf.old other ≤ H.faults shelf.new other }
+    ensures kept { Keeps H.Shelf shelf.old shelf.new }
     ensures sink_later { K.faults sink.old ≤ K.faults sink.new }
 {
     match args {

@@ -14,9 +14,9 @@ returns g c =
     let enrolled = c.args.tables.now.roll in
     let market : Market = record { catalog = offered; roll = enrolled } in
     let text = c.args.text.now in
-    let streams = request_lists c.args.streams.now in
+    let streams = request_lists c.args.streams.now.lists.items in
     let told = c.published_hall-told.result in
-    let is = c.published_hall-told.ensures in
+    let is = rw c.deref.ensures.value at c.published_hall-told.ensures in
     IfOk-weaker c.told_end.result _ _
     (λ ended. told_ends (tables_in market) told ended (HallEndsFor offered enrolled text streams) (λ _. ¬ CanOpen market text) (IsOpeningFinding market text)
     (IfOk-weaker told _ _ (λ made. hall_done offered enrolled text streams made.items) is.told) is.refused is.first

@@ -1,5 +1,12 @@
 use Rattle.std.proofs.Common.{inl, inr, refl}
+use Rattle.market_host.proofs.Taking.{kept_still}
 use Rattle.market_host.proofs.program.answered.Goals as goal
+
+pub returns-in-Err-words_behind_name-clause-kept : goal.returns-in-Err-words_behind_name-clause-kept
+returns-in-Err-words_behind_name-clause-kept g c = kept_still g.H.Shelf c.args.shelf.now
+
+pub returns-in-Err-clause-kept : goal.returns-in-Err-clause-kept
+returns-in-Err-clause-kept g c = kept_still g.H.Shelf c.args.shelf.now
 
 pub returns-in-Ok-words_behind_name-clause-ends : goal.returns-in-Ok-words_behind_name-clause-ends
 returns-in-Ok-words_behind_name-clause-ends g c =
