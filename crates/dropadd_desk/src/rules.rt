@@ -58,7 +58,7 @@ impl Model for MarketRules {
 }
 
 impl MarketRules {
-    ghost use Rattle.dropadd_desk.specs.Market.{section_count, student_count, section_named, student_named, seats_in};
+    ghost use Rattle.dropadd_desk.specs.Market.{AreKnown, section_count, student_count, section_named, student_named, seats_in};
     ghost use Rattle.dropadd_desk.specs.Fits.{credits_of, fits, lowest_clash, exceeds_credits, exceeds_courses};
     ghost use Rattle.dropadd_desk.specs.Kept.{IsMarket};
 
@@ -130,8 +130,7 @@ impl MarketRules {
         section: SectionNo,
         held: &Bundle,
     ) -> bool
-        requires student { student.0 < student_count self.now }
-        requires section { section.0 < section_count self.now }
+        requires known { AreKnown self.now student.0 section.0 }
         requires within { (s : ℕ) → has (sections_of held.now) s ≡ true
             → s < section_count self.now }
         ensures { result ≡ exceeds_credits self.now student.0 section.0 (sections_of held.now) }
@@ -152,8 +151,7 @@ impl MarketRules {
     /// Whether the student, who holds this bundle, could take the section too: there is no clash,
     /// and the caps are kept. Seats are not looked at.
     pub(crate) fn fits(&self, student: StudentNo, section: SectionNo, held: &Bundle) -> bool
-        requires student { student.0 < student_count self.now }
-        requires section { section.0 < section_count self.now }
+        requires known { AreKnown self.now student.0 section.0 }
         requires within { (s : ℕ) → has (sections_of held.now) s ≡ true
             → s < section_count self.now }
         ensures fits { result ≡ fits self.now student.0 section.0 (sections_of held.now) }

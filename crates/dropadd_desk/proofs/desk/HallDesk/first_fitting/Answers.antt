@@ -4,8 +4,12 @@ use Rattle.dropadd_desk.specs.HallView.{market_of, state_of}
 use Rattle.dropadd_desk.proofs.DeskLemmas.{fit_for, position_found, position_none}
 use Rattle.dropadd_desk.proofs.desk.HallDesk.first_fitting.Goals as goal
 
-pub fits-requires-clause-student : goal.fits-requires-clause-student
-fits-requires-clause-student c = c.waiting-waiting.ensures.students c.loop-place.place 0 c.loop-place-test.true
+pub bundle-requires : goal.bundle-requires
+bundle-requires c = c.waiting-waiting.ensures.students c.loop-place.place 0 c.loop-place-test.true
+
+pub fits-requires-clause-known : goal.fits-requires-clause-known
+fits-requires-clause-known c =
+    record { student = c.waiting-waiting.ensures.students c.loop-place.place 0 c.loop-place-test.true; section = c.requires }
 
 pub returns-then-fits : goal.returns-then-fits
 returns-then-fits c =
