@@ -56,8 +56,8 @@ IsOpeningFinding market text (Text line kind) =
 IsOpeningFinding market text finding =
     (p : Publication) × IsTextOf market p text × TellsFault market (opened market p) finding
 
--- no desk opens with the text, and this is the first finding on it; whom it names is on the roll, or
--- in the catalogue
+-- no desk opens with the text, and this is the first finding on it; whom it names is on the roll,
+-- or in the catalogue
 pub record IsNoOpening (market : Market) (text : List ℕ) (finding : Finding) : Type 0 where
   pub refused : ¬ CanOpen market text
   pub first : IsOpeningFinding market text finding

@@ -18,8 +18,8 @@ use Rattle.utility_language.specs.declared.commands.Command.{Command}
 use Rattle.market_host.specs.Markets.{IsHeld}
 use Rattle.market_host.specs.Marks.{without_mark}
 
--- the text tells a journal that a desk for this market keeps of these streams, and what the crowd of
--- its students takes at these prices
+-- the text tells a journal that a desk for this market keeps of these streams, and what the crowd
+-- of its students takes at these prices
 abbrev pub TellsDemand : Market → List (List Command) → List Tokens → List ℕ → Type 0
 TellsDemand market streams prices text =
     (journal : List Entry)

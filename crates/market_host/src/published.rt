@@ -73,8 +73,8 @@ pub fn take_text<H: Shelf>(
     name: &str,
     input: u16,
 ) -> Result<Vec<u8>, Trouble>
-    ensures { Takes H.Shelf kind.Published name.now input (λ _. ⊤) (λ bytes text. bytes ≡ text.items)
-        shelf.old shelf.new result }
+    ensures { Takes H.Shelf kind.Published name.now input (λ _. ⊤)
+        (λ bytes text. bytes ≡ text.items) shelf.old shelf.new result }
 {
     read_input(alloc, shelf, name, input, MAX_TEXT_BYTES)
 }

@@ -5,8 +5,8 @@ ghost use Rattle.market_units.specs.Totals.{total};
 
 use market_units::{MAX_COMMANDS, MAX_SESSIONS};
 
-/// A stream for each session of a call: of at least one and at most 64 sessions, and at most 200,000
-/// commands or requests in all streams together.
+/// A stream for each session of a call: of at least one and at most 64 sessions, and at most
+/// 200,000 commands or requests in all streams together.
 #[derive(Drop)]
 pub struct Streams<S: Drop> {
     pub lists: Vec<Vec<S>>,
