@@ -47,14 +47,13 @@ pub struct MarketRules {
 
 impl Model for MarketRules {
     ghost use Rattle.dropadd_desk.specs.Market.{Market};
-    ghost use Rattle.dropadd_desk.specs.Kept.{KeepsMarket};
+    ghost use Rattle.dropadd_desk.specs.Kept.{KeepsMarket, market_kept};
 
     ghost Value = { Market };
 
-    ghost view = { λ rules. record { catalog = rules.catalog.value; roll = rules.roll.value } };
+    ghost view = { market_kept };
 
-    ghost invariant = { λ rules.
-        KeepsMarket (record { catalog = rules.catalog.value; roll = rules.roll.value }) rules.students.keys rules.caps.items rules.sections.keys rules.credits.items rules.seats.items rules.clashes.items };
+    ghost invariant = { KeepsMarket };
 }
 
 impl MarketRules {
