@@ -48,7 +48,6 @@ pub fn course_match<R: Threads + Wait + Sync, H: Shelf, K: Sink>(
 
     // What the shelf holds stays, and no count of faults falls.
     ensures kept { Keeps H.Shelf shelf.old shelf.new }
-    ensures sink_later { K.faults sink.old ≤ K.faults sink.new }
 {
     let Some(form) = read_words(words) else {
         return finish(sink, usage().as_bytes(), Status::Usage);
@@ -62,8 +61,7 @@ pub fn course_match<R: Threads + Wait + Sync, H: Shelf, K: Sink>(
 /// What is answered where there is no memory for the words themselves: that memory is wanted,
 /// unless the sink fails.
 pub fn no_memory_for_words<K: Sink>(sink: &mut K) -> Status
-    ensures answered { IsWordless (writing K.Sink sink.old sink.new) result }
-    ensures sink_later { K.faults sink.old ≤ K.faults sink.new }
+    ensures { IsWordless (writing K.Sink sink.old sink.new) result }
 {
     finish(
         sink,

@@ -19,7 +19,7 @@ returns-in_default-clause-answered g c =
     (trace g.H.Shelf c.args.shelf.now c.args.shelf.now) (writing g.K.Sink c.args.sink.now c.finish.new.sink) c.finish.result Usage usage_line
     (search rules, refl) (none_used g.H.Shelf c.args.shelf.now) c.finish.ensures.status
     (rw (c.as_bytes.ensures, c.usage.ensures) at c.finish.ensures.written) c.finish.ensures.cause
-    (rw (c.as_bytes.ensures, c.usage.ensures) at c.finish.ensures.front) c.finish.ensures.uncounted
+    (rw (c.as_bytes.ensures, c.usage.ensures) at c.finish.ensures.front) c.finish.ensures.uncounted c.finish.ensures.later
 
 pub returns-in-Ok-clause-answered : goal.returns-in-Ok-clause-answered
 returns-in-Ok-clause-answered g c =
@@ -32,7 +32,7 @@ returns-in-Ok-clause-answered g c =
     (bytes_of c.in-Ok.ended.output) c.in-Ok.ensures)
     c.finish-in-Ok.ensures.status
     (rw c.as_bytes-in-Ok.ensures at c.finish-in-Ok.ensures.written) c.finish-in-Ok.ensures.cause
-    (rw c.as_bytes-in-Ok.ensures at c.finish-in-Ok.ensures.front) c.finish-in-Ok.ensures.uncounted
+    (rw c.as_bytes-in-Ok.ensures at c.finish-in-Ok.ensures.front) c.finish-in-Ok.ensures.uncounted c.finish-in-Ok.ensures.later
 
 pub returns-in-Err-clause-answered : goal.returns-in-Err-clause-answered
 returns-in-Err-clause-answered g c =
@@ -47,7 +47,7 @@ returns-in-Err-clause-answered g c =
     (used_until g.H.Shelf c.in-Some.form c.args.shelf.now c.answer.new.shelf words c.in-Some.ensures.form c.in-Err.trouble c.in-Err.ensures))
     (rw c.status.ensures at c.finish-in-Err.ensures.status)
     (rw (c.as_bytes-in-Err.ensures, c.line_for.ensures) at c.finish-in-Err.ensures.written) c.finish-in-Err.ensures.cause
-    (rw (c.as_bytes-in-Err.ensures, c.line_for.ensures) at c.finish-in-Err.ensures.front) c.finish-in-Err.ensures.uncounted
+    (rw (c.as_bytes-in-Err.ensures, c.line_for.ensures) at c.finish-in-Err.ensures.front) c.finish-in-Err.ensures.uncounted c.finish-in-Err.ensures.later
 
 pub returns-in_default-clause-kept : goal.returns-in_default-clause-kept
 returns-in_default-clause-kept g c = kept_still g.H.Shelf c.args.shelf.now
