@@ -40,13 +40,15 @@ give-requires-clause-apart c =
     (refusal_none (market_of c.args.self.now) (state_of c.args.self.now) c.args.student.0 c.args.section.0 (sym c.refusal.ensures.refusal ∙ c.in_default.is)).1
 
 pub returns-then-has : goal.returns-then-has
-returns-then-has c =
-    let outcome =
-    ap (λ st. (reply.Added, st)) c.give.ensures.state
-    ∙ added_is (market_of c.args.self.now) (state_of c.args.self.now) c.args.student.0 c.args.section.0 (sym c.refusal.ensures.refusal ∙ c.in_default.is)
-    (sym (free_on (market_of c.args.self.now) c.args.self.now.floor c.args.self.now.lists.lists c.args.section.0 c.args.self.now.counted c.requires.section)
-    ∙ sym c.has.ensures ∙ c.if-has.true) in
-    record { market = c.give.ensures.market; outcome = outcome; room = c.give.ensures.room }
+returns-then-has c = record {
+  market = c.give.ensures.market;
+  outcome =
+      ap (λ st. (reply.Added, st)) c.give.ensures.state
+      ∙ added_is (market_of c.args.self.now) (state_of c.args.self.now) c.args.student.0 c.args.section.0 (sym c.refusal.ensures.refusal ∙ c.in_default.is)
+      (sym (free_on (market_of c.args.self.now) c.args.self.now.floor c.args.self.now.lists.lists c.args.section.0 c.args.self.now.counted c.requires.section)
+      ∙ sym c.has.ensures ∙ c.if-has.true);
+  room = c.give.ensures.room;
+}
 
 pub overflow_cast-ahead : goal.overflow_cast-ahead
 overflow_cast-ahead c =
@@ -92,9 +94,12 @@ returns c =
     let changed =
     waiting_changed (held_on c.args.self.now.floor) c.args.self.now.lists c.push.new.self c.from-list.result c.args.section.0 _ _ c.push.ensures
     c.from-list.ensures (ap (λ n. get_or c.args.self.now.lists.lists n [] ++ c.args.student.0 ∷ []) c.from-list.ensures) in
-    let outcome =
-    same_outcome _ _ (λ n. reply.Queued n) _ _ list changed
-    ∙ queued_is (market_of c.args.self.now) (state_of c.args.self.now) c.args.student.0 c.args.section.0 (sym c.refusal.ensures.refusal ∙ c.in_default.is)
-    (sym (free_on (market_of c.args.self.now) c.args.self.now.floor c.args.self.now.lists.lists c.args.section.0 c.args.self.now.counted c.requires.section)
-    ∙ sym c.has.ensures ∙ c.if-has.false) in
-    record { market = refl; outcome = outcome; room = refl }
+    record {
+      market = refl;
+      outcome =
+          same_outcome _ _ (λ n. reply.Queued n) _ _ list changed
+          ∙ queued_is (market_of c.args.self.now) (state_of c.args.self.now) c.args.student.0 c.args.section.0 (sym c.refusal.ensures.refusal ∙ c.in_default.is)
+          (sym (free_on (market_of c.args.self.now) c.args.self.now.floor c.args.self.now.lists.lists c.args.section.0 c.args.self.now.counted c.requires.section)
+          ∙ sym c.has.ensures ∙ c.if-has.false);
+      room = refl;
+    }
