@@ -31,9 +31,7 @@ pub struct HallDesk {
     left: u32,
     ghost is_market: { IsMarket rules } by { Prim.hlevel props },
     ghost counted: { IsFloor (seats_in rules) floor } by { Prim.hlevel props },
-    ghost hall: {
-        IsHall rules (record { held = held_on floor; waiting = lists.lists })
-    } by { Prim.hlevel (props, IsAscending-prop) },
+    ghost hall: { IsHall rules (record { held = held_on floor; waiting = lists.lists }) } by { Prim.hlevel (props, IsAscending-prop) },
     ghost wide: { lists.width ≡ length rules.roll.students },
 }
 

@@ -28,7 +28,7 @@ TellsDemand market streams prices text =
     × (crowd : CrowdData) × IsCrowdIn market journal crowd
     × (text
     ≡ demand_text market.catalog.sections market.roll.students journal
-      (taken_at crowd (map (λ section. section.seats) market.catalog.sections) prices))
+    (taken_at crowd (map (λ section. section.seats) market.catalog.sections) prices))
 
 -- The text tells one journal of a market that was held on these inputs, and what the crowd of its
 -- students takes at the prices, as they were read: the bundles, the counts, and the error for the

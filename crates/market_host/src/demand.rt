@@ -80,7 +80,14 @@ fn text_of<R: Threads + Wait + Sync>(
         prices.now text.items) }
 {
     let passed = Passed { gate };
-    let closed = hold(rt, alloc, &market.catalog, &market.roll, &streams.lists, &passed)?;
+    let closed = hold(
+        rt,
+        alloc,
+        &market.catalog,
+        &market.roll,
+        &streams.lists,
+        &passed,
+    )?;
     let crowd = make_crowd(
         alloc,
         &market.catalog,

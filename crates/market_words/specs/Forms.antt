@@ -23,7 +23,7 @@ HasForm words (Quote name credits courses) =
     (catalog : List ℕ) × (session : List ℕ)
     × (words
     ≡ codes "quote" ∷ catalog ∷ session ∷ name_bytes name ∷ decimal credits ∷ decimal courses
-      ∷ [])
+    ∷ [])
     × (credits ≤ MAX_CREDITS) × (courses ≤ MAX_COURSES)
 HasForm words Prefer =
     (catalog : List ℕ) × (roll : List ℕ) × (sessions : List (List ℕ))
@@ -40,7 +40,7 @@ HasForm words (Run workers) =
 HasForm words (Make workers seed students sections accept) =
     (words
     ≡ codes "make" ∷ decimal workers ∷ decimal seed ∷ decimal students ∷ decimal sections
-      ∷ decimal accept ∷ [])
+    ∷ decimal accept ∷ [])
     × AreWorkers workers × (seed < 2 ^ 64) × (1 ≤ students) × (students ≤ MAX_STUDENTS)
     × (1 ≤ sections) × (sections ≤ MAX_SECTIONS) × (accept ≤ MAX_ACCEPT)
 HasForm words Check =
@@ -52,7 +52,7 @@ HasForm words (Explain student section) =
     × (sessions : List (List ℕ))
     × (words
     ≡ codes "explain" ∷ catalog ∷ roll ∷ settings ∷ text ∷ name_bytes student
-      ∷ name_bytes section ∷ sessions)
+    ∷ name_bytes section ∷ sessions)
     × AreSessions sessions
 HasForm words Hall =
     (catalog : List ℕ) × (roll : List ℕ) × (text : List ℕ) × (requests : List (List ℕ))
