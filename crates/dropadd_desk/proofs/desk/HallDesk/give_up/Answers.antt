@@ -64,8 +64,9 @@ returns c =
     c.give.ensures.held c.from-place.ensures (c.without_section-bundle.ensures ∙ ap (without_section c.args.section.0) held) in
     record {
       market = c.pass_on.ensures.market;
-      outcome = c.pass_on.ensures.outcome ∙ ap (λ st. pass_on (market_of c.args.self.now) st c.args.section.0) changed;
+      outcome =
+          c.pass_on.ensures.outcome ∙ ap (λ st. pass_on (market_of c.args.self.now) st c.args.section.0) changed
+          ∙ dropped_is (market_of c.args.self.now) (state_of c.args.self.now) c.args.student.0 c.args.section.0
+          (ap (λ l. has l c.args.section.0) (sym held) ∙ sym c.has.ensures ∙ c.if-not-has.false);
       room = c.pass_on.ensures.room;
     }
-    ∙ dropped_is (market_of c.args.self.now) (state_of c.args.self.now) c.args.student.0 c.args.section.0
-    (ap (λ l. has l c.args.section.0) (sym held) ∙ sym c.has.ensures ∙ c.if-not-has.false)
