@@ -1,5 +1,6 @@
 // A published text, with the market and the sessions for which it is looked at.
 ghost use Rattle.std.specs.Prelude.{◌≡◌, ◌≤◌, List, ℕ, length, [], ◌∷◌, ⊤};
+ghost use Rattle.market_units.specs.declared.limits.TheConstants.{MAX_TEXT_BYTES};
 ghost use Rattle.session_hall.specs.Streams.{command_lists};
 ghost use Rattle.market_host.specs.Kinds as kind;
 ghost use Rattle.market_host.specs.Kinds.{OpensPublished};

@@ -1,9 +1,8 @@
 // What all sessions of a call say together.
 ghost use Rattle.std.specs.Prelude.{◌≤◌, length};
 ghost use Rattle.std.specs.Vec.{vec_len};
+ghost use Rattle.market_units.specs.declared.limits.TheConstants.{MAX_COMMANDS, MAX_SESSIONS};
 ghost use Rattle.market_units.specs.Totals.{total};
-
-use market_units::{MAX_COMMANDS, MAX_SESSIONS};
 
 /// A stream for each session of a call: of at least one and at most 64 sessions, and at most
 /// 200,000 commands or requests in all streams together.

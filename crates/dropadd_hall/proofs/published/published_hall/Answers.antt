@@ -16,10 +16,10 @@ pub open_hall-requires-clause-room : goal.open_hall-requires-clause-room
 open_hall-requires-clause-room g c κs within = omega (arith, c.requires.requests, c.in_ok-desk.ensures.opened.2.room)
 
 pub put_hall-requires-clause-market : goal.put_hall-requires-clause-market
-put_hall-requires-clause-market g c κs within = c.in_ok-hall.ensures.market ∙ c.in_ok-desk.ensures.opened.2.of
+put_hall-requires-clause-market g c = c.in_ok-hall.ensures.market ∙ c.in_ok-desk.ensures.opened.2.of
 
 pub put_hall-requires-clause-named : goal.put_hall-requires-clause-named
-put_hall-requires-clause-named g c κs within =
+put_hall-requires-clause-named g c =
     subst (λ (market : Market). All (λ (step : HallStep). NamesInRange market step.reply) c.in_ok-hall.hall.journal) c.in_ok-desk.ensures.opened.2.of
     c.in_ok-hall.ensures.named
 
