@@ -4,7 +4,7 @@ ghost use Rattle.preference_desk.specs.DeskView.{entries_of, names_of};
 ghost use Rattle.utility_language.specs.Commands.{HasShortNumber};
 ghost use Rattle.preference_text.specs.Texts.{HasShortCommand};
 
-use crate::readers::{catalog_in, roll_in};
+use crate::readers::tables_in;
 use preference_desk::Desk;
 use preference_text::preferences_text;
 use std::alloc::Global;
@@ -119,8 +119,7 @@ fn try_text(
     said: &[(u16, &[u8])],
     text: &[u8],
 ) -> Result<(), Fail> {
-    let catalog = catalog_in(rt, alloc, CATALOG);
-    let roll = roll_in(rt, alloc, ROLL);
+    let (catalog, roll) = tables_in(rt, alloc, CATALOG, ROLL);
     let mut desk = Desk::prepare(alloc, &catalog, &roll, 20)?;
     say_each(rt, &mut desk, said);
     let printed = preferences_text(alloc, &catalog, &roll, &desk)?;

@@ -89,36 +89,14 @@ fn choosers(rt: &impl Abort, alloc: Global, wants: &[(u32, [u8; 2])]) -> Crowd {
     let mut students = nobody(alloc);
     for (budget, ratings) in wants {
         let places = [rated(0, 0, ratings[0]), rated(1, 1, ratings[1])];
-        join(
-            rt,
-            alloc,
-            &mut students,
-            (*budget, 1),
-            &places,
-            &[],
-            &[0, 0],
-        );
+        let caps = (*budget, 1);
+        join(rt, alloc, &mut students, caps, &places, &[], &[0, 0]);
     }
     crowd_of(rt, students, 2)
 }
 
-// Students with these budgets, who all want the first section most.
-fn rivals(rt: &impl Abort, alloc: Global, budgets: &[u32]) -> Crowd {
-    let mut students = nobody(alloc);
-    let places = [rated(0, 0, 50), rated(1, 1, 1)];
-    for budget in budgets {
-        join(
-            rt,
-            alloc,
-            &mut students,
-            (*budget, 1),
-            &places,
-            &[],
-            &[0, 0],
-        );
-    }
-    crowd_of(rt, students, 2)
-}
+// The ratings of one who wants the first section most.
+const RIVAL: [u8; 2] = [50, 1];
 
 // The only section of a bundle, if it has one.
 fn only(bundle: &Bundle) -> Option<u16> {
@@ -153,7 +131,7 @@ fn assert_after(
 
 #[test]
 fn two_students_and_one_seat(rt: HostRuntime) -> Result<(), Fail> {
-    let crowd = rivals(&rt, rt.alloc(), &[100, 100]);
+    let crowd = choosers(&rt, rt.alloc(), &[(100, RIVAL), (100, RIVAL)]);
     let prices = [Tokens(101), Tokens(1_000_001)];
     let after = held(&rt, rt.alloc(), &crowd, &[1, 0], &prices, 10);
     let turns = [
@@ -168,7 +146,7 @@ fn two_students_and_one_seat(rt: HostRuntime) -> Result<(), Fail> {
 
 #[test]
 fn nobody_can_pay_without_a_raise(rt: HostRuntime) -> Result<(), Fail> {
-    let crowd = rivals(&rt, rt.alloc(), &[100, 100]);
+    let crowd = choosers(&rt, rt.alloc(), &[(100, RIVAL), (100, RIVAL)]);
     let prices = [Tokens(101), Tokens(1_000_001)];
     let after = held(&rt, rt.alloc(), &crowd, &[1, 0], &prices, 0);
     let turns = [(1, 0, true, false, None), (1, 1, true, false, None)];
@@ -178,7 +156,7 @@ fn nobody_can_pay_without_a_raise(rt: HostRuntime) -> Result<(), Fail> {
 
 #[test]
 fn the_greatest_budget_goes_first(rt: HostRuntime) -> Result<(), Fail> {
-    let crowd = rivals(&rt, rt.alloc(), &[100, 101, 102, 103]);
+    let crowd = choosers(&rt, rt.alloc(), &[(100, RIVAL), (101, RIVAL), (102, RIVAL), (103, RIVAL)]);
     let prices = [Tokens(103), Tokens(1_000_001)];
     let after = held(&rt, rt.alloc(), &crowd, &[1, 0], &prices, 10);
     let turns = [
@@ -211,7 +189,7 @@ fn a_seat_that_is_given_up_is_free_at_the_next_turn(rt: HostRuntime) -> Result<(
 
 #[test]
 fn without_students_there_is_no_pass(rt: HostRuntime) -> Result<(), Fail> {
-    let crowd = rivals(&rt, rt.alloc(), &[]);
+    let crowd = choosers(&rt, rt.alloc(), &[]);
     let after = held(&rt, rt.alloc(), &crowd, &[1, 2], &[Tokens(0); 2], 10);
     assert_after(&rt, &after, &[], 0, [0, 0]);
     assert_eq!(rt; after.bundles.len(), 0);

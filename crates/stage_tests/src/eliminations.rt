@@ -52,15 +52,8 @@ fn ordinary_term<R: Abort>(rt: &R, alloc: Global) -> Crowd {
     let ann = [rated(0, 0, 60), rated(1, 1, 30)];
     join(rt, alloc, &mut students, (104, 2), &ann, &[], &[0, 0]);
     let bob = [rated(0, 0, 50), rated(2, 2, 40)];
-    join(
-        rt,
-        alloc,
-        &mut students,
-        (103, 2),
-        &bob,
-        &[(0, 1, 10)],
-        &[0, 0],
-    );
+    let pairs = [(0, 1, 10)];
+    join(rt, alloc, &mut students, (103, 2), &bob, &pairs, &[0, 0]);
     let cat = [rated(0, 0, 20), rated(3, 0, 45)];
     join(rt, alloc, &mut students, (102, 2), &cat, &[], &[2, 1]);
     crowd_of(rt, students, 4)

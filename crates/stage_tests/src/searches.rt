@@ -101,16 +101,9 @@ fn four_students<R: Abort>(rt: &R, alloc: Global) -> Crowd {
     join(rt, alloc, &mut students, (103, 2), &places, &[], &[0, 0]);
     let places = [rated(1, 1, 50), rated(2, 2, 20)];
     join(rt, alloc, &mut students, (103, 2), &places, &[], &[0, 0]);
-    let places = [rated(0, 0, 60), rated(1, 1, 61)];
-    join(
-        rt,
-        alloc,
-        &mut students,
-        (106, 2),
-        &places,
-        &[(0, 1, -30)],
-        &[0, 0],
-    );
+    let last = [rated(0, 0, 60), rated(1, 1, 61)];
+    let pairs = [(0, 1, -30)];
+    join(rt, alloc, &mut students, (106, 2), &last, &pairs, &[0, 0]);
     crowd_of(rt, students, 3)
 }
 
@@ -146,17 +139,9 @@ fn no_prices_after_restarts(rt: HostRuntime) -> Result<(), Fail> {
 // Two students of budget 9: one wants the second section, the other both, the first one more.
 fn two_sections<R: Abort>(rt: &R, alloc: Global) -> Crowd {
     let mut students = nobody(alloc);
-    join(
-        rt,
-        alloc,
-        &mut students,
-        (9, 1),
-        &[rated(1, 1, 40)],
-        &[],
-        &[0],
-    );
-    let places = [rated(0, 0, 90), rated(1, 1, 40)];
-    join(rt, alloc, &mut students, (9, 2), &places, &[], &[0, 0]);
+    let both = [rated(0, 0, 90), rated(1, 1, 40)];
+    join(rt, alloc, &mut students, (9, 1), &both[1..], &[], &[0]);
+    join(rt, alloc, &mut students, (9, 2), &both, &[], &[0, 0]);
     crowd_of(rt, students, 2)
 }
 

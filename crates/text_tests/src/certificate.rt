@@ -1,6 +1,6 @@
 // What a published text is read as, and that it is written again as it was.
 
-use crate::readers::{catalog_in, roll_in};
+use crate::readers::tables_in;
 use course_catalog::Catalog;
 use market_certificate::{Publication, TextRefusal, put_publication, read_publication};
 use market_units::{Tokens, read_number};
@@ -66,8 +66,7 @@ fn read(
     term: &WorkedTerm,
     text: &[u8],
 ) -> Result<Publication, TextRefusal> {
-    let catalog = catalog_in(rt, alloc, term.catalogue);
-    let roll = roll_in(rt, alloc, term.roll);
+    let (catalog, roll) = tables_in(rt, alloc, term.catalogue, term.roll);
     assert!(rt; text.len() < 10_000);
     read_publication(alloc, &catalog, &roll, text)
 }
@@ -87,8 +86,7 @@ fn written_again(
 
 // The text is read with these tables, and written again as it was.
 fn try_text(rt: &impl Abort, alloc: Global, catalogue: &[u8], roll: &[u8], text: &[u8]) {
-    let catalog = catalog_in(rt, alloc, catalogue);
-    let roll = roll_in(rt, alloc, roll);
+    let (catalog, roll) = tables_in(rt, alloc, catalogue, roll);
     let written = written_again(rt, alloc, &catalog, &roll, text);
     assert!(rt; written.as_slice() == text);
 }
@@ -169,7 +167,7 @@ fn part_terms_make_version_two(rt: HostRuntime) -> Result<(), Fail> {
 
 #[test]
 fn the_first_defect_is_told(rt: HostRuntime) -> Result<(), Fail> {
-    for row in CHANGES.split_terminator('\n') {
+    for row in CHANGES.lines() {
         try_change(&rt, rt.alloc(), row)?;
     }
     Ok(())

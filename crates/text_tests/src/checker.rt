@@ -1,5 +1,5 @@
 // A worked term and its forged texts, each with the line of its finding.
-use crate::readers::{catalog_in, roll_in, settings_in, streams_in};
+use crate::readers::{settings_in, streams_in, tables_in};
 use certificate_checker::{CheckEnd, check, finding_line};
 use market_units::read_number;
 use std::alloc::Global;
@@ -52,8 +52,7 @@ fn found(
     market: &WorkedMarket,
     text: &[u8],
 ) -> Result<Vec<u8>, Fail> {
-    let catalog = catalog_in(rt, alloc, market.term.catalogue);
-    let roll = roll_in(rt, alloc, market.term.roll);
+    let (catalog, roll) = tables_in(rt, alloc, market.term.catalogue, market.term.roll);
     let settings = settings_in(rt, alloc, market.settings);
     let streams = streams_in(rt, alloc, market.session);
     assert!(rt; text.len() < 1_000_000);
