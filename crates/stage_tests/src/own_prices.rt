@@ -1,7 +1,7 @@
 // What the price of one section does that four students want.
 ghost use Rattle.std.specs.Prelude.{◌≡◌};
 
-use crate::crowds::{are_bundles, rivals};
+use crate::crowds::{FOUR_RIVALS, are_bundles, crowd_of};
 use bundle_rules::Bundle;
 use demand_api::{Demands, PlainDemands};
 use market_units::{NoMemory, SectionNo, StudentNo, Tokens};
@@ -92,7 +92,7 @@ fn assert_held(rt: &impl Abort, held: &Held, price: u32, bundles: &[&[u16]]) {
 #[test]
 fn the_least_price_is_found_by_halving(rt: HostRuntime) -> Result<(), Fail> {
     let alloc = rt.alloc();
-    let crowd = rivals(&rt, alloc, &[100, 101, 102, 103]);
+    let crowd = crowd_of(&rt, alloc, &FOUR_RIVALS, 1);
     // The present price of the section tells nothing: the least is sought from 0.
     let prices = [Tokens(103)];
     assert!(rt; crowd.has_prices(&prices));
@@ -115,7 +115,7 @@ fn the_least_price_is_found_by_halving(rt: HostRuntime) -> Result<(), Fail> {
 #[test]
 fn only_holders_are_asked_again(rt: HostRuntime) -> Result<(), Fail> {
     let alloc = rt.alloc();
-    let crowd = rivals(&rt, alloc, &[100, 101, 102, 103]);
+    let crowd = crowd_of(&rt, alloc, &FOUR_RIVALS, 1);
     let prices = [Tokens(102)];
     assert!(rt; crowd.has_prices(&prices));
     assert_eq!(rt; crowd.top(), Tokens(104));

@@ -145,12 +145,8 @@ fn assert_clashes(rt: &impl Abort, table: &ClashTable, sections: u16, pairs: &[(
 
 #[test]
 fn sections_that_clash_in_parts_of_a_term(rt: HostRuntime) -> Result<(), Fail> {
-    let meetings = [
-        read(b"M0900-1020"),
-        read(b"M0900-1020"),
-        read(b"M0900-1020"),
-        read(b""),
-    ];
+    let at_nine = read(b"M0900-1020");
+    let meetings = [at_nine, at_nine, at_nine, read(b"")];
     let parts = [
         Parts::FIRST_HALF,
         Parts::SECOND_HALF,

@@ -56,6 +56,24 @@ fn try_case<R: Threads + Wait + Sync + Abort>(
     Ok(())
 }
 
+// Puts the files of a case behind the others.
+fn put_files(held: &mut Vec<Held>, alloc: Global, files: &str) -> Result<(), Fail> {
+    for file in files.split("-- ") {
+        if let Some((title, text)) = file.split_once('\n') {
+            let bytes = text_of(alloc, title, text)?;
+            held.push(held_of(alloc, first_word(title), &bytes)?)?;
+        }
+    }
+    Ok(())
+}
+
+fn first_word(title: &str) -> &str {
+    match title.split_once(' ') {
+        Some((word, _)) => word,
+        None => title,
+    }
+}
+
 // Runs the command, by each number of workers where it has several.
 fn try_command<R: Threads + Wait + Sync + Abort>(
     rt: &R,
@@ -87,24 +105,6 @@ fn try_line<R: Threads + Wait + Sync + Abort>(
     put_files(&mut held, alloc, files)?;
     let answer = run_held(rt, alloc, line, held, (0, 0), ROOM, &OpenGate)?;
     assert_told(rt, alloc, shows, answers, &answer)
-}
-
-// Puts the files of a case behind the others.
-fn put_files(held: &mut Vec<Held>, alloc: Global, files: &str) -> Result<(), Fail> {
-    for file in files.split("-- ") {
-        if let Some((title, text)) = file.split_once('\n') {
-            let bytes = text_of(alloc, title, text)?;
-            held.push(held_of(alloc, first_word(title), &bytes)?)?;
-        }
-    }
-    Ok(())
-}
-
-fn first_word(title: &str) -> &str {
-    match title.split_once(' ') {
-        Some((word, _)) => word,
-        None => title,
-    }
 }
 
 /// The bytes of a file in a case. Where its line names a text of the shelf behind its own name, it

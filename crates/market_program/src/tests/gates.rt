@@ -139,19 +139,20 @@ fn two_sessions_of_a_hall_request_at_once(rt: HostRuntime) -> Result<(), Fail> {
     try_sessions(&rt, rt.alloc(), line, &[], &REPLIES, FIVE_SECTIONS_HELD)
 }
 
-// Two sessions meet, and two workers, who made a call for each of four students; each session
-// passes the gate as often as it has commands.
+// Two sessions meet, and two workers, who together made at least so many calls; each session passes
+// the gate as often as it has commands.
 fn try_workers<R: Threads + Wait + Sync + Abort>(
     rt: &R,
     alloc: Global,
     line: &str,
+    calls: u64,
     answers: &str,
 ) -> Result<(), Fail> {
     let gate = MeetingGate::new();
     let answer = run_by(rt, alloc, line, (0, 0), ROOM, &gate)?;
     assert_told(rt, alloc, line, answers, &answer)?;
     assert_counts(rt, &gate, CALLS_OF_TWO);
-    assert_workers_met(rt, &gate, 4);
+    assert_workers_met(rt, &gate, calls);
     Ok(())
 }
 
@@ -160,14 +161,14 @@ fn try_workers<R: Threads + Wait + Sync + Abort>(
 #[test]
 fn two_workers_post_at_once(rt: HostRuntime) -> Result<(), Fail> {
     let line = "demand 2 four.cat four.stu four.set X=102 FIRST-TWO LAST-TWO";
-    try_workers(&rt, rt.alloc(), line, "0 four.demand\n1 order any\n")
+    try_workers(&rt, rt.alloc(), line, 4, "0 four.demand\n1 order any\n")
 }
 
-// In one run sessions meet and workers meet.
+// In one run sessions meet and workers meet. There is a task for each of four students.
 #[test]
 fn sessions_and_workers_of_a_run_post_at_once(rt: HostRuntime) -> Result<(), Fail> {
     let line = "run 2 four.cat four.stu four.set FIRST-TWO LAST-TWO";
-    try_workers(&rt, rt.alloc(), line, "0 four.text\n2 order any\n")
+    try_workers(&rt, rt.alloc(), line, 4, "0 four.text\n2 order any\n")
 }
 
 // Two workers of an audit whose calls meet: neither can post all rows before the other has posted

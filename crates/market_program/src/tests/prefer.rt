@@ -293,32 +293,23 @@ fn preferences(rt: HostRuntime) -> Result<(), Fail> {
     Ok(())
 }
 
-// Sixty-three sessions without a command, and one with one. A name may stand for several sessions.
-#[test]
-fn sixty_four_sessions(rt: HostRuntime) -> Result<(), Fail> {
-    let alloc = rt.alloc();
-    let mut line = String::from_str(alloc, "prefer ONE ANN")?;
-    for _ in 0..63u32 {
-        line.push_str(" S1")?;
-    }
-    line.push_str(" LAST")?;
-    try_sessions(&rt, alloc, line.as_str(), TAKEN)?;
-    line.push_str(" LAST")?;
-    try_sessions(&rt, alloc, line.as_str(), NO_FORM)
-}
-
 const TAKEN: &str = "0\nentry 64 done rate ann A 64\nrate ann A 64\n";
 
 const NO_FORM: &str = "1
 usage: run, check, prefer, demand, quote, make, explain, hall, audit
 ";
 
-fn try_sessions<R: Threads + Wait + Sync + Abort>(
-    rt: &R,
-    alloc: Global,
-    line: &str,
-    answers: &str,
-) -> Result<(), Fail> {
+// Sixty-three sessions without a command, and one with one. A name may stand for several sessions.
+#[test]
+fn sixty_four_sessions(rt: HostRuntime) -> Result<(), Fail> {
+    let alloc = rt.alloc();
     let files: [File; 2] = [("S1", b"# nothing\n"), ("LAST", b"rate ann A 64\n")];
-    try_run(rt, alloc, line, &files, answers)
+    let mut line = String::from_str(alloc, "prefer ONE ANN")?;
+    for _ in 0..63u32 {
+        line.push_str(" S1")?;
+    }
+    line.push_str(" LAST")?;
+    try_run(&rt, alloc, line.as_str(), &files, TAKEN)?;
+    line.push_str(" LAST")?;
+    try_run(&rt, alloc, line.as_str(), &files, NO_FORM)
 }
