@@ -1,8 +1,7 @@
 // Terms of three students who want the same sections.
 
 use crate::{
-    ACCEPT_20, ACCEPT_99, THREE_SECTIONS_CATALOGUE, TWO_SECTIONS_CATALOGUE, WorkedMarket,
-    WorkedTerm,
+    ACCEPT_99, THREE_SECTIONS_CATALOGUE, TWO_SECTIONS_CATALOGUE, WorkedMarket, WorkedTerm,
 };
 
 /// Each student wants both of two sections: of equal excess the lowest ordinal is raised.
@@ -80,7 +79,7 @@ used C 1 1
 end
 ",
     },
-    settings: ACCEPT_20,
+    settings: SWAPS_SETTINGS,
     session: b"rate u A 60
 rate u B 50
 rate v A 60
@@ -90,3 +89,7 @@ rate w C 50
 rate w A 70
 ",
 };
+
+// They draw nothing and search no turn, and accept an error of at most 20.
+const SWAPS_SETTINGS: &[u8] =
+    br#"{"seed":0,"spread":0,"accept":20,"turns":0,"tabu":5,"patience":3,"steps":[1],"raise":10}"#;

@@ -16,10 +16,6 @@ pub const ACCEPT_8: &[u8] =
 pub const ACCEPT_9: &[u8] =
     br#"{"seed":0,"spread":0,"accept":9,"turns":0,"tabu":5,"patience":3,"steps":[1],"raise":10}"#;
 
-/// They accept an error of at most 20.
-pub const ACCEPT_20: &[u8] =
-    br#"{"seed":0,"spread":0,"accept":20,"turns":0,"tabu":5,"patience":3,"steps":[1],"raise":10}"#;
-
 /// They accept an error of at most 99.
 pub const ACCEPT_99: &[u8] =
     br#"{"seed":0,"spread":0,"accept":99,"turns":0,"tabu":5,"patience":3,"steps":[1],"raise":10}"#;
