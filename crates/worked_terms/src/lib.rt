@@ -1,7 +1,7 @@
 //! Terms worked by hand, for the tests of several crates: the inputs of small markets, what is
-//! published of them, and what is told of them in an audit and in a hall of drop and add. These texts
-//! were computed apart from this program. A constant is named for its term, and then for the part of
-//! it that it is.
+//! published of them, and what is told of them at a desk, in an audit and in a hall of drop and add.
+//! These texts were computed apart from this program. A constant is named for its term, and then for
+//! the part of it that it is.
 // Neither: that these texts were computed apart from this program. No clause cites them.
 #![tactic(auto)]
 
@@ -11,6 +11,7 @@ mod one_seat;
 mod ordinary;
 mod rivals;
 mod sections;
+mod sessions;
 mod settings;
 mod term;
 
@@ -35,5 +36,6 @@ pub use sections::{
     BEYOND_ONE_MARKET, NOBODY_CATALOGUE, NOBODY_MARKET, NOBODY_ROLL, NOBODY_TERM,
     THREE_SECTIONS_CATALOGUE, TIGHT_MARKET, TWO_SECTIONS_CATALOGUE, USEFUL_MARKET,
 };
+pub use sessions::{STAYING_SESSION, TWO_STUDENTS_SESSION, WorkedSession};
 pub use settings::{ACCEPT_0, ACCEPT_1, ACCEPT_8, ACCEPT_9, ACCEPT_99};
 pub use term::{WorkedHall, WorkedMarket, WorkedTerm};

@@ -6,9 +6,9 @@ use worked_terms::{
     CARRIED_TERM, DROPPED_SEAT_HALL, EACH_REPLY_HALL, EQUAL_ENVY, EQUAL_MARKET,
     FIVE_SECTIONS_FIRST, FIVE_SECTIONS_SECOND, FIVE_SECTIONS_TERM, FIVE_STUDENTS_TERM, FOUR_ENVY,
     FOUR_FIRST_TWO, FOUR_LAST_TWO, FOUR_MARKET, LOWER_BASE_ENVY, LOWER_BASE_MARKET,
-    NO_SECTIONS_TERM, NOBODY_MARKET, ORDINARY_ENVY, ORDINARY_MARKET, SWAPS_MARKET,
-    THREE_SECTIONS_CATALOGUE, TIES_MARKET, TIGHT_MARKET, TWO_SECTIONS_CATALOGUE, USEFUL_ENVY,
-    USEFUL_MARKET, WAITING_HALL, WorkedMarket, WorkedTerm,
+    NO_SECTIONS_TERM, NOBODY_MARKET, ORDINARY_ENVY, ORDINARY_MARKET, STAYING_SESSION,
+    SWAPS_MARKET, THREE_SECTIONS_CATALOGUE, TIES_MARKET, TIGHT_MARKET, TWO_SECTIONS_CATALOGUE,
+    TWO_STUDENTS_SESSION, USEFUL_ENVY, USEFUL_MARKET, WAITING_HALL, WorkedMarket, WorkedTerm,
 };
 
 // One student who takes one of two sections.
@@ -73,7 +73,7 @@ D,ACCT,1,1,M1000-1100\r
 ];
 
 // What is said in sessions.
-static SESSIONS: [File<'static>; 15] = [
+static SESSIONS: [File<'static>; 17] = [
     ("TIE", TIE),
     ("BYTES", b"\xff\xfe\x00\nrate ann A 1\n"),
     ("RATE-X", b"rate s1 X 50\n"),
@@ -84,6 +84,8 @@ static SESSIONS: [File<'static>; 15] = [
     ("COMMENT", b"# nothing yet\n"),
     ("DROP-X", b"drop u X\n"),
     ("BLANK", b"\n"),
+    ("staying.said", STAYING_SESSION.said),
+    ("students.said", TWO_STUDENTS_SESSION.said),
     ("dropped.requests", DROPPED_SEAT_HALL.requests),
     ("each.requests", EACH_REPLY_HALL.requests),
     ("waiting.requests", WAITING_HALL.requests),
@@ -93,13 +95,15 @@ static SESSIONS: [File<'static>; 15] = [
 
 // What is told: in an audit, of a student whose sections have rating 10, in a hall of drop and add,
 // and of what students take, the four of one seat at price 102 and those of the ordinary term at 104.
-static TOLD: [(&str, &str); 14] = [
+static TOLD: [(&str, &str); 16] = [
     ("term.envy", ORDINARY_ENVY),
     ("four.envy", FOUR_ENVY),
     ("equal.envy", EQUAL_ENVY),
     ("lower.envy", LOWER_BASE_ENVY),
     ("beyond.envy", BEYOND_ONE_ENVY),
     ("useful.envy", USEFUL_ENVY),
+    ("staying.told", STAYING_SESSION.told),
+    ("students.told", TWO_STUDENTS_SESSION.told),
     ("takes.A", "bundle ann [A]\nutility 10\n"),
     ("takes.A+B", "bundle ann [A,B]\nutility 20\n"),
     ("dropped.told", DROPPED_SEAT_HALL.told),
