@@ -17,7 +17,7 @@ use std::thread::Threads;
 use utility_language::StreamEnd;
 use worked_terms::{
     EACH_REPLY_HALL, FIVE_SECTIONS_FIRST, FIVE_SECTIONS_HELD, FIVE_SECTIONS_SECOND,
-    FIVE_SECTIONS_TERM, WAITING_HALL,
+    FIVE_SECTIONS_TERM, WAITING_HALL, WorkedHall, WorkedTerm,
 };
 
 // The replies to two sessions, a line each, which are the same in every order that keeps each
@@ -34,17 +34,17 @@ struct Told {
     text: Vec<u8>,
 }
 
-// The text of a hall in which these requests are made.
+// The text of a hall that opens with this term, and in which these requests are made.
 fn tell<R: Abort + Threads + Wait + Sync, G: Gate + Sync>(
     rt: &R,
     alloc: Global,
+    term: &WorkedTerm,
     streams: &[Vec<HallCommand>],
     gate: &G,
 ) -> Result<Told, Fail>
     requires sessions { (1 ≤ length streams.now) × (length streams.now ≤ MAX_SESSIONS) }
     requires few { request_count streams.now ≤ 200 }
 {
-    let term = FIVE_SECTIONS_TERM;
     let (catalog, roll) = tables_of(rt, alloc, term.catalogue, term.roll);
     let desk = desk_of(rt, alloc, &catalog, &roll, 200);
     let hall = open_hall(rt, alloc, desk, streams, gate)?;
@@ -79,28 +79,28 @@ fn said_at(
     Ok((requests, replies))
 }
 
-// The text of a hall in which one session makes the requests of a text.
+// The text of the hall where its one session makes the requests of this text.
 fn try_one<R: Abort + Threads + Wait + Sync>(
     rt: &R,
     alloc: Global,
+    hall: &WorkedHall,
     text: &[u8],
-    want: &str,
 ) -> Result<(), Fail> {
     let requests = stream_of(rt, alloc, text);
-    let told = tell(rt, alloc, &[requests], &OpenGate)?;
-    assert!(rt; told.text.as_slice() == want.as_bytes());
+    let told = tell(rt, alloc, &hall.term, &[requests], &OpenGate)?;
+    assert!(rt; told.text.as_slice() == hall.told.as_bytes());
     Ok(())
 }
 
 #[test]
 fn each_reply_is_told(rt: HostRuntime) -> Result<(), Fail> {
-    try_one(&rt, rt.alloc(), EACH_REPLY_HALL.requests, EACH_REPLY_HALL.told)
+    try_one(&rt, rt.alloc(), &EACH_REPLY_HALL, EACH_REPLY_HALL.requests)
 }
 
 #[test]
 fn a_waiting_list_is_told(rt: HostRuntime) -> Result<(), Fail> {
     let text = b"# w behind v\n\nadd v A\r\n\tadd  w A ";
-    try_one(&rt, rt.alloc(), text, WAITING_HALL.told)
+    try_one(&rt, rt.alloc(), &WAITING_HALL, text)
 }
 
 #[test]
@@ -141,7 +141,7 @@ fn two_sessions_request_at_once(rt: HostRuntime) -> Result<(), Fail> {
     let first = stream_of(&rt, alloc, FIVE_SECTIONS_FIRST);
     let second = stream_of(&rt, alloc, FIVE_SECTIONS_SECOND);
     let streams = [first, second];
-    let told = tell(&rt, alloc, &streams, &gate)?;
+    let told = tell(&rt, alloc, &FIVE_SECTIONS_TERM, &streams, &gate)?;
     let steps = told.hall.journal.steps();
     assert_eq!(rt; steps.len(), 7);
     assert_said(&rt, alloc, steps, 0, &streams[0], REPLIES[0])?;
