@@ -225,7 +225,10 @@ fn limits_beside_the_bundle(rt: HostRuntime) {
         ..TWO
     };
     try_case(&rt, rt.alloc(), &price);
-    let credits = tight(1, "ann B beside credits\nbest [B] 40\nlost 10\ntree +x!-*\n");
+    let credits = tight(
+        1,
+        "ann B beside credits\nbest [B] 40\nlost 10\ntree +x!-*\n",
+    );
     try_case(&rt, rt.alloc(), &credits);
 }
 

@@ -137,7 +137,8 @@ fn ordinary_term<R: Abort>(rt: &R, alloc: Global) -> Crowd {
     let menus = vec![in alloc;
         menu_of(rt, alloc, &ann, &[], &[0, 0], (10, 2)),
         menu_of(rt, alloc, &bob, &[(0, 1, 10)], &[0, 0], (10, 2)),
-        menu_of(rt, alloc, &cat, &[], &[2, 1], (10, 2))];
+        menu_of(rt, alloc, &cat, &[], &[2, 1], (10, 2)),
+    ];
     let menus = menus.expect(rt, "memory");
     let budgets = vec![in alloc; Tokens(104), Tokens(103), Tokens(102)].expect(rt, "memory");
     Crowd::of(menus, budgets, 4).expect(rt, "a crowd")

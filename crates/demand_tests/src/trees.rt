@@ -178,7 +178,14 @@ fn each_defect_at_its_place(rt: HostRuntime) -> Result<(), Fail> {
             return Err(Fail::from("a tree without a defect"));
         };
         let tree = tree.replace(rt.alloc(), "|", "\n")?;
-        let checked = check_tree(&menu, &prices, Tokens(103), &allowed, &best, tree.as_bytes());
+        let checked = check_tree(
+            &menu,
+            &prices,
+            Tokens(103),
+            &allowed,
+            &best,
+            tree.as_bytes(),
+        );
         let told = format!(in rt.alloc(); "{checked:?}")?;
         assert_eq!(rt; told.as_str(), wanted, "{row}");
     }

@@ -11,12 +11,7 @@ pub fn roll_in(rt: &impl Abort, alloc: Global, text: &[u8]) -> Roll {
 }
 
 /// The catalogue and the roll that these texts are; the test ends where one is none.
-pub fn tables_in(
-    rt: &impl Abort,
-    alloc: Global,
-    catalogue: &[u8],
-    roll: &[u8],
-) -> (Catalog, Roll) {
+pub fn tables_in(rt: &impl Abort, alloc: Global, catalogue: &[u8], roll: &[u8]) -> (Catalog, Roll) {
     assert!(rt; catalogue.len() < 100_000);
     let catalog = read_catalog(alloc, catalogue).expect(rt, "a catalogue");
     (catalog, roll_in(rt, alloc, roll))

@@ -159,7 +159,9 @@ fn a_published_text_is_read_and_written_again(rt: HostRuntime) {
 #[test]
 fn part_terms_make_version_two(rt: HostRuntime) -> Result<(), Fail> {
     let term = EQUAL_MARKET.term;
-    let text = term.text.replace(rt.alloc(), "course-match 1", "course-match 2")?;
+    let text = term
+        .text
+        .replace(rt.alloc(), "course-match 1", "course-match 2")?;
     let catalogue = b"section,course,seats,credits,meetings,parts\nX,XX,1,1,,12\n";
     try_text(&rt, rt.alloc(), catalogue, term.roll, text.as_bytes());
     Ok(())

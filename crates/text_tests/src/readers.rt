@@ -15,12 +15,7 @@ pub fn catalog_in(rt: &impl Abort, alloc: Global, text: &[u8]) -> Catalog {
 }
 
 /// The catalogue and the roll that these texts are; the test fails where one is none.
-pub fn tables_in(
-    rt: &impl Abort,
-    alloc: Global,
-    catalogue: &[u8],
-    roll: &[u8],
-) -> (Catalog, Roll) {
+pub fn tables_in(rt: &impl Abort, alloc: Global, catalogue: &[u8], roll: &[u8]) -> (Catalog, Roll) {
     assert!(rt; roll.len() < 10_000);
     let catalog = catalog_in(rt, alloc, catalogue);
     (catalog, read_roll(alloc, roll).expect(rt, "a roll"))

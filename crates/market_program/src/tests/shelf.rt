@@ -6,8 +6,8 @@ use worked_terms::{
     CARRIED_TERM, DROPPED_SEAT_HALL, EACH_REPLY_HALL, EQUAL_ENVY, EQUAL_MARKET,
     FIVE_SECTIONS_FIRST, FIVE_SECTIONS_SECOND, FIVE_SECTIONS_TERM, FIVE_STUDENTS_TERM, FOUR_ENVY,
     FOUR_FIRST_TWO, FOUR_LAST_TWO, FOUR_MARKET, LOWER_BASE_ENVY, LOWER_BASE_MARKET,
-    NO_SECTIONS_TERM, NOBODY_MARKET, ORDINARY_ENVY, ORDINARY_MARKET, STAYING_SESSION,
-    SWAPS_MARKET, THREE_SECTIONS_CATALOGUE, TIES_MARKET, TIGHT_MARKET, TWO_SECTIONS_CATALOGUE,
+    NO_SECTIONS_TERM, NOBODY_MARKET, ORDINARY_ENVY, ORDINARY_MARKET, STAYING_SESSION, SWAPS_MARKET,
+    THREE_SECTIONS_CATALOGUE, TIES_MARKET, TIGHT_MARKET, TWO_SECTIONS_CATALOGUE,
     TWO_STUDENTS_SESSION, USEFUL_ENVY, USEFUL_MARKET, WAITING_HALL, WorkedMarket, WorkedTerm,
 };
 
@@ -46,7 +46,10 @@ static TABLES: [File<'static>; 17] = [
         "PARTS",
         b"section,course,seats,credits,meetings,parts\nA,AA,1,1,,1\nB,BB,1,1,,2\n",
     ),
-    ("X+Y", b"section,course,seats,credits,meetings\nX,XX,1,1,\nY,YY,2,1,\n"),
+    (
+        "X+Y",
+        b"section,course,seats,credits,meetings\nX,XX,1,1,\nY,YY,2,1,\n",
+    ),
     (
         "CRLF-TERM",
         b"\xef\xbb\xbfsection,course,seats,credits,meetings\r
