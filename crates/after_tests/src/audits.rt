@@ -20,7 +20,7 @@ use std::thread::Threads;
 use student_roll::Roll;
 use worked_terms::{
     BEYOND_ONE_ENVY, EQUAL_ENVY, EQUAL_ROLL, FOUR_ENVY, FOUR_ROLL, LOWER_BASE_ENVY,
-    LOWER_BASE_MARKET, NOBODY_ROLL, ONE_SEAT_CATALOGUE, ORDINARY_ENVY, ORDINARY_ROLL,
+    LOWER_BASE_ROLL, NOBODY_ROLL, ONE_SEAT_CATALOGUE, ORDINARY_ENVY, ORDINARY_ROLL,
     THREE_SECTIONS_CATALOGUE,
 };
 
@@ -205,7 +205,7 @@ fn equal_budgets_envy_after_the_aftermarket(rt: HostRuntime) -> Result<(), Fail>
 
 const CARRIED: Case = Case {
     catalogue: ONE_SEAT_CATALOGUE,
-    roll: LOWER_BASE_MARKET.term.roll,
+    roll: LOWER_BASE_ROLL,
     students: &[(100, 1, WANTS_A, &[], &[0]), (105, 1, WANTS_A, &[], &[0])],
     settled: &[&[], &[A]],
     last: &[&[], &[A]],

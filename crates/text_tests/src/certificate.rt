@@ -9,14 +9,14 @@ use std::process::Abort;
 use std::test::Fail;
 use student_roll::Roll;
 use worked_terms::{
-    CARRIED_TERM, EQUAL_MARKET, FOUR_MARKET, NO_SECTIONS_TERM, NOBODY_TERM, ORDINARY_TERM,
-    SWAPS_MARKET, TIES_MARKET, WorkedTerm,
+    CARRIED_TERM, EQUAL_TERM, FOUR_MARKET, NO_SECTIONS_CATALOGUE, NO_SECTIONS_TERM, NOBODY_ROLL,
+    NOBODY_TERM, ORDINARY_TERM, SWAPS_MARKET, TIES_MARKET, WorkedTerm,
 };
 
 // Nothing but headers.
 const NOTHING_BUT_HEADERS: WorkedTerm = WorkedTerm {
-    catalogue: NO_SECTIONS_TERM.catalogue,
-    roll: NOBODY_TERM.roll,
+    catalogue: NO_SECTIONS_CATALOGUE,
+    roll: NOBODY_ROLL,
     text: "course-match 1\norder\nerror 0\nend\n",
 };
 
@@ -158,7 +158,7 @@ fn a_published_text_is_read_and_written_again(rt: HostRuntime) {
 // Part terms make version two.
 #[test]
 fn part_terms_make_version_two(rt: HostRuntime) -> Result<(), Fail> {
-    let term = EQUAL_MARKET.term;
+    let term = EQUAL_TERM;
     let text = term
         .text
         .replace(rt.alloc(), "course-match 1", "course-match 2")?;

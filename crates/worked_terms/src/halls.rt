@@ -1,7 +1,7 @@
 // Terms of drop and add: what is published of them is where a hall opens; and halls, with what is
 // told of them.
 
-use crate::{EQUAL_MARKET, WorkedHall, WorkedTerm};
+use crate::{EQUAL_TERM, WorkedHall, WorkedTerm};
 
 /// Three students and five sections, of which two clash.
 pub const FIVE_SECTIONS_TERM: WorkedTerm = WorkedTerm {
@@ -83,7 +83,7 @@ end
 
 /// The first who waits gets a dropped seat, and gives it back to the one who had it.
 pub const DROPPED_SEAT_HALL: WorkedHall = WorkedHall {
-    term: EQUAL_MARKET.term,
+    term: EQUAL_TERM,
     requests: b"add v X\ndrop u X\nadd u X\ndrop v X\n",
     told: "entry 1 add v X: queued 0
 entry 1 drop u X: dropped 0 to v

@@ -54,11 +54,10 @@ pub const FOUR_LAST_TWO: &[u8] = b"rate s3 X 50\nrate s4 X 50\n";
 
 /// Two students of equal budgets and a seat that neither can buy: it is filled in the aftermarket,
 /// in two passes.
-pub const EQUAL_MARKET: WorkedMarket = WorkedMarket {
-    term: WorkedTerm {
-        catalogue: ONE_SEAT_CATALOGUE,
-        roll: EQUAL_ROLL,
-        text: "course-match 1
+pub const EQUAL_TERM: WorkedTerm = WorkedTerm {
+    catalogue: ONE_SEAT_CATALOGUE,
+    roll: EQUAL_ROLL,
+    text: "course-match 1
 order 1 1
 budget u 100
 budget v 100
@@ -76,7 +75,11 @@ final v []
 used X 1 1
 end
 ",
-    },
+};
+
+/// Two students of equal budgets, with their settings and their session.
+pub const EQUAL_MARKET: WorkedMarket = WorkedMarket {
+    term: EQUAL_TERM,
     settings: ACCEPT_1,
     session: EQUAL_SESSION,
 };
@@ -121,9 +124,13 @@ end
 pub const LOWER_BASE_MARKET: WorkedMarket = WorkedMarket {
     term: WorkedTerm {
         catalogue: ONE_SEAT_CATALOGUE,
-        roll: b"student,budget,credits,courses,carry\nu,100,10,1,0\nv,90,10,1,15\n",
+        roll: LOWER_BASE_ROLL,
         text: CARRIED_TEXT,
     },
     settings: ACCEPT_1,
     session: EQUAL_SESSION,
 };
+
+/// Two students, of whom the second has the lower base and carries tokens.
+pub const LOWER_BASE_ROLL: &[u8] =
+    b"student,budget,credits,courses,carry\nu,100,10,1,0\nv,90,10,1,15\n";

@@ -8,7 +8,8 @@ use worked_terms::{
     FOUR_FIRST_TWO, FOUR_LAST_TWO, FOUR_MARKET, LOWER_BASE_ENVY, LOWER_BASE_MARKET,
     NO_SECTIONS_TERM, NOBODY_MARKET, ORDINARY_ENVY, ORDINARY_MARKET, STAYING_SESSION, SWAPS_MARKET,
     THREE_SECTIONS_CATALOGUE, TIES_MARKET, TIGHT_MARKET, TWO_SECTIONS_CATALOGUE,
-    TWO_STUDENTS_SESSION, USEFUL_ENVY, USEFUL_MARKET, WAITING_HALL, WorkedMarket, WorkedTerm,
+    TWO_STUDENTS_SESSION, USEFUL_ENVY, USEFUL_MARKET, WAITING_HALL, WorkedHall, WorkedMarket,
+    WorkedSession, WorkedTerm,
 };
 
 // One student who takes one of two sections.
@@ -76,7 +77,7 @@ D,ACCT,1,1,M1000-1100\r
 ];
 
 // What is said in sessions.
-static SESSIONS: [File<'static>; 17] = [
+static SESSIONS: [File<'static>; 12] = [
     ("TIE", TIE),
     ("BYTES", b"\xff\xfe\x00\nrate ann A 1\n"),
     ("RATE-X", b"rate s1 X 50\n"),
@@ -87,31 +88,21 @@ static SESSIONS: [File<'static>; 17] = [
     ("COMMENT", b"# nothing yet\n"),
     ("DROP-X", b"drop u X\n"),
     ("BLANK", b"\n"),
-    ("staying.said", STAYING_SESSION.said),
-    ("students.said", TWO_STUDENTS_SESSION.said),
-    ("dropped.requests", DROPPED_SEAT_HALL.requests),
-    ("each.requests", EACH_REPLY_HALL.requests),
-    ("waiting.requests", WAITING_HALL.requests),
     ("five.first", FIVE_SECTIONS_FIRST),
     ("five.second", FIVE_SECTIONS_SECOND),
 ];
 
 // What is told: in an audit, of a student whose sections have rating 10, in a hall of drop and add,
 // and of what students take, the four of one seat at price 102 and those of the ordinary term at 104.
-static TOLD: [(&str, &str); 16] = [
+static TOLD: [(&str, &str); 11] = [
     ("term.envy", ORDINARY_ENVY),
     ("four.envy", FOUR_ENVY),
     ("equal.envy", EQUAL_ENVY),
     ("lower.envy", LOWER_BASE_ENVY),
     ("beyond.envy", BEYOND_ONE_ENVY),
     ("useful.envy", USEFUL_ENVY),
-    ("staying.told", STAYING_SESSION.told),
-    ("students.told", TWO_STUDENTS_SESSION.told),
     ("takes.A", "bundle ann [A]\nutility 10\n"),
     ("takes.A+B", "bundle ann [A,B]\nutility 20\n"),
-    ("dropped.told", DROPPED_SEAT_HALL.told),
-    ("each.told", EACH_REPLY_HALL.told),
-    ("waiting.told", WAITING_HALL.told),
     (
         "last.told",
         "entry 1 drop u X: dropped 0
@@ -171,8 +162,19 @@ static TERMS: [(&str, WorkedTerm); 4] = [
     ("wait", FIVE_STUDENTS_TERM),
 ];
 
-/// The text of this name: a table, a session, what is told, or a part of a term, as `term.cat`.
-/// `None` where nothing has it.
+static DESKS: [(&str, WorkedSession); 2] = [
+    ("staying", STAYING_SESSION),
+    ("students", TWO_STUDENTS_SESSION),
+];
+
+static HALLS: [(&str, WorkedHall); 3] = [
+    ("dropped", DROPPED_SEAT_HALL),
+    ("each", EACH_REPLY_HALL),
+    ("waiting", WAITING_HALL),
+];
+
+/// The text of this name: a table, a session, what is told, or a part of what was worked, as
+/// `term.cat`. `None` where nothing has it.
 pub(super) fn text_named(name: &str) -> Option<&'static [u8]> {
     if let Some(bytes) = named(&TABLES, name) {
         return Some(bytes);
@@ -197,9 +199,21 @@ fn named<T>(rows: &'static [(&'static str, T)], name: &str) -> Option<&'static T
 
 fn part_named(name: &str) -> Option<&'static [u8]> {
     let (of, part) = name.split_once('.')?;
-    match named(&MARKETS, of) {
-        Some(market) => part_of_market(market, part),
-        None => part_of_term(named(&TERMS, of)?, part),
+    match part {
+        "said" => Some(named(&DESKS, of)?.said),
+        "requests" => Some(named(&HALLS, of)?.requests),
+        "told" => told_of(of),
+        _ => match named(&MARKETS, of) {
+            Some(market) => part_of_market(market, part),
+            None => part_of_term(named(&TERMS, of)?, part),
+        },
+    }
+}
+
+fn told_of(of: &str) -> Option<&'static [u8]> {
+    match named(&DESKS, of) {
+        Some(session) => Some(session.told.as_bytes()),
+        None => Some(named(&HALLS, of)?.told.as_bytes()),
     }
 }
 
