@@ -113,8 +113,9 @@ fn with_change(alloc: Global, new: &str, from: u64, old: u64) -> Result<Vec<u8>,
     let (Some(front), Some(rest)) = (base.get(..from as usize), base.get(behind as usize..)) else {
         return Err(Fail::from("a place behind the text"));
     };
+    let new = new.replace(alloc, "|", "\n")?;
     let mut text = front.to_vec(alloc)?;
-    text.extend_from_slice(new.replace(alloc, "|", "\n")?.as_bytes())?;
+    text.extend_from_slice(new.as_bytes())?;
     text.extend_from_slice(rest)?;
     Ok(text)
 }

@@ -38,9 +38,12 @@ fn assert_entries<R: Abort>(
     entries: &[&str; 2],
     end: &str,
 ) -> Result<(), Fail> {
-    assert_eq!(rt; lines_of(alloc, text, "entry 1 ")?.as_str(), entries[0]);
-    assert_eq!(rt; lines_of(alloc, text, "entry 2 ")?.as_str(), entries[1]);
-    assert!(rt; lines_of(alloc, text, "entry 3 ")?.is_empty());
+    let first = lines_of(alloc, text, "entry 1 ")?;
+    let second = lines_of(alloc, text, "entry 2 ")?;
+    let third = lines_of(alloc, text, "entry 3 ")?;
+    assert_eq!(rt; first.as_str(), entries[0]);
+    assert_eq!(rt; second.as_str(), entries[1]);
+    assert_eq!(rt; third.as_str(), "");
     assert!(rt; text.ends_with(end), "{text}");
     Ok(())
 }
