@@ -11,7 +11,7 @@ use std::process::Abort;
 use std::sync::Wait;
 use std::sync::atomic::{AtomicU64, Ordering};
 use std::thread::Threads;
-use worked_terms::{EQUAL_ENVY, EQUAL_MARKET, EQUAL_TERM};
+use worked_terms::{EQUAL_ENVY, EQUAL_MARKET};
 
 // Counts the stops of sessions, the starts of the worker of one number, and those of workers of
 // greater numbers.
@@ -65,7 +65,7 @@ fn add_one(counter: &AtomicU64) {
 #[test]
 fn a_hall_passes_the_gate(rt: HostRuntime) {
     let watch = Watch::of(1);
-    let hall = hall_of(&rt, rt.alloc(), EQUAL_TERM.text.as_bytes(), &watch);
+    let hall = hall_of(&rt, rt.alloc(), EQUAL_MARKET.term.text.as_bytes(), &watch);
     assert!(rt; hall.is_ok());
     assert_eq!(rt; watch.counts(), (5, 0, 0));
 }

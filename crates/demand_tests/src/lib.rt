@@ -12,6 +12,8 @@ mod clearing;
 #[cfg(test)]
 mod crowds;
 #[cfg(test)]
+mod menus;
+#[cfg(test)]
 mod plain_demands;
 #[cfg(test)]
 mod rivals;
