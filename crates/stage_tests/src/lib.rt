@@ -12,6 +12,8 @@ mod eliminations;
 #[cfg(test)]
 mod floors;
 #[cfg(test)]
+mod meetings;
+#[cfg(test)]
 mod neighbours;
 #[cfg(test)]
 mod own_prices;

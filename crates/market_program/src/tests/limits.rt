@@ -43,6 +43,34 @@ fn put_pieces(text: &mut String, digits: &str, pieces: &[&str]) -> Result<(), Fa
     Ok(())
 }
 
+// A crowd of one student that takes the last section: each section is told with its own count.
+const COUNTS: [Part; 3] = [
+    (
+        "== counts of four hundred sections
+demand 1 CAT ANN ACCEPT0 PRICES S1
+-- CAT
+section,course,seats,credits,meetings
+",
+        (0, 400),
+        "S",
+        &[",C", ",1,1,\n"],
+    ),
+    (
+        "-- PRICES
+section,price
+-- S1
+rate ann S399 7
+=> 0
+order 1
+bundle ann [S399]
+",
+        (0, 399),
+        "count S",
+        &[" 0\n"],
+    ),
+    ("count S399 1\nerror 0\n", (0, 0), "", &[]),
+];
+
 const SECTIONS: [Part; 3] = [
     (
         "== four hundred sections
@@ -182,6 +210,7 @@ fn try_parts<R: Threads + Wait + Sync + Abort>(
 #[test]
 fn tables_at_their_limit(rt: HostRuntime) -> Result<(), Fail> {
     try_parts(&rt, rt.alloc(), &SECTIONS)?;
+    try_parts(&rt, rt.alloc(), &COUNTS)?;
     try_parts(&rt, rt.alloc(), &STUDENTS)?;
     try_parts(&rt, rt.alloc(), &RATINGS)
 }
