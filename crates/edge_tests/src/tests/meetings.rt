@@ -1,4 +1,5 @@
-// A gate at which the other one never comes.
+// A gate at which the other one never comes. It looks too often for a run in which each step is
+// watched (`rt try --test`).
 use market_edge::{Gate, MeetingGate, Stop};
 
 #[test]
