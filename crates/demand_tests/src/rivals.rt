@@ -39,7 +39,9 @@ pub fn students_of<R: Abort>(rt: &R, alloc: Global, count: u32, sections: u16) -
     let mut budgets = Vec::new(alloc);
     for more in 0..count {
         let wanted = more as u16 % sections;
-        menus.push(one_section(rt, alloc, wanted)).expect(rt, "memory");
+        menus
+            .push(one_section(rt, alloc, wanted))
+            .expect(rt, "memory");
         budgets.push(Tokens(100 + more)).expect(rt, "memory");
     }
     Crowd::of(menus, budgets, sections).expect(rt, "a crowd")
