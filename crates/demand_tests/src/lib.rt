@@ -12,6 +12,8 @@ mod clearing;
 #[cfg(test)]
 mod crowds;
 #[cfg(test)]
+mod held_workers;
+#[cfg(test)]
 mod menus;
 #[cfg(test)]
 mod plain_demands;
@@ -19,5 +21,9 @@ mod plain_demands;
 mod rivals;
 #[cfg(test)]
 mod trees;
+#[cfg(test)]
+mod two_sections;
+#[cfg(test)]
+mod two_versions;
 #[cfg(test)]
 mod workers;

@@ -9,9 +9,14 @@ use std::test::Fail;
 use std::thread::Threads;
 use tabu_search::{Found, SearchEnd, search};
 
-// Settings of a search: the seed, the accepted error, the turns, the tabu window, the patience, and
-// the steps.
-fn settings_of<R: Abort>(rt: &R, alloc: Global, numbers: [u32; 5], steps: &[u32]) -> Settings {
+/// Settings of a search: the seed, the accepted error, the turns, the tabu window, the patience, and
+/// the steps.
+pub(crate) fn settings_of<R: Abort>(
+    rt: &R,
+    alloc: Global,
+    numbers: [u32; 5],
+    steps: &[u32],
+) -> Settings {
     let [seed, accept, turns, tabu, patience] = numbers;
     assert!(rt; are_step_sizes(steps));
     Settings {

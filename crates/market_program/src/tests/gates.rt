@@ -1,7 +1,6 @@
 // Sessions and workers that meet, and how often they pass the gate.
 use super::*;
-use market_edge::{MeetingGate, Passes, Stop};
-use std::sync::atomic::{AtomicU64, Ordering};
+use market_edge::MeetingGate;
 use worked_terms::{FIVE_SECTIONS_HELD, FOUR_ENVY};
 
 // What stands on a shelf, and whoever passes this gate: the text of a command whose work is done.
@@ -193,47 +192,4 @@ fn assert_rows_posted<R: Abort>(rt: &R, gate: &MeetingGate) {
     assert_eq!(rt; (first_starts, second_starts), (2, 2));
     assert!(rt; of_first > 0 && of_second > 0);
     assert_eq!(rt; of_first.saturating_add(of_second), 8);
-}
-
-// Counts the stops of two sessions and of all workers, and lets each pass.
-#[derive(Drop)]
-struct CountingGate {
-    first: Passes,
-    second: Passes,
-    workers: Passes,
-    others: AtomicU64,
-}
-
-impl Gate for CountingGate {
-    fn pass(&self, stop: Stop) {
-        match stop {
-            Stop::SessionStart(1) => self.first.count_start(),
-            Stop::SessionStart(2) => self.second.count_start(),
-            Stop::SessionCall(1) => self.first.count_call(),
-            Stop::SessionCall(2) => self.second.count_call(),
-            Stop::WorkerStart(_) => self.workers.count_start(),
-            Stop::WorkerCall(_) => self.workers.count_call(),
-            _ => {
-                self.others.fetch_add(1, Ordering::SeqCst);
-            }
-        }
-    }
-}
-
-// The sessions and the workers of a made market pass the gate too: each student rates two sections
-// and pairs them.
-#[test]
-fn a_made_market_passes_the_gate(rt: HostRuntime) -> Result<(), Fail> {
-    let gate = CountingGate {
-        first: Passes::none(),
-        second: Passes::none(),
-        workers: Passes::none(),
-        others: AtomicU64::new(0),
-    };
-    let _text = done_past(&rt, rt.alloc(), "make 2 7 2 2 0", &[], &gate)?;
-    let (_, calls) = gate.workers.counts();
-    assert_eq!(rt; [gate.first.counts(), gate.second.counts()], [(1, 3); 2]);
-    assert!(rt; calls >= 2);
-    assert_eq!(rt; gate.others.load(Ordering::SeqCst), 0);
-    Ok(())
 }

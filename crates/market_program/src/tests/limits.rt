@@ -39,6 +39,25 @@ fn rows_of(line: &str) -> Option<(u64, u64, &str)> {
     Some((first, last, row))
 }
 
+// A crowd of one student that takes the last section: each section is told with its own count.
+const COUNTS: &str = "\
+== counts of four hundred sections
+demand 1 CAT ANN ACCEPT0 PRICES S1
+-- CAT
+section,course,seats,credits,meetings
+0..400 S#,C#,1,1,
+-- PRICES
+section,price
+-- S1
+rate ann S399 7
+=> 0
+order 1
+bundle ann [S399]
+0..399 count S# 0
+count S399 1
+error 0
+";
+
 // A student rates at most sixty sections; one that goes makes room for another.
 const RATINGS: &str = "\
 == sixty rated sections
@@ -122,7 +141,7 @@ input 2 row 2002: too many rows
 
 #[test]
 fn tables_at_their_limit(rt: HostRuntime) -> Result<(), Fail> {
-    for cases in [RATINGS, SECTIONS, STUDENTS] {
+    for cases in [RATINGS, SECTIONS, COUNTS, STUDENTS] {
         let cases = with_rows(rt.alloc(), cases)?;
         try_cases(&rt, rt.alloc(), cases.as_str())?;
     }
