@@ -1,5 +1,5 @@
 -- What stands at a place of the terms and of a publication.
-use Rattle.std.proofs.Common.{ℕ, zero, suc, ◌≡◌, ◌≢◌, ◌<◌, ◌≤◌, ◌∙◌, Bool, true, false, true≢false, nat_eq, List, [], ◌∷◌, length, map, get_or, refl, ap, sym, subst, inl, inr, arith}
+use Rattle.std.proofs.Common.{ℕ, suc, ◌≡◌, ◌≢◌, ◌<◌, ◌≤◌, ◌∙◌, Bool, true, false, true≢false, nat_eq, List, [], ◌∷◌, length, map, get_or, refl, ap, sym, subst, inl, inr, arith}
 use Rattle.std.specs.Prelude.{All, IsTrue, nat_lt, not, slice_index}
 use Rattle.std.specs.FinSet as set
 use Rattle.std.specs.Ordering.{nat_cmp}

@@ -1,23 +1,22 @@
 -- The student of a number, as the crowd and the publication have it.
-use Rattle.std.proofs.Common.{ℕ, ◌≡◌, ◌<◌, ◌≤◌, List, length, map, get_or, ap, sym, subst, arith, ◌∙◌}
+use Rattle.std.proofs.Common.{ℕ, ◌≡◌, ◌<◌, List, length, map, get_or, sym, subst, arith}
 use Rattle.std.specs.Prelude.{All, nat_lt, slice_index}
-use Rattle.std.proofs.lemmas.List.{length-map}
 use Rattle.market_units.specs.declared.units.Tokens.{Tokens}
 use Rattle.bundle_rules.specs.declared.menu.Rated.{Rated}
 use Rattle.bundle_rules.specs.Bundles.{sections_of}
-use Rattle.bundle_rules.specs.Demand.{HasPrices, IsBest, IsPriced, price_in}
+use Rattle.bundle_rules.specs.Demand.{HasPrices, IsBest, price_in}
 use Rattle.bundle_rules.specs.Menus.{MenuData, wishes_of}
 use Rattle.bundle_bounds.specs.Offers.{Offer}
 use Rattle.course_catalog.specs.Catalog.{CatalogData}
 use Rattle.course_catalog.specs.Sections.{Section, section_names}
 use Rattle.student_roll.specs.Students.{RollData, Student as Enrolled, names_of}
 use Rattle.demand_api.specs.declared.crowd.Crowd.{Crowd}
-use Rattle.demand_api.specs.Crowds.{CrowdData, IsWithin, Student}
+use Rattle.demand_api.specs.Crowds.{CrowdData, IsWithin}
 use Rattle.demand_api.specs.Views.{data_of}
 use Rattle.demand_api.proofs.Parts.{menus_within, students_length}
 use Rattle.market_certificate.specs.declared.publication.Proved as declared_proved
 use Rattle.market_certificate.specs.declared.publication.Publication as declared
-use Rattle.market_certificate.specs.Publications.{IsPublication, Proved}
+use Rattle.market_certificate.specs.Publications.{Proved}
 use Rattle.market_certificate.specs.Views.{proved_of, publication_of}
 use Rattle.published_parts.specs.declared.market.Market as declared_market
 use Rattle.published_parts.specs.Views.{market_in}

@@ -35,7 +35,7 @@ cheap c =
     let bundle = sections_of c.args.bundle.now in
     let prices : c.price_of.result ≡ total price bundle = c.price_of.ensures.value ∙ ap (total price) c.sections-sections.ensures.value in
     within_price (wishes_of c.args.offered.now.menu.now) price c.args.offered.now.budget.0 c.args.section.0 bundle c.section_price.result c.price_of.result c.section_price.ensures.value prices
-    (omega (arith, c.if-price.false))
+    (omega (arith, c.if-price-offered.false))
 
 -- what the credits sum to
 credits_are : (c : After-all_credits_of) → c.all_credits_of.result ≡ total (wishes_of c.args.offered.now.menu.now).credits (sections_of c.args.bundle.now)

@@ -1,4 +1,4 @@
-use Rattle.std.proofs.Common.{rules, ℕ, ◌≡◌, ◌<◌, List, [], length, map, subst, sym}
+use Rattle.std.proofs.Common.{rules, ℕ, ◌<◌, List, [], length, map, subst, sym}
 use Rattle.std.specs.Prelude.{All, nat_lt}
 use Rattle.market_units.specs.declared.units.Tokens.{Tokens}
 use Rattle.market_units.specs.Name.{name_bytes}
