@@ -1,10 +1,10 @@
 -- Holders that are popped and pushed.
-use Rattle.std.proofs.Common.{ℕ, ◌<◌, ◌∷◌, List, All, arith}
+use Rattle.std.proofs.Common.{ℕ, ◌∷◌, List, All, arith}
 use Rattle.std.specs.List.Sorted.{IsPermutation}
 use Rattle.std.proofs.lemmas.List.Elements.{All-cons, All-tail}
 use Rattle.std.proofs.lemmas.List.Sorted.{All-permutation}
 use Rattle.demand_api.specs.Crowds.{CrowdData}
-use Rattle.demand_workers.specs.Leaving.{AreLeft, leaves}
+use Rattle.demand_workers.specs.Leaving.{AreLeft}
 use Rattle.demand_workers.specs.Walks.{IsListed}
 
 -- the holders that are left are listed
@@ -28,7 +28,3 @@ rest_listed crowd hs rest first popped all = All-tail (IsListed crowd) first res
 pub more_listed : (crowd : CrowdData) (rest new : List (ℕ × ℕ)) (holder : ℕ × ℕ) → IsPermutation (holder ∷ rest) new → IsListed crowd holder
     → All (IsListed crowd) rest → All (IsListed crowd) new
 more_listed crowd rest new holder pushed is all = All-permutation (IsListed crowd) (holder ∷ rest) new pushed (All-cons (IsListed crowd) holder rest is all)
-
--- who leaves past the price at which the first left is listed below it
-pub leaves_after : (first again : ℕ × ℕ) → leaves first < leaves again → again.0 < first.0
-leaves_after first again later = omega (arith, later)

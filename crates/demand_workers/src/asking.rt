@@ -27,7 +27,7 @@ use std::thread::Threads;
 use task_board::{Answers, Board, BoardSeat};
 
 // Fewer inquiries are not worth the start of a thread, unless each student is asked.
-const WORTHWHILE: usize = 10;
+const WORTHWHILE: usize = 64;
 
 /// What the students of these inquiries take, in their order, found by the workers of a pool, or by
 /// its first alone, in the caller's thread, where the inquiries are few. All memory is taken before

@@ -1,7 +1,6 @@
 // Where the sections stand that became cheaper.
 ghost use Rattle.std.specs.Prelude.{◌≡◌, ◌<◌, ◌≤◌, ◌↔◌, ◌+◌, All, IfSome, IsTrue, length};
 ghost use Rattle.bundle_rules.specs.Demand.{price_in};
-ghost use Rattle.demand_workers.specs.Notes.{NoneIsLess};
 ghost use Rattle.demand_workers.specs.Remembered.{AreWithin, NoneIsCheaper};
 
 use bundle_rules::Rated;
@@ -109,19 +108,4 @@ fn is_no_cheaper(place: usize, before: &[Tokens], after: &[Tokens]) -> bool
     ensures { IsTrue result ↔ (price_in before.now place ≤ price_in after.now place) }
 {
     before[place].0 <= after[place].0
-}
-
-/// Whether it is known that no section costs less afterwards.
-pub(crate) fn none_is_less(before: &[Tokens], after: &[Tokens]) -> bool
-    ensures { IsTrue result → NoneIsLess (price_in before.now) (price_in after.now) }
-{
-    if after.len() < before.len() {
-        return false;
-    }
-    for place in 0..before.len() {
-        if !is_no_cheaper(place, before, after) {
-            return false;
-        }
-    }
-    true
 }

@@ -11,7 +11,6 @@ ghost use Rattle.demand_workers.specs.Leaving.{leaves, takes, AreLeft};
 ghost use Rattle.demand_workers.specs.Remembered.{AreRemembered};
 ghost use Rattle.demand_api.specs.Views.{data_of};
 
-use crate::note::Note;
 use crate::remembered::Remembered;
 use bundle_rules::{Bundle, price_of};
 use demand_api::Crowd;
@@ -19,12 +18,20 @@ use market_units::{MAX_PRICE, NoMemory, SectionNo, StudentNo, Tokens};
 use std::alloc::Global;
 use std::collections::BinaryHeap;
 
+// What a student took at the remembered prices, but for the section of a walk, which cost this.
+#[derive(Clone, Copy)]
+pub(crate) struct Note {
+    pub student: StudentNo,
+    pub price: Tokens,
+    pub bundle: Bundle,
+}
+
 // A walk to the least price of a section: that price, and what those took on the way there who were
-// asked, since it was not noted.
+// asked.
 #[derive(Drop)]
 pub(crate) struct Walk {
     pub least: Tokens,
-    pub asked: Vec<Note>,
+    pub notes: Vec<Note>,
 }
 
 // A holder of a section: how far below the greatest price it does not keep what it holds any more,

@@ -7,7 +7,6 @@ ghost use Rattle.demand_api.specs.Crowds.{counts};
 ghost use Rattle.demand_api.specs.Prices.{AreLeastPrices};
 ghost use Rattle.demand_api.specs.Views.{data_of};
 ghost use Rattle.demand_workers.specs.Found.{AreFound, terms_of};
-ghost use Rattle.demand_workers.specs.Notes.{AreKept};
 ghost use Rattle.demand_workers.specs.Remembered.{AreRemembered, AreTaken};
 ghost use Rattle.demand_workers.specs.Rounds.{AreVersionsFor, prices_of};
 ghost use Rattle.demand_workers.specs.Surveys.{IsSurvey};
@@ -15,9 +14,8 @@ ghost use Rattle.demand_workers.specs.Surveys.{IsSurvey};
 use crate::Pool;
 use crate::answering::read_all;
 use crate::asking::ask;
-use crate::foreseen::walks_of;
+use crate::foreseen::answers_at;
 use crate::inquiry::Inquiries;
-use crate::notes::Notes;
 use crate::remembered::Remembered;
 use crate::round::{ask_workers, copies_of};
 use crate::taking::{count_all, read_listed};
@@ -31,19 +29,13 @@ use std::alloc::Global;
 use std::sync::{Arc, Wait};
 use std::thread::Threads;
 
-// How many rounds are made ahead of the walks of one call. What is not asked by then, the walks ask
-// for themselves.
-const PHASES: usize = 8;
-
 /// A crowd that is asked by the workers of a pool, each with a workspace of its own. What each
 /// student takes at some prices is remembered. Whom that does not settle at the versions of a call
 /// is asked in one round: an inquiry for each student and version, which workers draw from a board,
 /// each in a thread of its own where one can be started, or the first worker alone, in the caller's
 /// thread, where the inquiries are few. Where nothing is remembered, each student is a task of a
 /// price board. Workers pass the gate before their first draw and after each post. Students on the
-/// walks to least prices are asked in such rounds too, by several workers some ahead; what is found
-/// there is noted, and serves as long as no price falls. Its one form is `PooledDemands<AnyGate>`,
-/// which `make` gives.
+/// walks to least prices are asked in such rounds too. Its one form is `PooledDemands<AnyGate>`, which `make` gives.
 #[derive(Drop)]
 pub struct PooledDemands<G> {
     pub(crate) crowd: Arc<Crowd>,
@@ -51,9 +43,7 @@ pub struct PooledDemands<G> {
     pub(crate) gate: G,
     asked: u64,
     pub(crate) remembered: Remembered,
-    pub(crate) notes: Notes,
     ghost right: { AreRemembered (data_of (arc_value crowd)) remembered.prices.items remembered.bundles.items },
-    ghost noted: { AreKept (data_of (arc_value crowd)) remembered.prices.items notes.list.items },
 }
 
 impl<'g> PooledDemands<AnyGate<'g>> {
@@ -69,14 +59,12 @@ impl<'g> PooledDemands<AnyGate<'g>> {
         ensures asked { ⟦<PooledDemands<AnyGate<'g>> as Demands>⟧.asked result ≡ 0 }
     {
         let remembered = Remembered::nothing(pool.alloc);
-        let notes = Notes::nothing(pool.alloc);
         PooledDemands {
             crowd,
             pool,
             gate,
             asked: 0,
             remembered,
-            notes,
         }
     }
 
@@ -206,9 +194,7 @@ impl<'g> PooledDemands<AnyGate<'g>> {
         if self.remembered.is_of(self.crowd.menus.len(), prices) {
             return Ok(());
         }
-        let memory = self.memory_at(rt, alloc, prices)?;
-        self.notes.follow(&self.remembered.prices, &memory.prices);
-        self.remembered = memory;
+        self.remembered = self.memory_at(rt, alloc, prices)?;
         Ok(())
     }
 
@@ -232,44 +218,13 @@ impl<'g> PooledDemands<AnyGate<'g>> {
             (λ found. AreLeastPrices (data_of (arc_value self.old.crowd))
             (price_in self.old.remembered.prices.items) ((section, limit) ∷ []) found.items) }
     {
-        let walk = self.least_price(rt, alloc, section, limit)?;
-        self.notes.add(&walk.asked)?;
-        let memory = self.raised_memory(rt, alloc, section, walk.least)?;
+        let walks = self.foresee(rt, alloc, &[(section, limit)])?;
+        let answered = answers_at(&self.crowd, &self.remembered.prices, &walks, 0, section);
+        let walk = self.least_price(rt, alloc, answered, section, limit)?;
+        let memory = self.raised_memory(rt, alloc, section, &walk)?;
         let found = vec![in alloc; walk.least; 1]?;
-        self.notes.follow(&self.remembered.prices, &memory.prices);
         self.remembered = memory;
         Ok(found)
-    }
-
-    // Remembers what each student takes at these prices, and notes what those take who are asked on
-    // the walks of these pairs, or most of them: one round for all walks, as often as somebody is
-    // next.
-    fn look_ahead<R: Threads + Wait + Sync>(
-        &mut self,
-        rt: &R,
-        alloc: Global,
-        prices: &[Tokens],
-        pairs: &[(SectionNo, u32)],
-    ) -> Result<(), NoMemory>
-        requires prices { ArePricesFor (data_of (arc_value self.old.crowd)) prices.now }
-        requires sections { All (λ pair. pair.0.0 < (arc_value self.old.crowd).sections) pairs.now }
-        ensures crowd { self.new.crowd ≡ self.old.crowd }
-        ensures asked { self.new.asked ≡ self.old.asked }
-        ensures prices { IfOk result (λ done. self.new.remembered.prices.items ≡ prices.now) }
-        ensures all { IfOk result
-            (λ done. length self.new.remembered.bundles.items
-            ≡ length (arc_value self.old.crowd).menus.items) }
-    {
-        self.recall(rt, alloc, prices)?;
-        let mut walks = walks_of(alloc, &self.remembered, &self.crowd, pairs)?;
-        'phases: for _ in 0..PHASES {
-            let notes = self.next_notes(rt, alloc, &mut walks)?;
-            if notes.is_empty() {
-                break;
-            }
-            self.notes.add(&notes)?;
-        }
-        Ok(())
     }
 
     // Remembers what each student takes at these prices, where nothing is remembered: of several
@@ -416,7 +371,7 @@ impl Demands for PooledDemands<AnyGate<'_>> {
         prices: &[Tokens],
         pairs: &[(SectionNo, u32)],
     ) -> Result<Vec<Tokens>, NoMemory> {
-        self.look_ahead(rt, alloc, prices, pairs)?;
+        self.recall(rt, alloc, prices)?;
         if let [(section, limit)] = pairs {
             return self.least_alone(rt, alloc, *section, *limit);
         }

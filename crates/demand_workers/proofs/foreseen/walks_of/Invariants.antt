@@ -4,4 +4,4 @@ use Rattle.demand_workers.specs.Walks.{IsForeseen}
 use Rattle.demand_workers.proofs.foreseen.walks_of.Given as goal
 
 abbrev pub invariant-loop-section : goal.invariant-loop-section
-invariant-loop-section l = All (IsForeseen (data_of l.crowd)) l.walks.items
+invariant-loop-section l = All (IsForeseen (data_of l.crowd) l.remembered.prices.items) l.walks.items

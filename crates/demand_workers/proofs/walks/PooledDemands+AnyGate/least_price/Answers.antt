@@ -11,6 +11,7 @@ use Rattle.demand_api.proofs.Parts.{students_length}
 use Rattle.demand_workers.specs.Leaving.{leaves, takes}
 use Rattle.demand_api.specs.Views.{data_of}
 use Rattle.demand_workers.proofs.HoldersLeave.{first_keeps, first_student, many_below, has_left, has_stayed, less_left, less_stayed, least_found, asked_there, keeps_asked, leaves_later}
+use Rattle.demand_workers.proofs.Noting.{noted_more}
 use Rattle.demand_workers.proofs.walks.PooledDemands+AnyGate.least_price.Goals as goal
 
 pub told_or_asked-requires-clause-student : goal.told_or_asked-requires-clause-student
@@ -67,11 +68,15 @@ loop-least-preserved-then-not-has g c =
           has_left crowd (price_in prices) c.args.section.0 c.loop-least.least.0 (heap_items c.loop-least.holders) (heap_items c.pop.new.self) c.in-Some.first
           c.loop-least.invariant.left c.in-Some.ensures.permutation greatest_first
           (asked_there crowd prices _ c.args.section.0 (leaves c.in-Some.first) c.in-Some.first.1 (sections_of c.in_ok-bundle.bundle)
-          c.requires.prices c.requires.section refl c.in_ok-bundle.ensures.taken
+          c.requires.prices c.requires.section refl c.in_ok-bundle.ensures
           ∙ sym c.has.ensures ∙ lacks);
       from = (let goal : price_in c.args.self.now.remembered.prices.items c.args.section.0 ≤ leaves c.in-Some.first = omega arith in goal);
       high = keeps.capped;
-      noted = c.in_ok-bundle.ensures.noted;
+      noted =
+          noted_more crowd prices c.args.section.0 c.loop-least.least.0 (leaves c.in-Some.first) c.loop-least.notes.items _
+          (record { student = record { 0 = c.in-Some.first.1 }; price = record { 0 = leaves c.in-Some.first }; bundle = c.in_ok-bundle.bundle })
+          c.loop-least.invariant.noted later (search rules)
+          c.in_ok-bundle.ensures refl;
       lower =
           λ p above below. (let more : hs
           ≤ count crowd (with_price (price_in prices) c.args.section.0 p) c.args.section.0 = many_below crowd (price_in prices) c.args.section.0
@@ -91,8 +96,8 @@ loop-least-smaller g c =
     first_keeps crowd (price_in prices) c.args.section.0 c.loop-least.least.0 (heap_items c.loop-least.holders) (heap_items c.pop.new.self) c.in-Some.first
     c.loop-least.invariant.left c.in-Some.ensures.permutation greatest_first in
     less_stayed crowd (price_in prices) c.args.section.0 c.loop-least.least.0 (heap_items c.loop-least.holders) (heap_items c.pop.new.self) c.in-Some.first
-    c.loop-least.invariant.left c.in-Some.ensures.permutation greatest_first c.holder_of-holder.result (heap_items c.push.new.self)
-    c.in_ok-push.ensures.permutation c.holder_of-holder.ensures.student
+    c.loop-least.invariant.left c.in-Some.ensures.permutation greatest_first c.holder_of-holder.result (heap_items c.push-in-loop-least.new.self)
+    c.in_ok-push-2.ensures.permutation c.holder_of-holder.ensures.student
     (leaves_later crowd prices _ c.args.section.0 c.in-Some.first c.holder_of-holder.result (c.raised_prices-trial.ensures ∙ ap (λ (l : List Tokens). slice_set l c.args.section.0 (record { 0 = leaves c.in-Some.first })) c.deref-in-loop-least.ensures.value) c.requires.prices c.requires.section keeps.room
     c.holder_of-holder.ensures.later)
 
@@ -111,16 +116,20 @@ loop-least-preserved g c =
     let hs : ℕ = length (heap_items c.loop-least.holders) in
     let many : c.args.limit < hs = search rules in
     record {
-      heap = c.in_ok-push.ensures.heap_order (c.in-Some.ensures.heap_order c.loop-least.invariant.heap).0;
+      heap = c.in_ok-push-2.ensures.heap_order (c.in-Some.ensures.heap_order c.loop-least.invariant.heap).0;
       left =
           has_stayed crowd (price_in prices) c.args.section.0 c.loop-least.least.0 (heap_items c.loop-least.holders) (heap_items c.pop.new.self) c.in-Some.first
-          c.loop-least.invariant.left c.in-Some.ensures.permutation greatest_first c.holder_of-holder.result (heap_items c.push.new.self)
-          c.in_ok-push.ensures.permutation c.holder_of-holder.ensures.student
+          c.loop-least.invariant.left c.in-Some.ensures.permutation greatest_first c.holder_of-holder.result (heap_items c.push-in-loop-least.new.self)
+          c.in_ok-push-2.ensures.permutation c.holder_of-holder.ensures.student
           (keeps_asked crowd prices _ c.args.section.0 (leaves c.in-Some.first) c.in-Some.first.1 c.holder_of-holder.result (c.raised_prices-trial.ensures ∙ ap (λ (l : List Tokens). slice_set l c.args.section.0 (record { 0 = leaves c.in-Some.first })) c.deref-in-loop-least.ensures.value) c.requires.prices c.requires.section c.holder_of-holder.ensures.student c.holder_of-holder.ensures.room c.holder_of-holder.ensures.later
           (subst (λ (w : Crowd). leaves c.holder_of-holder.result ≤ top (data_of w)) c.deref-in-loop-least-2.ensures c.holder_of-holder.ensures.capped) (subst (λ (w : Crowd). takes (data_of w) (price_in c.raised_prices-trial.result.now) c.args.section.0 (leaves c.holder_of-holder.result - 1) c.in-Some.first.1 ≡ true) c.deref-in-loop-least-2.ensures c.holder_of-holder.ensures.still));
       from = (let goal : price_in c.args.self.now.remembered.prices.items c.args.section.0 ≤ leaves c.in-Some.first = omega arith in goal);
       high = keeps.capped;
-      noted = c.in_ok-bundle.ensures.noted;
+      noted =
+          noted_more crowd prices c.args.section.0 c.loop-least.least.0 (leaves c.in-Some.first) c.loop-least.notes.items _
+          (record { student = record { 0 = c.in-Some.first.1 }; price = record { 0 = leaves c.in-Some.first }; bundle = c.in_ok-bundle.bundle })
+          c.loop-least.invariant.noted later (search rules)
+          c.in_ok-bundle.ensures refl;
       lower =
           λ p above below. (let more : hs
           ≤ count crowd (with_price (price_in prices) c.args.section.0 p) c.args.section.0 = many_below crowd (price_in prices) c.args.section.0

@@ -18,7 +18,7 @@ invariant-loop-least g l = record {
   left : AreLeft (data_of (arc_value l.self.crowd)) (price_in l.self.remembered.prices.items) l.section.0 l.least.0 (heap_items l.holders);
   from : price_in l.self.remembered.prices.items l.section.0 ≤ l.least.0;
   high : l.least.0 ≤ top (data_of (arc_value l.self.crowd));
-  noted : AreNoted (data_of (arc_value l.self.crowd)) l.self.remembered.prices.items l.asked.items;
+  noted : AreNoted (data_of (arc_value l.self.crowd)) l.self.remembered.prices.items l.section.0 l.least.0 l.notes.items;
   lower : (p : ℕ) → price_in l.self.remembered.prices.items l.section.0 ≤ p → p < l.least.0
       → l.limit < count (data_of (arc_value l.self.crowd)) (with_price (price_in l.self.remembered.prices.items) l.section.0 p) l.section.0;
 }

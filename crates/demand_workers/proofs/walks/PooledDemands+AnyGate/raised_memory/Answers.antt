@@ -26,14 +26,14 @@ loop-place-preserved-in_default g c =
     record {
       len = c.loop-place.invariant.len;
       raised =
-          subst (All (λ (q : Inquiry). q.raised ≡ Some (c.args.section, c.args.least))) (sym {A = List Inquiry} c.in_ok-push.ensures.items)
-          (All-push (λ (q : Inquiry). q.raised ≡ Some (c.args.section, c.args.least)) c.loop-place.list.items _ c.loop-place.invariant.raised refl);
+          subst (All (λ (q : Inquiry). q.raised ≡ Some (c.args.section, c.args.walk.now.least))) (sym {A = List Inquiry} c.in_ok-push.ensures.items)
+          (All-push (λ (q : Inquiry). q.raised ≡ Some (c.args.section, c.args.walk.now.least)) c.loop-place.list.items _ c.loop-place.invariant.raised refl);
       asked = subst (All (IsInquiry (data_of crowd) 1)) (sym {A = List Inquiry} c.in_ok-push.ensures.items)
           (All-push (IsInquiry (data_of crowd) 1) c.loop-place.list.items _ c.loop-place.invariant.asked
           (record {
             student = subst (λ n. c.loop-place.place < n) (sym (students_length crowd)) low;
             its_version = (let goal : 0 < 1 = omega arith in goal);
-            its_price = can_be_raised (data_of crowd) (c.args.section, c.args.least) c.requires.section c.requires.high;
+            its_price = can_be_raised (data_of crowd) (c.args.section, c.args.walk.now.least) c.requires.section c.requires.high;
           }));
       kept =
           first_asked (data_of crowd) c.loop-place.bundles.items _ 0 c.loop-place.place c.loop-place.list.items _ _ c.loop-place.invariant.kept
@@ -53,11 +53,11 @@ write_found-requires-clause-students g c =
 pub returns : goal.returns
 returns g c =
     let crowd = arc_value c.args.self.now.crowd in
-    let raised = slice_set c.in_ok-prices.prices.items c.from.result c.args.least in
+    let raised = slice_set c.in_ok-prices.prices.items c.from.result c.args.walk.now.least in
     let wide : length c.in_ok-prices.prices.items ≡ crowd.sections =
     ap length (c.in_ok-prices.ensures.items_if_clones_equal (λ x y is. is) ∙ c.as_slice.ensures.value) ∙ c.requires.prices.same in
     record {
-      sized = λ some. length-set c.in_ok-prices.prices.items c.from.result c.args.least ∙ wide;
+      sized = λ some. length-set c.in_ok-prices.prices.items c.from.result c.args.walk.now.least ∙ wide;
       taken = subst (λ (b : List Bundle). AreTaken (data_of crowd) raised b)
           (sym (lent_back c.loop-place.bundles.len c.write_found.new.bundles c.loop-place.bundles.items (search rules)))
           (subst (λ (p : List Tokens). AreTaken (data_of crowd) p c.write_found.new.bundles) c.deref-3.ensures.value

@@ -10,7 +10,7 @@ use Rattle.demand_workers.proofs.walks.PooledDemands+AnyGate.raised_memory.Given
 abbrev pub invariant-loop-place : goal.invariant-loop-place
 invariant-loop-place g l = record {
   len : length l.bundles.items ≡ length l.self.remembered.bundles.items;
-  raised : All (λ (q : Inquiry). q.raised ≡ Some (l.section, l.least)) l.list.items;
+  raised : All (λ (q : Inquiry). q.raised ≡ Some (l.section, l.walk.least)) l.list.items;
   asked : All (IsInquiry (data_of (arc_value l.self.crowd)) 1) l.list.items;
   kept : AreFirstKept (data_of (arc_value l.self.crowd)) l.bundles.items l.prices.items 0 l.place l.list.items;
 }

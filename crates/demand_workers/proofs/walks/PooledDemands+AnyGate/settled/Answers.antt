@@ -7,8 +7,9 @@ use Rattle.bundle_rules.specs.Demand.{price_in}
 use Rattle.demand_api.specs.declared.crowd.Crowd.{Crowd}
 use Rattle.demand_api.specs.Crowds.{demand_of}
 use Rattle.demand_api.specs.Views.{data_of}
-use Rattle.demand_workers.specs.Notes.{AreKept}
-use Rattle.demand_workers.proofs.Noting.{kept_raised, lacking_stays}
+use Rattle.demand_api.proofs.Halving.{price_written}
+use Rattle.demand_workers.specs.Notes.{AreNoted}
+use Rattle.demand_workers.proofs.Noting.{lacking_stays, noted_raised}
 use Rattle.demand_workers.proofs.walks.PooledDemands+AnyGate.settled.Goals as goal
 
 -- the section has a remembered price
@@ -26,18 +27,25 @@ returns-then-not-has g c =
     let prices = c.args.self.now.remembered.prices.items in
     let low : c.from.result < length c.args.self.now.remembered.bundles.items =
     subst (λ n. n < length c.args.self.now.remembered.bundles.items) (sym c.from.ensures) (subst (λ n. c.args.student.0 < n) (sym c.requires.all) c.requires.student) in
-    lacking_stays crowd prices c.args.prices.now c.args.section.0 c.args.student.0 c.args._least (sections_of c.index.result.now)
+    lacking_stays crowd prices c.args.prices.now c.args.section.0 c.args.student.0 c.args.walk.now.least (sections_of c.index.result.now)
     c.requires.student
-    (there prices c.args.prices.now c.args.section.0 crowd.sections c.args._least c.requires.raised c.requires.prices.same c.requires.section)
+    (there prices c.args.prices.now c.args.section.0 crowd.sections c.args.walk.now.least c.requires.raised c.requires.prices.same c.requires.section)
     c.requires.low c.requires.raised (sym c.has.ensures ∙ c.if-not-has.true)
     (ap sections_of c.index.ensures ∙ c.args.self.now.right.taken c.from.result c.index.result.now low
     ∙ ap (demand_of (data_of crowd) (price_in prices)) c.from.ensures)
 
-pub told-requires-clause-notes : goal.told-requires-clause-notes
-told-requires-clause-notes g c =
+pub noted-requires-clause-least : goal.noted-requires-clause-least
+noted-requires-clause-least g c =
+    let prices = c.args.self.now.remembered.prices.items in
+    ap (λ (l : List Tokens). price_in l c.args.section.0) c.requires.raised
+    ∙ price_written prices c.args.section.0 c.args.walk.now.least.0
+    (there prices c.args.prices.now c.args.section.0 _ c.args.walk.now.least c.requires.raised c.requires.prices.same c.requires.section)
+
+pub noted-requires-clause-noted : goal.noted-requires-clause-noted
+noted-requires-clause-noted g c =
     let crowd = arc_value c.args.self.now.crowd in
     let prices = c.args.self.now.remembered.prices.items in
-    subst (λ (w : Crowd). AreKept (data_of w) c.args.prices.now c.args.self.now.notes.list.items) (sym c.deref.ensures)
-    (kept_raised (data_of crowd) prices c.args.prices.now c.args.section.0 c.args._least c.args.self.now.notes.list.items
-    (there prices c.args.prices.now c.args.section.0 crowd.sections c.args._least c.requires.raised c.requires.prices.same c.requires.section)
-    c.requires.low c.requires.raised c.args.self.now.noted)
+    let notes = c.args.walk.now.notes.items in
+    subst (λ (w : Crowd). AreNoted (data_of w) c.args.prices.now c.args.section.0 c.args.walk.now.least.0 notes) (sym c.deref.ensures)
+    (subst (λ (l : List Tokens). AreNoted (data_of crowd) l c.args.section.0 c.args.walk.now.least.0 notes) (sym c.requires.raised)
+    (noted_raised (data_of crowd) prices c.args.section.0 c.args.walk.now.least.0 c.args.walk.now.least notes c.requires.noted))

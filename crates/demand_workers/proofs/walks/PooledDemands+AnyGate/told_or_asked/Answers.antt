@@ -1,16 +1,24 @@
-use Rattle.std.proofs.Common.{List, sym, subst}
+use Rattle.std.proofs.Common.{zero, suc, ◌<◌, [], ◌∷◌, All, sym, subst, arith}
 use Rattle.std.specs.Arc.{arc_value}
-use Rattle.std.proofs.lemmas.List.Elements.{All-push}
+use Rattle.demand_api.specs.Crowds.{CrowdData}
 use Rattle.demand_api.specs.Views.{data_of}
-use Rattle.demand_workers.specs.declared.note.Note.{Note}
-use Rattle.demand_workers.specs.Notes.{IsNoted, AreNoted}
-use Rattle.demand_workers.proofs.Noting.{noted_asked}
+use Rattle.demand_api.proofs.Parts.{students_length}
+use Rattle.demand_workers.specs.declared.inquiry.Inquiry.{Inquiry}
+use Rattle.demand_workers.specs.Inquiring.{IsInquiry}
+use Rattle.demand_workers.proofs.Surveying.{can_be_raised}
 use Rattle.demand_workers.proofs.walks.PooledDemands+AnyGate.told_or_asked.Goals as goal
 
-pub returns-clause-noted : goal.returns-clause-noted
-returns-clause-noted g c =
+only : (crowd : CrowdData) (inquiry : Inquiry) → IsInquiry crowd 1 inquiry → All (IsInquiry crowd 1) (inquiry ∷ [])
+only crowd inquiry is zero d low = is
+only crowd inquiry is (suc k) d low = absurd (omega (arith, low))
+
+pub at_remembered-requires-clause-list : goal.at_remembered-requires-clause-list
+at_remembered-requires-clause-list g c =
     let crowd = arc_value c.args.self.now.crowd in
-    let prices = c.args.self.now.remembered.prices.items in
-    subst (AreNoted (data_of crowd) prices) (sym {A = List Note} c.in_ok-push.ensures.items)
-    (All-push (IsNoted (data_of crowd) prices) c.args.asked.now.items _ c.requires.noted
-    (noted_asked crowd prices _ c.requires.prices c.requires.section c.requires.student c.in_ok-bundle.ensures))
+    subst (All (IsInquiry (data_of crowd) 1)) (sym (c.in_ok-list.ensures.items_if_clones_equal (λ y is. is)))
+    (only (data_of crowd) _
+    (record {
+      student = subst (λ n. c.args.student.0 < n) (sym (students_length crowd)) c.requires.student;
+      its_version = (let goal : 0 < 1 = omega arith in goal);
+      its_price = can_be_raised (data_of crowd) (c.args.section, c.args.price) c.requires.section c.requires.price;
+    }))

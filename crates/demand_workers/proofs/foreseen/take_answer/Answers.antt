@@ -1,0 +1,51 @@
+use Rattle.std.proofs.Common.{rules, ℕ, ◌≡◌, ◌<◌, List, All, length, heap_items, sym, subst}
+use Rattle.std.proofs.lemmas.List.Elements.{All-push}
+use Rattle.demand_api.specs.Views.{data_of}
+use Rattle.demand_api.proofs.Parts.{students_length}
+use Rattle.demand_workers.specs.declared.leaving.Note.{Note}
+use Rattle.demand_workers.specs.Notes.{IsTold}
+use Rattle.demand_workers.proofs.Listing.{more_listed}
+use Rattle.demand_workers.proofs.Surveying.{raised_there}
+use Rattle.demand_workers.proofs.foreseen.take_answer.Goals as goal
+
+-- who leaves the section
+pub returns-then-not-has : goal.returns-then-not-has
+returns-then-not-has c =
+    let crowd = data_of c.args.crowd.now in
+    let prices = c.args.prices.now in
+    let s : ℕ = c.args.walk.now.section.0 in
+    let same : c.in-Some.raised.0.0 ≡ c.args.walk.now.section.0 = search rules in
+    let told = raised_there crowd prices c.args.inquiry c.in-Some.raised c.args.walk.now.section.0 _ c.requires.inquiry c.in-Some.is same c.requires.found in
+    record {
+      within = c.requires.walk.within;
+      listed = c.requires.walk.listed;
+      told =
+          subst (All (IsTold crowd prices c.args.walk.now.section.0)) (sym {A = List Note} c.in_ok-push.ensures.items)
+          (All-push (IsTold crowd prices c.args.walk.now.section.0) c.args.walk.now.answered.items _ c.requires.walk.told told);
+    }
+
+pub holder_of-holder-requires-clause-student : goal.holder_of-holder-requires-clause-student
+holder_of-holder-requires-clause-student c =
+    subst (λ (n : ℕ). c.args.inquiry.student.0 < n) (students_length c.args.crowd.now) c.requires.inquiry.student
+
+-- who still takes it
+pub returns : goal.returns
+returns c =
+    let crowd = data_of c.args.crowd.now in
+    let prices = c.args.prices.now in
+    let again = c.holder_of-holder in
+    let same : c.in-Some.raised.0.0 ≡ c.args.walk.now.section.0 = search rules in
+    let told = raised_there crowd prices c.args.inquiry c.in-Some.raised c.args.walk.now.section.0 _ c.requires.inquiry c.in-Some.is same c.requires.found in
+    record {
+      within = c.requires.walk.within;
+      listed = more_listed crowd (heap_items c.args.walk.now.holders) (heap_items c.push-2.new.self) again.result c.in_ok-push-2.ensures.permutation
+          (record {
+            student = subst (λ (n : ℕ). n < length crowd.students) (sym again.ensures.student) c.requires.inquiry.student;
+            room = again.ensures.room;
+            capped = again.ensures.capped;
+          })
+          c.requires.walk.listed;
+      told =
+          subst (All (IsTold crowd prices c.args.walk.now.section.0)) (sym {A = List Note} c.in_ok-push.ensures.items)
+          (All-push (IsTold crowd prices c.args.walk.now.section.0) c.args.walk.now.answered.items _ c.requires.walk.told told);
+    }
