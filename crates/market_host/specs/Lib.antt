@@ -22,7 +22,6 @@ pub mod Reading
 pub mod Refusals
 pub mod Requests
 pub mod Runs
-pub mod Said
 pub mod Sessions
 pub mod Sights
 pub mod Statuses
