@@ -149,8 +149,7 @@ fn an_ordinary_term(rt: HostRuntime) -> Result<(), Fail> {
 }
 
 // Texts that are no tree of the third section alone, and what is found; `|` is a line feed.
-const DEFECTS: &str = "\
- => Err(Syntax(0))
+const DEFECTS: &str = " => Err(Syntax(0))
 -+* => Err(Syntax(3))
 -+*b => Err(Syntax(3))
 -+*b05 => Err(Syntax(3))
