@@ -1,8 +1,11 @@
 pub mod Offers
 pub mod Courses
 pub mod Opens
+pub mod Views
+pub mod Rests
 pub mod Bounds
 pub mod Laws
+pub mod Props
 pub mod Modest
 pub mod Limits
 pub mod Ahead

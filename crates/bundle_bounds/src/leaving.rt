@@ -4,7 +4,7 @@ ghost use Rattle.bundle_bounds.specs.Courses.{has_course, by_course};
 ghost use Rattle.bundle_bounds.specs.Modest.{IsModest};
 ghost use Rattle.bundle_bounds.specs.Tangents.{IsTangent, AreTangents};
 
-use crate::prospects::{Prospect, Resource, added};
+use crate::prospects::{Prospect, Prospects, Resource, added};
 use crate::tangents::{Tangent, Tangents};
 
 // Whether none of these is of the course.
@@ -22,14 +22,13 @@ fn is_alone(more: &[Prospect], course: u8) -> bool
 /// The plain sum of the open places behind the first, from that of all: of each course 1000 times
 /// the greatest worth, added up.
 #[inline(always)]
-pub(crate) fn plain_after(all: &[Prospect], plain: u64) -> u64
-    requires some { 1 ≤ length all.now }
-    requires modest { All IsModest all.now }
-    requires plain { plain ≡ by_course (λ p. 1000 * p.worth) all.now }
-    ensures value { result ≡ by_course (λ p. 1000 * p.worth) (drop 1 all.now) }
+pub(crate) fn plain_after(all: &Prospects, plain: u64) -> u64
+    requires some { 1 ≤ length all.now.list.now }
+    requires plain { plain ≡ by_course (λ p. 1000 * p.worth) all.now.list.now }
+    ensures value { result ≡ by_course (λ p. 1000 * p.worth) (drop 1 all.now.list.now) }
     ensures less { result ≤ plain }
 {
-    match all {
+    match all.list {
         [] => 0,
         [prospect, more @ ..] => {
             let is_alone = is_alone(more, prospect.course);
@@ -41,17 +40,16 @@ pub(crate) fn plain_after(all: &[Prospect], plain: u64) -> u64
 /// The tangents of the open places behind the first, from those of all, at the same prices and with
 /// the same rests.
 #[inline(always)]
-pub(crate) fn tangents_after(all: &[Prospect], tangents: Tangents) -> Tangents
-    requires some { 1 ≤ length all.now }
-    requires modest { All IsModest all.now }
+pub(crate) fn tangents_after(all: &Prospects, tangents: Tangents) -> Tangents
+    requires some { 1 ≤ length all.now.list.now }
     requires tangents { (budget : ℕ)
         × ((credit_rest : ℕ)
-        × ((course_rest : ℕ) × AreTangents budget credit_rest course_rest all.now tangents)) }
+        × ((course_rest : ℕ) × AreTangents budget credit_rest course_rest all.now.list.now tangents)) }
     ensures { (budget credit_rest course_rest : ℕ)
-        → AreTangents budget credit_rest course_rest all.now tangents
-        → AreTangents budget credit_rest course_rest (drop 1 all.now) result }
+        → AreTangents budget credit_rest course_rest all.now.list.now tangents
+        → AreTangents budget credit_rest course_rest (drop 1 all.now.list.now) result }
 {
-    match all {
+    match all.list {
         [] => tangents,
         [prospect, more @ ..] => {
             let is_alone = is_alone(more, prospect.course);

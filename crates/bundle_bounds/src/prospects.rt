@@ -25,6 +25,14 @@ pub(crate) struct Prospect {
     pub(crate) credits: u16,
 }
 
+/// What is known of the open places of a node, in the menu's order, each within its range.
+#[derive(Clone, Copy)]
+pub(crate) struct Prospects<'p> {
+    pub(crate) list: &'p [Prospect],
+    ghost modest: { All IsModest list.now },
+    ghost few: { length list.now ≤ MAX_RATINGS },
+}
+
 // Courses are told apart by a place of the menu. These are at most 60, so that a small array has a
 // mark for each course; course numbers have no such bound.
 const COURSES: usize = MAX_RATINGS;
@@ -64,31 +72,28 @@ pub(crate) fn over_price(prospect: &Prospect, resource: Resource, price: u64) ->
 
 /// The price times what is left of the resource, and for each course the greatest `over_price` of
 /// its open places, added up.
-pub(crate) fn at_price(prospects: &[Prospect], resource: Resource, rest: u32, price: u64) -> u64
-    requires modest { All IsModest prospects.now }
-    requires few { length prospects.now ≤ MAX_RATINGS }
+pub(crate) fn at_price(all: &Prospects, resource: Resource, rest: u32, price: u64) -> u64
     requires price { price ≤ 20000000 }
-    ensures value { result ≡ at_price resource rest price prospects.now }
+    ensures value { result ≡ at_price resource rest price all.now.list.now }
     ensures high { result ≤ 20000000 * rest + 20000000 * MAX_RATINGS }
 {
-    price * u64::from(rest) + add_up(prospects, resource, price)
+    price * u64::from(rest) + add_up(all, resource, price)
 }
 
 // For each course the most that is left over the price, added up.
-fn add_up(prospects: &[Prospect], resource: Resource, price: u64) -> u64
-    requires modest { All IsModest prospects.now }
-    requires few { length prospects.now ≤ MAX_RATINGS }
+fn add_up(all: &Prospects, resource: Resource, price: u64) -> u64
     requires price { price ≤ 20000000 }
-    ensures value { result ≡ by_course (over_price resource price) prospects.now }
-    ensures high { result ≤ 20000000 * length prospects.now }
+    ensures value { result ≡ by_course (over_price resource price) all.now.list.now }
+    ensures high { result ≤ 20000000 * length all.now.list.now }
 {
+    let list = all.list;
     let mut is_there = [false; COURSES];
     let mut sum = 0;
-    for index in (0..prospects.len()).rev() {
-        let prospect = &prospects[index];
+    for index in (0..list.len()).rev() {
+        let prospect = &list[index];
         let course = usize::from(prospect.course);
         let is_alone = !is_there[course];
-        sum += added(prospect, &prospects[index + 1..], resource, price, is_alone);
+        sum += added(prospect, &list[index + 1..], resource, price, is_alone);
         is_there[course] = true;
     }
     sum
@@ -97,42 +102,39 @@ fn add_up(prospects: &[Prospect], resource: Resource, price: u64) -> u64
 /// What `at_price` gives at this price, and what it gives at the price that is greater by 1.
 #[inline(always)]
 pub(crate) fn at_two_prices(
-    prospects: &[Prospect],
+    all: &Prospects,
     resource: Resource,
     rest: u32,
     price: u64,
 ) -> (u64, u64)
-    requires modest { All IsModest prospects.now }
-    requires few { length prospects.now ≤ MAX_RATINGS }
     requires price { price ≤ 20000000 }
-    ensures here { result.0 ≡ at_price resource rest price prospects.now }
-    ensures after { result.1 ≡ at_price resource rest (price + 1) prospects.now }
+    ensures here { result.0 ≡ at_price resource rest price all.now.list.now }
+    ensures after { result.1 ≡ at_price resource rest (price + 1) all.now.list.now }
     ensures high { result.0 ≤ 20000000 * rest + 20000000 * MAX_RATINGS }
 {
-    let (here, after) = add_up_twice(prospects, resource, price);
+    let (here, after) = add_up_twice(all, resource, price);
     let rest = u64::from(rest);
     (price * rest + here, (price + 1) * rest + after)
 }
 
 // For each course the most that is left over the price, added up; and the same at the next price.
 #[inline(always)]
-fn add_up_twice(prospects: &[Prospect], resource: Resource, price: u64) -> (u64, u64)
-    requires modest { All IsModest prospects.now }
-    requires few { length prospects.now ≤ MAX_RATINGS }
+fn add_up_twice(all: &Prospects, resource: Resource, price: u64) -> (u64, u64)
     requires price { price ≤ 20000000 }
-    ensures here { result.0 ≡ by_course (over_price resource price) prospects.now }
-    ensures after { result.1 ≡ by_course (over_price resource (price + 1)) prospects.now }
-    ensures high { result.0 ≤ 20000000 * length prospects.now }
-    ensures after_high { result.1 ≤ 20000000 * length prospects.now }
+    ensures here { result.0 ≡ by_course (over_price resource price) all.now.list.now }
+    ensures after { result.1 ≡ by_course (over_price resource (price + 1)) all.now.list.now }
+    ensures high { result.0 ≤ 20000000 * length all.now.list.now }
+    ensures after_high { result.1 ≤ 20000000 * length all.now.list.now }
 {
+    let list = all.list;
     let mut is_there = [false; COURSES];
     let mut sum = 0;
     let mut next = 0;
-    for index in (0..prospects.len()).rev() {
-        let prospect = &prospects[index];
+    for index in (0..list.len()).rev() {
+        let prospect = &list[index];
         let course = usize::from(prospect.course);
         let is_alone = !is_there[course];
-        let more = &prospects[index + 1..];
+        let more = &list[index + 1..];
         let (here, after) = added_twice(prospect, more, resource, price, is_alone);
         sum += here;
         next += after;

@@ -7,7 +7,7 @@ use Rattle.std.proofs.lemmas.Nat.Bits.{bit_at-zero}
 use Rattle.bundle_rules.specs.Menus.{section_at, credits_at, wishes_of}
 use Rattle.bundle_rules.specs.Places.{menu_sections}
 use Rattle.bundle_bounds.specs.Laws.{IsTakable, IsNode}
-use Rattle.bundle_bounds.specs.Offers.{Offer, price_at}
+use Rattle.bundle_bounds.specs.Offers.{OfferData, price_at}
 use Rattle.bundle_bounds.specs.Prunings.{MayPrune}
 use Rattle.bundle_bounds.proofs.Openings.{node_later, node_with, node_without}
 use Rattle.demand_oracle.specs.declared.summed_node.SummedNode.{SummedNode}
@@ -44,7 +44,7 @@ compared question summed champion result (inr none) k = inr (none.0, ap chosen_o
 
 module _ (question : Question) (asked : IsQuestion question) (summed : SummedNode)
     (is_summed : IsSummed question.menu.now (offer_asked question).price summed) (node : IsNode (offer_asked question) summed.node.place (chosen_of summed)) where
-  abbrev offer : Offer
+  abbrev offer : OfferData
   offer = offer_asked question
 
   abbrev chosen : List ℕ

@@ -2,14 +2,14 @@
 use Rattle.std.specs.Prelude.{ℕ, ◌<◌, Bool, List, length, IfSome}
 use Rattle.bundle_rules.specs.Menus.{IsMenu}
 use Rattle.bundle_rules.specs.Demand.{HasPrices}
-use Rattle.bundle_bounds.specs.Offers.{Offer, offer_of}
+use Rattle.bundle_bounds.specs.Offers.{OfferData, offer_of}
 use Rattle.demand_oracle.specs.declared.question.Question.{Question}
 use Rattle.demand_oracle.specs.Reaches.{IsReach}
 use Rattle.demand_oracle.specs.AtPlaces.{IsGoods}
 use Rattle.demand_oracle.specs.Search.{wanted_by}
 
 -- the offer of which it is asked
-abbrev pub offer_asked : Question → Offer
+abbrev pub offer_asked : Question → OfferData
 offer_asked question =
     offer_of question.menu.now question.prices.now question.budget.0 question.allowed.now
 

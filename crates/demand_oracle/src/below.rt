@@ -6,7 +6,7 @@ ghost use Rattle.bundle_rules.specs.Menus.{wishes_of, credits_at};
 ghost use Rattle.bundle_rules.specs.Places.{menu_sections};
 ghost use Rattle.bundle_rules.specs.Wishes.{IsFeasible};
 ghost use Rattle.bundle_bounds.specs.Laws.{IsNode};
-ghost use Rattle.bundle_bounds.specs.Offers.{Offer, price_at};
+ghost use Rattle.bundle_bounds.specs.Offers.{OfferData, price_at};
 ghost use Rattle.bundle_bounds.specs.Prunings.{MayPrune};
 ghost use Rattle.demand_oracle.specs.AtPlaces.{IsGoods};
 ghost use Rattle.demand_oracle.specs.Champions.{IsChampion};
@@ -82,7 +82,7 @@ pub(crate) fn below(
 #[inline(always)]
 fn fits(goods: &Goods, place: u8, budget_left: u32, credits_left: u32) -> bool
     requires { place < MAX_RATINGS }
-    ensures { (offer : Offer) → IsGoods offer goods.now → place < length offer.menu.places
+    ensures { (offer : OfferData) → IsGoods offer goods.now → place < length offer.menu.places
         → IsTrue result
         ↔ ((price_at offer place ≤ budget_left)
         × (credits_at offer.menu.places place ≤ credits_left)) }

@@ -5,7 +5,7 @@ use Rattle.market_units.specs.declared.units.Tokens.{Tokens}
 use Rattle.bundle_rules.specs.Demand.{IsBest, price_in}
 use Rattle.bundle_rules.specs.Menus.{wishes_of}
 use Rattle.bundle_rules.specs.Ordinals.{IsBundle}
-use Rattle.bundle_bounds.specs.Offers.{Offer}
+use Rattle.bundle_bounds.specs.Offers.{OfferData}
 use Rattle.demand_api.specs.declared.crowd.Crowd.{Crowd}
 use Rattle.demand_api.specs.Crowds.{CrowdData, Student}
 use Rattle.demand_api.specs.Views.{data_of}
@@ -31,7 +31,7 @@ pub record HasTurnForm (turn : ProvedTurn) : Type 0 where
   pub pass : turn.pass < 2 ^ 64
 
 -- the bundle is the best of an offer
-abbrev pub IsBestOfOffer : Offer → List ℕ → Type 0
+abbrev pub IsBestOfOffer : OfferData → List ℕ → Type 0
 IsBestOfOffer offer bundle =
     IsBest (wishes_of offer.menu) offer.price offer.budget offer.allowed bundle
 

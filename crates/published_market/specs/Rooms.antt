@@ -6,7 +6,7 @@ use Rattle.market_units.specs.declared.units.Tokens.{Tokens}
 use Rattle.bundle_rules.specs.declared.bundle.Bundle.{Bundle}
 use Rattle.bundle_rules.specs.Bundles.{sections_of}
 use Rattle.bundle_rules.specs.Menus.{MenuData}
-use Rattle.bundle_bounds.specs.Offers.{Offer, offer_of}
+use Rattle.bundle_bounds.specs.Offers.{OfferData, offer_of}
 use Rattle.budget_draw.specs.Budgets.{raised_by}
 use Rattle.demand_api.specs.declared.crowd.Crowd.{Crowd}
 use Rattle.aftermarket_stage.specs.declared.turns.Turn.{Turn}
@@ -14,7 +14,7 @@ use Rattle.proof_tree.specs.Texts.{IsTreeText}
 use Rattle.published_market.specs.declared.rooms.Room.{Room}
 
 -- where something was written to the room, it is the tree of the bundle in the offer
-abbrev pub IsRoomOf : Offer → List ℕ → Room → Type 0
+abbrev pub IsRoomOf : OfferData → List ℕ → Room → Type 0
 IsRoomOf offer bundle room =
     IfSome room.written
     (λ count. (count ≤ length room.bytes.items)

@@ -2,7 +2,7 @@
 use Rattle.std.specs.Prelude.{ℕ, ◌≡◌, Some, List, slice_get}
 use Rattle.market_units.specs.declared.units.Tokens.{Tokens}
 use Rattle.bundle_rules.specs.Demand.{price_in}
-use Rattle.bundle_bounds.specs.Offers.{Offer}
+use Rattle.bundle_bounds.specs.Offers.{OfferData}
 use Rattle.budget_draw.specs.Budgets.{raised_by}
 use Rattle.demand_api.specs.Crowds.{CrowdData, Student}
 use Rattle.aftermarket_stage.specs.Turns.{TurnData}
@@ -11,7 +11,7 @@ use Rattle.published_parts.specs.Offers.{IsProvedBest, offer_to}
 
 -- what is offered to a student at a turn: the sections that it may choose, at the same prices, with
 -- its raised budget
-abbrev pub offer_at : List Tokens → ℕ → Student → TurnData → Offer
+abbrev pub offer_at : List Tokens → ℕ → Student → TurnData → OfferData
 offer_at prices raise student turn =
     offer_to student (price_in prices) (raised_by raise student.budget) turn.allowed
 

@@ -10,7 +10,7 @@ use Rattle.bundle_bounds.proofs.prospects.add_up.Goals as goal
 
 pub loop-index-init : goal.loop-index-init
 loop-index-init c =
-    let none : drop (length c.args.prospects.now) c.args.prospects.now ≡ [] = drop-length c.args.prospects.now in
+    let none : drop (length c.args.all.now.list.now) c.args.all.now.list.now ≡ [] = drop-length c.args.all.now.list.now in
     record {
       whole = refl;
       there = λ course low. get_or-replicate 60 course false false low ∙ sym (ap (λ ps. has_course ps course) none);
@@ -20,16 +20,16 @@ loop-index-init c =
 
 pub loop-index-preserved : goal.loop-index-preserved
 loop-index-preserved c =
-    let ps = c.args.prospects.now in
+    let ps = c.args.all.now.list.now in
     let f = over_price c.args.resource c.args.price in
     let is = c.loop-index.invariant in
-    let low : c.loop-index.index - 1 < length c.args.prospects.now = omega arith in
+    let low : c.loop-index.index - 1 < length c.args.all.now.list.now = omega arith in
     let next : c.loop-index.index ≡ (c.loop-index.index - 1) + 1 = omega arith in
-    let course : (get_or c.args.prospects.now (c.loop-index.index - 1) no_prospect).course < 60 =
-    (c.requires.modest (c.loop-index.index - 1) no_prospect low).course_low in
+    let course : (get_or c.args.all.now.list.now (c.loop-index.index - 1) no_prospect).course < 60 =
+    (c.args.all.now.modest (c.loop-index.index - 1) no_prospect low).course_low in
     let course_low : c.from-course.result < 60 = subst (λ n. n < 60) (sym c.from-course.ensures) course in
     let more : c.added-sum.result ≤ 20000000 = c.added-sum.ensures.high in
-    let so_far : c.loop-index.sum ≤ 20000000 * (length c.args.prospects.now - c.loop-index.index) = is.small in
+    let so_far : c.loop-index.sum ≤ 20000000 * (length c.args.all.now.list.now - c.loop-index.index) = is.small in
     record {
       whole = length-set c.loop-index.is_there c.from-course.result true ∙ is.whole;
       there = there_more c.loop-index.is_there ps (c.loop-index.index - 1) c.from-course.result no_prospect low is.whole c.from-course.ensures course_low
