@@ -1,6 +1,6 @@
 -- A node of the search: the places below k are decided, and those of the list are chosen. What is
 -- open there?
-use Rattle.std.specs.Prelude.{ℕ, zero, suc, ◌+◌, ◌-◌, ℤ, pos, negsuc, ◌+ℤ◌, ◌&&◌, ◌==◌, not, if◌then◌else◌, nat_le, Bool, List, [], ◌∷◌, length}
+use Rattle.std.specs.Prelude.{ℕ, zero, suc, ◌+◌, ◌-◌, ℤ, pos, negsuc, ◌+ℤ◌, ◌&&◌, ◌==◌, not, if◌then◌else◌, nat_le, Bool, List, [], ◌∷◌, length, filter}
 use Rattle.std.specs.List.{list_all}
 use Rattle.market_units.specs.Totals.{total, signed_total}
 use Rattle.bundle_rules.specs.declared.menu.Rated.{Rated}
@@ -90,3 +90,7 @@ abbrev pub prospects : OfferData → List ℕ → List ℕ → List Prospect
 prospects offer chosen [] = []
 prospects offer chosen (place ∷ later) =
     prospect offer chosen place later ∷ prospects offer chosen later
+
+-- what is known of those of these places that are open
+abbrev pub open_among : OfferData → List ℕ → List ℕ → List Prospect
+open_among offer chosen places = prospects offer chosen (filter (is_open offer chosen) places)

@@ -117,9 +117,8 @@ pub fn bound(
     let from = node.place.min(menu.len());
     let start = collect(&chosen, from, &mut room);
     let base = Base::of(utility(menu, &node.chosen));
-    let all = Prospects {
-        list: &room[start..],
-    };
+    let list = &room[start..];
+    let all = Prospects { list };
     bound_of(base, rests, &all, leaf)
 }
 
@@ -165,9 +164,8 @@ pub fn bound_closes(
     let from = node.place.min(menu.len());
     let start = collect(&chosen, from, &mut room);
     let base = Base::of(utility(menu, &node.chosen));
-    let all = Prospects {
-        list: &room[start..],
-    };
+    let list = &room[start..];
+    let all = Prospects { list };
     let limit = limit_of(menu, node, places, champion);
     first_below(base, limit, rests, &all)
 }

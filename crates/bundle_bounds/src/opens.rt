@@ -175,9 +175,8 @@ fn prospect_at(chosen: &Chosen, place: u8, later: &[Prospect]) -> Prospect
 
 /// Writes the prospects of the open places from a place on to the end of the room, in the menu's
 /// order, and gives where they begin.
-pub(crate) fn collect(chosen: &Chosen, place: u8, room: &mut [Prospect]) -> usize
+pub(crate) fn collect(chosen: &Chosen, place: u8, room: &mut [Prospect; MAX_RATINGS]) -> usize
     requires place { place ≤ length chosen.now.offer.now.menu.now.places }
-    requires room { length room.old ≡ MAX_RATINGS }
     ensures value { drop result room.new
         ≡ prospects (data_of chosen.now.offer.now) chosen.now.places.now
         (opens_from (data_of chosen.now.offer.now) chosen.now.places.now place

@@ -1,8 +1,8 @@
 // The open places that stay open beside one more chosen place.
-ghost use Rattle.std.specs.Prelude.{◌≡◌, ◌<◌, ◌≤◌, ◌+◌, ◌-◌, ◌++◌, ◌∷◌, [], ℕ, List, not, nat_le, ◌&&◌, true, length, map, drop, filter, All};
+ghost use Rattle.std.specs.Prelude.{◌≡◌, ◌<◌, ◌≤◌, ◌+◌, ◌-◌, ◌++◌, ◌∷◌, [], ℕ, List, not, nat_le, ◌&&◌, true, length, map, drop, All};
 ghost use Rattle.std.specs.List.{AllByRecursion};
 ghost use Rattle.bundle_rules.specs.Menus.{clash_in};
-ghost use Rattle.bundle_bounds.specs.Opens.{is_open, prospect, prospects};
+ghost use Rattle.bundle_bounds.specs.Opens.{is_open, open_among, prospect, prospects};
 ghost use Rattle.bundle_bounds.specs.Modest.{IsModest, AreOn};
 ghost use Rattle.bundle_bounds.specs.Views.{data_of};
 
@@ -81,12 +81,11 @@ fn put_open(
     place: u8,
     one: &Prospect,
     start: usize,
-    room: &mut [Prospect],
+    room: &mut [Prospect; MAX_RATINGS],
 ) -> usize
     requires place { place < length chosen.now.offer.now.menu.now.places }
     requires modest { IsModest one.now }
     requires one_on_menu { one.now.place < length chosen.now.offer.now.menu.now.places }
-    requires room { length room.old ≡ MAX_RATINGS }
     requires some { 1 ≤ start }
     requires within { start ≤ MAX_RATINGS }
     requires later_modest { All IsModest (drop start room.old) }
@@ -96,11 +95,10 @@ fn put_open(
         → is_open (data_of chosen.now.offer.now) before one.now.place ≡ true
         → one.now ≡ prospect (data_of chosen.now.offer.now) before one.now.place others
         → drop start room.old
-        ≡ prospects (data_of chosen.now.offer.now) chosen.now.places.now
-        (filter (is_open (data_of chosen.now.offer.now) chosen.now.places.now) later)
+        ≡ open_among (data_of chosen.now.offer.now) chosen.now.places.now later
         → drop result room.new
-        ≡ prospects (data_of chosen.now.offer.now) chosen.now.places.now
-        (filter (is_open (data_of chosen.now.offer.now) chosen.now.places.now) (one.now.place ∷ later)) }
+        ≡ open_among (data_of chosen.now.offer.now) chosen.now.places.now
+        (one.now.place ∷ later) }
     ensures low { start ≤ result + 1 }
     ensures high { result ≤ start }
     ensures modest { All IsModest (drop result room.new) }
@@ -116,17 +114,15 @@ fn put_open(
 
 /// Writes the prospects of those open places that stay open beside one more chosen place, the last
 /// of these, to the end of the room, and gives where they begin.
-pub(crate) fn sift(chosen: &Chosen, place: u8, all: &Prospects, room: &mut [Prospect]) -> usize
+pub(crate) fn sift(chosen: &Chosen, place: u8, all: &Prospects, room: &mut [Prospect; MAX_RATINGS]) -> usize
     requires place { place < length chosen.now.offer.now.menu.now.places }
     requires all_on_menu { AreOn chosen.now.offer.now.menu.now all.now.list.now }
-    requires room { length room.old ≡ MAX_RATINGS }
     ensures value { (before others : List ℕ) → chosen.now.places.now ≡ before ++ place ∷ []
         → AllByRecursion (λ other. is_open (data_of chosen.now.offer.now) before other ≡ true)
         others
         → all.now.list.now ≡ prospects (data_of chosen.now.offer.now) before others
         → drop result room.new
-        ≡ prospects (data_of chosen.now.offer.now) chosen.now.places.now
-        (filter (is_open (data_of chosen.now.offer.now) chosen.now.places.now) others) }
+        ≡ open_among (data_of chosen.now.offer.now) chosen.now.places.now others }
     ensures within { result ≤ MAX_RATINGS }
     ensures modest { All IsModest (drop result room.new) }
     ensures on_menu { AreOn chosen.now.offer.now.menu.now (drop result room.new) }

@@ -71,9 +71,8 @@ impl Stem {
         };
         let mut room = NO_PROSPECTS;
         let start = collect(&chosen, 0, &mut room);
-        let all = Prospects {
-            list: &room[start..],
-        };
+        let list = &room[start..];
+        let all = Prospects { list };
         let plain = at_price(&all, Resource::Count, 0, 0);
         let most = utility(offer.menu, champion);
         Stem {
@@ -134,9 +133,8 @@ impl Stem {
             return Some(Leaf::Plain);
         }
         let mut tangents = self.tangents;
-        let all = Prospects {
-            list: &self.room[self.start..],
-        };
+        let list = &self.room[self.start..];
+        let all = Prospects { list };
         let leaf = first_with(
             base,
             self.limit,
@@ -167,9 +165,8 @@ impl Stem {
             self.limit = limit;
             return;
         }
-        let all = Prospects {
-            list: &self.room[self.start..],
-        };
+        let list = &self.room[self.start..];
+        let all = Prospects { list };
         let plain = plain_after(&all, self.plain);
         let tangents = tangents_after(&all, self.tangents);
         self.plain = plain;
@@ -203,21 +200,20 @@ impl Stem {
         let mut places = self.chosen;
         places[self.count] = node.place;
         let rests = rests_after(self.rests, &self.room[self.start]);
+        let taken = &places[..self.count + 1];
         let chosen = Chosen {
             offer,
-            places: &places[..self.count + 1],
+            places: taken,
             rests,
         };
-        let later = Prospects {
-            list: &self.room[self.start + 1..],
-        };
+        let later = &self.room[self.start + 1..];
+        let later = Prospects { list: later };
         let start = sift(&chosen, node.place, &later, &mut below.room);
-        let all = Prospects {
-            list: &below.room[start..],
-        };
+        let list = &below.room[start..];
+        let all = Prospects { list };
         let plain = at_price(&all, Resource::Count, 0, 0);
         let champions = self.champion.as_slice();
-        let limit = limit_after(self.most, champions, chosen.places, node.place);
+        let limit = limit_after(self.most, champions, taken, node.place);
         below.champion = self.champion;
         below.most = self.most;
         below.chosen = places;

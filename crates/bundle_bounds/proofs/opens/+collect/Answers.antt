@@ -33,8 +33,8 @@ returns-clause-value t c =
     c.is_open_at.ensures are.budget_is are.credits_is are.courses_is)
     ∙ yes in
     let some : 1 ≤ c.collect-start.result = omega (arith, c.collect-start.ensures.space, c.len.ensures.menu.places.few) in
-    let within : c.collect-start.result ≤ length c.collect-start.new.room =
-    omega (arith, c.collect-start.ensures.within, c.collect-start.auto.room, c.requires.room) in
+    let whole : length c.collect-start.new.room ≡ 60 = search rules in
+    let within : c.collect-start.result ≤ length c.collect-start.new.room = omega (arith, c.collect-start.ensures.within) in
     collected offer c.args.chosen.now.places.now c.args.place (length c.args.chosen.now.offer.now.menu.now.places) c.collect-start.result c.collect-start.new.room c.prospect_at-prospect.result
     low opened some within
     (c.collect-start.ensures.value)
@@ -45,8 +45,8 @@ returns-clause-value t c =
 pub returns-clause-modest : goal.returns-clause-modest
 returns-clause-modest t c =
     let some : 1 ≤ c.collect-start.result = omega (arith, c.collect-start.ensures.space, c.len.ensures.menu.places.few, c.len.ensures.value) in
-    let within : c.collect-start.result ≤ length c.collect-start.new.room =
-    omega (arith, c.collect-start.ensures.within, c.collect-start.auto.room, c.requires.room) in
+    let whole : length c.collect-start.new.room ≡ 60 = search rules in
+    let within : c.collect-start.result ≤ length c.collect-start.new.room = omega (arith, c.collect-start.ensures.within) in
     subst (All IsModest) (sym (put_front c.collect-start.new.room c.collect-start.result c.prospect_at-prospect.result some within))
     (all_cons IsModest c.prospect_at-prospect.result (drop c.collect-start.result c.collect-start.new.room) c.prospect_at-prospect.ensures.modest
     c.collect-start.ensures.modest)
@@ -54,8 +54,8 @@ returns-clause-modest t c =
 pub returns-clause-on_menu : goal.returns-clause-on_menu
 returns-clause-on_menu t c =
     let some : 1 ≤ c.collect-start.result = omega (arith, c.collect-start.ensures.space, c.len.ensures.menu.places.few, c.len.ensures.value) in
-    let within : c.collect-start.result ≤ length c.collect-start.new.room =
-    omega (arith, c.collect-start.ensures.within, c.collect-start.auto.room, c.requires.room) in
+    let whole : length c.collect-start.new.room ≡ 60 = search rules in
+    let within : c.collect-start.result ≤ length c.collect-start.new.room = omega (arith, c.collect-start.ensures.within) in
     let P : Prospect → Type 0 = λ other. other.place < length c.args.chosen.now.offer.now.menu.now.places in
     subst (All P) (sym (put_front c.collect-start.new.room c.collect-start.result c.prospect_at-prospect.result some within))
     (all_cons P c.prospect_at-prospect.result (drop c.collect-start.result c.collect-start.new.room) c.prospect_at-prospect.ensures.place

@@ -34,7 +34,8 @@ returns-clause-value c = λ before others later chosen_is opened one_is rest.
     one_is (are.budget_is ∙ ap (budget_left offer) chosen_is) (are.credits_is ∙ ap (credits_left offer) chosen_is) (are.courses_is ∙ ap (courses_left offer) chosen_is)
     c.stays_open.ensures)
     ∙ yes in
-    let within : c.args.start ≤ length c.args.room.now = omega (arith, c.requires.within, c.requires.room) in
+    let whole : length c.args.room.now ≡ 60 = search rules in
+    let within : c.args.start ≤ length c.args.room.now = omega (arith, c.requires.within) in
     put_kept offer c.args.chosen.now.places.now t later c.args.room.now c.args.start c.beside-here.result c.requires.some within opened' rest
     (c.beside-here.ensures.value before others one_is
     ∙ ap (λ l. prospect offer c.args.chosen.now.places.now t (map (λ (p : Prospect). p.place) l)) (rest_whole c.args.room.now c.args.start))

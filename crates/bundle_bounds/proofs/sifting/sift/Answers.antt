@@ -12,9 +12,9 @@ use Rattle.bundle_bounds.proofs.sifting.sift.Goals as goal
 pub loop-index-init : goal.loop-index-init
 loop-index-init c =
     let none : drop (length c.args.room.now) c.args.room.now ≡ [] = drop-length c.args.room.now in
-    let room : length c.args.room.now ≡ 60 = c.requires.room in
+    let room : length c.args.room.now ≡ 60 = search rules in
     record {
-      whole = c.requires.room;
+      whole = room;
       within = omega arith;
       space = omega arith;
       value = λ before others chosen_is opens all_are.
