@@ -55,8 +55,7 @@ pub struct Stem {
 impl Stem {
     ghost use Rattle.bundle_bounds.specs.Stems.{IsStem};
 
-    /// The stem at the root: no place is decided. There is a price for each section of the menu,
-    /// each at most 1,000,001.
+    /// The stem at the root: no place is decided.
     pub fn root(offer: &Offer, champion: &Bundle) -> Stem
         requires champion { IsFeasible (wishes_of offer.now.menu.now) (sections_of champion.now) }
         ensures { IsStem (data_of offer.now)
