@@ -1,12 +1,12 @@
 // Chosen places, with what they leave.
 ghost use Rattle.std.specs.Prelude.{◌≤◌, length};
+ghost use Rattle.market_units.specs.declared.limits.TheConstants.{MAX_COURSES};
 ghost use Rattle.bundle_bounds.specs.Offers.{AreOnMenu};
 ghost use Rattle.bundle_bounds.specs.Rests.{AreRests};
 ghost use Rattle.bundle_bounds.specs.Views.{data_of};
 
 use crate::Offer;
 use crate::opens::Rests;
-use market_units::MAX_COURSES;
 
 /// Places of an offer's menu that are chosen, at most 8, and what they leave of the budget, of the
 /// credit cap and of the course cap: 0 where they take more.

@@ -35,7 +35,10 @@ pub(crate) fn rests_of(offer: &Offer, chosen: &[u8]) -> Rests
 {
     let menu = offer.menu;
     Rests {
-        budget: offer.budget.0.saturating_sub(price_of(menu, offer.prices, chosen)),
+        budget: offer
+            .budget
+            .0
+            .saturating_sub(price_of(menu, offer.prices, chosen)),
         credits: u32::from(menu.credits()).saturating_sub(credits_of(menu, chosen)),
         courses: u32::from(menu.courses()).saturating_sub(chosen.len() as u32),
     }

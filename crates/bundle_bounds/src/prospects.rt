@@ -1,5 +1,6 @@
 // What is known of open places, and what one of each course can add at most.
 ghost use Rattle.std.specs.Prelude.{◌≡◌, ◌≤◌, ◌*◌, ◌+◌, ◌-◌, ◌==◌, if◌then◌else◌, false, IsTrue, length, All};
+ghost use Rattle.market_units.specs.declared.limits.TheConstants.{MAX_RATINGS};
 ghost use Rattle.bundle_bounds.specs.Courses.{takes_of, has_course, greatest, by_course};
 ghost use Rattle.bundle_bounds.specs.Bounds.{over_price, at_price};
 ghost use Rattle.bundle_bounds.specs.Modest.{IsModest};

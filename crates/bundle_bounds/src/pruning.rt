@@ -291,7 +291,14 @@ pub(crate) fn bound_of(base: Base, rests: Rests, all: &Prospects, leaf: Leaf) ->
 {
     match leaf {
         Leaf::Plain => base.number + plain_sum(all) as i64,
-        Leaf::Budget(place) => resource_bound(base, rests.budget, Resource::Money, all, all.list, place),
+        Leaf::Budget(place) => resource_bound(
+            base,
+            rests.budget,
+            Resource::Money,
+            all,
+            all.list,
+            place,
+        ),
         Leaf::Credits(place) => resource_bound(
             base,
             rests.credits,

@@ -114,7 +114,12 @@ fn put_open(
 
 /// Writes the prospects of those open places that stay open beside one more chosen place, the last
 /// of these, to the end of the room, and gives where they begin.
-pub(crate) fn sift(chosen: &Chosen, place: u8, all: &Prospects, room: &mut [Prospect; MAX_RATINGS]) -> usize
+pub(crate) fn sift(
+    chosen: &Chosen,
+    place: u8,
+    all: &Prospects,
+    room: &mut [Prospect; MAX_RATINGS],
+) -> usize
     requires place { place < length chosen.now.offer.now.menu.now.places }
     requires all_on_menu { AreOn chosen.now.offer.now.menu.now all.now.list.now }
     ensures value { (before others : List ℕ) → chosen.now.places.now ≡ before ++ place ∷ []

@@ -1,4 +1,4 @@
-use Rattle.std.proofs.Common.{◌≡◌, ◌-◌, ◌∙◌, ap, sym, subst, take, drop, arith, to_z, of_z, w32, w64}
+use Rattle.std.proofs.Common.{◌≡◌, ◌-◌, ◌∙◌, ap, sym, subst, take, drop, arith, to_z, of_z, w32, w64, rules, length}
 use Rattle.std.specs.Prelude.{All, ℤ, pos, ◌*ℤ◌}
 use Rattle.std.proofs.lemmas.Int.{ints}
 use Rattle.bundle_rules.specs.Bundles.{sections_of}
@@ -30,7 +30,7 @@ invariant_of-chosen c =
 pub invariant_of-all : goal.invariant_of-all
 invariant_of-all c =
     let room = c.collect-start.new.room in
-    let whole = c.collect-start.auto.room in
+    let whole : length c.collect-start.new.room ≡ 60 = search rules in
     record {
       modest = subst (All IsModest) (sym (rest_of_room room c.collect-start.result whole)) c.collect-start.ensures.modest;
       few = few_of_room room c.collect-start.result whole;
@@ -50,9 +50,10 @@ returns c =
     thousandfold ∙ ap (λ z. pos 1000 *ℤ z) (sym (utility_by_place menu (sections_of c.args.node.now.chosen) ∙ sym c.utility.ensures)) in
     let rests = c.rests_of-rests in
     let are = rests.ensures in
+    let whole : length c.collect-start.new.room ≡ 60 = search rules in
     let ps =
     collected offer k cs c.as_slice-places.result.now c.collect-start.new.room c.collect-start.result c.min-from.result c.len.result same
-    c.collect-start.auto.room c.min-from.ensures c.len.ensures.value c.collect-start.ensures.value in
+    whole c.min-from.ensures c.len.ensures.value c.collect-start.ensures.value in
     let numbers : all_bounds c.of-base.result.number rests.result.budget rests.result.credits
     rests.result.courses (take (60 - c.collect-start.result) (drop c.collect-start.result c.collect-start.new.room))
     ≡ bounds offer k cs =

@@ -1,4 +1,4 @@
-use Rattle.std.proofs.Common.{◌≡◌, ℕ, ◌<◌, ◌∙◌, ap, sym, subst, true, arith, to_z, of_z, w32, w64}
+use Rattle.std.proofs.Common.{◌≡◌, ℕ, ◌<◌, ◌∙◌, ap, sym, subst, true, arith, to_z, of_z, w32, w64, rules, length}
 use Rattle.std.specs.Prelude.{All, ℤ, pos, ◌*ℤ◌, IfNone, IfSome}
 use Rattle.std.proofs.lemmas.Int.{ints}
 use Rattle.bundle_rules.specs.Bundles.{sections_of}
@@ -36,7 +36,7 @@ invariant_of-chosen c =
 pub invariant_of-all : goal.invariant_of-all
 invariant_of-all c =
     let room = c.collect-start.new.room in
-    let whole = c.collect-start.auto.room in
+    let whole : length c.collect-start.new.room ≡ 60 = search rules in
     record {
       modest = subst (All IsModest) (sym (rest_of_room room c.collect-start.result whole)) c.collect-start.ensures.modest;
       few = few_of_room room c.collect-start.result whole;
@@ -68,8 +68,9 @@ returns c =
     kept ∙ c.limit_of-limit.ensures ∙ ap (λ z. limit_of z (is_ahead k ch slice)) (sym (utility_by_place menu champion))
     ∙ ap (λ l. limit_of (utility (by_place menu) ch) (is_ahead k ch l)) same in
     let are = c.rests_of-rests.ensures in
+    let whole : length c.collect-start.new.room ≡ 60 = search rules in
     let ps =
-    collected offer k cs slice c.collect-start.new.room c.collect-start.result c.min-from.result c.len.result same c.collect-start.auto.room
+    collected offer k cs slice c.collect-start.new.room c.collect-start.result c.min-from.result c.len.result same whole
     c.min-from.ensures c.len.ensures.value c.collect-start.ensures.value in
     let some : IfSome c.first_below.result (IsFirstPruning offer k cs ch (bounds offer k cs)) =
     some_prunes offer k cs ch up up' low _ _ _ _ _ _ base most (are.budget_is ∙ ap (budget_left offer) same) (are.credits_is ∙ ap (credits_left offer) same)

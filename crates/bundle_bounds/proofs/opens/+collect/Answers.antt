@@ -1,11 +1,37 @@
-use Rattle.std.proofs.Common.{◌≡◌, ◌≤◌, ◌<◌, ◌∙◌, true, false, length, drop, map, ap, sym, subst, arith, rules}
+use Rattle.std.proofs.Common.{◌≡◌, ◌≤◌, ◌<◌, ◌∙◌, true, false, length, drop, map, ap, sym, subst, arith, rules, List, [], ◌-◌}
 use Rattle.std.specs.Prelude.{All}
+use Rattle.std.proofs.Math.Seq.{drop-length}
+use Rattle.std.proofs.lemmas.List.Elements.{All-nil}
 use Rattle.bundle_bounds.specs.declared.prospects.Prospect.{Prospect}
 use Rattle.bundle_bounds.specs.Views.{data_of}
-use Rattle.bundle_bounds.specs.Opens.{is_open, prospect, prospects}
+use Rattle.bundle_bounds.specs.Opens.{is_open, opens_from, prospect, prospects}
 use Rattle.bundle_bounds.specs.Modest.{IsModest}
-use Rattle.bundle_bounds.proofs.Outlook.{open_same, opens_shut, put_front, all_cons, collected, rest_whole}
+use Rattle.bundle_bounds.proofs.BelowLimit.{rest_of_room}
+use Rattle.bundle_bounds.proofs.Outlook.{open_same, opens_shut, put_front, all_cons, collected}
 use Rattle.bundle_bounds.proofs.opens.+collect.Goals as goal
+
+-- nothing is behind the room
+nothing_behind : (room : List Prospect) → length room ≡ 60 → drop 60 room ≡ []
+nothing_behind room whole = ap (λ n. drop n room) (sym whole) ∙ drop-length room
+
+pub returns-then-place-len-clause-value : goal.returns-then-place-len-clause-value
+returns-then-place-len-clause-value t c =
+    let offer = data_of c.args.chosen.now.offer.now in
+    let whole : length c.args.room.now ≡ 60 = search rules in
+    let none : length c.args.chosen.now.offer.now.menu.now.places - c.args.place ≡ 0 = omega (arith, c.len.ensures.value) in
+    nothing_behind c.args.room.now whole
+    ∙ sym (ap (λ n. prospects offer c.args.chosen.now.places.now (opens_from offer c.args.chosen.now.places.now c.args.place n)) none)
+
+pub returns-then-place-len-clause-modest : goal.returns-then-place-len-clause-modest
+returns-then-place-len-clause-modest t c =
+    let whole : length c.args.room.now ≡ 60 = search rules in
+    subst (All IsModest) (sym (nothing_behind c.args.room.now whole)) (All-nil IsModest)
+
+pub returns-then-place-len-clause-on_menu : goal.returns-then-place-len-clause-on_menu
+returns-then-place-len-clause-on_menu t c =
+    let whole : length c.args.room.now ≡ 60 = search rules in
+    let P : Prospect → Type 0 = λ other. other.place < length c.args.chosen.now.offer.now.menu.now.places in
+    subst (All P) (sym (nothing_behind c.args.room.now whole)) (All-nil P)
 
 pub returns-then-not-is_open_at-clause-value : goal.returns-then-not-is_open_at-clause-value
 returns-then-not-is_open_at-clause-value t c =
@@ -40,7 +66,7 @@ returns-clause-value t c =
     (c.collect-start.ensures.value)
     (c.prospect_at-prospect.ensures.value
     ∙ ap (λ l. prospect offer c.args.chosen.now.places.now c.args.place (map (λ (p : Prospect). p.place) l))
-    (rest_whole c.collect-start.new.room c.collect-start.result))
+    (rest_of_room c.collect-start.new.room c.collect-start.result whole))
 
 pub returns-clause-modest : goal.returns-clause-modest
 returns-clause-modest t c =

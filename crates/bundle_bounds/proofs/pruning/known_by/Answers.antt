@@ -10,9 +10,8 @@ recall-requires-clause-known c = (c.nothing-known.ensures c.args.base.number c.a
 
 pub returns-in-Some : goal.returns-in-Some
 returns-in-Some c = λ rest resource all is.
-    let b : to_z w64 (of_z w64 c.args.base.number) ≡ c.args.base.number = omega (arith, ints) in
     let l : to_z w64 (of_z w64 c.args.limit) ≡ c.args.limit = omega (arith, ints) in
-    (rw (b, l) at c.recall.ensures) rest resource all (subst (λ tangent. IfSome tangent (IsTangent rest resource all)) c.in-Some.is is)
+    (rw l at c.recall.ensures) rest resource all (subst (λ tangent. IfSome tangent (IsTangent rest resource all)) c.in-Some.is is)
     (c.nothing-known.ensures c.args.base.number c.args.limit rest resource all)
 
 pub returns-in-None : goal.returns-in-None

@@ -2,7 +2,7 @@ use Rattle.std.proofs.Common.{◌≡◌, ◌≤◌, true, false, length, drop, m
 use Rattle.bundle_bounds.specs.declared.prospects.Prospect.{Prospect}
 use Rattle.bundle_bounds.specs.Views.{data_of}
 use Rattle.bundle_bounds.specs.Opens.{budget_left, credits_left, courses_left, is_open, prospect}
-use Rattle.bundle_bounds.proofs.Outlook.{rest_whole}
+use Rattle.bundle_bounds.proofs.BelowLimit.{rest_of_room}
 use Rattle.bundle_bounds.proofs.StayingOpen.{open_beside, put_kept, shut_kept}
 use Rattle.bundle_bounds.proofs.sifting.put_open.Goals as goal
 
@@ -38,4 +38,4 @@ returns-clause-value c = λ before others later chosen_is opened one_is rest.
     let within : c.args.start ≤ length c.args.room.now = omega (arith, c.requires.within) in
     put_kept offer c.args.chosen.now.places.now t later c.args.room.now c.args.start c.beside-here.result c.requires.some within opened' rest
     (c.beside-here.ensures.value before others one_is
-    ∙ ap (λ l. prospect offer c.args.chosen.now.places.now t (map (λ (p : Prospect). p.place) l)) (rest_whole c.args.room.now c.args.start))
+    ∙ ap (λ l. prospect offer c.args.chosen.now.places.now t (map (λ (p : Prospect). p.place) l)) (rest_of_room c.args.room.now c.args.start whole))

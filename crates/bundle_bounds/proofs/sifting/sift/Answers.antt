@@ -1,4 +1,4 @@
-use Rattle.std.proofs.Common.{◌≡◌, ◌<◌, ◌≤◌, ◌+◌, ◌-◌, [], length, drop, sym, ap, subst, ◌∙◌, arith}
+use Rattle.std.proofs.Common.{◌≡◌, ◌<◌, ◌≤◌, ◌+◌, ◌-◌, [], length, drop, sym, ap, subst, ◌∙◌, arith, rules}
 use Rattle.std.specs.Prelude.{All, filter}
 use Rattle.std.proofs.Math.Seq.{drop-length}
 use Rattle.std.proofs.lemmas.List.Elements.{All-nil}
@@ -38,7 +38,7 @@ loop-index-preserved c =
     let less : c.loop-index.start ≤ c.put_open-start.result + 1 = c.put_open-start.ensures.low in
     let more : c.put_open-start.result ≤ c.loop-index.start = c.put_open-start.ensures.high in
     record {
-      whole = c.put_open-start.auto.room ∙ is.whole;
+      whole = (let whole : length c.put_open-start.new.room ≡ 60 = search rules in whole);
       within = omega arith;
       space = omega arith;
       value = λ before others chosen_is opens all_are.

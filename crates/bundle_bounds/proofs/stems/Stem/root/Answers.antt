@@ -1,4 +1,4 @@
-use Rattle.std.proofs.Common.{◌≡◌, ◌≤◌, ◌*◌, ◌+◌, ◌-◌, take, drop, refl, sym, ap, ◌∙◌, arith, to_z, of_z, w32, w64}
+use Rattle.std.proofs.Common.{◌≡◌, ◌≤◌, ◌*◌, ◌+◌, ◌-◌, take, drop, refl, sym, ap, ◌∙◌, arith, to_z, of_z, w32, w64, rules, length}
 use Rattle.std.specs.Prelude.{pos, ◌*ℤ◌}
 use Rattle.std.proofs.lemmas.Int.{ints}
 use Rattle.std.proofs.lemmas.Bool.{false≢true}
@@ -17,7 +17,8 @@ returns c =
     let least : to_z w64 (of_z w64 (pos 1000 *ℤ to_z w64 (of_z w64 c.from.result))) ≡ pos 1000 *ℤ to_z w32 (of_z w32 c.utility-most.result) =
     omega (arith, ints, from_most) in
     let are = c.rests_of-rests.ensures in
-    let room = rest_of_room c.collect-start.new.room c.collect-start.result c.collect-start.auto.room in
+    let whole : length c.collect-start.new.room ≡ 60 = search rules in
+    let room = rest_of_room c.collect-start.new.room c.collect-start.result whole in
     let high : c.at_price-plain.result ≤ 20000000 * 0 + 20000000 * 60 = c.at_price-plain.ensures.high in
     record {
       has_chosen = record {
@@ -36,7 +37,7 @@ returns c =
       limit_is =
           least ∙ ap (limit_of (to_z w32 (of_z w32 c.utility-most.result))) (sym (not_ahead (places_of c.args.offer.now.menu.now (sections_of c.args.champion.now))));
       keeps = record {
-        whole = c.collect-start.auto.room;
+        whole = whole;
         within = c.collect-start.ensures.within;
         kept_is = c.collect-start.ensures.value;
         modest = c.collect-start.ensures.modest;

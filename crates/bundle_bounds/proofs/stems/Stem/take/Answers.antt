@@ -74,8 +74,7 @@ sift-start-requires-clause-all_on_menu c =
 
 pub invariant_of-all : goal.invariant_of-all
 invariant_of-all c =
-    let old : length c.args.below.now.room ≡ 60 = search rules in
-    let size : length c.sift-start.new.room ≡ 60 = c.sift-start.auto.room ∙ old in
+    let size : length c.sift-start.new.room ≡ 60 = search rules in
     record {
       modest = subst (All IsModest) (sym (rest_of_room c.sift-start.new.room c.sift-start.result size)) c.sift-start.ensures.modest;
       few = few_of_room c.sift-start.new.room c.sift-start.result size;
@@ -96,8 +95,7 @@ returns c =
     let k = c.args.node.now.place in
     let stem = c.args.self.now in
     let is = c.requires.stem in
-    let old : length c.args.below.now.room ≡ 60 = search rules in
-    let size : length c.sift-start.new.room ≡ 60 = c.sift-start.auto.room ∙ old in
+    let size : length c.sift-start.new.room ≡ 60 = search rules in
     let first_is : get_or c.args.self.now.room c.args.self.now.start no_prospect
     ≡ prospect offer (places_of c.args.offer.now.menu.now chosen) k (open_places offer (k + 1) (places_of c.args.offer.now.menu.now chosen)) =
     first_here c.args.self.now.room c.args.self.now.start _ _ (kept_first offer champion k chosen stem is c.requires.left c.requires.open) in
