@@ -3,6 +3,7 @@ use Rattle.std.proofs.Common.{◌≡◌, ℕ, ◌-◌, ◌<◌, ◌≤◌, true,
 use Rattle.std.specs.Prelude.{ℤ, pos, ◌+ℤ◌, ◌*ℤ◌, ◌<ℤ◌, IfSome, IfNone}
 use Rattle.std.proofs.lemmas.Int.{ints}
 use Rattle.std.proofs.lemmas.Bool.{cases_Bool}
+use Rattle.std.proofs.Math.Seq.{drop-length}
 use Rattle.std.proofs.lemmas.List.{length-take}
 use Rattle.market_units.specs.Members.{has}
 use Rattle.bundle_rules.specs.Sets.{IsAscending}
@@ -21,6 +22,10 @@ use Rattle.bundle_bounds.proofs.Outlook.{open_places-within, rest_whole}
 
 pub rest_of_room : (room : List Prospect) (s : ℕ) → length room ≡ 60 → take (60 - s) (drop s room) ≡ drop s room
 rest_of_room room s whole = ap (λ n. take (n - s) (drop s room)) (sym whole) ∙ rest_whole room s
+
+-- nothing is behind the room
+pub nothing_behind : (room : List Prospect) → length room ≡ 60 → drop 60 room ≡ []
+nothing_behind room whole = ap (λ n. drop n room) (sym whole) ∙ drop-length room
 
 pub few_of_room : (room : List Prospect) (s : ℕ) → length room ≡ 60 → length (take (60 - s) (drop s room)) ≤ 60
 few_of_room room s whole =

@@ -1,18 +1,13 @@
-use Rattle.std.proofs.Common.{◌≡◌, ◌≤◌, ◌<◌, ◌∙◌, true, false, length, drop, map, ap, sym, subst, arith, rules, List, [], ◌-◌}
+use Rattle.std.proofs.Common.{◌≡◌, ◌≤◌, ◌<◌, ◌∙◌, true, false, length, drop, map, ap, sym, subst, arith, rules, ◌-◌}
 use Rattle.std.specs.Prelude.{All}
-use Rattle.std.proofs.Math.Seq.{drop-length}
 use Rattle.std.proofs.lemmas.List.Elements.{All-nil}
 use Rattle.bundle_bounds.specs.declared.prospects.Prospect.{Prospect}
 use Rattle.bundle_bounds.specs.Views.{data_of}
 use Rattle.bundle_bounds.specs.Opens.{is_open, opens_from, prospect, prospects}
 use Rattle.bundle_bounds.specs.Modest.{IsModest}
-use Rattle.bundle_bounds.proofs.BelowLimit.{rest_of_room}
+use Rattle.bundle_bounds.proofs.BelowLimit.{nothing_behind, rest_of_room}
 use Rattle.bundle_bounds.proofs.Outlook.{open_same, opens_shut, put_front, all_cons, collected}
 use Rattle.bundle_bounds.proofs.opens.+collect.Goals as goal
-
--- nothing is behind the room
-nothing_behind : (room : List Prospect) → length room ≡ 60 → drop 60 room ≡ []
-nothing_behind room whole = ap (λ n. drop n room) (sym whole) ∙ drop-length room
 
 pub returns-then-place-len-clause-value : goal.returns-then-place-len-clause-value
 returns-then-place-len-clause-value t c =

@@ -6,13 +6,14 @@ use Rattle.bundle_bounds.specs.declared.prospects.Prospect.{Prospect}
 use Rattle.bundle_bounds.specs.Views.{data_of}
 use Rattle.bundle_bounds.specs.Opens.{is_open, prospects}
 use Rattle.bundle_bounds.specs.Modest.{IsModest}
+use Rattle.bundle_bounds.proofs.BelowLimit.{nothing_behind}
 use Rattle.bundle_bounds.proofs.StayingOpen.{length-prospects, split_here}
 use Rattle.bundle_bounds.proofs.sifting.sift.Goals as goal
 
 pub loop-index-init : goal.loop-index-init
 loop-index-init c =
-    let none : drop (length c.args.room.now) c.args.room.now ≡ [] = drop-length c.args.room.now in
     let room : length c.args.room.now ≡ 60 = search rules in
+    let none = nothing_behind c.args.room.now room in
     record {
       whole = room;
       within = omega arith;
